@@ -1,6 +1,6 @@
-/* The poll-mode driver of this repository (crates/pmd) retold in C, without its moving of blocks: packets are copied.
-   A worker receives, sends back what came, and reaps until all is idle. With -DWRONG=1 to 4 it is one of the wrong
-   drivers that its proof rules out: a slot is taken without DD; a slot is taken twice; a packet is accepted and
+/* The poll-mode driver of this repository (crates/pmd_driver) retold in C, without its moving of blocks: packets are
+   copied. A worker receives, sends back what came, and reaps until all is idle. With -DWRONG=1 to 4 it is one of the
+   wrong drivers that its proof rules out: a slot is taken without DD; a slot is taken twice; a packet is accepted and
    dropped; idle is told early. */
 #include "card.h"
 

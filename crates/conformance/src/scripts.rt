@@ -21,7 +21,7 @@
 //! prints what is below.
 
 use crate::texts::hex_in;
-use bench::{Input, Outcome, Output, bench};
+use bench_commands::{Input, Outcome, Output, bench};
 use std::alloc::{AllocError, Global};
 use std::fmt::Write;
 use std::{fs, io};

@@ -1,21 +1,41 @@
--- The blocks that calls ask to lend, among more calls.
-use Rattle.driver_laws.specs.{Before.asks_for, Before.is_asked, Prelude.Call}
-use Rattle.std.proofs.Common.{Bool, List, [], false, refl, true, ℕ, ◌++◌, ◌||◌, ◌∷◌, ◌≡◌}
+-- A driver lends blocks of its arena that its calls ask to lend, and no others.
+use Rattle.start_laws.specs.Before.{asks_for, is_asked}
+use Rattle.pmd_driver.specs.{Apart.LendsApart, Apart.MayLend, Halves.after_call}
+use Rattle.pmd_driver.specs.PmdTx.Sending.{Elsewhere}
+use Rattle.driver_laws.proofs.Prelude.{AllLendApart, Block, Blocks, Bool, Call, Doer, Event, Halves, IsTrue, LeadsApart}
+use Rattle.driver_laws.proofs.Prelude.{List, Receives, Sends, [], arith, common_steps, eq-eqb, false, refl, true, ℕ}
+use Rattle.driver_laws.proofs.Prelude.{◌&&◌, ◌∷◌, ◌≡◌}
 use Rattle.std.proofs.lemmas.Bool.{or_left, or_right}
+use Rattle.nic_device.specs.declared.event.Event.TheVariants as event
 
-pub or_more : (a b c : Bool) → (b ≡ true → c ≡ true) → (a || b) ≡ true → (a || c) ≡ true
-or_more true b c more is = refl
-or_more false b c more is = more is
+pub both_true : (x y : Bool) → x ≡ true → y ≡ true → (x && y) ≡ true
+both_true true y one two = two
+both_true false y one two = one
 
-pub asked_behind : (xs ys : List Call) (n : ℕ) → is_asked ys n ≡ true → is_asked (xs ++ ys) n ≡ true
-asked_behind [] ys n is = is
-asked_behind (x ∷ xs) ys n is = or_right (asks_for x.event n) _ (asked_behind xs ys n is)
+module _ (own asks : Blocks) where
+  abbrev pub Both : Blocks
+  Both = λ n. own n && asks n
 
-pub asked_ahead : (xs ys : List Call) (n : ℕ) → is_asked xs n ≡ true → is_asked (xs ++ ys) n ≡ true
-asked_ahead [] ys n is = cc
-asked_ahead (x ∷ xs) ys n is =
-    or_more (asks_for x.event n) (is_asked xs n) (is_asked (xs ++ ys) n) (asked_ahead xs ys n) is
+  may_asked : (h : Halves) (d : Doer) (n : ℕ) → MayLend own h d n → asks n ≡ true → MayLend Both h d n
+  may_asked h Receives n may is = (both_true (own n) (asks n) may.0 is, may.1)
+  may_asked h (Sends Elsewhere) n may is = grind (arith, common_steps)
+  may_asked h (Sends m) n may is = (both_true (own n) (asks n) may.0 is, may.1)
 
-pub asked_last : (old before : List Call) (c : Call) (n : ℕ) → asks_for c.event n ≡ true
-    → is_asked (old ++ (before ++ c ∷ [])) n ≡ true
-asked_last old before c n is = asked_behind old _ n (asked_behind before (c ∷ []) n (or_left _ _ is))
+  pub lends_asked : (h : Halves) (d : Doer) (e : Event Block) → LendsApart own h d e
+      → ((n : ℕ) → asks_for e n ≡ true → asks n ≡ true) → LendsApart Both h d e
+  lends_asked h d (event.Lend block) may within =
+      may_asked h d block.number may (within block.number (eq-eqb block.number block.number refl))
+  lends_asked h d other may within = tt
+
+  pub all_asked : (h : Halves) (doers : List Doer) (calls : List Call) → AllLendApart own h doers calls
+      → ((n : ℕ) → is_asked calls n ≡ true → asks n ≡ true) → AllLendApart Both h doers calls
+  all_asked h [] calls apart within = tt
+  all_asked h (d ∷ doers) [] apart within = tt
+  all_asked h (d ∷ doers) (c ∷ calls) apart within = (
+    lends_asked h d c.event apart.0 (λ n is. within n (or_left _ _ is)),
+    all_asked (after_call h d c) doers calls apart.1 (λ n is. within n (or_right _ _ is)),
+  )
+
+  pub leads_asked : {old new : List Call} {h k : Halves} (x : LeadsApart own old h new k)
+      → ((n : ℕ) → is_asked x.leads.1 n ≡ true → asks n ≡ true) → LeadsApart Both old h new k
+  leads_asked {h = h} x within = record { leads = x.leads; apart = all_asked h x.leads.0 x.leads.1 x.apart within }

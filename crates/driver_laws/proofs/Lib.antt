@@ -1,24 +1,14 @@
-pub use Rattle.driver_laws.proofs.Meeting as Beside
-pub use Rattle.driver_laws.proofs.Ground as Words
-pub use Rattle.driver_laws.proofs.TimedOut as Filling
-pub use Rattle.driver_laws.proofs.Parts as Retold
-pub use Rattle.device_lock.proofs.Histories
-pub use Rattle.ring_laws.proofs as RingLaws
-pub use Rattle.ring_laws.proofs.HistoryLaws
-pub use Rattle.driver_laws.proofs.Healthy as Fitting
-pub use Rattle.driver_laws.proofs.Reached as Made
+pub use Rattle.start_laws.proofs as StartLaws
 pub mod Asked
-pub mod Ground
-pub mod Healthy
-pub mod InOrder
-pub mod Laid
-pub mod Meeting
-pub mod On
-pub mod Parts
-pub mod Points
+pub mod Beside
+pub mod Closed
+pub mod Faultless
+pub mod Laying
+pub mod Lent
+pub mod Order
 pub mod Prelude
-pub mod Reached
-pub mod Sending
+pub mod Refused
+pub mod Shifted
 pub mod StopCalls
-pub mod SwitchedOff
-pub mod TimedOut
+pub mod Stopped
+pub mod Told

@@ -1,32 +1,57 @@
--- The definitions of these laws that their proofs cite most, passed on from one place. Declares nothing.
-unfoldable pub use Rattle.nic_device.specs.Step.{step_of}
-pub use Rattle.device_lock.proofs.Histories.{events_before, events_behind, leads-append, legal_behind}
-pub use Rattle.device_lock.specs.Alone.{WritesOutside, is_setting}
-pub use Rattle.driver_laws.specs.Along.{AtCalls, AtEntries, BeforeLast, IsAlong, IsKept, Leads}
-pub use Rattle.driver_laws.specs.Points.{AllMay, HasGround, IsEnable, Point, Sides, after_access, after_accesses}
-pub use Rattle.driver_laws.specs.{Agreeing.AreLent, Agreeing.BothAgree, Stopping.AreMadeOf, Stopping.Ends}
-pub use Rattle.driver_laws.specs.{Ending.IsEnding, Ending.IsPlain, Faultless.BeforeNext, Points.seen_by, Quiet.no_block}
-pub use Rattle.driver_laws.specs.{Faultless.Never, Moves.IsMet, Moves.IsSized, Moves.and_one, Moves.side_seen}
-pub use Rattle.driver_laws.specs.{Healthy.IsHealthy, Quieting.IsQuiet, TimedOut.AllAre, Unused.AreUnused}
-pub use Rattle.driver_laws.specs.{Histories.IsDriven, Histories.doer_of, Histories.doers_after, Standing.Stands}
-pub use Rattle.driver_laws.specs.{Standing.IsZero, Words.Fits, Words.NamesRow, Words.across, Words.side_with}
-pub use Rattle.nic_device.specs.RegTable.{Rows.row_of, Runs.runs, declared.rows.RowId.TheVariants.Tdwbah}
-pub use Rattle.nic_device.specs.RegisterFile.Access.{asks_pool_reset, asks_reset}
-pub use Rattle.nic_device.specs.RegisterFile.{Owner.owner_of, Registers.word_of}
-pub use Rattle.nic_device.specs.declared.event.Reply.TheVariants.{Done, Wrote}
-pub use Rattle.nic_device.specs.{Access.named_written, Outcome.Outcome, Outcome.gives, VfMap.Owner.is_transmit}
-pub use Rattle.nic_device.{proofs.Cases.lent_cases, proofs.Steps.keeps_sound, specs.VfMap.Owner.is_receive}
-pub use Rattle.pmd.specs.PmdSeam.QueueMade.{IsOtherwise, IsStrayRead, StopsBy}
-pub use Rattle.pmd.{proofs.Apart.both_apart, specs.PmdSeam.Sides.PollsEnd, specs.PmdTx.Sending.IsOwn}
-pub use Rattle.ring_laws.proofs.InOrder.{calls_other, calls_own, since-append, vfs_stays}
-pub use Rattle.ring_laws.proofs.DeviceLaws.Standing.{memory_blocks, memory_rest, stays_within}
-pub use Rattle.ring_laws.proofs.DeviceLaws.StandingAccesses.{read_rest, write_memory, write_rest}
-pub use Rattle.ring_laws.proofs.HistoryLaws.Leaving.{plain-write, queues_left, transmit_left}
-pub use Rattle.ring_laws.proofs.HistoryLaws.Steady.{IsIdle, asked, idle_silent, idle_steady, not_again, steady_kept}
-pub use Rattle.ring_laws.proofs.HistoryLaws.{Alone.histories_sound, Deeds.left_deed, Deeds.left_did, Steady.told_on}
-pub use Rattle.ring_laws.proofs.{InOrder.sent_is_counted, ReceiveLent.mine_driven, TransmitLent.mine-moved}
-pub use Rattle.ring_laws.proofs.{DeviceLaws.KeptSettings.settings_stand, Fitting.none_begun_while_off}
-pub use Rattle.ring_laws.specs.{Delivered.gathered, DeviceLaws.Laws.WritesNoSetting, Fitting.AreFitting, ReceiveUp.IsUp}
-pub use Rattle.ring_laws.specs.{HistoryLaws.Sides.IsOff, Pieces.Piece, Pieces.packets_of, Sparing.Spares}
-pub use Rattle.ring_laws.{proofs.Begun.begun_stays, proofs.Foreign.no_registers, specs.HistoryLaws.Left.Deed}
-pub use Rattle.{driver_laws.specs.Standing.Stand, pmd.specs.PmdRx.Receive.block_at, pmd.specs.PmdRx.Receive.reach}
+-- The names that the proofs here cite most, passed on from one place. Declares nothing.
+pub use Rattle.device_lock.proofs.Histories.{events-append, leads-append, legal-append, legal_behind}
+pub use Rattle.device_lock.specs.Alone.{has_begun, lent_in}
+pub use Rattle.driver_laws.specs.Places.{EachInOnePlace, IsToldAlone, LentIsOut, OutIsLent, is_out, memory_after}
+pub use Rattle.driver_laws.specs.Prelude.{AreMadeOf, BeforeLast, EndsOnceOff, FaultsEarly, FaultsFilling, TakesOnceOff}
+pub use Rattle.driver_laws.specs.Prelude.{AreOn, Ends, HasGround, IsAlong, IsAsking, IsEnding, IsQuiet, IsSilent}
+pub use Rattle.driver_laws.specs.Told.{AllFollow, Drove, Follows, HasNoneOut, IsTold, IsToldOf, Moment, Told, last}
+pub use Rattle.driver_laws.specs.{Beside.Beside, Beside.GoesOn, Beside.IsToldBy, Beside.WasTold, Beside.now}
+pub use Rattle.driver_laws.specs.{Course.Course, Faultless.BeginsApart, Faultless.IsFresh, Faultless.NoneLent}
+pub use Rattle.driver_laws.specs.{Life.IsLife, Life.Life}
+pub use Rattle.driver_laws.{specs.Ends.Ended, specs.Ends.IsOver, specs.Lends.first_of, specs.Stopped.IsStopping}
+pub use Rattle.nic_device.proofs.{Cases.either_way, DmaArena.Arenas.is_own-of_free, Steps.new_sound}
+pub use Rattle.nic_device.specs.{DmaArena.Numbers.count_of, State.Waiting, State.cleared, VfMap.Owner.has_queue}
+pub use Rattle.pmd_driver.proofs.PmdAccess.Rings.{among_times, ring_block_among, times_among}
+pub use Rattle.pmd_driver.proofs.{Apart.apart_on, Apart.receiving_apart, Followed.receiving_drives}
+pub use Rattle.pmd_driver.proofs.{Followed.sending_drives}
+pub use Rattle.pmd_driver.specs.{Apart.OwnsSame, Halves.Drives, PmdAccess.Begun.LeadsTo, PmdAccess.Both.receive_polled}
+pub use Rattle.pmd_driver.specs.{PmdAccess.QueueMade.IsStrayRead, PmdRx.Plays.PlaysFrom, PmdTx.Plays.LooksLast}
+pub use Rattle.pmd_driver.specs.{Starting.IsTransmitReady, Starting.LendsEach, Starting.PreparingFails}
+pub use Rattle.pmd_driver.specs.{Starting.ReceiveFails, Stopping.closed}
+pub use Rattle.pmd_driver.{proofs.PmdAccess.Outside.times-append, specs.Life.HasLived, specs.Life.IsStopped}
+pub use Rattle.pmd_driver.{specs.Life.Lives, specs.PmdAccess.Home.IsDrawn, specs.PmdAccess.Scheduled.own_calls}
+pub use Rattle.pmd_driver.{specs.PmdAccess.Sides.PollsEnd, specs.PmdAccess.Sides.missed, specs.PmdAccess.Sides.polled}
+pub use Rattle.pmd_driver.{specs.PmdAccess.Sides.quiet}
+pub use Rattle.start_laws.proofs.Beside.{LeadsApart, drives_lead, harmless_apart, leads_on, left}
+pub use Rattle.start_laws.proofs.Parts.{Parts, around, calls_joined, none_behind, one_begins, parts}
+pub use Rattle.start_laws.proofs.Retold.{events_same, legal_same, same_delivers, same_leads, same_sends}
+pub use Rattle.start_laws.proofs.RingLaws.InOrder.{calls_other, calls_own, image_stays, since-append, vfs_stays}
+pub use Rattle.start_laws.proofs.StopCalls.{none_made, some_made, then_made}
+pub use Rattle.start_laws.proofs.SwitchedOff.{IsSettled, Settles, ending_plain, left_settles}
+pub use Rattle.start_laws.proofs.{Filling.faults_are_early_or_filling, RingLaws.InOrder.sent_is_counted}
+pub use Rattle.start_laws.proofs.{Ground.ground_kept, HistoryLaws.Alone.lent_before, HistoryLaws.Leaving.left-setting}
+pub use Rattle.start_laws.proofs.{Ground.ground_same, Ground.plain_keeps, Ground.plain_setting}
+pub use Rattle.start_laws.proofs.{Histories.events_before, Histories.legal_before, HistoryLaws.Leaving.left-side}
+pub use Rattle.start_laws.specs.Prelude.{Access, AllOwn, AtPort, Blocks, Halted, lent_by, mode_in, sent_by, sent_in}
+pub use Rattle.start_laws.specs.Prelude.{Adds, AllLendApart, WritesOutside, left_accepted, pieces_since, times_in_hand}
+pub use Rattle.start_laws.specs.Prelude.{AreEvents, FindsNone, delivered, halted_of, halves_of, ring_words, sent_since}
+pub use Rattle.start_laws.specs.Prelude.{AreMade, PmdFault, Receives, Register, arena_of, bytes_of, calls_of, has_lent}
+pub use Rattle.start_laws.specs.Prelude.{AreSteps, OnlyLent, Rx, handed_of, has_block, new_state, places_of, played_by}
+pub use Rattle.start_laws.specs.Prelude.{AreUp, FitsBlocks, IsNumberOf, IsPrepared, IsSwitched, both_quiet, enable_row}
+pub use Rattle.start_laws.specs.Prelude.{Block, StopsBy, Watched, WhereUp, call_in, call_of, has_bit, is_free, is_step}
+pub use Rattle.start_laws.specs.Prelude.{Call, Doer, Mode, Port, Rest, Sees, Sets, Tx, Up, lends, named, place}
+pub use Rattle.start_laws.specs.Prelude.{DeviceFault, IsReceiveReady, LeavesAloneFrom, asks_pool_reset, packets_if_any}
+pub use Rattle.start_laws.specs.Prelude.{Dir, IsEvent, IsLegal, IsSound, Numbers, Receive, Running, leads_to, reply_to}
+pub use Rattle.start_laws.specs.Prelude.{DrivesApart, DrivesRings, accepted_of, left_handed, most_blocks, ring_blocks}
+pub use Rattle.start_laws.specs.Prelude.{Entry, Halves, HasAll, IsMade, Memory, Packet, Rxdctl, Sender, is_own, pieces}
+pub use Rattle.start_laws.specs.Prelude.{Event, Piece, Place, Reply, Rings, RowId, Sends, State, after, is_on, row_of}
+pub use Rattle.start_laws.specs.{Along.AtCalls, Before.OnlyPassLends, Beside.OthersHarmless, RingLaws.Laws.IsPrefixOf}
+pub use Rattle.start_laws.specs.{Along.AtEntries, Along.IsKept, Beside.Leads, Ending.Each, Stopping.Asks}
+pub use Rattle.start_laws.{proofs.InOrder.led, proofs.On.sized, specs.Agreeing.AreLent, specs.Agreeing.BothAgree}
+pub use Rattle.std.proofs.Common.{[], ◌+◌, ◌-◌, ◌<◌, ◌∙◌, ◌∷◌, ◌≡◌, ◌≢◌, ◌≤◌, ◌⊎◌, ap, max, not, suc, sym}
+pub use Rattle.std.proofs.Common.{⊎_elim, Bool, Option, append_assoc, arith, false, length, nat_cmp, nat_lt, option_map}
+pub use Rattle.std.proofs.Common.{◌&&◌, ◌++◌, ◌||◌, List, None, Some, cond, inl, inr, refl, rules, subst, true, zero, ℕ}
+pub use Rattle.std.proofs.lemmas.Bool.{and_parts, both_ways, cases_Bool, eq-eqb, false_from_ne_true, true_from_ne_false}
+pub use Rattle.std.proofs.{lemmas.List.append-nil, lemmas.List.append_cancel_left, lemmas.List.same_from_push}
+pub use Rattle.std.specs.{Prelude.All, Prelude.IsFalse, Prelude.IsTrue, Prelude.is_some, Prelude.⊤, Prelude.◌==◌}
+pub use Rattle.std.{proofs.lemmas.Bool.or_cases, proofs.lemmas.Grind.common_steps, specs.List.list_any}

@@ -1,87 +1,183 @@
--- What the driver's pass may make beside the calls of the driver's halves: events that leave every queue alone.
-use Rattle.std.specs.Prelude.{[], ⊤, ◌&&◌, ◌++◌, ◌∷◌, ◌≡◌, Bool, IsTrue, List, None, Option, Some, false, not, true, ℕ}
-use Rattle.nic_device.specs.{RegTable.Place.place_among, RegTable.Runs.runs, VfMap.Owner.is_receive}
-use Rattle.nic_device.specs.{VfMap.Owner.is_transmit, declared.event.Port.TheVariants.Pf}
-use Rattle.nic_device.specs.{declared.event.Port.TheVariants.Vf}
-use Rattle.device_lock.specs.Alone.{is_setting}
-use Rattle.pmd.specs.{Halves.Drives, PmdSeam.Made.AddsSome}
-use Rattle.driver_laws.specs.Histories.{OthersLeaveAlone}
-use Rattle.driver_laws.specs.Prelude.{Adds, AllOwn, Block, Blocks, Call, Doer, Entry, Event, Halves, Place, Reply}
-use Rattle.driver_laws.specs.Prelude.{State, Watched, asks_pool_reset, calls_of, is_neither, played_by, row_of}
-use Rattle.nic_device.specs.declared.event.Event.TheVariants as event
+-- A driver beside whatever calls its author makes through the same way to the device, as those of a second driver.
+use Rattle.std.specs.Prelude.{[], ◌++◌, ◌<◌, ◌∷◌, ◌≡◌, ◌≢◌, ◌⊎◌, Bool, List, ℕ, length}
+use Rattle.start_laws.specs.{Beside.AddsHarmless, Retold.AreSame}
+use Rattle.start_laws.specs.Prelude.{AreEvents, AtPort, Call, Entry, IsLegal, IsSound, LeavesAloneFrom, Numbers}
+use Rattle.start_laws.specs.Prelude.{Running, State, Up, Watched, accepted_of, bytes_of, calls_of, delivered}
+use Rattle.start_laws.specs.Prelude.{entries_in, halves_of, handed_of, leads_to, marked_entries, sent_since}
+use Rattle.driver_laws.specs.{Life.IsLife, Looks.EndsAt, Prelude.BeforeLast, Prelude.HasGround, Waits.Waits}
+use Rattle.driver_laws.specs.Course.{Course, IsAllSent, IsHandedInOrder, IsSentInOrder}
+use Rattle.driver_laws.specs.Told.{Drove, HasNoneOut, IsTold, LooksInVain, Moment, last}
+use Rattle.pmd_driver.specs.{Life.KeepsHalves, PmdAccess.Begun.From, PmdAccess.Begun.began_handled}
+use Rattle.pmd_driver.specs.{PmdAccess.Begun.began_in_hand, PmdAccess.Made.InHand, PmdAccess.Scheduled.Handled}
+use Rattle.pmd_driver.specs.{PmdAccess.Scheduled.own_calls, Started.HasStarted}
 
--- whether no queue rests on a register, whichever queue, where this word is written to it: it is no setting and of
--- neither side of a queue, and the write asks for no reset of a pool. So it is where there is no register
-abbrev pub spares_all : Option Place → ℕ → Bool
-spares_all None word = true
-spares_all (Some p) word =
-    not (is_setting p.row) && not (is_receive p.row) && not (is_transmit p.row)
-    && not (asks_pool_reset (row_of p.row).kind word)
+-- a legal history of a sound device, whichever its state at first, and how it is told anew: the same calls, of which
+-- those that the driver's author made beside it have another pass's tag
+pub record WasTold (origin : State) (h g : List Entry) : Type 0 where
+  pub sound : IsSound origin
+  pub events : AreEvents h
+  pub legal : IsLegal origin h
+  pub same : AreSame h g
 
--- whether an event writes no register that a queue rests on, by a number of the physical function, and none by one of a
--- virtual function; and lends, takes and pokes no block
-abbrev pub is_harmless : Event Block → Bool
-is_harmless (event.Write Pf number word) = spares_all (place_among runs number) word
-is_harmless (event.Write (Vf v) offset word) = false
-is_harmless (event.Lend block) = false
-is_harmless (event.Take number) = false
-is_harmless (event.Poke16 address bytes) = false
-is_harmless (event.Read port number) = true
-is_harmless (event.Peek16 address) = true
-is_harmless (event.Arrive frame) = true
-is_harmless (event.Link up) = true
-is_harmless event.Collect = true
-is_harmless event.RxStep = true
-is_harmless (event.TxStep queue) = true
-is_harmless (event.IntStep group) = true
-is_harmless (event.QueueStep dir queue) = true
-is_harmless event.EepromStep = true
+-- told so it leaves the queue alone: so those calls write no row of the queue, no setting, and reset not its pool; and
+-- they lend, take and poke no block that the driver itself lends
+pub record IsRetold (w : Watched) (origin : State) (h g : List Entry) : Type 0 where
+  pub small : w.queue < 128
+  pub vfs : w.vfs ≡ origin.vfs
+  pub was : WasTold origin h g
+  pub alone : LeavesAloneFrom w origin g
 
--- each of these calls is such
-abbrev pub AreHarmless : List Call → Type 0
-AreHarmless [] = ⊤
-AreHarmless (c ∷ calls) = IsTrue (is_harmless c.event) × AreHarmless calls
+-- from one moment of a driver that runs to the next, with the calls so far that were the driver's own: a call of `rx`,
+-- `tx`, `reap`, `rx_burst` or `tx_burst`, as its clause `drives` tells, all of whose calls are its own; or any calls
+-- of the author's, through whichever way, with a call of `packet` or `release`, as its clause `halves` tells, or none.
+-- What the way to the device tells of its calls may begin anew there, as where a `Direct` is finished and another made
 
--- some such calls were made
-abbrev pub AddsHarmless : List Call → List Call → Type 0
-AddsHarmless old new = (more : List Call) × (new ≡ old ++ more) × AreHarmless more
+abbrev pub DroveBy : Moment → List Call → Moment → List Call → Type 0
+DroveBy m own n then = Drove m n × (since : List Call) × (n.made ≡ m.made ++ since) × (then ≡ own ++ since)
 
--- a call of a harmless event through a way to a device, as the clause `made` of that way tells, adds such calls alone;
--- and so does one that was refused, as its clause `refused` tells
-abbrev pub CallsAddHarmless : Type 0
-CallsAddHarmless =
-    (old new : List Call) (e : Event Block) (reply : Reply Block) → Adds old new e reply → IsTrue (is_harmless e) →
-    AddsHarmless old new
+abbrev pub KeepsBy : Moment → List Call → Moment → List Call → Type 0
+KeepsBy m own n then = KeepsHalves m.driver.rings n.driver.rings × (then ≡ own)
 
-abbrev pub StepsAddHarmless : Type 0
-StepsAddHarmless = (old new : List Call) → AddsSome old new → AddsHarmless old new
+abbrev pub FollowsBy : Moment → List Call → Moment → List Call → Type 0
+FollowsBy m own n then = DroveBy m own n then ⊎ KeepsBy m own n then
 
--- the calls that are neither half's are such. Those behind the last doer are neither's
-abbrev pub OthersHarmless : List Doer → List Call → Type 0
-OthersHarmless [] calls = AreHarmless calls
-OthersHarmless (d ∷ doers) [] = ⊤
-OthersHarmless (d ∷ doers) (c ∷ calls) =
-    (IsTrue (is_neither d) → IsTrue (is_harmless c.event)) × OthersHarmless doers calls
+abbrev pub AllFollowBy : Moment → List Call → List Moment → List Call → Type 0
+AllFollowBy m own [] then = then ≡ own
+AllFollowBy m own (n ∷ later) then = (next : List Call) × FollowsBy m own n next × AllFollowBy n next later then
 
--- some calls were made, which lead the halves from one state to another. Those that are neither half's are harmless
-abbrev pub Leads : List Call → Halves → List Call → Halves → Type 0
-Leads old h new k =
-    (doers : List Doer) × (since : List Call) × (new ≡ old ++ since) × AllOwn h doers since
-    × (k ≡ played_by h doers since) × OthersHarmless doers since
+-- a `start` brought the driver up, as its clause `started` tells, and the other moments follow on the one when it
+-- returned. The driver's own calls are those of its start and those since; ahead of them may be others of its pass,
+-- whichever of those that were made before it are told so
+pub record IsToldBy (q : AtPort) (size frame : ℕ) (old : List Call) (a : Numbers) (m : Moment) (later : List Moment)
+    (ahead own : List Call) : Type 0 where
+  pub started : HasStarted q size frame old a m.made m.driver
+  -- the calls of the start, and those of them up to its first access
+  pub start : List Call
+  pub made : m.made ≡ old ++ start
+  pub first : List Call
+  pub access : started.2.receive.quiet.0 ≡ old ++ first
+  pub since : AllFollowBy m (ahead ++ start) later own
 
--- so the driver's calls lead, since what they make beside are steps of the device
-abbrev pub DrivesLead : Type 0
-DrivesLead = (old new : List Call) (h k : Halves) → Drives old h new k → Leads old h new k
+-- such a driver over such a history. Just before its first access its port and queue name this queue, and frames have
+-- at most as many bytes as its packets
+pub record Beside : Type 0 where
+  pub course : Course
+  pub open course use *
+  pub g : List Entry
+  pub m : Moment
+  pub later : List Moment
+  pub ahead : List Call
+  pub own : List Call
+  pub retold : IsRetold w origin h g
+  pub told : IsToldBy q size frame old a m later ahead own
+  pub ground : BeforeLast w origin g (ahead ++ told.first) (HasGround w.queue q frame)
 
--- so do harmless calls by themselves, and calls behind calls that lead
-abbrev pub HarmlessLead : Type 0
-HarmlessLead = (old new : List Call) (h : Halves) → AddsHarmless old new → Leads old h new h
+-- its last moment
+abbrev pub now : Beside → Moment
+now x = last x.m x.later
 
-abbrev pub LeadsOn : Type 0
-LeadsOn = (old mid new : List Call) (h j k : Halves) → Leads old h mid j → Leads mid j new k → Leads old h new k
+-- the pass has made just the driver's own calls up to that moment, as the history is told anew
+abbrev pub IsToldBeside : Beside → Type 0
+IsToldBeside x = calls_of x.w.pass x.g ≡ x.own
 
--- and harmless calls leave the queue alone
-abbrev pub HarmlessLeaveAlone : Type 0
-HarmlessLeaveAlone =
-    (w : Watched) (mine : Blocks) (s : State) (doers : List Doer) (es : List Entry) →
-    OthersHarmless doers (calls_of w.pass es) → OthersLeaveAlone w mine s doers es
+-- by the driver's own calls alone its moments are told too, with the driver as it is at each
+abbrev pub by_own : List Call → Moment → Moment
+by_own own m = record m { made = own }
+
+pub record IsToldAnew (q : AtPort) (size frame : ℕ) (old : List Call) (a : Numbers) (m : Moment) (later : List Moment)
+    (ahead own : List Call) (x : IsToldBy q size frame old a m later ahead own) : Type 0 where
+  pub others : List Moment
+  pub told : IsTold q size frame ahead a (by_own (ahead ++ x.start) m) others
+  pub access : told.started.2.receive.quiet.0 ≡ ahead ++ x.first
+  pub ends : last (by_own (ahead ++ x.start) m) others ≡ by_own own (last m later)
+
+-- so all laws on what a driver's calls tell apply to the history as it is told anew
+abbrev pub OwnAreTold : Type 0
+OwnAreTold =
+    (q : AtPort) (size frame : ℕ) (old : List Call) (a : Numbers) (m : Moment) (later : List Moment)
+    (ahead own : List Call) (x : IsToldBy q size frame old a m later ahead own) →
+    IsToldAnew q size frame old a m later ahead own x
+
+-- and all laws of a life do: told anew it is one of the driver's
+
+abbrev pub anew : Beside → Course
+anew x = record x.course { h = x.g; old = x.ahead }
+
+abbrev pub ToldIsLived : Type 0
+ToldIsLived =
+    (x : Beside) →
+    (r : Running) × ((now x).driver.rings ≡ Up r)
+    × IsLife (anew x) (x.ahead ++ x.told.start) x.told.started.0 x.own (halves_of r)
+
+-- what the driver handed out is a prefix of what was delivered
+abbrev pub HandedIsPrefix : Type 0
+HandedIsPrefix =
+    (x : Beside) → IsToldBeside x → IsHandedInOrder x.course (handed_of (now x).driver.rings)
+
+-- what was sent is a prefix of what the driver accepted, and it is all of that where no packet is outstanding
+
+abbrev pub SentIsPrefix : Type 0
+SentIsPrefix =
+    (x : Beside) → IsToldBeside x → IsSentInOrder x.course (accepted_of (now x).driver.rings)
+
+abbrev pub IdleIsAllSent : Type 0
+IdleIsAllSent =
+    (x : Beside) → IsToldBeside x → HasNoneOut (now x).driver.rings →
+    IsAllSent x.course (accepted_of (now x).driver.rings)
+
+-- behind the last moment comes a call of the driver's, which made these calls. As the history is told anew the pass has
+-- made the driver's own calls up to there at some entry, whatever comes behind it
+pub record IsCalledBeside (x : Beside) (n : Moment) : Type 0 where
+  pub since : List Call
+  pub made : n.made ≡ (now x).made ++ since
+  pub look : EndsAt x.w.pass x.g (x.own ++ since)
+
+-- where that call looks in vain, what the driver had handed out is all that was delivered before the entry of its last
+-- look, by the entries of the history that are told anew before that
+abbrev pub NoneIsAllBefore : Type 0
+NoneIsAllBefore =
+    (x : Beside) (n : Moment) (called : IsCalledBeside x n) → LooksInVain (now x) n →
+    (early : List Entry) → AreSame early called.look.before →
+    handed_of (now x).driver.rings ≡ delivered x.w.queue x.origin early
+
+-- and it is all that was delivered before the first event of that call's own, whatever the author made ahead of it
+abbrev pub NoneIsAllAtFirst : Type 0
+NoneIsAllAtFirst =
+    (x : Beside) (n : Moment) (called : IsCalledBeside x n) → LooksInVain (now x) n →
+    (before more early : List Entry) → before ++ more ≡ called.look.before →
+    AddsHarmless x.own (calls_of x.w.pass before) → AreSame early before →
+    handed_of (now x).driver.rings ≡ delivered x.w.queue x.origin early
+
+-- where that call ends with a packet outstanding, not all that the driver had accepted was sent before its first event
+abbrev pub WaitingIsNotAll : Type 0
+WaitingIsNotAll =
+    (x : Beside) (n : Moment) (called : IsCalledBeside x n) → Waits (now x) n →
+    (before more early : List Entry) → before ++ more ≡ called.look.before →
+    AddsHarmless x.own (calls_of x.w.pass before) → AreSame early before →
+    bytes_of (accepted_of (now x).driver.rings) ≢ sent_since x.w.queue x.origin [] early
+
+-- entries behind a history that was told anew, which are told so too: as they are told pass 0 made these calls in them,
+-- and they lead to a device
+pub record GoesOn (origin : State) (before told es anew : List Entry) (calls : List Call) (device : State) :
+    Type 0 where
+  pub was : WasTold origin (before ++ es) (told ++ anew)
+  pub made : calls_of 0 (told ++ anew) ≡ calls_of 0 told ++ calls
+  pub leads : leads_to origin (before ++ es) ≡ device
+
+-- so are the calls through a `Direct` with marks that tell which of them are the driver's own, as those through an
+-- `Interleaved` are marked, of which other marks tell it; and so on, through one way behind another. For two drivers
+-- over one device each has its marks, with the calls of the other among those that are none of its own
+
+abbrev pub DirectIsRetold : Type 0
+DirectIsRetold =
+    (origin : State) (before told : List Entry) (d : InHand) (own : List Bool) → length own ≡ length d.calls →
+    WasTold origin before told → began_in_hand d (From (leads_to origin before)) →
+    GoesOn origin before told (entries_in d.calls) (marked_entries d.calls own) (own_calls d.calls own) d.device
+
+abbrev pub InterleavedIsRetold : Type 0
+InterleavedIsRetold =
+    (origin : State) (before told : List Entry) (i : Handled) (own : List Bool) → length own ≡ length i.calls →
+    length i.own ≡ length i.calls → WasTold origin before told →
+    began_handled i (From (leads_to origin before)) →
+    GoesOn origin before told (marked_entries i.calls i.own) (marked_entries i.calls own) (own_calls i.calls own)
+    i.device

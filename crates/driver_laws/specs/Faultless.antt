@@ -1,50 +1,91 @@
--- A start on a queue whose sides are off finds no device at fault, over a history that leaves the queue alone.
-use Rattle.std.specs.Prelude.{[], ◌++◌, ◌∷◌, ◌≡◌, IsFalse, List, true, ℕ}
-use Rattle.nic_device.specs.DmaArena.Numbers.{is_free}
-use Rattle.driver_laws.specs.Prelude.{AreSteps, AtPort, Call, DeviceFault, Entry, IsReceiveReady, IsTransmitReady}
-use Rattle.driver_laws.specs.Prelude.{Numbers, PreparingFails, Receive, ReceiveFails, Sender, State, SwitchFails, Tx}
-use Rattle.driver_laws.specs.Prelude.{Watched, has_block, is_step}
-use Rattle.driver_laws.specs.{Along.AtCalls, Along.BeforeLast, Along.IsAlong, Before.is_asked, Quieting.IsQuiet}
+-- A driver of whose arena others lend no block that it asks to lend: no call of its finds the device at fault, and nor
+-- does its start.
+use Rattle.std.specs.Prelude.{ℕ, IsTrue, IsFalse, List, ◌≡◌, ◌≢◌, ◌++◌, All, Option, Some, None, Result}
+use Rattle.start_laws.specs.Prelude.{has_block, is_own, State, Blocks, calls_of, Call, WhereUp, halves_of, Running}
+use Rattle.start_laws.specs.Prelude.{StartRefused, most_blocks, PmdFault, DeviceFault, Packet, AtPort, FitsBlocks}
+use Rattle.start_laws.specs.Prelude.{StopsStarting}
+use Rattle.driver_laws.specs.Asked.{OthersLendNone, asked_of}
+use Rattle.driver_laws.specs.Course.{Course}
+use Rattle.driver_laws.specs.Prelude.{BeforeLast, IsAlong, IsQuiet, BeforeNext, FaultsFilling}
+use Rattle.pmd_driver.specs.Apart.{FindsBy}
+use Rattle.pmd_driver.specs.Bursts.{IsSendBurst, SendsWith}
+use Rattle.driver_laws.specs.Told.{Moment, Told, now}
 
--- the history has no point where the pass has made just these calls
-abbrev pub Never : Watched → State → List Entry → List Call → Type 0
-Never w origin h calls = AtCalls w origin h calls (λ s. ⊥)
+-- none of these blocks is lent
+abbrev pub NoneLent : Blocks → State → Type 0
+NoneLent own s = (number : ℕ) → IsTrue (own number) → IsFalse (has_block s.memory number)
 
--- it holds just before the pass's first call behind these that is no step of the device
-abbrev pub BeforeNext : Watched → State → List Entry → List Call → (State → Type 0) → Type 0
-BeforeNext w origin h old P =
-    (before : List Call) (c : Call) → AreSteps before → IsFalse (is_step c.event) →
-    BeforeLast w origin h (old ++ (before ++ c ∷ [])) P
+-- the frames that wait for a queue fit as many blocks as a packet of the driver has at most, and none of these blocks
+-- is lent
+pub record IsFresh (queue frame : ℕ) (own : Blocks) (s : State) : Type 0 where
+  pub short : All (FitsBlocks queue (most_blocks frame)) s.waiting
+  pub none : NoneLent own s
 
--- just before the last of these calls none of the arena's free blocks is lent that they ask to lend
-abbrev pub NoneIsLent : Watched → State → List Entry → List Call → Numbers → Type 0
-NoneIsLent w origin h calls a =
-    (number : ℕ) → is_free a number ≡ true → is_asked calls number ≡ true →
-    BeforeLast w origin h calls (λ s. IsFalse (has_block s.memory number))
+-- a call of `rx`, `tx`, `reap`, `rx_burst` or `tx_burst` ended with the device at fault, as `finds` in its clauses
+-- tells
+abbrev pub FindsFault : Moment → Moment → Type 0
+FindsFault m n =
+    WhereUp m.driver.rings n.driver.rings
+    (λ r s. FindsBy DeviceFault (is_own r.arena) m.made (halves_of r) n.made)
 
--- a start whose queue is off just before its first call: no side is seen on, each word of the receive ring is taken,
--- and so is each of its blocks
-abbrev pub ReceiveIsReady : Type 0
-ReceiveIsReady =
-    (w : Watched) (q : AtPort) (origin : State) (h : List Entry) (size frame : ℕ) (old : List Call) (a : Numbers)
-    (new : List Call) (b : Numbers) (out : List ℕ) → IsAlong w origin h →
-    BeforeNext w origin h old (IsQuiet w.queue q frame) → ReceiveFails DeviceFault q size old a new b out →
-    NoneIsLent w origin h new b → Never w origin h new
+-- in its history the pass made the calls up to this last moment, and maybe more behind them. Just before the driver's
+-- first access frames were short; and of its arena's blocks, those that its pass asks to lend weren't lent there, and
+-- no other pass lends any of them
+pub record IsToldApart (x : Told) (n : Moment) : Type 0 where
+  pub fresh :
+      BeforeLast x.w x.origin x.h x.told.started.2.receive.quiet.0
+      (IsFresh x.w.queue x.frame (asked_of x.w x.a x.h))
+  pub others : OthersLendNone x.w.pass (asked_of x.w x.a x.h) x.h
+  pub more : List Call
+  pub made : calls_of x.w.pass x.h ≡ n.made ++ more
 
--- then each word of the transmit ring is, and each of its blocks
-abbrev pub TransmitIsReady : Type 0
-TransmitIsReady =
-    (w : Watched) (q : AtPort) (origin : State) (h : List Entry) (size frame : ℕ) (old : List Call) (a : Numbers)
-    (mid : List Call) (b : Numbers) (v : Receive) (new : List Call) (c : Numbers) (out : List ℕ) →
-    IsAlong w origin h → BeforeNext w origin h old (IsQuiet w.queue q frame) →
-    IsReceiveReady q size frame old a mid b v →
-    PreparingFails DeviceFault q Tx size mid b new c out → NoneIsLent w origin h new c → Never w origin h new
+-- no such history has such a call
+abbrev pub NoCallFindsFault : Type 0
+NoCallFindsFault = (x : Told) (n : Moment) → FindsFault (now x) n → ¬ IsToldApart x n
 
--- and both sides are asked on and polled without a stray access
-abbrev pub SwitchingIsNeverStray : Type 0
-SwitchingIsNeverStray =
-    (w : Watched) (q : AtPort) (origin : State) (h : List Entry) (size frame : ℕ) (old : List Call) (a : Numbers)
-    (mid : List Call) (b : Numbers) (v : Receive) (both : List Call) (c : Numbers) (t : Sender) (new : List Call) →
-    IsAlong w origin h → BeforeNext w origin h old (IsQuiet w.queue q frame) →
-    IsReceiveReady q size frame old a mid b v →
-    IsTransmitReady q size frame mid b both c t → SwitchFails DeviceFault q both new true 1000 → Never w origin h new
+-- the fault that a burst met, whatever it answered: as room was made, with a packet, or with none
+abbrev pub met_by : (failed : Option PmdFault) (given left : List Packet) (result : Result ℕ PmdFault) (old : List Call)
+    (r : Running) (new : List Call) (s : Running) → SendsWith failed given left result old r new s → Option PmdFault
+met_by None given left result old r new s sends = sends.met
+met_by (Some f) given left result old r new s sends = Some f
+
+-- a call of `tx_burst` met the device at fault, as its clause `sent` tells: it may have answered how many packets were
+-- accepted before
+abbrev pub SendsAtFault : List Call → Running → List Call → Running → Type 0
+SendsAtFault old r new s =
+    (vacant : ℕ) × (given left : List Packet) × (result : Result ℕ PmdFault)
+    × (x : IsSendBurst vacant given left result old r new s)
+    × (met_by x.failed given left result x.made x.there new s x.sends ≡ Some DeviceFault)
+
+abbrev pub MeetsFault : Moment → Moment → Type 0
+MeetsFault m n = WhereUp m.driver.rings n.driver.rings (λ r s. SendsAtFault m.made r n.made s)
+
+-- no such history has such a call
+abbrev pub NoBurstMeetsFault : Type 0
+NoBurstMeetsFault = (x : Told) (n : Moment) → MeetsFault (now x) n → ¬ IsToldApart x n
+
+-- both sides of the queue are off, and so it begins
+abbrev pub IsQuietAndFresh : ℕ → AtPort → ℕ → Blocks → State → Type 0
+IsQuietAndFresh queue q frame own s = IsQuiet queue q frame s × IsFresh queue frame own s
+
+-- a legal history of a sound device that leaves the queue alone, in which a start made these calls, and maybe more came
+-- behind them. Just before its first access both sides were off and frames were short; and of its arena's blocks, those
+-- that its pass asks to lend weren't lent there, and no other pass lends any of them
+pub record BeginsApart : Type 0 where
+  pub course : Course
+  pub open course use *
+  pub new : List Call
+  pub along : IsAlong w origin h
+  pub begins : BeforeNext w origin h old (IsQuietAndFresh w.queue q frame (asked_of w a h))
+  pub others : OthersLendNone w.pass (asked_of w a h) h
+  pub more : List Call
+  pub made : calls_of w.pass h ≡ new ++ more
+
+-- no such start ends with the device at fault as it fills its receive ring
+abbrev pub NoFillingFindsFault : Type 0
+NoFillingFindsFault = (x : BeginsApart) → ¬ FaultsFilling x.q x.size x.frame x.old x.a x.new
+
+-- nor does it end so amid its events at all
+abbrev pub NoStartFindsFault : Type 0
+NoStartFindsFault =
+    (x : BeginsApart) (e : StartRefused) → StopsStarting x.q x.size x.frame x.old x.a x.new e → e.fault ≢ DeviceFault

@@ -1,24 +1,32 @@
--- A queue whose sides were switched off, and what is received and sent there from then on.
-use Rattle.std.specs.Prelude.{[], ◌++◌, ◌≡◌, ◌≢◌, List, false, ℕ}
-use Rattle.ring_laws.specs.Delivered.{delivered}
-use Rattle.driver_laws.specs.Prelude.{AtPort, Call, Entry, IsSwitched, State, Watched, calls_of, sent_since}
-use Rattle.driver_laws.specs.{Along.AtCalls, Along.IsAlong, Points.HasGround, Quieting.IsQuiet, Stopping.Ends}
+-- A driver whose queue was switched off behind its life, and what goes on there from then on.
+use Rattle.std.proofs.Common.{inl, inr}
+use Rattle.std.specs.Prelude.{◌++◌, ◌≡◌, List, None, Option, Some}
+use Rattle.start_laws.specs.Prelude.{AtPort, Call, Entry, Halted, PmdFault, Rest, Up, calls_of, halted_of}
+use Rattle.driver_laws.specs.{Ends.Ended, Ends.IsOver, Life.Life, Stopped.IsStopping}
+use Rattle.driver_laws.specs.Prelude.{EndsOnceOff, IsSilent}
+use Rattle.pmd_driver.specs.Life.{IsStopped}
+use Rattle.pmd_driver.specs.declared.start.Rest.TheVariants as rest
 
--- wherever the pass has switched both sides off they are off and not wanted on, where the driver's port and queue name
--- this queue before
-abbrev pub SwitchingOffLeads : Type 0
-SwitchingOffLeads =
-    (w : Watched) (q : AtPort) (frame : ℕ) (origin : State) (h : List Entry) (old new : List Call) →
-    IsAlong w origin h → IsSwitched q old new false 1000 → old ≢ [] →
-    AtCalls w origin h old (HasGround w.queue q frame) → AtCalls w origin h new (IsQuiet w.queue q frame)
+-- behind a life, once the calls of its stop have switched both sides of the queue off, nothing is delivered or sent
+-- there any more
+abbrev pub SilentOnceOff : Type 0
+SilentOnceOff =
+    (x : Life) (new : List Call) (done rest : List Entry) → IsStopping x new → (y : EndsOnceOff x.q x.made new) →
+    done ++ rest ≡ x.h → calls_of x.w.pass done ≡ y.off → IsSilent x.w x.origin x.h done
 
--- and from then on nothing is delivered or sent there, where the calls of the pass are those of a stop
-pub record IsSilent (w : Watched) (origin : State) (h done : List Entry) : Type 0 where
-  pub delivered : delivered w.queue origin h ≡ delivered w.queue origin done
-  pub sent : sent_since w.queue origin [] h ≡ sent_since w.queue origin [] done
+-- a driver's stop had switched both sides off when these calls were made: it came home, or failed behind them
+abbrev pub SwitchesOff : (q : AtPort) (old : List Call) (h : Halted) (new : List Call) (left : Rest)
+    (late : Option PmdFault) → IsStopped q old h new left late → List Call → Type 0
+SwitchesOff q old h new (rest.Home home) None (mid, switched, comes) off = off ≡ mid
+SwitchesOff q old h new (rest.Home home) (Some f) x off = ⊥
+SwitchesOff q old h new (rest.Running p) None x off = ⊥
+SwitchesOff q old h new (rest.Running p) (Some f) (after, is, inl unclosed) off = ⊥
+SwitchesOff q old h new (rest.Running p) (Some f) (after, is, inr (inl unswitched)) off = ⊥
+SwitchesOff q old h new (rest.Running p) (Some f) (after, is, inr (inr (mid, switched, amid))) off = off ≡ mid
 
-abbrev pub QuietQueueIsSilent : Type 0
-QuietQueueIsSilent =
-    (w : Watched) (q : AtPort) (frame : ℕ) (origin : State) (h done rest : List Entry) (old new : List Call) →
-    IsAlong w origin h → old ≢ [] → AtCalls w origin h old (IsQuiet w.queue q frame) → Ends q old new →
-    calls_of w.pass h ≡ new → done ++ rest ≡ h → calls_of w.pass done ≡ old → IsSilent w origin h done
+-- so it is of a driver that lived, from there on to any place amid its stop, and to where this ended
+abbrev pub SilentOverStop : Type 0
+SilentOverStop =
+    (x : Ended) (off : List Call) (done rest : List Entry) → IsOver x →
+    SwitchesOff x.q x.lived.made (halted_of (Up x.lived.last)) x.new x.left x.late x.lived.stopped off →
+    done ++ rest ≡ x.h → calls_of x.w.pass done ≡ off → IsSilent x.w x.origin x.h done

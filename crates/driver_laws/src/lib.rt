@@ -1,258 +1,270 @@
-//! What holds of a driver on a queue of a shared device, over whatever others do meanwhile: where its start leads, the
-//! device and the driver agreeing on both sides of its queue, and why one is refused; and what holds of both its halves
-//! from there on.
+//! What a driver's whole life so far gives: it started, and since then it received and sent.
 //!
-//! Each law is the contract of a function that does nothing. `specs/Along` says which histories the laws speak of, and
-//! `specs/Histories` which of these drive both halves; how the halves follow from the calls of a driver's pass is said
-//! by crate `pmd`, and what the device and both halves agree on by `specs/Agreeing`. `specs/Healthy` says over which
-//! histories the device never replies what a queue at fault replies.
+//! Each law is the contract of a function that does nothing. `specs/Course` says over what history a driver is started,
+//! and when packets and frames are in order there, `specs/Life` what a life is by the calls of the driver's pass,
+//! `specs/Lends` which blocks it lends, and `specs/Told` what a life is by what the driver's calls tell.
+//! `specs/InHand` says which history a device in hand has. `specs/Order` says what holds of a life over a history of a
+//! shared device, `specs/Faultless` that neither its start nor a call of its finds the device at fault, `specs/Looks`
+//! what holds where a look finds no packet, and `specs/Waits` where it finds one waiting; `specs/Places` says where its
+//! blocks are at the device, and `specs/FullRing` how many slots are taken where its ring is full. `specs/Ends` says
+//! what holds of what a stopped driver left, `specs/Stopped` what over the calls of its stop, and `specs/Silent` once
+//! these have switched its queue off; `specs/Refused` what holds where its start was refused, and `specs/Room` where an
+//! arena has room for its rings. `specs/Beside` says what holds of a driver beside whatever calls of its author's, and
+//! so do `specs/BesideApart` of its blocks, `specs/BesideRoom` of its full ring, `specs/BesideStart` of its start and
+//! `specs/BesideStop` over its stop.
 #![tactic(auto)]
 
-ghost use Rattle.driver_laws.specs.Before.{FramesStayShortAlong, OnlyPassLent};
-ghost use Rattle.driver_laws.specs.Beside.{CallsAddHarmless, StepsAddHarmless, DrivesLead, HarmlessLead, LeadsOn, HarmlessLeaveAlone};
-ghost use Rattle.driver_laws.specs.Enabling.{EnableWordsKeep};
-ghost use Rattle.driver_laws.specs.Faultless.{ReceiveIsReady, TransmitIsReady, SwitchingIsNeverStray};
-ghost use Rattle.driver_laws.specs.Faults.{NoFault};
-ghost use Rattle.driver_laws.specs.Filling.{FaultsAreEarlyOrFilling, NoFaultIsEarly, FillingBeginsWell};
-ghost use Rattle.driver_laws.specs.Gate.{NamedQueuesPass};
-ghost use Rattle.driver_laws.specs.Healthy.{OwnRepliesAreHealthy};
-ghost use Rattle.driver_laws.specs.Histories.{HandedIsPrefix, NoneIsAll, NoneIsAllBefore, NoneIsAllTaken, SentIsPrefix, IdleIsAllSent, CountedWhereUp};
-ghost use Rattle.driver_laws.specs.Laid.{LaidQueueIsSilent};
-ghost use Rattle.driver_laws.specs.Moves.{WriteStands, ReadStands, LendStands, FreshReceiveAgrees, FreshTransmitAgrees};
-ghost use Rattle.driver_laws.specs.Numbers.{NamedQueueHasTheNumbers};
-ghost use Rattle.driver_laws.specs.On.{SwitchedSidesAgree, SwitchedSidesBeginNone, SwitchedSidesGoOn};
-ghost use Rattle.driver_laws.specs.Points.{AccessesLead};
-ghost use Rattle.driver_laws.specs.Polls.{PollsAreTold};
-ghost use Rattle.driver_laws.specs.Quiet.{ReceiveGuardIsOff, OffSidesStand};
-ghost use Rattle.driver_laws.specs.Quieting.{QuietingLeads, QuietSidesStand};
-ghost use Rattle.driver_laws.specs.Replies.{NamedRegistersReply, OffSidesAreSeenOff};
-ghost use Rattle.driver_laws.specs.Retold.{RetoldIsSame, SameDelivers, SameIsLegal, SameLeads, SameSends};
-ghost use Rattle.driver_laws.specs.Standing.{StandingSidesAreLeft};
-ghost use Rattle.driver_laws.specs.Start.{StartAgrees, StartGoesOn};
-ghost use Rattle.driver_laws.specs.TimedOut.{TimeoutsPoll};
-ghost use Rattle.driver_laws.specs.Waiting.{WaitingIsNotAll};
-ghost use Rattle.driver_laws.specs.Words.{WordsAreTaken};
-ghost use Rattle.nic_device.specs.DmaRing.declared.dir.Dir.TheVariants.{Rx, Tx};
-ghost use Rattle.pmd.specs.Halves.{ReceivingDrives, SendingDrives, OthersDrive, DrivesOn};
+ghost use Rattle.driver_laws.specs.Beside as beside;
+ghost use Rattle.driver_laws.specs.BesideApart as apart;
+ghost use Rattle.driver_laws.specs.BesideRoom as room;
+ghost use Rattle.driver_laws.specs.BesideStart as start;
+ghost use Rattle.driver_laws.specs.BesideStop as stop;
+ghost use Rattle.driver_laws.specs.Closed.{CallsStand};
+ghost use Rattle.driver_laws.specs.Ends.{HandedOverStop, LeftIsPrefix, SentOverStop};
+ghost use Rattle.driver_laws.specs.Faultless.{NoBurstMeetsFault, NoCallFindsFault, NoFillingFindsFault};
+ghost use Rattle.driver_laws.specs.Faultless.{NoStartFindsFault};
+ghost use Rattle.driver_laws.specs.FullRing.{FullHasNoRoom, NoneHasNoRoom};
+ghost use Rattle.driver_laws.specs.InHand.{ClosedIsHistory, DirectIsHistory, InterleavedIsHistory};
+ghost use Rattle.driver_laws.specs.Lends.{LifeLendsApart};
+ghost use Rattle.driver_laws.specs.Looks.{CallsEnd, NoneIsAllAtFirst, NoneIsAllBefore};
+ghost use Rattle.driver_laws.specs.Order.{HandedIsPrefix, NoneIsAll, NoneIsAllTaken, SentIsPrefix, IdleIsAllSent};
+ghost use Rattle.driver_laws.specs.Places.{BooksGoOn, EachInOnePlace, LentIsOut, OutIsLent};
+ghost use Rattle.driver_laws.specs.Refused.{LeftOfRefusedIsPrefix, RefusedSendsNothing};
+ghost use Rattle.driver_laws.specs.Room.{TwoRunsAreFound};
+ghost use Rattle.driver_laws.specs.Silent.{SilentOnceOff, SilentOverStop};
+ghost use Rattle.driver_laws.specs.Stopped as stopped;
+ghost use Rattle.driver_laws.specs.Told as told;
+ghost use Rattle.driver_laws.specs.Waits.{WaitingIsNotAllBefore, WaitingIsNotAllAsTold};
 
-/// The numbers that a driver uses at its port name the registers of the queue that port and queue name: at the physical
-/// function each of the device's queues by its number there, at a virtual function those of its pool, from the first
-/// on.
-#[tactic(auto, using(crate::proofs::Ground::named_queue_has_the_numbers))]
-pub fn named_queue_has_the_numbers()
-    ensures { NamedQueueHasTheNumbers }
+/// The laws here speak of a history from any state on that a device can be in, new or used, with an EEPROM image
+/// installed or without. The calls that were made through a `pmd_access::Direct` are one, all of pass 0, behind what is
+/// known to have been made of the device before it came into hand; and so are those through an `Interleaved`, own ones
+/// of pass 0 and foreign ones of pass 1. It leads to the device in hand. What is asked is that the device was where
+/// that led as the way was made, as `began` tells of a new one, and each call of a driver keeps; and that the history
+/// leaves the queue alone. Of a `Direct` what `device_lock::left_alone` answers suffices, whatever the state; of an
+/// `Interleaved` where no image is installed and the queues weren't parted there.
+///
+/// The calls that were made through a `pmd_access::ThroughLock` are one of a device that was new, as the passes that
+/// closed its history made it: up to the last of them, of whichever tag the pass is, where `left_alone` of what `close`
+/// gives answers so of that tag and the queue. They stand in it, up to an entry of that pass. What the laws ask of
+/// where a driver starts there is told by `workers::begins_well`, as `workers::laws::worker_begins_well` says.
+pub fn calls_in_hand_are_a_history()
+    ensures direct { DirectIsHistory }
+    ensures interleaved { InterleavedIsHistory }
+    ensures stands { CallsStand }
+    ensures closed { ClosedIsHistory }
 {}
 
-/// A word that a driver writes to a register of a side that is off is the side's, whole: its ring's base, length, head
-/// or tail, its control word, or no write-back of the head; and a write of the enable word asks. The queue's other
-/// side, memory, the frame limit and how the queues are parted stay.
-pub fn words_of_an_off_side_are_taken()
-    ensures receive { WordsAreTaken Rx }
-    ensures transmit { WordsAreTaken Tx }
-{}
-
-/// Two sides of a queue that are off, or on with an empty ring, stay as they are but for going on where they are wanted
-/// on, over every event that leaves the queue alone: nothing is received or sent there, and blocks that are lent with
-/// each byte 0 stay so.
-pub fn standing_sides_are_left()
-    ensures { StandingSidesAreLeft }
-{}
-
-/// While a driver lays out the empty transmit ring of a queue whose transmit side is off, and asks the side on only
-/// behind that, nothing is sent on the queue, over a legal history that leaves it alone: be the side off yet, or on.
-pub fn laid_queue_is_silent()
-    ensures { LaidQueueIsSilent }
-{}
-
-/// A driver's own accesses keep such sides: one with the word that is written to it, one that is on where its enable
-/// word was read with bit 25, and the block of zero bytes that was lent.
-pub fn accesses_keep_sides_standing()
-    ensures receive_write { WriteStands Rx }
-    ensures transmit_write { WriteStands Tx }
-    ensures receive_read { ReadStands Rx }
-    ensures transmit_read { ReadStands Tx }
-    ensures lend { LendStands }
-{}
-
-/// Where the words of a fresh ring stand and the ring's block is lent, the device and the driver agree: on the receive
-/// side, with nothing posted, and on the transmit side, with nothing sent; each on or off.
-pub fn fresh_sides_agree()
-    ensures receive { FreshReceiveAgrees }
-    ensures transmit { FreshTransmitAgrees }
-{}
-
-/// After a write of the receive side's enable word without bit 25 the side isn't wanted on, and stays so over every
-/// event that leaves the queue alone; a read that tells bit 25 as 0 then finds it off. Two sides that are off so stand
-/// as they are.
-#[tactic(auto, using(crate::proofs::SwitchedOff::off_sides_stand, crate::proofs::SwitchedOff::receive_guard_is_off))]
-pub fn guarded_receive_side_is_off()
-    ensures guard { ReceiveGuardIsOff }
-    ensures stand { OffSidesStand }
-{}
-
-/// Over a legal history that leaves the queue alone, both sides are off, and not wanted on, wherever the driver's pass
-/// has made the accesses that see them off; and so they stand as they are.
-pub fn both_sides_are_seen_off()
-    ensures quieting { QuietingLeads }
-    ensures stand { QuietSidesStand }
-{}
-
-/// Over such a history, from where the sides stand as some that are known, they stand as after the driver's accesses
-/// wherever its pass has made these.
-pub fn accesses_lead_over_a_history()
-    ensures { AccessesLead }
-{}
-
-/// Over such a history, wherever the driver's pass has made the calls by which both rings came up and both sides went
-/// on, the device and the driver agree on both, with nothing posted or sent yet; both are on, nothing was received or
-/// sent since they went on, and nothing is written yet of a frame that waits for the queue. That holds whether or not
-/// the receive ring is filled next.
-pub fn switched_sides_agree()
-    ensures agree { SwitchedSidesAgree }
-    ensures on { SwitchedSidesGoOn }
-    ensures begun { SwitchedSidesBeginNone }
-{}
-
-/// Over such a history, wherever the driver's pass has made the calls by which a start of it brought both sides up, the
-/// device and the driver agree on both: nothing is posted or sent yet. Both are on there, and nothing was received or
-/// sent since they went on. Just before its first access its port and queue name this queue, and frames have at most as
-/// many bytes as its packets.
-pub fn start_leaves_sides_that_agree()
-    ensures agree { StartAgrees }
-    ensures on { StartGoesOn }
-{}
-
-/// A start that answers `StartTimeout` made 1,000 reads of its queue's RXDCTL or TXDCTL, of both together, each
-/// answered without bit 25, and each after a write of it there, the last of which before the read has bit 25.
-#[tactic(auto, using(crate::proofs::TimedOut::timeouts_poll))]
-pub fn timeouts_poll_a_thousand_times()
-    ensures { TimeoutsPoll }
-{}
-
-/// These reads are among the calls of the start's pass, by the numbers that RXDCTL and TXDCTL have at its port.
-#[tactic(auto, using(crate::proofs::TimedOut::polls_are_told))]
-pub fn polls_of_a_timeout_are_told()
-    ensures { PollsAreTold }
-{}
-
-/// Where port and queue name a queue of the device, a start isn't refused with `DeviceFault` before any event: the port
-/// can name the queue.
-#[tactic(auto, using(crate::proofs::Ground::named_queues_pass))]
-pub fn named_queues_pass_the_gate()
-    ensures { NamedQueuesPass }
-{}
-
-/// Where port and queue name a queue of the device, a driver's reads of its registers give words and its writes are
-/// done; and the enable word of a side that is off is read without bit 25.
-pub fn replies_at_a_start_are_healthy()
-    ensures registers { NamedRegistersReply }
-    ensures off { OffSidesAreSeenOff }
-{}
-
-/// Over a legal history that leaves the queue alone, where port and queue name it, its sides are off and not wanted on
-/// just before the start's first call, and no block that the start lends is lent already: no start finds the device at
-/// fault as it makes its rings ready, one after the other, or switches both sides on.
-pub fn starts_find_no_device_at_fault()
-    ensures receive { ReceiveIsReady }
-    ensures transmit { TransmitIsReady }
-    ensures switch { SwitchingIsNeverStray }
-{}
-
-/// A start that answers `DeviceFault` amid its events does so before both sides are on, or as it fills its receive
-/// ring. Over such a history the first never comes; and as the ring began to be filled the device and the driver
-/// agreed on both sides.
-pub fn faults_at_a_start_come_filling()
-    ensures cases { FaultsAreEarlyOrFilling }
-    ensures early { NoFaultIsEarly }
-    ensures filling { FillingBeginsWell }
-{}
-
-/// The calls of one half lead both on, where the other half stays as it was; steps of the device leave both; and calls
-/// lead on, one after another. So the halves follow from whatever calls of a driver that runs were made, and each call
-/// that is neither half's is such a step.
-pub fn calls_lead_both_halves()
-    ensures receiving { ReceivingDrives }
-    ensures sending { SendingDrives }
-    ensures others { OthersDrive }
-    ensures on { DrivesOn }
-{}
-
-/// Over a history of any sound device that leaves the driver's queue alone, from a place on where the device agrees
-/// with both halves and the receive side has gone on: the packets that the driver handed out are a prefix of those that
-/// were delivered since. Where a look that comes next finds none, all of them were handed out, or are whole and handed
-/// out as the tail moves on; and all were handed out where none is whole, as they were at each place before since which
-/// none was handed out. The frames that were sent since are a prefix of those that it accepted, and all of them where
-/// none is outstanding. Where the transmit side is up at that place, all of these are counted since it went on.
-pub fn both_sides_in_order()
+/// Over a legal history of any sound device that leaves the driver's queue alone, whose pass made the calls of a start
+/// that brought both rings up, and then calls of the two halves, beside harmless ones, which lend, take and poke no
+/// block and write no register that a queue rests on: the packets that the driver handed out are a prefix of those
+/// delivered on its queue. Where a look that comes next finds none, all of them were handed out, or are whole and
+/// handed out as the tail moves on; and all were handed out where none is whole. The frames sent on it are a prefix of
+/// those that the driver accepted, and all of them where none is outstanding. Both are counted since the sides went on.
+pub fn life_in_order()
     ensures handed { HandedIsPrefix }
     ensures taken { NoneIsAllTaken }
     ensures none { NoneIsAll }
-    ensures before { NoneIsAllBefore }
     ensures sent { SentIsPrefix }
     ensures idle { IdleIsAllSent }
-    ensures counted { CountedWhereUp }
 {}
 
-/// Behind a word that is written to the enable register of either side of the driver's queue, as a driver that stops
-/// writes one, the device agrees with both halves as before it. The word may be any, but that nothing is outstanding
-/// where it asks for the transmit side to be on.
-pub fn enable_words_keep_the_agreement()
-    ensures { EnableWordsKeep }
+/// From the place on where both sides of a driver's queue are on, each block that it lends over its life is one of the
+/// arena that came to it, and isn't lent by its other half: those that its start posts, and those that its calls lend.
+pub fn lives_lend_apart()
+    ensures { LifeLendsApart }
 {}
 
-/// Harmless calls leave every queue alone, and both halves as they are: they lend, take and poke no block, and write no
-/// register that a queue rests on, by a number of the physical function, and none by one of a virtual function. Such
-/// are the steps of the device that the ways to a device make before the driver's calls, as these say of them, and
-/// those that the driver's own author makes through the same pass, such as the arrival of a frame or a write of EIMS.
-/// So nothing more is asked of a pass whose calls that are neither half's are such. A call through a way to a device
-/// adds such calls alone where its event is such, or where it is refused.
-pub fn harmless_calls_leave_the_queue_alone()
-    ensures called { CallsAddHarmless }
-    ensures refused { StepsAddHarmless }
-    ensures driven { DrivesLead }
-    ensures harmless { HarmlessLead }
-    ensures on { LeadsOn }
-    ensures alone { HarmlessLeaveAlone }
-{}
-
-/// Over such a history, where a look that comes next finds the oldest outstanding packet not done, what was sent up to
-/// any place before isn't all that the driver accepted.
-pub fn waiting_packets_are_not_all_sent()
-    ensures { WaitingIsNotAll }
-{}
-
-/// Over a history of any sound device that leaves the driver's queue alone, from a place on where the device agrees
-/// with both halves and the receive side has gone on: each call of either half gets a reply that a healthy queue gives.
-/// There the frames that wait for the queue fit as many blocks as the driver takes for a packet, as do those that are
-/// let in; and of the driver's arena only blocks are lent that the driver has lent, and no other pass lends any. What
-/// the halves lend is as the clause `drives` of a driver's calls says: blocks of the arena alone, and none that the
-/// other half has lent.
-#[tactic(auto, using(crate::proofs::Healthy::own_replies_are_healthy))]
-pub fn own_replies_are_healthy()
-    ensures { OwnRepliesAreHealthy }
-{}
-
-/// So no call of a driver ends with the device at fault over such a history, as `finds` in its clauses says of one:
-/// neither one that receives, nor one that sends or reaps.
+/// Where the frames that wait for the queue fit a packet of the driver just before its first access, and of its arena's
+/// blocks those that its pass asks to lend aren't lent there, and no other pass lends any of them: no call of `rx`,
+/// `tx`, `reap`, `rx_burst` or `tx_burst` that comes after its start ends with the device at fault, over a legal
+/// history that leaves the queue alone, whatever harmless calls its author makes between through the same pass. Nor
+/// does a `tx_burst` meet it at fault that answers how many packets were accepted.
 pub fn no_call_finds_the_device_at_fault()
-    ensures { NoFault }
+    ensures finds { NoCallFindsFault }
+    ensures meets { NoBurstMeetsFault }
 {}
 
-/// What such a history begins with leads there from the driver's start: over entries that write no setting the frames
-/// that wait for the queue stay as short as so many blocks; and where no other pass lends a block of the driver's
-/// arena, only those are lent that were before, and those that the pass lent.
-pub fn entries_before_lead_there()
-    ensures short { FramesStayShortAlong }
-    ensures lent { OnlyPassLent }
+/// Where both sides of its queue are off too, and not wanted on, no start ends with the device at fault as it fills its
+/// receive ring, over such a history; nor amid its events at all.
+pub fn no_start_finds_the_device_at_fault()
+    ensures filling { NoFillingFindsFault }
+    ensures amid { NoStartFindsFault }
 {}
 
-/// The tags of a history say who made its calls, and nothing else looks at them: told anew, with other tags, a history
-/// is of the same calls. It is as legal, its events are such as a driver can make, it leads to the same state, and it
-/// delivers and sends the same on each queue.
-pub fn history_is_told_anew()
-    ensures retold { RetoldIsSame }
-    ensures legal { SameIsLegal }
-    ensures leads { SameLeads }
-    ensures delivered { SameDelivers }
-    ensures sent { SameSends }
+/// Over a legal history of any sound device that leaves the queue alone, where a `start` answered a driver and its
+/// calls came since: each block that the driver has out with a half is lent at the device. Where of its arena's blocks
+/// those that its pass asks to lend weren't lent just before its first access, and no other pass lends any of them,
+/// each of them that is lent there is out with a half. So each that was free in the arena as it came is in one place:
+/// free there, in hand, or lent to the device; those that the driver gave out of hand others may have lent.
+pub fn blocks_out_are_lent_at_the_device()
+    ensures lent { OutIsLent }
+    ensures known { LentIsOut }
+    ensures once { EachInOnePlace }
+{}
+
+/// Where a driver has all blocks of an arena but those in hand, as where it starts with none in hand, it has them so
+/// after each of its calls, as their clause `blocks` tells, with those in hand that the call handed out, and without
+/// those that it was given.
+pub fn calls_keep_the_books()
+    ensures { BooksGoOn }
+{}
+
+/// Where a `start` answered a driver and its calls came since, and `tx` answers that the ring is full, the outstanding
+/// packets have fewer parts than the start was given descriptors, and with those of the packet that was given no fewer:
+/// where that has one part all slots but one are taken. So it is behind a call of `tx_burst` that answers 0, with those
+/// of the first packet that it leaves.
+pub fn full_ring_has_no_room()
+    ensures told { FullHasNoRoom }
+    ensures none { NoneHasNoRoom }
+{}
+
+/// Where a pass made some calls, and maybe more behind them, an entry of the history is the last of these.
+pub fn calls_end_at_an_entry()
+    ensures { CallsEnd }
+{}
+
+/// Where a call of the driver looks in vain, as `rx` does where it answers none, and `rx_burst` where it answers 0 of
+/// some, what it had handed out is all that was delivered before the entry of its last look, also within a longer
+/// history; and so it is before the first event of that call's own, whatever the others, and harmless calls of its own
+/// pass, did ahead of it.
+pub fn empty_look_leaves_nothing()
+    ensures before { NoneIsAllBefore }
+    ensures first { NoneIsAllAtFirst }
+{}
+
+/// Where a call of such a driver ends with a packet outstanding, as `reap` does that isn't idle, it looked at last; and
+/// before the first event of that call's own not all that the driver had accepted was sent, whatever the others, and
+/// harmless calls of its own pass, did ahead of it. The same by what the calls of a `pmd_driver::Pmd` tell alone.
+pub fn waiting_look_leaves_some_unsent()
+    ensures before { WaitingIsNotAllBefore }
+    ensures told { WaitingIsNotAllAsTold }
+{}
+
+/// The same of a `pmd_driver::Pmd` by what its calls tell alone: `start` answered it, and then came calls of `rx`,
+/// `tx`, `reap`, `rx_burst`, `tx_burst`, `packet` and `release`, in any order and with whatever answers, and between
+/// them harmless calls through the same pass, as those by which its author lets frames arrive. The packets that it
+/// handed out are a prefix of those delivered, and where `rx` answers none, or `rx_burst` 0 of some, all of those that
+/// were delivered before its last look, and so before its first event; and the frames sent are a prefix of those that
+/// it accepted, and all of them where none is outstanding, as where `reap` answers so.
+pub fn driver_in_order()
+    ensures handed { told.HandedIsPrefix }
+    ensures none { told.NoneIsAllBefore }
+    ensures first { told.NoneIsAllAtFirst }
+    ensures sent { told.SentIsPrefix }
+    ensures idle { told.IdleIsAllSent }
+{}
+
+/// The same where between the driver's calls, and before its start, its author makes whatever calls of the device, as
+/// those of a second driver of another queue. What is asked of these is what is asked of other passes: that the queue
+/// is left alone by the history as it is told anew, with another pass's tag for each of them. So they write no row of
+/// the queue, no setting, and reset not its pool; and they lend, take and poke no block that the driver itself lends.
+/// Told so, the history has the driver's own calls alone, which are told as its clauses tell (`told`), and is one of a
+/// life (`lived`), so that the laws on these apply; and what they say of the packets and frames is so of the history as
+/// it was. For a device in hand, marks tell which of its calls are the driver's own (`in_hand`, `interleaved`), also
+/// through one way behind another, as where a `Direct` is finished and another steps the other driver's queue.
+pub fn driver_beside_any_calls_in_order()
+    ensures told { beside.OwnAreTold }
+    ensures lived { beside.ToldIsLived }
+    ensures handed { beside.HandedIsPrefix }
+    ensures none { beside.NoneIsAllBefore }
+    ensures first { beside.NoneIsAllAtFirst }
+    ensures sent { beside.SentIsPrefix }
+    ensures idle { beside.IdleIsAllSent }
+    ensures waits { beside.WaitingIsNotAll }
+    ensures in_hand { beside.DirectIsRetold }
+    ensures interleaved { beside.InterleavedIsRetold }
+{}
+
+/// Where nobody else lends a block of its arena that it asks to lend, neither another pass nor its author beside it,
+/// and just before its first access none of these is lent and the frames that wait for its queue fit its packets: no
+/// call of such a driver finds the device at fault. The blocks that it has out are those of its arena that are lent at
+/// the device, and each is in one place.
+pub fn driver_beside_any_calls_keeps_its_blocks()
+    ensures finds { apart.NoCallFindsFault }
+    ensures meets { apart.NoBurstMeetsFault }
+    ensures lent { apart.OutIsLent }
+    ensures known { apart.LentIsOut }
+    ensures once { apart.EachInOnePlace }
+{}
+
+/// Where both sides of its queue are off too just before its first access, and not wanted on, no start of such a driver
+/// ends with the device at fault, wherever amid its events, behind whatever calls its author made. A start that comes
+/// up adds calls to those that were made, its first access among them.
+pub fn driver_beside_any_calls_starts()
+    ensures adds { start.StartAdds }
+    ensures filling { start.NoFillingFindsFault }
+    ensures amid { start.NoStartFindsFault }
+{}
+
+/// Where `tx` of such a driver answers that the ring is full, or `tx_burst` takes none, its ring has no room for the
+/// next packet.
+pub fn full_ring_beside_any_calls_has_no_room()
+    ensures told { room.FullHasNoRoom }
+    ensures none { room.NoneHasNoRoom }
+{}
+
+/// Where such a driver is stopped, what it handed out is a prefix of what was delivered, and what was sent a prefix of
+/// what it accepted, at any place amid the calls of its stop and where these end; and once they have switched both
+/// sides off, nothing is delivered or sent there any more. That the calls of a stop are such is said of them as they
+/// are.
+pub fn driver_beside_any_calls_stops_in_order()
+    ensures handed { stop.HandedIsPrefix }
+    ensures sent { stop.SentIsPrefix }
+    ensures silent { stop.SilentOnceOff }
+{}
+
+/// Over such a history up to where a driver that lived was to stop, as `workers::run_worker` says of its driver:
+/// what is left as handed out is a prefix of what was delivered, and what was sent a prefix of what is left as
+/// accepted. So it is also over a history that goes on to any place amid its stop, or to where this ended, home or not.
+pub fn what_is_left_is_in_order()
+    ensures before { LeftIsPrefix }
+    ensures handed { HandedOverStop }
+    ensures sent { SentOverStop }
+{}
+
+/// Over such a history, where a driver's start was refused, as `workers::run_worker` says of its driver where it
+/// never lived: nothing is sent on the queue from the start's first event on, just before which port and queue name the
+/// queue and both sides are off and not wanted on, to any place amid the start and the stop of what it left, and to
+/// where these ended. So what is left as handed out, and what was sent since, are in order too.
+pub fn refused_start_sends_nothing()
+    ensures sent { RefusedSendsNothing }
+    ensures left { LeftOfRefusedIsPrefix }
+{}
+
+/// Where such a life is followed by calls of a stop, of which none asks for a side to be on, the packets that the
+/// driver had handed out are a prefix of those delivered in the whole history, with whatever came behind; and where
+/// these calls take blocks back only once both sides were seen off, the frames sent on the queue in the whole history
+/// are a prefix of those that the driver had accepted.
+pub fn stopped_life_in_order()
+    ensures handed { stopped.HandedIsPrefix }
+    ensures sent { stopped.SentIsPrefix }
+{}
+
+/// The calls of a stop of a `pmd_driver::Pmd` are such, beside steps of the device, and so are those of one that fails.
+pub fn stop_calls_ask_for_no_side()
+    ensures stops { stopped.StopEnds }
+    ensures fails { stopped.FailedStopEnds }
+{}
+
+/// They take blocks back only once both sides were seen off: the calls of a stop, and of one that fails, behind others
+/// that do, and no call at all.
+pub fn stops_take_blocks_once_off()
+    ensures none { stopped.NoCallTakes }
+    ensures stops { stopped.StopTakesOnceOff }
+    ensures fails { stopped.FailedStopTakesOnceOff }
+{}
+
+/// Where such a life is followed by calls of a stop that take blocks back only once both sides were seen off, nothing
+/// is delivered or sent on the queue any more once these were, while the calls of the driver's pass are those of a
+/// stop. So it is of a driver that lived and was stopped, as `workers::run_worker` says of its driver: from where
+/// its stop had switched both sides off, on to any place amid it, and to where it ended, home or not.
+pub fn switched_off_queue_is_silent()
+    ensures once { SilentOnceOff }
+    ensures over { SilentOverStop }
+{}
+
+/// A start finds two runs of so many free blocks exactly where there are two that share none.
+pub fn two_runs_are_found()
+    ensures { TwoRunsAreFound }
 {}

@@ -6,7 +6,7 @@ use crate::outcome::{Hand, done, holds, refused, same, some};
 use dma_arena::Arena;
 use machine::Machine;
 use nic_device::{Device, Event, Parts, Reply, RestoreRefused, Snapshot};
-use script_asm::assemble;
+use script_text::assemble;
 
 /// An arena of so many blocks from block 0 on.
 fn arena(rt: &impl Hand, count: u32) -> Arena {

@@ -3,7 +3,7 @@
 use crate::fakes::FailingWriter;
 use crate::input::ran;
 use crate::outcome::{Hand, holds, same};
-use bench::{Outcome, Output};
+use bench_commands::{Outcome, Output};
 use std::io::ErrorKind;
 use std::sync::Wait;
 use std::thread::Threads;

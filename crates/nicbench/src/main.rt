@@ -1,7 +1,7 @@
 //! `nicbench`: the program over standard input and standard output.
 #![tactic(auto)]
 
-use bench::{FAILED, Input, NO_MEMORY, Outcome, Output, REFUSED_WORDS, bench};
+use bench_commands::{FAILED, Input, NO_MEMORY, Outcome, Output, REFUSED_WORDS, bench};
 use std::alloc::Global;
 use std::env;
 use std::io::{self, BufWriter, ErrorKind};

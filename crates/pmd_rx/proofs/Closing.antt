@@ -3,11 +3,11 @@ use Rattle.std.proofs.Common.{◌≡◌, ℕ, zero, suc, ◌+◌, ◌<◌, ◌�
 use Rattle.std.specs.List.{range_with_len}
 use Rattle.nic_device.specs.DmaArena.Numbers.{Numbers, with_free}
 use Rattle.nic_device.specs.DmaArena.Whereabouts.{times_in_hand}
-use Rattle.pmd_seam.specs.Bufs.{numbers_of, with_all_free}
-use Rattle.pmd_seam.specs.declared.packet.Packet.{Packet}
-use Rattle.pmd_seam.specs.Home.{AreOut}
-use Rattle.pmd_seam.specs.Slots.{blocks_for}
-use Rattle.pmd_seam.proofs.Outside.{times-append, out_fewer, out_given}
+use Rattle.pmd_access.specs.Bufs.{numbers_of, with_all_free}
+use Rattle.pmd_access.specs.declared.packet.Packet.{Packet}
+use Rattle.pmd_access.specs.Home.{AreOut}
+use Rattle.pmd_access.specs.Slots.{blocks_for}
+use Rattle.pmd_access.proofs.Outside.{times-append, out_fewer, out_given}
 use Rattle.pmd_rx.specs.Keeping.{fresh_block, lent_of, blocks_held, blocks_out, numbers_of_all}
 use Rattle.pmd_rx.specs.Receive.{Receive, reach}
 use Rattle.pmd_rx.proofs.Keeping.{times_out}

@@ -3,11 +3,11 @@ use Rattle.std.proofs.Common.{◌≡◌, ℕ, ◌+◌, ◌<◌, false, List, [],
 use Rattle.std.proofs.lemmas.List.{append-nil, length_push}
 use Rattle.nic_device.specs.DmaArena.Numbers.{Numbers, free_count, with_free}
 use Rattle.nic_device.proofs.DmaArena.Arenas.{free_count_taken}
-use Rattle.pmd_seam.specs.DeviceLock.declared.entry.Call.{Call}
-use Rattle.pmd_seam.specs.Home.{IsDrawn}
-use Rattle.pmd_seam.proofs.Drawing.{drawn_next}
-use Rattle.pmd_seam.specs.declared.fault.PmdFault.{PmdFault}
-use Rattle.pmd_seam.specs.declared.fault.PmdFault.TheVariants as fault
+use Rattle.pmd_access.specs.DeviceLock.declared.entry.Call.{Call}
+use Rattle.pmd_access.specs.Home.{IsDrawn}
+use Rattle.pmd_access.proofs.Drawing.{drawn_next}
+use Rattle.pmd_access.specs.declared.fault.PmdFault.{PmdFault}
+use Rattle.pmd_access.specs.declared.fault.PmdFault.TheVariants as fault
 use Rattle.pmd_rx.specs.Filling.{PostsSome, StopsFilling}
 use Rattle.pmd_rx.specs.Keeping.{IsRunning, Posts}
 use Rattle.pmd_rx.specs.Receive.{Receive, extended, no_packet}

@@ -6,10 +6,10 @@ use Rattle.nic_device.specs.DmaArena.Numbers.{Numbers, is_own, is_free, with_fre
 use Rattle.nic_device.proofs.DmaArena.Arenas.{is_own-of_free, is_own-with_free, is_free-with_free_same}
 use Rattle.nic_device.proofs.DmaArena.Cuts.{given_back}
 use Rattle.nic_device.specs.DmaArena.Whereabouts.{times_in_hand}
-use Rattle.pmd_seam.specs.Home.{AreOut}
-use Rattle.pmd_seam.specs.Slots.{ring_blocks, is_ring_block}
-use Rattle.pmd_seam.proofs.Outside.{times_at, times-append, out_free}
-use Rattle.pmd_seam.proofs.Rings.{ring_block_times}
+use Rattle.pmd_access.specs.Home.{AreOut}
+use Rattle.pmd_access.specs.Slots.{ring_blocks, is_ring_block}
+use Rattle.pmd_access.proofs.Outside.{times_at, times-append, out_free}
+use Rattle.pmd_access.proofs.Rings.{ring_block_times}
 use Rattle.pmd_rx.specs.Keeping.{blocks_out}
 use Rattle.pmd_rx.specs.Receive.{Receive, MayLend, reach}
 use Rattle.pmd_rx.proofs.Keeping.{times_out}

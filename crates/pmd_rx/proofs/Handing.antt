@@ -4,7 +4,7 @@ use Rattle.std.proofs.lemmas.List.{append-nil, length-append, length_push}
 use Rattle.nic_device.specs.DmaArena.Block.{Block}
 use Rattle.nic_device.specs.DmaArena.Numbers.{Numbers, free_count, is_free, with_free}
 use Rattle.nic_device.proofs.DmaArena.Arenas.{free_count_taken}
-use Rattle.pmd_seam.specs.declared.packet.Packet.{Packet}
+use Rattle.pmd_access.specs.declared.packet.Packet.{Packet}
 use Rattle.pmd_rx.specs.Keeping.{IsRunning, IsAmid, vacated}
 use Rattle.pmd_rx.specs.Receive.{Receive, reach, names, lent_one, ended_of, if_any, next_stage, HasLent}
 use Rattle.pmd_rx.specs.Shown.{IsOneLess, OneMore, WaitsStill, refilled, rounds}

@@ -9,12 +9,12 @@ use Rattle.nic_device.specs.DmaArena.Numbers.{Numbers}
 use Rattle.nic_device.specs.DmaArena.Whereabouts.{times_in_hand}
 use Rattle.nic_device.specs.DmaRing.Descriptor.{second_half}
 use Rattle.nic_device.specs.DmaRing.Receive.{ends_packet, bytes_in}
-use Rattle.pmd_seam.specs.Bufs.{numbers_of}
-use Rattle.pmd_seam.specs.DeviceLock.declared.entry.Call.{Call}
-use Rattle.pmd_seam.specs.Slots.{ring_blocks}
-use Rattle.pmd_seam.proofs.Exchanging.{exchanges_both}
-use Rattle.pmd_seam.proofs.Drawing.{numbers-more}
-use Rattle.pmd_seam.proofs.Outside.{times-append, times-cons}
+use Rattle.pmd_access.specs.Bufs.{numbers_of}
+use Rattle.pmd_access.specs.DeviceLock.declared.entry.Call.{Call}
+use Rattle.pmd_access.specs.Slots.{ring_blocks}
+use Rattle.pmd_access.proofs.Exchanging.{exchanges_both}
+use Rattle.pmd_access.proofs.Drawing.{numbers-more}
+use Rattle.pmd_access.proofs.Outside.{times-append, times-cons}
 use Rattle.pmd_rx.specs.Keeping.{Keeps, IsAmid, IsSameRing, fresh_block, vacated, lent_of, blocks_held, blocks_out, numbers_of_all}
 use Rattle.pmd_rx.specs.Receive.{Receive, Layout, TakesNext, block_at, saw, told_by, took, is_part}
 use Rattle.pmd_rx.specs.Shown.{IsLook}

@@ -1,9 +1,9 @@
 -- The first elements of a list, and those behind them.
 use Rattle.std.proofs.Common.{◌≡◌, ℕ, ◌+◌, ◌≤◌, List, [], ◌∷◌, ◌++◌, take, drop, length, refl, sym, ap, ◌∙◌, append_assoc, drop-drop, arith}
 use Rattle.std.proofs.lemmas.List.{length-append, length-map, take-append-le, drop-append-le, drop-take, take-append-drop, map-append, length-drop, drop-map, drop_all}
-use Rattle.pmd_seam.specs.Bufs.{numbers_of}
-use Rattle.pmd_seam.specs.Packet.{Kept, kept_of}
-use Rattle.pmd_seam.specs.declared.packet.Packet.{Packet}
+use Rattle.pmd_access.specs.Bufs.{numbers_of}
+use Rattle.pmd_access.specs.Packet.{Kept, kept_of}
+use Rattle.pmd_access.specs.declared.packet.Packet.{Packet}
 use Rattle.pmd_rx.specs.Keeping.{numbers_of_all}
 use Rattle.pmd_rx.specs.Receive.{records_of}
 use Rattle.pmd_rx.specs.Shown.{AreRecords}

@@ -5,11 +5,11 @@ use Rattle.std.proofs.lemmas.List.{length_push, nil_from_length}
 use Rattle.nic_device.specs.declared.event.Event.TheVariants as event
 use Rattle.nic_device.specs.declared.event.Reply.TheVariants as reply
 use Rattle.nic_device.specs.DmaArena.Numbers.{Numbers}
-use Rattle.pmd_seam.specs.DeviceLock.declared.entry.Call.{Call}
-use Rattle.pmd_seam.specs.Accesses.{IsPeeked}
-use Rattle.pmd_seam.specs.declared.fault.PmdFault.{PmdFault}
-use Rattle.pmd_seam.specs.declared.packet.Packet.{Packet}
-use Rattle.pmd_seam.specs.declared.fault.PmdFault.TheVariants as fault
+use Rattle.pmd_access.specs.DeviceLock.declared.entry.Call.{Call}
+use Rattle.pmd_access.specs.Accesses.{IsPeeked}
+use Rattle.pmd_access.specs.declared.fault.PmdFault.{PmdFault}
+use Rattle.pmd_access.specs.declared.packet.Packet.{Packet}
+use Rattle.pmd_access.specs.declared.fault.PmdFault.TheVariants as fault
 use Rattle.pmd_rx.specs.Plays.{PlaysFrom, LooksInVain}
 use Rattle.pmd_rx.specs.Receive.{Receive, IsOwn, looked, told_by, descriptor_at, no_packet}
 use Rattle.pmd_rx.specs.Shown.{IsLook, LooksOnce, LooksAtPart, LooksAtWrong, IsRefused}

@@ -7,10 +7,10 @@ use Rattle.nic_device.specs.DmaArena.Block.{Block}
 use Rattle.nic_device.specs.DmaArena.Numbers.{Numbers}
 use Rattle.nic_device.specs.DmaArena.Whereabouts.{times_in_hand}
 use Rattle.nic_device.specs.declared.event.Event.TheVariants as event
-use Rattle.pmd_seam.specs.Bufs.{numbers_of}
-use Rattle.pmd_seam.specs.declared.packet.Packet.{Packet}
-use Rattle.pmd_seam.proofs.Outside.{times-append}
-use Rattle.pmd_seam.proofs.Places.{wrapped_apart}
+use Rattle.pmd_access.specs.Bufs.{numbers_of}
+use Rattle.pmd_access.specs.declared.packet.Packet.{Packet}
+use Rattle.pmd_access.proofs.Outside.{times-append}
+use Rattle.pmd_access.proofs.Places.{wrapped_apart}
 use Rattle.pmd_rx.specs.Burst.{HasPart}
 use Rattle.pmd_rx.specs.Keeping.{Keeps, IsRunning, IsAmid, vacated, blocks_out, numbers_of_all}
 use Rattle.pmd_rx.specs.Receive.{Receive, MovesNext, moved, posts, posts_one, posts_all, parts_first, tail_behind, records_of}

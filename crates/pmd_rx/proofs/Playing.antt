@@ -6,10 +6,10 @@ use Rattle.nic_device.specs.DmaArena.Numbers.{Numbers, is_free}
 use Rattle.nic_device.specs.declared.event.Event.{Event}
 use Rattle.nic_device.specs.declared.event.Event.TheVariants as event
 use Rattle.nic_device.specs.declared.event.Reply.{Reply}
-use Rattle.pmd_seam.specs.DeviceLock.declared.entry.Call.{Call}
-use Rattle.pmd_seam.specs.DeviceLock.Pass.{call_of}
-use Rattle.pmd_seam.specs.Made.{Adds, AddsSome}
-use Rattle.pmd_seam.proofs.Steps.{steps_marked, steps_last, steps_both}
+use Rattle.pmd_access.specs.DeviceLock.declared.entry.Call.{Call}
+use Rattle.pmd_access.specs.DeviceLock.Pass.{call_of}
+use Rattle.pmd_access.specs.Made.{Adds, AddsSome}
+use Rattle.pmd_access.proofs.Steps.{steps_marked, steps_last, steps_both}
 use Rattle.pmd_rx.specs.Plays.{PlaysFrom, AllOwn, AllLendFree, LendsFree, played_by, after_call}
 use Rattle.pmd_rx.specs.Receive.{Receive, IsOwn, drive}
 

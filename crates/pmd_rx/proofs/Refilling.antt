@@ -4,9 +4,9 @@ use Rattle.std.proofs.lemmas.List.{length_push, length-append, length-map}
 use Rattle.nic_device.specs.DmaArena.Block.{Block}
 use Rattle.nic_device.specs.DmaArena.Numbers.{Numbers, is_free, with_free}
 use Rattle.nic_device.specs.DmaArena.Whereabouts.{times_in_hand}
-use Rattle.pmd_seam.specs.Bufs.{numbers_of}
-use Rattle.pmd_seam.specs.declared.packet.Packet.{Packet}
-use Rattle.pmd_seam.proofs.Outside.{times-append, times-cons}
+use Rattle.pmd_access.specs.Bufs.{numbers_of}
+use Rattle.pmd_access.specs.declared.packet.Packet.{Packet}
+use Rattle.pmd_access.proofs.Outside.{times-append, times-cons}
 use Rattle.pmd_rx.specs.Keeping.{Keeps, IsRunning, IsAmid, vacated, fresh_block, blocks_out, numbers_of_all}
 use Rattle.pmd_rx.specs.Receive.{Receive, reach, lent_one, names, ended_of, left_of, next_stage, fresh_of, CanLend, HasLent}
 use Rattle.pmd_rx.specs.declared.ring.Stage.{Stage}

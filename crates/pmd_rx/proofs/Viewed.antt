@@ -6,8 +6,8 @@ use Rattle.nic_device.specs.DmaArena.Block.{Block}
 use Rattle.nic_device.specs.DmaRing.Driver.{rss_in, hash_in}
 use Rattle.nic_device.specs.DmaRing.Ring.{next_of}
 use Rattle.nic_device.specs.DmaRing.Receive.{bytes_in}
-use Rattle.pmd_seam.specs.Packet.{Kept}
-use Rattle.pmd_seam.specs.declared.packet.Packet.{Packet}
+use Rattle.pmd_access.specs.Packet.{Kept}
+use Rattle.pmd_access.specs.declared.packet.Packet.{Packet}
 use Rattle.pmd_rx.specs.Receive.{Receive, Layout, joined, names, posts, took, records_of, if_any, no_packet}
 use Rattle.pmd_rx.specs.Shown.{AreRecords}
 use Rattle.pmd_rx.specs.declared.ring.Stage.{Stage}

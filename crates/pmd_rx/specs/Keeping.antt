@@ -2,11 +2,11 @@
 use Rattle.std.specs.Prelude.{ℕ, ◌≡◌, ◌==◌, ◌+◌, ◌<◌, Bool, true, false, List, [], ◌∷◌, ◌++◌, length, Option, Some, None, Result, Ok, Err}
 use Rattle.std.specs.List.{list_any}
 use Rattle.nic_device.specs.DmaArena.Numbers.{Numbers, is_free, with_free}
-use Rattle.pmd_seam.specs.Bufs.{numbers_of}
-use Rattle.pmd_seam.specs.Home.{Exchanges}
-use Rattle.pmd_seam.specs.Slots.{ring_blocks}
-use Rattle.pmd_seam.specs.declared.fault.PmdFault.{PmdFault}
-use Rattle.pmd_seam.specs.declared.packet.Packet.{Packet}
+use Rattle.pmd_access.specs.Bufs.{numbers_of}
+use Rattle.pmd_access.specs.Home.{Exchanges}
+use Rattle.pmd_access.specs.Slots.{ring_blocks}
+use Rattle.pmd_access.specs.declared.fault.PmdFault.{PmdFault}
+use Rattle.pmd_access.specs.declared.packet.Packet.{Packet}
 use Rattle.pmd_rx.specs.Receive.{Receive, Layout, extended, reach}
 use Rattle.pmd_rx.specs.declared.ring.Stage.{Stage}
 use Rattle.pmd_rx.specs.declared.ring.Stage.TheVariants.{Looks, Takes, Owes, Lent}

@@ -1,5 +1,5 @@
-pub use Rattle.pmd_seam.specs.DeviceLock
-pub use Rattle.pmd_seam.specs as PmdSeam
+pub use Rattle.pmd_access.specs.DeviceLock
+pub use Rattle.pmd_access.specs as PmdAccess
 pub mod Burst
 pub mod Filling
 pub mod Keeping

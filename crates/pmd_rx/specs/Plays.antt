@@ -7,8 +7,8 @@ use Rattle.nic_device.specs.DmaRing.Receive.{is_done}
 use Rattle.nic_device.specs.declared.event.Event.{Event}
 use Rattle.nic_device.specs.declared.event.Event.TheVariants as event
 use Rattle.nic_device.specs.declared.event.Reply.TheVariants as reply
-use Rattle.pmd_seam.specs.DeviceLock.declared.entry.Call.{Call}
-use Rattle.pmd_seam.specs.Made.{Adds, StepsWhere}
+use Rattle.pmd_access.specs.DeviceLock.declared.entry.Call.{Call}
+use Rattle.pmd_access.specs.Made.{Adds, StepsWhere}
 use Rattle.pmd_rx.specs.Receive.{Receive, IsOwn, drive, descriptor_at, no_packet}
 use Rattle.pmd_rx.specs.declared.ring.Stage.TheVariants.{Looks}
 

@@ -5,15 +5,15 @@ use Rattle.nic_device.specs.DmaRing.Descriptor.{second_half}
 use Rattle.nic_device.specs.DmaRing.Receive.{is_done, bytes_in}
 use Rattle.nic_device.specs.declared.event.Event.TheVariants as event
 use Rattle.nic_device.specs.declared.event.Reply.TheVariants as reply
-use Rattle.pmd_seam.specs.Bufs.{numbers_of}
-use Rattle.pmd_seam.specs.Accesses.{IsPeeked, IsPoked, IsWritten}
-use Rattle.pmd_seam.specs.Slots.{blocks_for}
-use Rattle.pmd_seam.specs.Made.{Adds, AddsSome}
-use Rattle.pmd_seam.specs.declared.fault.PmdFault.{PmdFault}
-use Rattle.pmd_seam.specs.declared.fault.PmdFault.TheVariants as fault
-use Rattle.pmd_seam.specs.DeviceLock.declared.entry.Call.{Call}
-use Rattle.pmd_seam.specs.declared.packet.Packet.{Packet}
-use Rattle.pmd_seam.specs.Packet.{Kept, kept_of}
+use Rattle.pmd_access.specs.Bufs.{numbers_of}
+use Rattle.pmd_access.specs.Accesses.{IsPeeked, IsPoked, IsWritten}
+use Rattle.pmd_access.specs.Slots.{blocks_for}
+use Rattle.pmd_access.specs.Made.{Adds, AddsSome}
+use Rattle.pmd_access.specs.declared.fault.PmdFault.{PmdFault}
+use Rattle.pmd_access.specs.declared.fault.PmdFault.TheVariants as fault
+use Rattle.pmd_access.specs.DeviceLock.declared.entry.Call.{Call}
+use Rattle.pmd_access.specs.declared.packet.Packet.{Packet}
+use Rattle.pmd_access.specs.Packet.{Kept, kept_of}
 use Rattle.pmd_rx.specs.Burst.{HasPart}
 use Rattle.pmd_rx.specs.Receive.{Receive, descriptor_at, tail_behind, vacant, reach, naming, fresh_of, Layout, no_packet, is_part, records_of, lent_one, names, saw}
 use Rattle.pmd_rx.specs.Keeping.{Keeps, vacated, numbers_of_all}

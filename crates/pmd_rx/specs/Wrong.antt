@@ -8,10 +8,10 @@ use Rattle.nic_device.specs.declared.event.Event.{Event}
 use Rattle.nic_device.specs.declared.event.Event.TheVariants as event
 use Rattle.nic_device.specs.declared.event.Reply.{Reply}
 use Rattle.nic_device.specs.declared.event.Reply.TheVariants as reply
-use Rattle.pmd_seam.specs.DeviceLock.declared.entry.Call.{Call}
-use Rattle.pmd_seam.specs.Made.{Adds}
-use Rattle.pmd_seam.specs.declared.fault.PmdFault.{PmdFault}
-use Rattle.pmd_seam.specs.declared.fault.PmdFault.TheVariants as fault
+use Rattle.pmd_access.specs.DeviceLock.declared.entry.Call.{Call}
+use Rattle.pmd_access.specs.Made.{Adds}
+use Rattle.pmd_access.specs.declared.fault.PmdFault.{PmdFault}
+use Rattle.pmd_access.specs.declared.fault.PmdFault.TheVariants as fault
 use Rattle.pmd_rx.specs.Plays.{LendsFree, PlaysFrom}
 use Rattle.pmd_rx.specs.Receive.{Receive, IsOwn, is_part}
 use Rattle.pmd_rx.specs.declared.ring.Stage.{Stage}

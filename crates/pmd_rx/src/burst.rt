@@ -2,19 +2,19 @@
 
 ghost use Rattle.std.specs.Prelude.{ℕ, ◌≡◌, ◌≢◌, ◌<◌, ◌≤◌, ◌+◌, ◌++◌, ◌∷◌, [], length, true, false, Ok, Err, IfOk, IfErr, IfSome, IfNone, OnErr};
 ghost use Rattle.nic_device.specs.DmaArena.Numbers.{Numbers};
-ghost use Rattle.pmd_seam.specs.Begun.{BeganAs};
-ghost use Rattle.pmd_seam.specs.Home.{AreOut};
-ghost use Rattle.pmd_seam.specs.Packet.{kept_of};
+ghost use Rattle.pmd_access.specs.Begun.{BeganAs};
+ghost use Rattle.pmd_access.specs.Home.{AreOut};
+ghost use Rattle.pmd_access.specs.Packet.{kept_of};
 ghost use Rattle.pmd_rx.specs.Burst.{IsBurst};
 ghost use Rattle.pmd_rx.specs.Keeping.{Keeps, IsRunning, blocks_out, handed_blocks};
 ghost use Rattle.pmd_rx.specs.Plays.{PlaysFrom, LooksInVain};
 ghost use Rattle.pmd_rx.specs.Shown.{OneMore};
 ghost use Rattle.pmd_rx.specs.Wrong.{AsksNext, FailsBy, IsFault, PacketWaits};
-ghost use Rattle.pmd_seam.specs.Refusals.{CanFail};
+ghost use Rattle.pmd_access.specs.Refusals.{CanFail};
 
 use crate::ring::ReceiveRing;
 use nic_device::Arena;
-use pmd_seam::{CallFault, Nic, Packet, PmdFault};
+use pmd_access::{CallFault, Nic, Packet, PmdFault};
 use std::alloc::Global;
 use std::collections::VecDeque;
 

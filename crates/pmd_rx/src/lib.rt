@@ -12,7 +12,7 @@ mod receive;
 mod ring;
 mod tail;
 
-pub use pmd_seam::{
+pub use pmd_access::{
     Bufs, CallFault, Calls, Direct, Finished, Interleaved, LONGEST_FRAME, Made, Nic, POLLS, Packet,
     PmdFault, Queue, Reclaim, Record, SHORTEST_FRAME, Setup, ThroughLock, blocks_for, fresh_packet,
     give_back, give_bufs, give_packet, history_of, is_frame, lend, marked_history, most_blocks,

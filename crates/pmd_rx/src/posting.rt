@@ -2,8 +2,8 @@
 
 ghost use Rattle.std.specs.Prelude.{ℕ, ◌≡◌, ◌<◌, ◌≤◌, ◌+◌, [], length, true, false, Ok, Err, IfErr, OnOk, OnErr};
 ghost use Rattle.nic_device.specs.DmaArena.Numbers.{Numbers, free_count, is_free, with_free};
-ghost use Rattle.pmd_seam.specs.Begun.{BeganAs};
-ghost use Rattle.pmd_seam.specs.Home.{AreOut};
+ghost use Rattle.pmd_access.specs.Begun.{BeganAs};
+ghost use Rattle.pmd_access.specs.Home.{AreOut};
 ghost use Rattle.pmd_rx.specs.Filling.{Fills, StopsFilling};
 ghost use Rattle.pmd_rx.specs.Keeping.{Keeps, IsRunning, Posts, blocks_out};
 ghost use Rattle.pmd_rx.specs.Plays.{PlaysFrom, LooksInVain};
@@ -11,12 +11,12 @@ ghost use Rattle.pmd_rx.specs.Receive.{no_packet, reach, posts_all, CanLend};
 ghost use Rattle.pmd_rx.specs.Shown.{IsOneLess, OneMore, refilled, rounds};
 ghost use Rattle.pmd_rx.specs.declared.ring.Stage.TheVariants as stage;
 ghost use Rattle.pmd_rx.specs.Wrong.{FailsBy, IsFault, PacketWaits, wanted};
-ghost use Rattle.pmd_seam.specs.Refusals.{CanFail};
+ghost use Rattle.pmd_access.specs.Refusals.{CanFail};
 
 use crate::receive::Look;
 use crate::ring::{ReceiveRing, Stage};
 use nic_device::Arena;
-use pmd_seam::{Nic, PmdFault, give_back};
+use pmd_access::{Nic, PmdFault, give_back};
 use std::alloc::Global;
 use std::collections::VecDeque;
 

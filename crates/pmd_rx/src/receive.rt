@@ -11,15 +11,15 @@ ghost use Rattle.pmd_rx.specs.Wrong.{EndsWrong, IsFault};
 ghost use Rattle.pmd_rx.specs.Keeping.{Keeps};
 ghost use Rattle.pmd_rx.specs.Shown.{LooksOnce, IsLook, IsRefused, IsNamed, IsUnnamed};
 ghost use Rattle.pmd_rx.specs.declared.ring.Stage.TheVariants as stage;
-ghost use Rattle.pmd_seam.specs.Begun.{BeganAs};
-ghost use Rattle.pmd_seam.specs.Refusals.{CanFail};
+ghost use Rattle.pmd_access.specs.Begun.{BeganAs};
+ghost use Rattle.pmd_access.specs.Refusals.{CanFail};
 
 use crate::ring::{ReceiveRing, Stage, Told, no_packet};
 use nic_device::{
     BLOCK_BYTES, Buf, first_half, hash_told, is_last, is_written_back, length_told, of_halves,
     posted_word, rss_told, second_half,
 };
-use pmd_seam::{
+use pmd_access::{
     CallFault, Nic, Packet, PmdFault, Record, descriptor_address, lend, next_slot, peek, poke,
     slot_after, take,
 };

@@ -9,11 +9,11 @@ ghost use Rattle.pmd_rx.specs.Plays.{PlaysFrom};
 ghost use Rattle.pmd_rx.specs.Receive.{parts_first, posts_one, posts_all};
 ghost use Rattle.pmd_rx.specs.Shown.{HandsOne, HandsAll, IsTailWritten, IsUnwritten};
 ghost use Rattle.pmd_rx.specs.Wrong.{IsFault};
-ghost use Rattle.pmd_seam.specs.Begun.{BeganAs};
-ghost use Rattle.pmd_seam.specs.Refusals.{CanFail};
+ghost use Rattle.pmd_access.specs.Begun.{BeganAs};
+ghost use Rattle.pmd_access.specs.Refusals.{CanFail};
 
 use crate::ring::ReceiveRing;
-use pmd_seam::{Nic, Packet, PmdFault, write};
+use pmd_access::{Nic, Packet, PmdFault, write};
 use std::alloc::Global;
 use std::collections::VecDeque;
 

@@ -4,10 +4,10 @@ use Rattle.std.proofs.lemmas.List.{length-drop, drop-drop, drop_more}
 use Rattle.std.proofs.lemmas.List.Elements.{All-drop}
 use Rattle.nic_device.specs.DmaArena.Block.{Block}
 use Rattle.nic_device.specs.DmaRing.Ring.{next_of}
-use Rattle.pmd_seam.specs.Bufs.{numbers_of}
-use Rattle.pmd_seam.specs.Packet.{Kept}
-use Rattle.pmd_seam.specs.Slots.{blocks_for, is_ring_block}
-use Rattle.pmd_seam.proofs.Places.{next_below}
+use Rattle.pmd_access.specs.Bufs.{numbers_of}
+use Rattle.pmd_access.specs.Packet.{Kept}
+use Rattle.pmd_access.specs.Slots.{blocks_for, is_ring_block}
+use Rattle.pmd_access.proofs.Places.{next_below}
 use Rattle.pmd_tx.specs.Pieces.{places_of}
 use Rattle.pmd_tx.specs.Sending.{Sender, Layout, Segment, blocks_of, no_segment}
 use Rattle.pmd_tx.specs.Shown.{AllHold, AreDistinct, Holds, IsRing, outstanding_of}

@@ -3,9 +3,9 @@ use Rattle.std.proofs.Common.{◌≡◌, ℕ, ◌+◌, ◌<◌, ◌≤◌, true,
 use Rattle.std.proofs.lemmas.List.{length-drop, drop-drop, drop-take, take-take, drop-map, take-append-drop}
 use Rattle.std.proofs.Math.Seq.{take-add}
 use Rattle.nic_device.specs.DmaArena.Numbers.{Numbers, is_own, is_free, with_free}
-use Rattle.pmd_seam.specs.Bufs.{with_all_free}
-use Rattle.pmd_seam.proofs.Outside.{out_first, out_given}
-use Rattle.pmd_seam.specs.Home.{AreOut}
+use Rattle.pmd_access.specs.Bufs.{with_all_free}
+use Rattle.pmd_access.proofs.Outside.{out_first, out_given}
+use Rattle.pmd_access.specs.Home.{AreOut}
 use Rattle.pmd_tx.specs.declared.answer.Reaped.{Reaped}
 use Rattle.pmd_tx.specs.Sending.{Sender, Segment, no_segment, blocks_of, segment_at, reaped}
 use Rattle.pmd_tx.specs.Sends.{Frees, FreesSome, ends_in}

@@ -4,12 +4,12 @@ use Rattle.std.proofs.lemmas.List.{take_all}
 use Rattle.nic_device.specs.DmaArena.Block.{Block, IsBlock}
 use Rattle.nic_device.specs.declared.event.Event.TheVariants as event
 use Rattle.nic_device.specs.declared.event.Reply.TheVariants as reply
-use Rattle.pmd_seam.specs.Bufs.{numbers_of}
-use Rattle.pmd_seam.specs.DeviceLock.declared.entry.Call.{Call}
-use Rattle.pmd_seam.specs.declared.fault.PmdFault.{PmdFault}
-use Rattle.pmd_seam.specs.declared.fault.PmdFault.TheVariants as fault
-use Rattle.pmd_seam.specs.declared.packet.Packet.{Packet}
-use Rattle.pmd_seam.specs.Made.{AddsSome}
+use Rattle.pmd_access.specs.Bufs.{numbers_of}
+use Rattle.pmd_access.specs.DeviceLock.declared.entry.Call.{Call}
+use Rattle.pmd_access.specs.declared.fault.PmdFault.{PmdFault}
+use Rattle.pmd_access.specs.declared.fault.PmdFault.TheVariants as fault
+use Rattle.pmd_access.specs.declared.packet.Packet.{Packet}
+use Rattle.pmd_access.specs.Made.{AddsSome}
 use Rattle.pmd_tx.specs.Plays.{AsksNext, PlaysWith, FaultsBy}
 use Rattle.pmd_tx.specs.Sends.{IsBack, IsLate}
 use Rattle.pmd_tx.specs.Sending.{Sender, Segment, Accepts, MayAccept, accepted_by, has_lent, is_among, keeps, no_segment, paired, parts_for, parts_in, segments_of}

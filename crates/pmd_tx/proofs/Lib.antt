@@ -1,4 +1,4 @@
-pub use Rattle.pmd_seam.proofs as PmdSeam
+pub use Rattle.pmd_access.proofs as PmdAccess
 pub mod Distinct
 pub mod Ending
 pub mod Fields

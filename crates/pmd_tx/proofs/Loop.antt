@@ -2,8 +2,8 @@
 use Rattle.std.proofs.Common.{◌≡◌, ℕ, ◌+◌, List, length, refl, ap, ◌∙◌, add-zero, subst, arith}
 use Rattle.std.proofs.lemmas.List.{length-drop}
 use Rattle.nic_device.specs.DmaArena.Numbers.{Numbers}
-use Rattle.pmd_seam.specs.DeviceLock.declared.entry.Call.{Call}
-use Rattle.pmd_seam.specs.Home.{AreOut}
+use Rattle.pmd_access.specs.DeviceLock.declared.entry.Call.{Call}
+use Rattle.pmd_access.specs.Home.{AreOut}
 use Rattle.pmd_tx.specs.Plays.{PlaysWith}
 use Rattle.pmd_tx.specs.Sending.{Sender, Layout, blocks_of}
 use Rattle.pmd_tx.specs.Sends.{Frees}

@@ -1,7 +1,7 @@
 -- The parts of the newest packet.
 use Rattle.std.proofs.Common.{◌≡◌, ℕ, zero, suc, ◌+◌, ◌-◌, ◌*◌, ◌<◌, ◌≤◌, List, [], ◌∷◌, ◌++◌, length, take, drop, get_or, refl, sym, ap, ◌∙◌, arith}
 use Rattle.std.proofs.lemmas.List.{length-append, length-drop, drop-drop, get_or-drop, get_or-append-add, take_all, append-nil}
-use Rattle.pmd_seam.specs.Packet.{Kept}
+use Rattle.pmd_access.specs.Packet.{Kept}
 use Rattle.pmd_tx.specs.Sending.{Part, no_segment, parts_for, parts_in, parts_of}
 use Rattle.pmd_tx.specs.Shown.{all_parts, latest, newest_part, newest_parts}
 

@@ -4,7 +4,7 @@ use Rattle.std.proofs.lemmas.List.{drop_more}
 use Rattle.nic_device.specs.DmaArena.Block.{Block}
 use Rattle.std.specs.List.{list_any}
 use Rattle.nic_device.specs.DmaArena.Numbers.{Numbers, is_own, is_free}
-use Rattle.pmd_seam.specs.Bufs.{numbers_of}
+use Rattle.pmd_access.specs.Bufs.{numbers_of}
 use Rattle.pmd_tx.specs.Sends.{are_out}
 
 pub number-at : (bs : List Block) (k : ℕ) (b : Block) (d : ℕ) → k < length bs → b ≡ get_or bs k b

@@ -2,7 +2,7 @@
 use Rattle.std.proofs.Common.{◌≡◌, ℕ, zero, suc, ◌+◌, ◌-◌, ◌*◌, ◌<◌, ◌≤◌, ◌==◌, ◌||◌, Bool, true, false, List, [], ◌∷◌, ◌++◌, length, drop, get_or, if◌then◌else◌, refl, sym, ap, ◌∙◌, subst, arith, append_assoc}
 use Rattle.std.specs.List.{list_any}
 use Rattle.std.proofs.lemmas.List.{append-nil, length-append, length-drop, length-take-le, drop-drop, drop-append-le}
-use Rattle.pmd_seam.specs.Packet.{Kept}
+use Rattle.pmd_access.specs.Packet.{Kept}
 use Rattle.pmd_tx.specs.Pieces.{ends_packet, first_last, pieces_in, places_of}
 use Rattle.pmd_tx.specs.Sending.{Part, Segment, no_segment, blocks_of, first_end, paired, parts_in, parts_of}
 use Rattle.pmd_tx.specs.Shown.{AllTell, Tells, all_parts, latest, outstanding_of}

@@ -3,9 +3,9 @@ use Rattle.std.proofs.Common.{◌≡◌, ℕ, ◌+◌, ◌<◌, Bool, true, fals
 use Rattle.nic_device.specs.DmaArena.Block.{Block}
 use Rattle.nic_device.specs.declared.event.Event.TheVariants as event
 use Rattle.nic_device.specs.declared.event.Reply.TheVariants as reply
-use Rattle.pmd_seam.specs.DeviceLock.declared.entry.Call.{Call}
-use Rattle.pmd_seam.specs.Accesses.{IsLent, IsTaken, IsPoked, IsPeeked, IsWritten}
-use Rattle.pmd_seam.specs.Made.{Adds, AddsSome}
+use Rattle.pmd_access.specs.DeviceLock.declared.entry.Call.{Call}
+use Rattle.pmd_access.specs.Accesses.{IsLent, IsTaken, IsPoked, IsPeeked, IsWritten}
+use Rattle.pmd_access.specs.Made.{Adds, AddsSome}
 use Rattle.pmd_tx.specs.Plays.{PlaysWith, AsksNext, Faults, LooksLast}
 use Rattle.pmd_tx.specs.Sending.{Sender, Lends, Asks, Advances, Looks, Reaps, IsOwn, first_end, lent_more, asked, advanced, looked, reaped, is_sent, slot_at, descriptor_at}
 use Rattle.pmd_tx.proofs.Playing.{plays_adds, plays_none, faults_at, asks_at}

@@ -6,11 +6,11 @@ use Rattle.std.proofs.lemmas.List.{append-nil, length-append, length-take-le, le
 use Rattle.nic_device.proofs.DmaArena.Bytes.{length-put_bytes}
 use Rattle.nic_device.specs.DmaArena.Block.{Block, IsBlock}
 use Rattle.nic_device.specs.DmaArena.Memory.{put_bytes}
-use Rattle.pmd_seam.specs.Bufs.{bytes_of, numbers_of}
-use Rattle.pmd_seam.specs.Packet.{kept_of}
-use Rattle.pmd_seam.specs.declared.packet.Packet.{Packet}
-use Rattle.pmd_seam.specs.declared.fault.PmdFault.{PmdFault}
-use Rattle.pmd_seam.specs.declared.fault.PmdFault.TheVariants.{DeviceFault}
+use Rattle.pmd_access.specs.Bufs.{bytes_of, numbers_of}
+use Rattle.pmd_access.specs.Packet.{kept_of}
+use Rattle.pmd_access.specs.declared.packet.Packet.{Packet}
+use Rattle.pmd_access.specs.declared.fault.PmdFault.{PmdFault}
+use Rattle.pmd_access.specs.declared.fault.PmdFault.TheVariants.{DeviceFault}
 use Rattle.pmd_tx.specs.Padding.{first_bytes, padded_packet, unpadded, with_first}
 use Rattle.pmd_tx.specs.Sending.{Sender, parts_for}
 use Rattle.pmd_tx.specs.Sends.{accepted_of, outgoing_of, padded, IsBack}

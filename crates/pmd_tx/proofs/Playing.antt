@@ -4,10 +4,10 @@ use Rattle.std.proofs.lemmas.List.{append-nil}
 use Rattle.nic_device.specs.DmaArena.Block.{Block}
 use Rattle.nic_device.specs.declared.event.Event.{Event}
 use Rattle.nic_device.specs.declared.event.Reply.{Reply}
-use Rattle.pmd_seam.specs.DeviceLock.declared.entry.Call.{Call}
-use Rattle.pmd_seam.specs.DeviceLock.Pass.{call_of}
-use Rattle.pmd_seam.specs.Made.{Adds, AddsSome}
-use Rattle.pmd_seam.proofs.Steps.{steps_marked, steps_last, steps_both}
+use Rattle.pmd_access.specs.DeviceLock.declared.entry.Call.{Call}
+use Rattle.pmd_access.specs.DeviceLock.Pass.{call_of}
+use Rattle.pmd_access.specs.Made.{Adds, AddsSome}
+use Rattle.pmd_access.proofs.Steps.{steps_marked, steps_last, steps_both}
 use Rattle.pmd_tx.specs.Plays.{Plays, PlaysWith, AcceptsIn, AllAcceptIn, AllOwn, is_elsewhere, played_by, AsksNext, Faults}
 use Rattle.pmd_tx.specs.Sending.{Sender, Move, Elsewhere, IsOwn, moved, is_healthy}
 

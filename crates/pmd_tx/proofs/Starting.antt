@@ -4,11 +4,11 @@ use Rattle.std.specs.List.{list_any}
 use Rattle.std.proofs.lemmas.List.{length-append, length-take-le, take-append-drop, take-append-le, drop_at, drop-drop, take_all, get_or-take}
 use Rattle.std.proofs.lemmas.List.Elements.{All-append, All-push, All-take}
 use Rattle.nic_device.specs.DmaArena.Block.{Block, IsBlock}
-use Rattle.pmd_seam.specs.Bufs.{bytes_of, numbers_of}
-use Rattle.pmd_seam.specs.Packet.{Kept, kept_of}
-use Rattle.pmd_seam.specs.Slots.{is_ring_block}
-use Rattle.pmd_seam.specs.declared.packet.Packet.{Packet}
-use Rattle.pmd_seam.proofs.Copying.{take-append}
+use Rattle.pmd_access.specs.Bufs.{bytes_of, numbers_of}
+use Rattle.pmd_access.specs.Packet.{Kept, kept_of}
+use Rattle.pmd_access.specs.Slots.{is_ring_block}
+use Rattle.pmd_access.specs.declared.packet.Packet.{Packet}
+use Rattle.pmd_access.proofs.Copying.{take-append}
 use Rattle.pmd_tx.specs.Pieces.{ends_packet, pieces_in, places_of}
 use Rattle.pmd_tx.specs.Sending.{Sender, Layout, blocks_of, Segment, keeps, paired, parts_for, parts_in, parts_of, segments_of, accepted_by}
 use Rattle.pmd_tx.specs.Shown.{AllHold, AllTell, AreDistinct, IsRing, MayStart, newest_parts, outstanding_of, sent_as}

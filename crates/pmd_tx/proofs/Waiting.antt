@@ -4,8 +4,8 @@ use Rattle.std.specs.List.{list_any}
 use Rattle.std.proofs.lemmas.List.{take-map, take_at, length-take}
 use Rattle.nic_device.specs.DmaArena.Block.{Block, IsBlock}
 use Rattle.nic_device.specs.DmaArena.Memory.{put_bytes}
-use Rattle.pmd_seam.specs.Packet.{Kept}
-use Rattle.pmd_seam.specs.Slots.{is_ring_block}
+use Rattle.pmd_access.specs.Packet.{Kept}
+use Rattle.pmd_access.specs.Slots.{is_ring_block}
 use Rattle.pmd_tx.specs.Pieces.{places_of}
 use Rattle.pmd_tx.specs.Sending.{Sender, Layout, Segment, MayLend, blocks_of, has_lent, no_segment, segment_at}
 use Rattle.pmd_tx.specs.Shown.{Holds, IsRing, latest, newest_part, newest_parts, outstanding_of}

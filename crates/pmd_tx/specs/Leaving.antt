@@ -1,6 +1,6 @@
 -- The blocks of a ring that ends.
 use Rattle.std.specs.Prelude.{ℕ, List, take, drop, ◌++◌}
-use Rattle.pmd_seam.specs.Slots.{ring_blocks}
+use Rattle.pmd_access.specs.Slots.{ring_blocks}
 use Rattle.pmd_tx.specs.Sending.{Sender, blocks_of}
 
 -- the blocks that the ring has lent: those of outstanding segments, and its own

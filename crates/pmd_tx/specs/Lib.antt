@@ -1,4 +1,4 @@
-pub use Rattle.pmd_seam.specs as PmdSeam
+pub use Rattle.pmd_access.specs as PmdAccess
 pub mod Leaving
 pub mod Padding
 pub mod Pieces

@@ -2,7 +2,7 @@
 use Rattle.std.specs.Prelude.{ℕ, ◌-◌, nat_lt, List, [], ◌∷◌, take, replicate, if◌then◌else◌}
 use Rattle.nic_device.specs.DmaArena.Block.{Block}
 use Rattle.nic_device.specs.DmaArena.Memory.{put_bytes}
-use Rattle.pmd_seam.specs.declared.packet.Packet.{Packet}
+use Rattle.pmd_access.specs.declared.packet.Packet.{Packet}
 
 -- blocks with these bytes put into the first, from one of its bytes on
 abbrev pub with_first : List Block → ℕ → List ℕ → List Block

@@ -5,10 +5,10 @@ use Rattle.nic_device.specs.declared.event.Event.{Event}
 use Rattle.nic_device.specs.declared.event.Event.TheVariants as event
 use Rattle.nic_device.specs.declared.event.Reply.{Reply}
 use Rattle.nic_device.specs.declared.event.Reply.TheVariants as reply
-use Rattle.pmd_seam.specs.DeviceLock.declared.entry.Call.{Call}
-use Rattle.pmd_seam.specs.Made.{Adds, StepsWhere}
-use Rattle.pmd_seam.specs.declared.fault.PmdFault.{PmdFault}
-use Rattle.pmd_seam.specs.declared.fault.PmdFault.TheVariants as fault
+use Rattle.pmd_access.specs.DeviceLock.declared.entry.Call.{Call}
+use Rattle.pmd_access.specs.Made.{Adds, StepsWhere}
+use Rattle.pmd_access.specs.declared.fault.PmdFault.{PmdFault}
+use Rattle.pmd_access.specs.declared.fault.PmdFault.TheVariants as fault
 use Rattle.pmd_tx.specs.Sending.{Sender, Move, Accepts, Elsewhere, IsOwn, moved, is_healthy, is_sent, descriptor_at, first_end}
 
 -- the driver after these moves, with the replies of these calls: all that its code knows

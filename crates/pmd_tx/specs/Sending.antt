@@ -11,8 +11,8 @@ use Rattle.nic_device.specs.declared.event.Event.TheVariants as event
 use Rattle.nic_device.specs.declared.event.Port.{Port}
 use Rattle.nic_device.specs.declared.event.Reply.{Reply}
 use Rattle.nic_device.specs.declared.event.Reply.TheVariants as reply
-use Rattle.pmd_seam.specs.Packet.{Kept}
-use Rattle.pmd_seam.specs.Slots.{wrapped, descriptor_in, is_ring_block}
+use Rattle.pmd_access.specs.Packet.{Kept}
+use Rattle.pmd_access.specs.Slots.{wrapped, descriptor_in, is_ring_block}
 
 -- a part of a packet, which one descriptor asks for: its bytes, how many the whole packet has, and whether it is the
 -- last

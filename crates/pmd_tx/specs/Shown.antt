@@ -2,15 +2,15 @@
 use Rattle.std.specs.Prelude.{ℕ, ◌≡◌, ◌+◌, ◌-◌, ◌*◌, ◌<◌, ◌≤◌, ◌==◌, ⊤, true, false, List, [], ◌∷◌, ◌++◌, length, take, drop, All, Option, Some}
 use Rattle.std.specs.List.{list_any}
 use Rattle.nic_device.specs.DmaArena.Block.{Block, IsBlock}
-use Rattle.pmd_seam.specs.Accesses.{IsLent}
-use Rattle.pmd_seam.specs.Bufs.{numbers_of}
-use Rattle.pmd_seam.specs.DeviceLock.declared.entry.Call.{Call}
-use Rattle.pmd_seam.specs.Made.{AddsSome}
-use Rattle.pmd_seam.specs.Packet.{Kept, kept_of}
-use Rattle.pmd_seam.specs.Slots.{blocks_for, is_ring_block}
-use Rattle.pmd_seam.specs.declared.fault.PmdFault.{PmdFault}
-use Rattle.pmd_seam.specs.declared.fault.PmdFault.TheVariants as fault
-use Rattle.pmd_seam.specs.declared.packet.Packet.{Packet}
+use Rattle.pmd_access.specs.Accesses.{IsLent}
+use Rattle.pmd_access.specs.Bufs.{numbers_of}
+use Rattle.pmd_access.specs.DeviceLock.declared.entry.Call.{Call}
+use Rattle.pmd_access.specs.Made.{AddsSome}
+use Rattle.pmd_access.specs.Packet.{Kept, kept_of}
+use Rattle.pmd_access.specs.Slots.{blocks_for, is_ring_block}
+use Rattle.pmd_access.specs.declared.fault.PmdFault.{PmdFault}
+use Rattle.pmd_access.specs.declared.fault.PmdFault.TheVariants as fault
+use Rattle.pmd_access.specs.declared.packet.Packet.{Packet}
 use Rattle.pmd_tx.specs.Sending.{Sender, Layout, Outgoing, Part, Segment, keeps, paired, parts_for, parts_of}
 use Rattle.pmd_tx.specs.Pieces.{ends_packet, places_of}
 use Rattle.pmd_tx.specs.declared.piece.Piece.{Piece}

@@ -1,6 +1,6 @@
 //! What a driver answers that sends.
 
-use pmd_seam::{Packet, PmdFault};
+use pmd_access::{Packet, PmdFault};
 
 /// What the driver answers to a packet.
 pub enum TxAnswer {

@@ -5,7 +5,7 @@ ghost use Rattle.nic_device.specs.DmaArena.Block.{IsBlock};
 ghost use Rattle.pmd_tx.specs.Padding.{first_bytes, padded_packet, unpadded, with_first};
 
 use nic_device::Buf;
-use pmd_seam::{Bufs, Packet};
+use pmd_access::{Bufs, Packet};
 use std::mem;
 
 /// How many bytes a packet has at least, as it is sent.

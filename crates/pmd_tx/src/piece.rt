@@ -2,12 +2,12 @@
 
 ghost use Rattle.std.specs.Prelude.{◌≡◌, ◌<◌, ◌≤◌, ◌+◌, ◌*◌, ◌++◌, ◌∷◌, length, true};
 ghost use Rattle.std.specs.VecDeque.{deque_len, deque_capacity};
-ghost use Rattle.pmd_seam.specs.Bufs.{numbers_of};
+ghost use Rattle.pmd_access.specs.Bufs.{numbers_of};
 ghost use Rattle.pmd_tx.specs.Pieces.{pieces_in, first_last, ends_packet};
 ghost use Rattle.pmd_tx.specs.Sending.{parts_for};
 
 use nic_device::BLOCK_BYTES;
-use pmd_seam::Bufs;
+use pmd_access::Bufs;
 use std::collections::VecDeque;
 
 /// A part of a packet: its block, how many bytes it has and how many the packet has, and whether the packet ends there.

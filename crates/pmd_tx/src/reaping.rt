@@ -1,17 +1,17 @@
 //! How the blocks of packets that were sent come home.
 
 ghost use Rattle.std.specs.Prelude.{[], ◌≡◌, ◌<◌, ◌+◌, ◌↔◌, ℕ, List, Some, None, IfSome, IfNone, length, true, false, Ok, IsTrue, IfOk, IfErr, OnOk, OnErr, if◌then◌else◌};
-ghost use Rattle.pmd_seam.specs.Begun.{BeganAs};
-ghost use Rattle.pmd_seam.specs.Home.{AreOut};
+ghost use Rattle.pmd_access.specs.Begun.{BeganAs};
+ghost use Rattle.pmd_access.specs.Home.{AreOut};
 ghost use Rattle.pmd_tx.specs.Plays.{PlaysWith, LooksLast, FaultsBy};
 ghost use Rattle.pmd_tx.specs.Sending.{segment_at, blocks_of, reaped};
 ghost use Rattle.pmd_tx.specs.Sends.{Frees, FreesSome, IsLate};
-ghost use Rattle.pmd_seam.specs.Refusals.{CanFail};
+ghost use Rattle.pmd_access.specs.Refusals.{CanFail};
 
 use crate::answer::Reaped;
 use crate::ring::TransmitRing;
 use nic_device::Arena;
-use pmd_seam::{Nic, PmdFault, give_back};
+use pmd_access::{Nic, PmdFault, give_back};
 use std::alloc::Global;
 
 impl TransmitRing {

@@ -1,28 +1,28 @@
 //! The transmit ring of the driver: one step for each of its moves.
 
 ghost use Rattle.std.specs.Prelude.{[], ◌≡◌, ◌==◌, ◌≢◌, ◌↔◌, ◌<◌, ◌≤◌, ◌+◌, ◌-◌, ◌++◌, ℕ, None, All, length, take, drop, slice_index_or, true, false, Ok, IfOk, IfErr, OnOk, OnErr, OnSome, IfSome, IsNone, vec_len, if◌then◌else◌, List, not, nat_lt};
-ghost use Rattle.pmd_seam.specs.Accesses.{IsLent, IsWritten};
-ghost use Rattle.pmd_seam.specs.Begun.{BeganAs};
-ghost use Rattle.pmd_seam.specs.Bufs.{numbers_of};
-ghost use Rattle.pmd_seam.specs.Made.{AddsSome};
+ghost use Rattle.pmd_access.specs.Accesses.{IsLent, IsWritten};
+ghost use Rattle.pmd_access.specs.Begun.{BeganAs};
+ghost use Rattle.pmd_access.specs.Bufs.{numbers_of};
+ghost use Rattle.pmd_access.specs.Made.{AddsSome};
 ghost use Rattle.pmd_tx.specs.Plays.{PlaysWith, LooksLast, FaultsBy};
 ghost use Rattle.pmd_tx.specs.Leaving.{lent_of, waiting_of};
 ghost use Rattle.pmd_tx.specs.Pieces.{first_last, places_of};
 ghost use Rattle.pmd_tx.specs.Sending.{at_start, blocks_of, no_segment, segment_at, slot_at, descriptor_at, first_end, keeps, asking, asked, is_sent, looked, lent_more, advanced, reaped, accepted_by, parts_for};
 ghost use Rattle.std.specs.List.{list_any};
 ghost use Rattle.nic_device.specs.DmaRing.Ring.{next_of};
-ghost use Rattle.pmd_seam.specs.Packet.{Kept};
-ghost use Rattle.pmd_seam.specs.Slots.{blocks_for, ring_blocks};
+ghost use Rattle.pmd_access.specs.Packet.{Kept};
+ghost use Rattle.pmd_access.specs.Slots.{blocks_for, ring_blocks};
 ghost use Rattle.std.specs.Vec.{vec_capacity};
 ghost use Rattle.std.specs.VecDeque.{deque_len, deque_capacity};
 ghost use Rattle.pmd_tx.specs.Sends.{IsLate, IsBack};
 ghost use Rattle.pmd_tx.specs.Shown.{MayStart, sent_as, IsUnlent, LendsFirst, newest_part, newest_parts};
-ghost use Rattle.pmd_seam.specs.Refusals.{CanFail, CanRefuse};
+ghost use Rattle.pmd_access.specs.Refusals.{CanFail, CanRefuse};
 
 use crate::padding::{behind, put_back, split};
 use crate::piece::{Piece, add_pieces, first_last, parts_for};
 use nic_device::{Buf, Port, data_descriptor_word, is_sent, of_halves, second_half};
-use pmd_seam::{
+use pmd_access::{
     Bufs, CallFault, Nic, Packet, PmdFault, Reclaim, Record, blocks_for, descriptor_address,
     is_ring_block, lend, next_slot, peek, poke, slot_after, take, write,
 };

@@ -5,10 +5,10 @@ ghost use Rattle.std.specs.Prelude.{◌≡◌, ◌==◌, ◌&&◌, not, ◌<◌,
 ghost use Rattle.std.specs.List.{list_any};
 ghost use Rattle.nic_device.specs.DmaArena.Block.{IsBlock};
 ghost use Rattle.nic_device.specs.DmaArena.Numbers.{is_own, is_free};
-ghost use Rattle.pmd_seam.specs.Begun.{BeganAs};
-ghost use Rattle.pmd_seam.specs.Bufs.{numbers_of};
-ghost use Rattle.pmd_seam.specs.Home.{AreOut};
-ghost use Rattle.pmd_seam.specs.Refusals.{CanFail};
+ghost use Rattle.pmd_access.specs.Begun.{BeganAs};
+ghost use Rattle.pmd_access.specs.Bufs.{numbers_of};
+ghost use Rattle.pmd_access.specs.Home.{AreOut};
+ghost use Rattle.pmd_access.specs.Refusals.{CanFail};
 ghost use Rattle.pmd_tx.specs.Plays.{PlaysWith, FaultsBy};
 ghost use Rattle.pmd_tx.specs.Sending.{accepted_by, keeps, parts_for};
 ghost use Rattle.pmd_tx.specs.Sends.{are_out, gate_of, goes_home, outgoing_of, returned, IsAnswer, IsFullWhereTold, IsShut, IsTried, IsAccepted, IsNoneAccepted, IsBack, IsLate, SendsHome};
@@ -19,7 +19,7 @@ use crate::padding::{bytes_in, pad, start_of, unpad};
 use crate::piece::parts_for;
 use crate::ring::TransmitRing;
 use nic_device::Arena;
-use pmd_seam::{Bufs, Nic, Packet, PmdFault, give_bufs};
+use pmd_access::{Bufs, Nic, Packet, PmdFault, give_bufs};
 use std::alloc::Global;
 
 /// Whether Bufs can go home to the arena: their numbers are the arena's, aren't free there, and no two are alike.

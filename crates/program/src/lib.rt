@@ -2,7 +2,7 @@
 //!
 //! An [`Instruction`] is one type over what a jump goes to and what a data string is called: a text has names for
 //! both, and a program has numbers. A [`Program`] is what contracts see as a `Listing`, and `IsListing` says what each
-//! one is: its limits, and that what an instruction names is there. `script_asm` makes programs of texts, and the
+//! one is: its limits, and that what an instruction names is there. `script_text` makes programs of texts, and the
 //! machine runs them. An object is a program's byte form: [`Program::to_bytes`] writes it, and [`read`] reads it.
 #![tactic(auto)]
 

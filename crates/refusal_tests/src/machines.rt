@@ -6,7 +6,7 @@ use crate::trial::{Trial, tried};
 use machine::{Machine, NewRefused, OutOfMemory, StepAnswer};
 use nic_device::{Config, NewFault};
 use program::Program;
-use script_asm::assemble;
+use script_text::assemble;
 use std::alloc::Global;
 use std::process::Abort;
 use std::sync::Wait;

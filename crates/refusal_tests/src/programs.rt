@@ -4,7 +4,7 @@ use crate::outcome::done;
 use crate::sums::{START, with, with_bytes};
 use crate::trial::{Maker, makes};
 use program::{ObjectFault, Program, read};
-use script_asm::{ScriptFault, assemble, disassemble};
+use script_text::{ScriptFault, assemble, disassemble};
 use std::alloc::Global;
 use std::process::Abort;
 use std::sync::Wait;

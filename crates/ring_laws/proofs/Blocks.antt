@@ -13,9 +13,9 @@ use Rattle.nic_device.specs.TxRing.Fetch.{CanSend, Outcome, buffer_in, command_i
 use Rattle.nic_device.specs.TxRing.declared.tx.Tx.{Tx}
 use Rattle.nic_device.specs.TxRing.{Fetch.fetch_of, Laws.HasData, Laws.command_at, Report.head_address, Report.new_head}
 use Rattle.nic_device.specs.{DmaArena.Memory.SameLent, DmaRing.Driver.IsDataWord, DmaRing.Driver.data_command}
-use Rattle.pmd_tx.proofs.PmdSeam.Places.{next_below, wrapped_apart, wrapped_below, wrapped_next}
-use Rattle.pmd_tx.proofs.PmdSeam.Rings.{each_first, each_slot_block, slot_fits, slot_lies, slot_place}
-use Rattle.pmd_tx.specs.{PmdSeam.Slots.descriptor_in, PmdSeam.Slots.wrapped, Sending.blocks_of}
+use Rattle.pmd_tx.proofs.PmdAccess.Places.{next_below, wrapped_apart, wrapped_below, wrapped_next}
+use Rattle.pmd_tx.proofs.PmdAccess.Rings.{each_first, each_slot_block, slot_fits, slot_lies, slot_place}
+use Rattle.pmd_tx.specs.{PmdAccess.Slots.descriptor_in, PmdAccess.Slots.wrapped, Sending.blocks_of}
 use Rattle.ring_laws.specs.Agreeing.{AgreesAt, ArePackets, IsCounted, IsDone, IsLayout, IsReady, Shows, staged_behind}
 use Rattle.ring_laws.specs.TransmitPrelude.{Layout, Segment, Sender, asking, descriptor_at, has_lent, is_sent}
 use Rattle.ring_laws.specs.TransmitPrelude.{segment_at, slot_at}

@@ -14,7 +14,7 @@ use Rattle.history_laws.{proofs.Leaving.left-setting, specs.Left.fill_on, specs.
 use Rattle.nic_device.proofs.{DmaArena.Blocks.is_lent_in, RxRing.Fills.writes_inside_slot, RxRing.Tests.fill_healthy}
 use Rattle.nic_device.{proofs.RxRing.Fills.driver_reads, proofs.RxRing.Fills.takes_piece, specs.RxRing.Laws.IsHealthy}
 use Rattle.nic_device.{proofs.RxRing.Fills.fill_keeps_blocks, specs.RxRing.Fill.buffer_address, specs.Sound.AreWaiting}
-use Rattle.pmd_rx.proofs.PmdSeam.Rings.{slot_block, slot_lies}
+use Rattle.pmd_rx.proofs.PmdAccess.Rings.{slot_block, slot_lies}
 use Rattle.ring_laws.proofs.Blocks.{IsRingAt, Stays, buffer_and_slot, bytes_inside, reads_stay, slot_lent}
 use Rattle.ring_laws.specs.ReceivePrelude.{Layout, Receive, block_at, descriptor_at, is_step, reach, slot_at}
 use Rattle.ring_laws.specs.ReceiveUp.{EnableStepChangesNothing, LeavingStaysUp, OwnEventStaysUp, ReceiveStepStaysUp}

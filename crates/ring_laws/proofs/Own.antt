@@ -7,7 +7,7 @@ use Rattle.nic_device.proofs.DmaArena.Bus.{get-remove_other}
 use Rattle.nic_device.{proofs.DmaArena.Blocks.read_at_in, specs.DmaArena.Memory.part, specs.RegisterLaws.Sound.HasShape}
 use Rattle.nic_device.{proofs.DmaArena.Bus.of_some, proofs.DmaRing.Fields.halves_come_back, specs.DmaRing.Driver.posted}
 use Rattle.pmd_rx.specs.Receive.{HasLent, consumed, naming}
-use Rattle.pmd_rx.{proofs.PmdSeam.Rings.ring_block_apart, specs.Receive.TakesNext, specs.Receive.tail_behind}
+use Rattle.pmd_rx.{proofs.PmdAccess.Rings.ring_block_apart, specs.Receive.TakesNext, specs.Receive.tail_behind}
 use Rattle.ring_laws.proofs.Kept.{named_kept, order_on, order_same, posted_block, seen_within, slot_below}
 use Rattle.ring_laws.proofs.{Blocks.same_stays, Blocks.written_stays, Kept.reach_long, Kept.taking, Leaving.lend_keeps}
 use Rattle.ring_laws.specs.Joint.{Agree, HasSlots, Holds, InOrder, IsLoose, IsRing, IsSetUp, StageHolds}

@@ -3,7 +3,7 @@
 ghost use Rattle.std.specs.Prelude.{◌≡◌, ◌↔◌};
 ghost use Rattle.threads_bench.specs.Refused.{both_done, status_of};
 
-use bench::{FAILED, NO_MEMORY};
+use bench_commands::{FAILED, NO_MEMORY};
 use std::alloc::AllocError;
 use workers::{CallFault, CloseFault, NewFault, PmdFault, RunFault, WorkerFault};
 
@@ -81,7 +81,7 @@ impl From<CloseFault> for Refused {
 
 impl From<PmdFault> for Refused {
     ghost use Rattle.workers.specs.DeviceLock.declared.fault.CallFault.{CallFault};
-    ghost use Rattle.workers.specs.PmdSeam.declared.fault.PmdFault.{PmdFault};
+    ghost use Rattle.workers.specs.PmdAccess.declared.fault.PmdFault.{PmdFault};
     ghost use Rattle.threads_bench.specs.declared.refused.Refused.TheVariants.{OutOfMemory};
 
     ghost from_gives = { λ fault refused. (refused ≡ OutOfMemory)
@@ -102,7 +102,7 @@ impl From<PmdFault> for Refused {
 
 impl From<WorkerFault> for Refused {
     ghost use Rattle.workers.specs.DeviceLock.declared.fault.CallFault.{CallFault};
-    ghost use Rattle.workers.specs.PmdSeam.declared.fault.PmdFault.{PmdFault};
+    ghost use Rattle.workers.specs.PmdAccess.declared.fault.PmdFault.{PmdFault};
     ghost use Rattle.workers.specs.declared.WorkerFault.{WorkerFault};
     ghost use Rattle.threads_bench.specs.declared.refused.Refused.TheVariants.{OutOfMemory};
 

@@ -2,10 +2,10 @@
 
 ghost use Rattle.std.specs.Prelude.{◌≡◌, OnOk, map};
 ghost use Rattle.std.specs.Io.KnownBytes.{Appends};
-ghost use Rattle.bench.specs.Answer.{FailsToWrite};
+ghost use Rattle.bench_commands.specs.Answer.{FailsToWrite};
 ghost use Rattle.threads_bench.specs.Summary.{byte_count, is_sent, queue_line, queue_lines, sent_in, summary_text};
 
-use bench::{Failure, Output};
+use bench_commands::{Failure, Output};
 use nic_device::ReplyNote;
 use std::io::Write;
 use workers::{Entry, Report};

@@ -9,7 +9,7 @@ use crate::gathered::{Gathered, gather};
 use crate::jobs::{FRAME, jobs, setup};
 use crate::refused::Refused;
 use crate::summary::{Summary, sent_in, write_summary};
-use bench::{DONE, FAILED, Output};
+use bench_commands::{DONE, FAILED, Output};
 use nic_device::Port;
 use std::alloc::Global;
 use std::io::Write;

@@ -7,8 +7,8 @@ use Rattle.device_lock.specs.History.{call_in, calls_of}
 use Rattle.device_lock.specs.declared.alone.Watched.{Watched}
 use Rattle.device_lock.specs.declared.entry.Call.{Call}
 use Rattle.device_lock.specs.declared.entry.Entry.{Entry}
-use Rattle.pmd.specs.PmdSeam.Events.{is_step}
-use Rattle.pmd.specs.PmdSeam.Made.{AreSteps}
+use Rattle.pmd_driver.specs.PmdAccess.Events.{is_step}
+use Rattle.pmd_driver.specs.PmdAccess.Made.{AreSteps}
 use Rattle.workers.specs.Before.{holds_of, is_first, known_before, known_through, left_behind}
 use Rattle.workers.specs.Starts.{Starts}
 

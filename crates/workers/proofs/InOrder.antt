@@ -1,28 +1,29 @@
 -- What a worker's end tells is in order, over every history that its pass may close.
-use Rattle.pmd.specs.PmdSeam.QueueMade.{IsSeen}
-use Rattle.pmd_laws.proofs.Prelude.{Call, DrivesRings, Entry, HasGround, HasLived, IsAlong, IsFalse, IsQuiet}
-use Rattle.pmd_laws.proofs.Prelude.{IsStopping, Life, List, None, Numbers, Option, PmdFault, Rest, Rxdctl, Some, State}
-use Rattle.pmd_laws.proofs.Prelude.{TakesOnceOff, Up, Watched, [], ap, append-nil, append_assoc, append_cancel_left}
-use Rattle.pmd_laws.proofs.Prelude.{arith, around, bytes_of, call_in, call_of, calls_joined, calls_of, calls_own}
-use Rattle.pmd_laws.proofs.Prelude.{common_steps, delivered, drives_lead, eq-eqb, false, halted_of, halves_of, inl, inr}
-use Rattle.pmd_laws.proofs.Prelude.{is_step, leads_to, left_accepted, left_handed, new_sound, new_state, none_behind}
-use Rattle.pmd_laws.proofs.Prelude.{refl, rules, same_from_push, sent_since, subst, sym, ℕ, ⊎_elim, ◌++◌, ◌∙◌, ◌∷◌, ◌≡◌}
-use Rattle.pmd_laws.proofs.Closed.{isnt_none}
+use Rattle.pmd_driver.specs.PmdAccess.QueueMade.{IsSeen}
+use Rattle.driver_laws.proofs.Prelude.{Call, DrivesRings, Entry, HasGround, HasLived, IsAlong, IsFalse, IsQuiet}
+use Rattle.driver_laws.proofs.Prelude.{IsStopping, Life, List, None, Numbers, Option, PmdFault, Rest, Rxdctl, Some}
+use Rattle.driver_laws.proofs.Prelude.{State, TakesOnceOff, Up, Watched, [], ap, append-nil, append_assoc}
+use Rattle.driver_laws.proofs.Prelude.{append_cancel_left, arith, around, bytes_of, call_in, call_of, calls_joined}
+use Rattle.driver_laws.proofs.Prelude.{calls_of, calls_own, common_steps, delivered, drives_lead, eq-eqb, false}
+use Rattle.driver_laws.proofs.Prelude.{halted_of, halves_of, inl, inr, is_step, leads_to, left_accepted, left_handed}
+use Rattle.driver_laws.proofs.Prelude.{new_sound, new_state, none_behind, refl, rules, same_from_push, sent_since}
+use Rattle.driver_laws.proofs.Prelude.{subst, sym, ℕ, ⊎_elim, ◌++◌, ◌∙◌, ◌∷◌, ◌≡◌}
+use Rattle.driver_laws.proofs.Closed.{isnt_none}
 use Rattle.workers.proofs.WorkerTold.{calls_from, ground_there, named_below, starts_more}
-use Rattle.pmd_laws.proofs.{DriverLaws.HistoryLaws.Alone.new_is_left_alone, Order.along_before}
-use Rattle.pmd_laws.proofs.{Order.along_behind, Order.life_of, Prelude.AreSteps, Prelude.AreUp, Prelude.AtPort}
-use Rattle.pmd_laws.proofs.{Prelude.◌≢◌, Prelude.◌⊎◌, Refused.left_in_order, Shifted.Behind, Shifted.Shifts}
-use Rattle.pmd_laws.proofs.{Shifted.rings, Shifted.up_behind, StopCalls.stopped_takes, StopCalls.takes_ends}
-use Rattle.pmd_laws.proofs.{StopCalls.takes_shift, Stopped.over_stop, Stopped.sent_over}
-use Rattle.pmd_laws.specs.Closed.{UpTo}
+use Rattle.driver_laws.proofs.{Order.along_before, StartLaws.HistoryLaws.Alone.new_is_left_alone}
+use Rattle.driver_laws.proofs.{Order.along_behind, Order.life_of, Prelude.AreSteps, Prelude.AreUp, Prelude.AtPort}
+use Rattle.driver_laws.proofs.{Prelude.◌≢◌, Prelude.◌⊎◌, Refused.left_in_order, Shifted.Behind, Shifted.Shifts}
+use Rattle.driver_laws.proofs.{Shifted.rings, Shifted.up_behind, StopCalls.stopped_takes, StopCalls.takes_ends}
+use Rattle.driver_laws.proofs.{StopCalls.takes_shift, Stopped.over_stop, Stopped.sent_over}
+use Rattle.driver_laws.specs.Closed.{UpTo}
 use Rattle.workers.specs.Order.{EndsAreInOrder, IsEndAmong, LeavesJob, given_of, queue_of}
 use Rattle.workers.specs.Points.{JustBefore}
 use Rattle.workers.specs.declared.{ends.WorkerEnd.WorkerEnd, fault.WorkerFault.TheVariants.NoThread, job.Job.Job}
 use Rattle.workers.specs.{Ends.AreEnds, Ends.IsEnd, Lived.HasRun, Starts.Starts}
 use Rattle.nic_device.specs.declared.event.Event.TheVariants as event
 use Rattle.nic_device.specs.declared.event.Reply.TheVariants as reply
-use Rattle.pmd_laws.specs.DriverLaws.RingLaws.Delivered as receive
-use Rattle.pmd_laws.specs.DriverLaws.RingLaws.Laws as transmit
+use Rattle.driver_laws.specs.StartLaws.RingLaws.Delivered as receive
+use Rattle.driver_laws.specs.StartLaws.RingLaws.Laws as transmit
 
 -- A driver that lived: what it left, counted from its first event on. From there on its history is one by itself, in
 -- which the driver lived, behind no calls of its pass.

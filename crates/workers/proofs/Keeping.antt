@@ -1,10 +1,10 @@
 -- Where the blocks of a driver are after a call of it.
 use Rattle.std.proofs.Common.{ℕ, List, [], ◌++◌}
-use Rattle.pmd.specs.Halted.{all_out}
-use Rattle.pmd.specs.Blocks.{KeepsBlocks}
-use Rattle.pmd.specs.Driver.{halted_of}
-use Rattle.pmd.specs.declared.driver.Rings.{Rings}
-use Rattle.pmd.proofs.Whole.{keeps_then}
+use Rattle.pmd_driver.specs.Halted.{all_out}
+use Rattle.pmd_driver.specs.Blocks.{KeepsBlocks}
+use Rattle.pmd_driver.specs.Driver.{halted_of}
+use Rattle.pmd_driver.specs.declared.driver.Rings.{Rings}
+use Rattle.pmd_driver.proofs.Whole.{keeps_then}
 use Rattle.workers.specs.Kept.{KeepsAll}
 
 -- a call that keeps each block leaves the driver with all blocks of an arena

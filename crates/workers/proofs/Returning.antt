@@ -4,22 +4,22 @@ use Rattle.std.specs.List.{list_any}
 use Rattle.device_lock.specs.declared.entry.Call.{Call}
 use Rattle.nic_device.specs.DmaArena.Numbers.{Numbers}
 use Rattle.nic_device.specs.DmaArena.Whereabouts.{times_in_hand}
-use Rattle.pmd.specs.PmdSeam.Bufs.{numbers_of}
-use Rattle.pmd.specs.PmdSeam.declared.fault.PmdFault.{PmdFault}
-use Rattle.pmd.specs.PmdSeam.declared.fault.PmdFault.TheVariants as fault
-use Rattle.pmd.specs.PmdSeam.declared.packet.Packet.{Packet}
-use Rattle.pmd.specs.PmdRx.Keeping.{blocks_out}
-use Rattle.pmd.specs.PmdRx.Receive.{Receive}
-use Rattle.pmd.specs.PmdTx.Sending.{Layout, Segment, is_among}
-use Rattle.pmd.specs.PmdTx.Sends.{IsNoneAccepted, IsBack, SendsHome, are_out}
-use Rattle.pmd.specs.PmdTx.declared.answer.TxAnswer.{TxAnswer}
-use Rattle.pmd.specs.PmdTx.declared.answer.TxFault.{TxFault}
-use Rattle.pmd.specs.DriverCalls.{IsSendCall}
-use Rattle.pmd.specs.Driver.{goes_back_to, WhereUp, IsDown}
-use Rattle.pmd.specs.Running.{Running, goes_back}
-use Rattle.pmd.specs.declared.driver.Rings.{Rings}
-use Rattle.pmd.specs.declared.driver.Rings.TheVariants.{Up, Down}
-use Rattle.pmd.proofs.SentCounted.{fault_blocks}
+use Rattle.pmd_driver.specs.PmdAccess.Bufs.{numbers_of}
+use Rattle.pmd_driver.specs.PmdAccess.declared.fault.PmdFault.{PmdFault}
+use Rattle.pmd_driver.specs.PmdAccess.declared.fault.PmdFault.TheVariants as fault
+use Rattle.pmd_driver.specs.PmdAccess.declared.packet.Packet.{Packet}
+use Rattle.pmd_driver.specs.PmdRx.Keeping.{blocks_out}
+use Rattle.pmd_driver.specs.PmdRx.Receive.{Receive}
+use Rattle.pmd_driver.specs.PmdTx.Sending.{Layout, Segment, is_among}
+use Rattle.pmd_driver.specs.PmdTx.Sends.{IsNoneAccepted, IsBack, SendsHome, are_out}
+use Rattle.pmd_driver.specs.PmdTx.declared.answer.TxAnswer.{TxAnswer}
+use Rattle.pmd_driver.specs.PmdTx.declared.answer.TxFault.{TxFault}
+use Rattle.pmd_driver.specs.DriverCalls.{IsSendCall}
+use Rattle.pmd_driver.specs.Driver.{goes_back_to, WhereUp, IsDown}
+use Rattle.pmd_driver.specs.Running.{Running, goes_back}
+use Rattle.pmd_driver.specs.declared.driver.Rings.{Rings}
+use Rattle.pmd_driver.specs.declared.driver.Rings.TheVariants.{Up, Down}
+use Rattle.pmd_driver.proofs.SentCounted.{fault_blocks}
 
 -- whether blocks of these numbers can go back, by what a driver has
 abbrev back_at : Numbers → Receive → Layout → List Segment → List ℕ → Bool

@@ -1,13 +1,13 @@
 -- What the laws of a driver's life ask of the place where it starts, by what the entries of a history tell.
 use Rattle.std.specs.Prelude.{◌*◌, ◌<◌, ◌≤◌, All, List, ℕ, length}
 use Rattle.nic_device.specs.DmaArena.Numbers.{count_of}
-use Rattle.pmd_laws.specs.DriverLaws.Prelude.{AreEvents, Call, Entry, FitsBlocks, IsLegal, Numbers, State, Watched}
-use Rattle.pmd_laws.specs.DriverLaws.Prelude.{most_blocks, new_state}
-use Rattle.pmd_laws.specs.{Asked.asked_of, Faultless.NoneLent, Prelude.HasGround, Prelude.IsQuiet}
+use Rattle.driver_laws.specs.StartLaws.Prelude.{AreEvents, Call, Entry, FitsBlocks, IsLegal, Numbers, State, Watched}
+use Rattle.driver_laws.specs.StartLaws.Prelude.{most_blocks, new_state}
+use Rattle.driver_laws.specs.{Asked.asked_of, Faultless.NoneLent, Prelude.HasGround, Prelude.IsQuiet}
 use Rattle.workers.specs.{Beginning.BeginsWell, Fitting.FramesFit, Lending.OthersLendNone, Lending.are_from}
 use Rattle.workers.specs.{Points.HoldsAtFirst, Points.JustBefore, Quiet.NeverAskedOn}
 use Rattle.workers.specs.declared.beginning.Given.{Given}
-use Rattle.pmd_laws.specs.Asked as asked
+use Rattle.driver_laws.specs.Asked as asked
 
 -- where a driver begins well in a history, its port and queue name the watched queue just before the first event of its
 -- own, and the device's frame limit is that of its frames

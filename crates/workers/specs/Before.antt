@@ -5,7 +5,7 @@ use Rattle.nic_device.specs.declared.event.Event.{Event}
 use Rattle.device_lock.specs.Told.{first_settings, settings_after}
 use Rattle.device_lock.specs.declared.alone.Watched.{Watched}
 use Rattle.device_lock.specs.declared.entry.Entry.{Entry}
-use Rattle.pmd.specs.PmdSeam.Events.{is_step}
+use Rattle.pmd_driver.specs.PmdAccess.Events.{is_step}
 use Rattle.workers.specs.Quiet.{asks_on}
 use Rattle.workers.specs.declared.before.Told.{Told}
 

@@ -6,7 +6,7 @@ use Rattle.device_lock.specs.declared.alone.Watched.{Watched}
 use Rattle.device_lock.specs.declared.entry.Call.{Call}
 use Rattle.device_lock.specs.declared.entry.Entry.{Entry}
 use Rattle.device_lock.specs.declared.told.Settings.{Settings}
-use Rattle.pmd.specs.PmdSeam.Frames.{packet_limit}
+use Rattle.pmd_driver.specs.PmdAccess.Frames.{packet_limit}
 use Rattle.workers.specs.Queues.{queue_at}
 use Rattle.workers.specs.Starts.{Starts}
 use Rattle.workers.specs.declared.beginning.Given.{Given}

@@ -1,8 +1,8 @@
 -- How a worker ends.
 use Rattle.std.specs.Prelude.{Bool, true, false, Option, Some, None, Result, Ok, Err}
-use Rattle.pmd.specs.PmdSeam.declared.fault.PmdFault.{PmdFault}
-use Rattle.pmd.specs.declared.start.Rest.{Rest}
-use Rattle.pmd.specs.declared.start.Rest.TheVariants.{Home, Running}
+use Rattle.pmd_driver.specs.PmdAccess.declared.fault.PmdFault.{PmdFault}
+use Rattle.pmd_driver.specs.declared.start.Rest.{Rest}
+use Rattle.pmd_driver.specs.declared.start.Rest.TheVariants.{Home, Running}
 use Rattle.workers.specs.declared.fault.WorkerFault.{WorkerFault}
 use Rattle.workers.specs.declared.fault.WorkerFault.TheVariants.{Pmd, GateShut, NoThread}
 

@@ -2,9 +2,9 @@
 use Rattle.std.specs.Prelude.{◌≡◌, ◌≢◌, ◌≤◌, true, List, [], ◌∷◌, length, Option, Some, IfNone, ⊤}
 use Rattle.rtrb.specs.Ring.{sent, SameProducer}
 use Rattle.device_lock.specs.Pass.{PassValue}
-use Rattle.pmd.specs.Blocks.{IsWhole}
-use Rattle.pmd.specs.Started.{left_handed, IsHome}
-use Rattle.pmd.specs.declared.start.Rest.{Rest}
+use Rattle.pmd_driver.specs.Blocks.{IsWhole}
+use Rattle.pmd_driver.specs.Started.{left_handed, IsHome}
+use Rattle.pmd_driver.specs.declared.start.Rest.{Rest}
 use Rattle.workers.specs.declared.job.Job.{Job}
 use Rattle.workers.specs.declared.reports.Report.{Report}
 use Rattle.workers.specs.Ended.{is_home}

@@ -1,9 +1,9 @@
 -- The blocks of a worker's driver.
 use Rattle.std.specs.Prelude.{ℕ, List}
 use Rattle.nic_device.specs.DmaArena.Numbers.{Numbers}
-use Rattle.pmd.specs.Blocks.{HasAll}
-use Rattle.pmd.specs.Driver.{halted_of}
-use Rattle.pmd.specs.declared.driver.Rings.{Rings}
+use Rattle.pmd_driver.specs.Blocks.{HasAll}
+use Rattle.pmd_driver.specs.Driver.{halted_of}
+use Rattle.pmd_driver.specs.declared.driver.Rings.{Rings}
 
 -- a driver that had all blocks of an arena but those in hand has them all after, but those that are in hand then
 abbrev pub KeepsAll : Rings → List ℕ → Rings → List ℕ → Type 0

@@ -1,5 +1,5 @@
 pub use Rattle.device_lock.specs as DeviceLock
-pub use Rattle.pmd.specs.PmdSeam
+pub use Rattle.pmd_driver.specs.PmdAccess
 pub mod AtFirst
 pub mod Before
 pub mod Beginning

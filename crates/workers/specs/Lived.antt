@@ -2,11 +2,11 @@
 use Rattle.std.specs.Prelude.{ℕ, ◌≡◌, ◌⊎◌, List, Option, Some, Result}
 use Rattle.nic_device.specs.DmaArena.Numbers.{Numbers}
 use Rattle.device_lock.specs.declared.entry.Call.{Call}
-use Rattle.pmd.specs.PmdSeam.declared.fault.PmdFault.{PmdFault}
-use Rattle.pmd.specs.PmdSeam.Named.{AtPort}
-use Rattle.pmd.specs.Life.{HasLived, NeverLived}
-use Rattle.pmd.specs.declared.start.Rest.{Rest}
-use Rattle.pmd.specs.declared.start.StartRefused.{StartRefused}
+use Rattle.pmd_driver.specs.PmdAccess.declared.fault.PmdFault.{PmdFault}
+use Rattle.pmd_driver.specs.PmdAccess.Named.{AtPort}
+use Rattle.pmd_driver.specs.Life.{HasLived, NeverLived}
+use Rattle.pmd_driver.specs.declared.start.Rest.{Rest}
+use Rattle.pmd_driver.specs.declared.start.StartRefused.{StartRefused}
 use Rattle.workers.specs.Ended.{first_fault}
 use Rattle.workers.specs.declared.fault.WorkerFault.{WorkerFault}
 use Rattle.workers.specs.declared.fault.WorkerFault.TheVariants.{Pmd}

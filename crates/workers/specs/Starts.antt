@@ -3,8 +3,8 @@ use Rattle.std.specs.Prelude.{ℕ, ◌≡◌, IsFalse, List, ◌∷◌, ◌++◌
 use Rattle.device_lock.specs.History.{calls_of}
 use Rattle.device_lock.specs.declared.entry.Call.{Call}
 use Rattle.device_lock.specs.declared.entry.Entry.{Entry}
-use Rattle.pmd.specs.PmdSeam.Events.{is_step}
-use Rattle.pmd.specs.PmdSeam.Made.{AreSteps}
+use Rattle.pmd_driver.specs.PmdAccess.Events.{is_step}
+use Rattle.pmd_driver.specs.PmdAccess.Made.{AreSteps}
 
 -- an entry of a history is the first of a driver's own, behind the calls that its pass had made before the driver, and
 -- steps of the device

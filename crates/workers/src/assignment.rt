@@ -7,7 +7,7 @@ use crate::fault::WorkerFault;
 use crate::job::Job;
 use crate::reports::Report;
 use device_lock::Pass;
-use pmd::Rest;
+use pmd_driver::Rest;
 use rtrb::Producer;
 
 /// A worker's job, and its end of the way of its reports, which has room for all of them.

@@ -2,7 +2,7 @@
 
 ghost use Rattle.std.specs.Prelude.{◌≡◌};
 ghost use Rattle.device_lock.specs.Alone.{place_at};
-ghost use Rattle.pmd.specs.PmdSeam.Events.{is_step};
+ghost use Rattle.pmd_driver.specs.PmdAccess.Events.{is_step};
 ghost use Rattle.workers.specs.Before.{first_told, is_first, left_behind, told_after, told_before};
 ghost use Rattle.workers.specs.Quiet.{asks_on, is_enable};
 

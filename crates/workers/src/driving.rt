@@ -4,12 +4,12 @@ ghost use Rattle.std.specs.Prelude.{ℕ, ◌≡◌, ◌≤◌, List, [], length,
 ghost use Rattle.rtrb.specs.Ring.{sent, known_free, SameProducer};
 ghost use Rattle.nic_device.specs.DmaArena.Numbers.{Numbers};
 ghost use Rattle.device_lock.specs.declared.entry.Call.{Call};
-ghost use Rattle.pmd.specs.PmdSeam.Begun.{BeganAs};
-ghost use Rattle.pmd.specs.PmdSeam.Named.{AtPort};
-ghost use Rattle.pmd.specs.Blocks.{HasAll, LosesNone, IsWhole};
-ghost use Rattle.pmd.specs.Driver.{accepted_of, handed_of, halted_of};
-ghost use Rattle.pmd.specs.Life.{ComesDown, IsStopped, RunsOn};
-ghost use Rattle.pmd.specs.Started.{left_accepted, left_handed, HasStarted};
+ghost use Rattle.pmd_driver.specs.PmdAccess.Begun.{BeganAs};
+ghost use Rattle.pmd_driver.specs.PmdAccess.Named.{AtPort};
+ghost use Rattle.pmd_driver.specs.Blocks.{HasAll, LosesNone, IsWhole};
+ghost use Rattle.pmd_driver.specs.Driver.{accepted_of, handed_of, halted_of};
+ghost use Rattle.pmd_driver.specs.Life.{ComesDown, IsStopped, RunsOn};
+ghost use Rattle.pmd_driver.specs.Started.{left_accepted, left_handed, HasStarted};
 ghost use Rattle.workers.specs.Ended.{first_fault, is_home, is_shut_out, is_threadless};
 ghost use Rattle.workers.specs.Kept.{KeepsAll};
 ghost use Rattle.workers.specs.Lived.{HasRun};
@@ -20,7 +20,7 @@ use crate::gate::Gate;
 use crate::reports::Report;
 use crate::turns::{do_rounds, reap_all};
 use nic_device::{Arena, Port};
-use pmd::{Nic, Pmd, PmdFault, Rest, StartRefused, StopRefused};
+use pmd_driver::{Nic, Pmd, PmdFault, Rest, StartRefused, StopRefused};
 use rtrb::Producer;
 use std::alloc::Global;
 

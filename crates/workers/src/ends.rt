@@ -9,7 +9,7 @@ use crate::job::Job;
 use crate::reports::{Collector, Report};
 use crate::seat::Seat;
 use device_lock::Pass;
-use pmd::Rest;
+use pmd_driver::Rest;
 
 /// What a worker leaves. It can't be dropped.
 pub struct WorkerEnd {

@@ -1,7 +1,7 @@
 //! Whether the frames that were let in before a driver's start fit its packets, as the entries of a history tell.
 
 ghost use Rattle.std.specs.Prelude.{◌≡◌, ◌↔◌, ◌*◌, IsTrue};
-ghost use Rattle.pmd.specs.PmdSeam.Frames.{most_blocks};
+ghost use Rattle.pmd_driver.specs.PmdAccess.Frames.{most_blocks};
 ghost use Rattle.workers.specs.Before.{known_before};
 ghost use Rattle.workers.specs.Fitting.{FramesFit, let_in_by, longest_behind};
 

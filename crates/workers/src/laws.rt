@@ -2,7 +2,7 @@
 //! worker's driver starts.
 //!
 //! Each law is the contract of a function that does nothing. `specs/Order` says the first, on which the clause `order`
-//! of `run_workers` rests, and `specs/AtFirst` the others, for the laws of crate `pmd_laws` on a driver's life.
+//! of `run_workers` rests, and `specs/AtFirst` the others, for the laws of crate `driver_laws` on a driver's life.
 
 ghost use Rattle.workers.specs.AtFirst.{BegunHasGround, FramesFitIsShort, NeverAskedIsQuiet, OthersLendNoneIsAlone};
 ghost use Rattle.workers.specs.Order.{EndsAreInOrder};
@@ -19,8 +19,8 @@ pub fn ends_are_in_order()
 
 /// Over the history of a device that was new: where `begins_well` says so of a driver, its port and queue name the
 /// watched queue just before the first event of the driver's own, and the device's frame limit is that of its frames,
-/// as `run_workers` asks in its clause `order`, and the laws of `pmd_laws` on a driver's life behind the same calls of
-/// its pass.
+/// as `run_workers` asks in its clause `order`, and the laws of `driver_laws` on a driver's life behind the same calls
+/// of its pass.
 pub fn worker_begins_well()
     ensures { BegunHasGround }
 {}
@@ -35,7 +35,7 @@ pub fn worker_starts_quiet()
 /// Over a legal history of a device that was new: where `others_lend_none` says so of a driver and of its arena's
 /// blocks, no other pass lends any of those that the driver's pass asks to lend, and none of them is lent just before
 /// the first event of the driver's own. That is what is asked of blocks by
-/// `pmd_laws::no_call_finds_the_device_at_fault`, `no_start_finds_the_device_at_fault` and
+/// `driver_laws::no_call_finds_the_device_at_fault`, `no_start_finds_the_device_at_fault` and
 /// `blocks_out_are_lent_at_the_device`.
 pub fn worker_has_its_blocks_alone()
     ensures { OthersLendNoneIsAlone }
@@ -43,7 +43,7 @@ pub fn worker_has_its_blocks_alone()
 
 /// Over a legal history of a device that was new: where `frames_fit` says so of a driver, the frames that wait for the
 /// driver's queue just before the first event of its own fit as many blocks as a packet of the driver has at most. That
-/// is what is asked of these frames by `pmd_laws::no_call_finds_the_device_at_fault` and
+/// is what is asked of these frames by `driver_laws::no_call_finds_the_device_at_fault` and
 /// `no_start_finds_the_device_at_fault`.
 pub fn frames_of_a_worker_fit()
     ensures { FramesFitIsShort }

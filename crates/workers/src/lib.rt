@@ -60,7 +60,7 @@ pub use hosted::run;
 pub use job::{Job, overlap};
 pub use lending::others_lend_none;
 pub use meeting::{Lockstep, MAX_MEMBERS};
-pub use pmd::{
+pub use pmd_driver::{
     Bufs, Direct, Finished, Home, Interleaved, Nic, POLLS, Packet, Pmd, PmdFault, Queue, Record,
     Rest, Setup, StartRefused, StopRefused, ThroughLock, TxAnswer, TxFault, history_of,
     marked_history, pf_setup,

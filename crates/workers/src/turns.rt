@@ -2,17 +2,17 @@
 
 ghost use Rattle.std.specs.Prelude.{◌≡◌, ◌+◌, ◌<◌, ◌≤◌, ◌++◌, ◌∷◌, [], length, true, IfOk, IfSome, IfNone, OnErr};
 ghost use Rattle.rtrb.specs.Ring.{sent, known_free, SameProducer};
-ghost use Rattle.pmd.specs.PmdSeam.Begun.{BeganAs};
-ghost use Rattle.pmd.specs.PmdSeam.Bufs.{numbers_of};
-ghost use Rattle.pmd.specs.PmdSeam.Packet.{kept_of};
-ghost use Rattle.pmd.specs.Driver.{handed_of, goes_back_to};
-ghost use Rattle.pmd.specs.Life.{KeepsHalves, RunsOn};
-ghost use Rattle.pmd.specs.PmdRx.Keeping.{handed_blocks, numbers_in};
+ghost use Rattle.pmd_driver.specs.PmdAccess.Begun.{BeganAs};
+ghost use Rattle.pmd_driver.specs.PmdAccess.Bufs.{numbers_of};
+ghost use Rattle.pmd_driver.specs.PmdAccess.Packet.{kept_of};
+ghost use Rattle.pmd_driver.specs.Driver.{handed_of, goes_back_to};
+ghost use Rattle.pmd_driver.specs.Life.{KeepsHalves, RunsOn};
+ghost use Rattle.pmd_driver.specs.PmdRx.Keeping.{handed_blocks, numbers_in};
 ghost use Rattle.workers.specs.Kept.{KeepsAll};
 ghost use Rattle.workers.specs.Told.{report_of, reports_of};
 
 use crate::reports::Report;
-use pmd::{Nic, Packet, Pmd, PmdFault, Reaped, TxAnswer, TxFault, bytes_in};
+use pmd_driver::{Nic, Packet, Pmd, PmdFault, Reaped, TxAnswer, TxFault, bytes_in};
 use rtrb::Producer;
 use std::alloc::Global;
 

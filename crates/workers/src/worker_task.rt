@@ -11,7 +11,7 @@ use crate::job::Job;
 use crate::seat::Task;
 use crate::widening::widen;
 use device_lock::Shared;
-use pmd::{Home, Rest, ThroughLock};
+use pmd_driver::{Home, Rest, ThroughLock};
 use std::alloc::Global;
 use std::marker::Model;
 use std::sync::Wait;

@@ -1,8 +1,8 @@
 use Rattle.std.proofs.Common.{List, length, ap, sym, subst, ◌∙◌, arith}
 use Rattle.nic_device.specs.DmaArena.Numbers.{Numbers}
-use Rattle.pmd_seam.specs.Bufs.{with_all_free}
-use Rattle.pmd_seam.specs.Home.{AreOut}
-use Rattle.pmd_seam.specs.declared.packet.Packet.{Packet}
+use Rattle.pmd_access.specs.Bufs.{with_all_free}
+use Rattle.pmd_access.specs.Home.{AreOut}
+use Rattle.pmd_access.specs.declared.packet.Packet.{Packet}
 use Rattle.pmd_rx.specs.Keeping.{numbers_of_all}
 use Rattle.pmd_rx.proofs.Closing.{first_out, others_out, others_given}
 use Rattle.pmd_rx.proofs.ring.give_packets.Goals as goal

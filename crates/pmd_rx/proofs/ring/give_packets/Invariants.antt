@@ -1,6 +1,6 @@
 use Rattle.std.proofs.Common.{◌≡◌, ◌+◌, length}
-use Rattle.pmd_seam.specs.Bufs.{with_all_free}
-use Rattle.pmd_seam.specs.Home.{AreOut}
+use Rattle.pmd_access.specs.Bufs.{with_all_free}
+use Rattle.pmd_access.specs.Home.{AreOut}
 use Rattle.pmd_rx.specs.Keeping.{numbers_of_all}
 use Rattle.pmd_rx.proofs.ring.give_packets.Given as goal
 

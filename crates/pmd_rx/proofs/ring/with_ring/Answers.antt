@@ -1,5 +1,5 @@
 use Rattle.std.proofs.Common.{◌∙◌, arith}
-use Rattle.pmd_seam.proofs.Rings.{run_more}
+use Rattle.pmd_access.proofs.Rings.{run_more}
 use Rattle.pmd_rx.proofs.ring.with_ring.Goals as goal
 
 pub loop-place-preserved : goal.loop-place-preserved

@@ -1,6 +1,6 @@
 use Rattle.std.proofs.Common.{◌≡◌, ◌+◌, ◌*◌, ◌++◌, ◌∷◌, drop}
 use Rattle.std.specs.VecDeque.{deque_len, deque_capacity}
-use Rattle.pmd_seam.specs.Bufs.{numbers_of}
+use Rattle.pmd_access.specs.Bufs.{numbers_of}
 use Rattle.pmd_tx.specs.Pieces.{pieces_in}
 use Rattle.pmd_tx.proofs.piece.add_pieces.Given as goal
 

@@ -1,6 +1,6 @@
 use Rattle.std.proofs.Common.{◌≡◌, ◌∙◌, ◌+◌, ◌-◌, ◌*◌, ◌/◌, ℕ, List, length, take, drop, min, get_or, sym, ap, arith}
 use Rattle.std.proofs.lemmas.List.{length-drop, take_all, take_min}
-use Rattle.pmd_seam.specs.Packet.{Kept}
+use Rattle.pmd_access.specs.Packet.{Kept}
 use Rattle.pmd_tx.specs.Sending.{parts_for}
 use Rattle.pmd_tx.proofs.Newest.{newest-last, newest-count, newest-some}
 use Rattle.pmd_tx.proofs.ring.newest_part.Goals as goal

@@ -1,5 +1,5 @@
 use Rattle.std.proofs.Common.{◌∙◌, arith}
-use Rattle.pmd_seam.proofs.Rings.{run_more}
+use Rattle.pmd_access.proofs.Rings.{run_more}
 use Rattle.pmd_tx.proofs.ring.with_ring.Goals as goal
 
 pub loop-at-preserved : goal.loop-at-preserved

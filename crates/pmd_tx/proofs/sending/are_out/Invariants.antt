@@ -1,5 +1,5 @@
 use Rattle.std.proofs.Common.{◌≡◌, drop}
-use Rattle.pmd_seam.specs.Bufs.{numbers_of}
+use Rattle.pmd_access.specs.Bufs.{numbers_of}
 use Rattle.pmd_tx.specs.Sends.{are_out}
 use Rattle.pmd_tx.proofs.sending.are_out.Given as goal
 

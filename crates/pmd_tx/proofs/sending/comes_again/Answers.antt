@@ -2,7 +2,7 @@ use Rattle.std.proofs.Common.{◌≡◌, ◌∙◌, ◌+◌, ◌==◌, ◌||◌,
 use Rattle.std.specs.List.{list_any}
 use Rattle.std.proofs.lemmas.Bool.{eq-eqb}
 use Rattle.std.proofs.lemmas.Bool.Decides.{nat_tests}
-use Rattle.pmd_seam.specs.Bufs.{numbers_of}
+use Rattle.pmd_access.specs.Bufs.{numbers_of}
 use Rattle.pmd_tx.proofs.Numbering.{numbers-left}
 use Rattle.pmd_tx.proofs.sending.comes_again.Goals as goal
 

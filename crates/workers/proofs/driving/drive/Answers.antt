@@ -1,6 +1,6 @@
 use Rattle.std.proofs.Common.{length, ap, inl, arith}
-use Rattle.pmd.specs.Driver.{handed_of}
-use Rattle.pmd.proofs.Living.{has_lived}
+use Rattle.pmd_driver.specs.Driver.{handed_of}
+use Rattle.pmd_driver.proofs.Living.{has_lived}
 use Rattle.workers.proofs.Ending.{home_without, had_thread, shut_out}
 use Rattle.workers.proofs.Telling.{told_count}
 use Rattle.workers.proofs.driving.drive.Goals as goal

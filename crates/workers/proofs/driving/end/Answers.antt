@@ -1,6 +1,6 @@
 use Rattle.std.proofs.Common.{subst}
-use Rattle.pmd.specs.Blocks.{IsWhole}
-use Rattle.pmd.specs.declared.start.Rest.{Rest}
+use Rattle.pmd_driver.specs.Blocks.{IsWhole}
+use Rattle.pmd_driver.specs.declared.start.Rest.{Rest}
 use Rattle.workers.proofs.driving.end.Goals as goal
 
 pub returns-in-Running-clause-whole : goal.returns-in-Running-clause-whole

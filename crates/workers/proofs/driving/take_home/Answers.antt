@@ -1,8 +1,8 @@
 use Rattle.std.proofs.Common.{sym, subst}
-use Rattle.pmd.specs.Blocks.{LosesNone}
-use Rattle.pmd.specs.Driver.{Driver, halted_of}
-use Rattle.pmd.proofs.Homecoming.{home_after}
-use Rattle.pmd.proofs.FailedStop.{fails_after}
+use Rattle.pmd_driver.specs.Blocks.{LosesNone}
+use Rattle.pmd_driver.specs.Driver.{Driver, halted_of}
+use Rattle.pmd_driver.proofs.Homecoming.{home_after}
+use Rattle.pmd_driver.proofs.FailedStop.{fails_after}
 use Rattle.workers.proofs.driving.take_home.Goals as goal
 
 pub returns-in-Ok-clause-whole : goal.returns-in-Ok-clause-whole

@@ -1,4 +1,4 @@
-use Rattle.pmd.proofs.Living.{runs_still, runs_on}
+use Rattle.pmd_driver.proofs.Living.{runs_still, runs_on}
 use Rattle.workers.proofs.driving.work.Goals as goal
 
 pub returns-in_err-meet-clause-drives : goal.returns-in_err-meet-clause-drives

@@ -1,9 +1,9 @@
 -- No frame that waits is longer than the longest that was let in, as the entries of a history tell it.
 use Rattle.nic_device.{proofs.Cases.arrived_cases, specs.Outcome.Outcome, specs.Step.step_of}
-use Rattle.pmd_laws.proofs.Prelude.{All, Block, Event, FitsBlocks, Waiting, after, most_blocks, new_state, ◌≤◌}
-use Rattle.pmd_laws.proofs.Prelude.{State, [], arith, common_steps, leads_to, legal_before, max, refl, sym, ℕ, ◌∷◌}
-use Rattle.pmd_laws.proofs.{Prelude.Entry, Prelude.IsLegal, Prelude.List, Prelude.length, Prelude.subst}
-use Rattle.pmd_laws.proofs.{DriverLaws.RingLaws.Fitting.all_wait}
+use Rattle.driver_laws.proofs.Prelude.{All, Block, Event, FitsBlocks, Waiting, after, most_blocks, new_state, ◌≤◌}
+use Rattle.driver_laws.proofs.Prelude.{State, [], arith, common_steps, leads_to, legal_before, max, refl, sym, ℕ, ◌∷◌}
+use Rattle.driver_laws.proofs.{Prelude.Entry, Prelude.IsLegal, Prelude.List, Prelude.length, Prelude.subst}
+use Rattle.driver_laws.proofs.{StartLaws.RingLaws.Fitting.all_wait}
 use Rattle.workers.proofs.WorkerTold.{holds_at_first}
 use Rattle.workers.specs.AtFirst.{AllFitBlocks}
 use Rattle.std.proofs.lemmas.List.Elements.{All-nil, All-push, All-weaker}

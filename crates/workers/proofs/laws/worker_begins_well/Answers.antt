@@ -1,4 +1,4 @@
-use Rattle.pmd_laws.proofs.Prelude.{HasGround, new_sound}
+use Rattle.driver_laws.proofs.Prelude.{HasGround, new_sound}
 use Rattle.workers.proofs.WorkerTold.{ground_there, holds_at_first}
 
 pub returns : Rattle.workers.proofs.laws.worker_begins_well.Goals.returns

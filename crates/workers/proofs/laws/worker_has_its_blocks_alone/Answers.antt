@@ -1,15 +1,16 @@
 -- What the entries of a history tell of the blocks that are lent is so of the device.
-use Rattle.pmd_laws.proofs.DriverLaws.HistoryLaws.Lent.{AllFollow, follows_known, not_so}
-use Rattle.pmd_laws.proofs.Prelude.{AreEvents, Block, Blocks, Entry, Event, IsEvent, IsLegal, List, NoneLent, OnlyLent}
-use Rattle.pmd_laws.specs.DriverLaws.Before.{is_asked}
-use Rattle.pmd_laws.proofs.Asked.{Both}
-use Rattle.pmd_laws.proofs.Prelude.{IsTrue, Reply, State, [], after, and_parts, ap, arith, both_ways, calls_of, common_steps}
-use Rattle.pmd_laws.proofs.Prelude.{◌++◌, ◌≡◌, ◌≢◌}
-use Rattle.pmd_laws.specs.Asked.{OthersLendNone, asked_of}
-use Rattle.pmd_laws.specs.DriverLaws.RingLaws.HistoryLaws.Lent.{LendsNone}
+use Rattle.driver_laws.proofs.StartLaws.HistoryLaws.Lent.{AllFollow, follows_known, not_so}
+use Rattle.driver_laws.proofs.Prelude.{AreEvents, Block, Blocks, Entry, Event, IsEvent, IsLegal, List, NoneLent}
+use Rattle.driver_laws.proofs.Prelude.{OnlyLent}
+use Rattle.driver_laws.specs.StartLaws.Before.{is_asked}
+use Rattle.driver_laws.proofs.Asked.{Both}
+use Rattle.driver_laws.proofs.Prelude.{IsTrue, Reply, State, [], after, and_parts, ap, arith, both_ways, calls_of}
+use Rattle.driver_laws.proofs.Prelude.{common_steps, ◌++◌, ◌≡◌, ◌≢◌}
+use Rattle.driver_laws.specs.Asked.{OthersLendNone, asked_of}
+use Rattle.driver_laws.specs.StartLaws.RingLaws.HistoryLaws.Lent.{LendsNone}
 use Rattle.nic_device.specs.declared.event.Event.TheVariants as event
-use Rattle.pmd_laws.proofs.Prelude.{events_before, false, has_block, is_own, is_some, leads_to, legal_before, lends}
-use Rattle.pmd_laws.proofs.Prelude.{nat_cmp, nat_lt, new_state, refl, reply_to, subst, sym, ℕ, ◌&&◌, ◌||◌, ◌∷◌}
+use Rattle.driver_laws.proofs.Prelude.{events_before, false, has_block, is_own, is_some, leads_to, legal_before, lends}
+use Rattle.driver_laws.proofs.Prelude.{nat_cmp, nat_lt, new_state, refl, reply_to, subst, sym, ℕ, ◌&&◌, ◌||◌, ◌∷◌}
 use Rattle.workers.proofs.WorkerTold.{holds_at_first}
 use Rattle.std.{proofs.lemmas.Bool.Decides.nat_tests, proofs.lemmas.Bool.or_left, specs.Prelude.not}
 use Rattle.workers.specs.Lending.{lends_none, takes}

@@ -7,19 +7,20 @@ use Rattle.nic_device.specs.RegisterLaws.{Footprint.is_place, Footprint.pool_ren
 use Rattle.nic_device.specs.{Access.named_written, Eeprom.reset, Eeprom.with_triples, EepromImage.Image.blank}
 use Rattle.nic_device.specs.{EepromImage.Triples.triples_of, PoolReset.written_below_reset}
 use Rattle.nic_device.specs.{Step.step_of, declared.named.Named.Named, declared.named.Named.TheVariants.Nothing}
-use Rattle.pmd_laws.proofs.DriverLaws.HistoryLaws.Written.{place_in, place_named}
-use Rattle.pmd_laws.proofs.DriverLaws.HistoryLaws.{Deeds.side_did, DeviceLaws.PoolResets.asked_pool_resets}
-use Rattle.pmd_laws.proofs.DriverLaws.HistoryLaws.{Limits.settings_told, Steady.off_steady, Steady.steady_kept}
-use Rattle.pmd_laws.proofs.DriverLaws.{Histories.leads-append, HistoryLaws.Alone.histories_sound}
-use Rattle.pmd_laws.proofs.Prelude.{AreEvents, Block, Dir, Entry, Event, IsSound, List, Place, Port, Register, Rx}
-use Rattle.pmd_laws.proofs.Prelude.{State, Tx, Watched, [], after, ap, append-nil, append_assoc, arith, asks_pool_reset}
-use Rattle.pmd_laws.proofs.Prelude.{cases_Bool, cleared, common_steps, enable_row, events_before, false, has_bit}
-use Rattle.pmd_laws.proofs.Prelude.{has_queue, image_stays, is_on, leads_to, left-side, mode_in, named, new_sound}
-use Rattle.pmd_laws.proofs.Prelude.{new_state, place, refl, row_of, rules, subst, sym, true, vfs_stays, ℕ, ⊎_elim, ◌++◌}
-use Rattle.pmd_laws.proofs.{Prelude.◌<◌, Prelude.◌∙◌, Prelude.◌∷◌, Prelude.◌≡◌}
+use Rattle.driver_laws.proofs.StartLaws.HistoryLaws.Written.{place_in, place_named}
+use Rattle.driver_laws.proofs.StartLaws.HistoryLaws.{Deeds.side_did, DeviceLaws.PoolResets.asked_pool_resets}
+use Rattle.driver_laws.proofs.StartLaws.HistoryLaws.{Limits.settings_told, Steady.off_steady, Steady.steady_kept}
+use Rattle.driver_laws.proofs.StartLaws.{Histories.leads-append, HistoryLaws.Alone.histories_sound}
+use Rattle.driver_laws.proofs.Prelude.{AreEvents, Block, Dir, Entry, Event, IsSound, List, Place, Port, Register, Rx}
+use Rattle.driver_laws.proofs.Prelude.{State, Tx, Watched, [], after, ap, append-nil, append_assoc, arith}
+use Rattle.driver_laws.proofs.Prelude.{asks_pool_reset, cases_Bool, cleared, common_steps, enable_row, events_before}
+use Rattle.driver_laws.proofs.Prelude.{false, has_bit, has_queue, image_stays, is_on, leads_to, left-side, mode_in}
+use Rattle.driver_laws.proofs.Prelude.{named, new_sound, new_state, place, refl, row_of, rules, subst, sym, true}
+use Rattle.driver_laws.proofs.Prelude.{vfs_stays, ℕ, ⊎_elim, ◌++◌}
+use Rattle.driver_laws.proofs.{Prelude.◌<◌, Prelude.◌∙◌, Prelude.◌∷◌, Prelude.◌≡◌}
 use Rattle.workers.proofs.WorkerTold.{ground_there, named_below}
-use Rattle.pmd_laws.specs.DriverLaws.HistoryLaws.Sides.{side_of}
-use Rattle.pmd_laws.specs.DriverLaws.HistoryLaws.Sides.{IsOff}
+use Rattle.driver_laws.specs.StartLaws.HistoryLaws.Sides.{side_of}
+use Rattle.driver_laws.specs.StartLaws.HistoryLaws.Sides.{IsOff}
 use Rattle.std.proofs.lemmas.Bool.{cond_both}
 use Rattle.workers.specs.Quiet.{NoneAsksOn, asks_on}
 use Rattle.nic_device.specs.declared.event.Event.TheVariants as event

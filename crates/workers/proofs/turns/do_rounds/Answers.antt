@@ -1,5 +1,5 @@
 use Rattle.std.proofs.Common.{rules, refl, ◌∙◌}
-use Rattle.pmd.proofs.Living.{runs_still, runs_on}
+use Rattle.pmd_driver.proofs.Living.{runs_still, runs_on}
 use Rattle.workers.proofs.turns.do_rounds.Goals as goal
 
 pub loop-init : goal.loop-init

@@ -1,5 +1,5 @@
 use Rattle.std.proofs.Common.{[]}
-use Rattle.pmd.specs.PmdRx.Keeping.{handed_blocks}
+use Rattle.pmd_driver.specs.PmdRx.Keeping.{handed_blocks}
 use Rattle.workers.proofs.Keeping.{kept_all}
 use Rattle.workers.proofs.turns.receive.Goals as goal
 

@@ -1,4 +1,4 @@
-use Rattle.pmd.proofs.Living.{runs_on}
+use Rattle.pmd_driver.proofs.Living.{runs_on}
 use Rattle.workers.proofs.turns.round.Goals as goal
 
 pub returns-in_err-reap-clause-drives : goal.returns-in_err-reap-clause-drives

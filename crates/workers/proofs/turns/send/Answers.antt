@@ -1,9 +1,9 @@
 use Rattle.std.proofs.Common.{Ok, Err, ap, subst}
-use Rattle.pmd.specs.PmdSeam.Bufs.{numbers_of}
-use Rattle.pmd.specs.PmdRx.Keeping.{numbers_in}
-use Rattle.pmd.specs.PmdTx.Sends.{returned}
-use Rattle.pmd.specs.PmdTx.declared.answer.TxAnswer.{TxAnswer}
-use Rattle.pmd.specs.Driver.{Driver}
+use Rattle.pmd_driver.specs.PmdAccess.Bufs.{numbers_of}
+use Rattle.pmd_driver.specs.PmdRx.Keeping.{numbers_in}
+use Rattle.pmd_driver.specs.PmdTx.Sends.{returned}
+use Rattle.pmd_driver.specs.PmdTx.declared.answer.TxAnswer.{TxAnswer}
+use Rattle.pmd_driver.specs.Driver.{Driver}
 use Rattle.workers.specs.Kept.{KeepsAll}
 use Rattle.workers.proofs.Keeping.{kept_all}
 use Rattle.workers.proofs.Returning.{fault_back}

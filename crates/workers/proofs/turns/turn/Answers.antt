@@ -1,9 +1,9 @@
 use Rattle.std.proofs.Common.{◌≡◌, ◌∷◌, ◌++◌, [], length, List, Option, IfSome, ap, sym, ◌∙◌, subst}
 use Rattle.rtrb.specs.Ring.{sent}
-use Rattle.pmd.specs.PmdSeam.Packet.{Kept, kept_of}
-use Rattle.pmd.specs.PmdSeam.declared.packet.Packet.{Packet}
-use Rattle.pmd.specs.Driver.{handed_of}
-use Rattle.pmd.proofs.Living.{runs_on}
+use Rattle.pmd_driver.specs.PmdAccess.Packet.{Kept, kept_of}
+use Rattle.pmd_driver.specs.PmdAccess.declared.packet.Packet.{Packet}
+use Rattle.pmd_driver.specs.Driver.{handed_of}
+use Rattle.pmd_driver.proofs.Living.{runs_on}
 use Rattle.workers.specs.Told.{report_of, reports_of}
 use Rattle.workers.proofs.Telling.{told_more}
 use Rattle.workers.proofs.turns.turn.Goals as goal

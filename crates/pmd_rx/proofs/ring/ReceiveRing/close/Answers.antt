@@ -1,7 +1,7 @@
 use Rattle.std.proofs.Common.{◌≡◌, ℕ, List, ap, sym, subst, ◌∙◌, take-append-drop}
 use Rattle.nic_device.specs.DmaArena.Numbers.{Numbers}
-use Rattle.pmd_seam.specs.Bufs.{numbers_of, with_all_free}
-use Rattle.pmd_seam.specs.Home.{AreOut, Homebound}
+use Rattle.pmd_access.specs.Bufs.{numbers_of, with_all_free}
+use Rattle.pmd_access.specs.Home.{AreOut, Homebound}
 use Rattle.pmd_rx.specs.Keeping.{lent_of, numbers_of_all}
 use Rattle.pmd_rx.specs.Receive.{Receive, reach}
 use Rattle.pmd_rx.proofs.Closing.{whole_out, held_out, closed_out, given_both, lent_is}

@@ -1,5 +1,5 @@
 use Rattle.std.proofs.Common.{ℕ, ◌<◌, List, All, length, ap, subst, arith}
-use Rattle.pmd_seam.specs.declared.packet.Packet.{Packet}
+use Rattle.pmd_access.specs.declared.packet.Packet.{Packet}
 use Rattle.pmd_rx.specs.Burst.{HasPart}
 use Rattle.pmd_rx.specs.Receive.{Receive, Layout, parts_first}
 use Rattle.pmd_rx.proofs.Moving.{one_asks}

@@ -1,7 +1,7 @@
 use Rattle.std.proofs.Common.{◌∙◌, [], Result, Err, refl, sym, ap, arith}
-use Rattle.pmd_seam.specs.declared.fault.PmdFault.{PmdFault}
+use Rattle.pmd_access.specs.declared.fault.PmdFault.{PmdFault}
 use Rattle.std.proofs.lemmas.Result.{err_from_is_err_and}
-use Rattle.pmd_seam.proofs.Exchanging.{out_kept}
+use Rattle.pmd_access.proofs.Exchanging.{out_kept}
 use Rattle.pmd_rx.specs.Filling.{StopsFilling}
 use Rattle.pmd_rx.specs.Keeping.{blocks_out}
 use Rattle.pmd_rx.proofs.Earlier.{posts_then}

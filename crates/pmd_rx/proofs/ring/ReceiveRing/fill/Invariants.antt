@@ -1,5 +1,5 @@
 use Rattle.std.proofs.Common.{◌≡◌, []}
-use Rattle.pmd_seam.specs.Begun.{BeganAs}
+use Rattle.pmd_access.specs.Begun.{BeganAs}
 use Rattle.pmd_rx.specs.Filling.{PostsSome}
 use Rattle.pmd_rx.specs.Keeping.{Keeps}
 use Rattle.pmd_rx.specs.Plays.{PlaysFrom}

@@ -1,5 +1,5 @@
 use Rattle.std.proofs.Common.{ℕ, List, length, refl, sym, ap, ◌∙◌, arith}
-use Rattle.pmd_seam.specs.declared.packet.Packet.{Packet}
+use Rattle.pmd_access.specs.declared.packet.Packet.{Packet}
 use Rattle.pmd_rx.specs.Receive.{Receive, Layout, posts, posts_one, parts_first}
 use Rattle.pmd_rx.proofs.Lists.{records_fewer}
 use Rattle.pmd_rx.proofs.Steady.{one_steady}

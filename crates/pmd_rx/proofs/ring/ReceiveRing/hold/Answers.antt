@@ -1,5 +1,5 @@
 use Rattle.std.proofs.Common.{◌<◌, ◌-◌, ℕ, sym, ap, ◌∙◌, subst}
-use Rattle.pmd_seam.proofs.Places.{next_below}
+use Rattle.pmd_access.proofs.Places.{next_below}
 use Rattle.pmd_rx.specs.Receive.{Receive, Layout, took}
 use Rattle.pmd_rx.proofs.Steady.{joined_steady, posted_some}
 use Rattle.pmd_rx.proofs.Viewed.{shown_took}

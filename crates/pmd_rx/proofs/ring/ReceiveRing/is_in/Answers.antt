@@ -1,7 +1,7 @@
 use Rattle.std.proofs.Common.{◌≡◌, ◌<◌, ◌↔◌, Bool, true, ap, sym, subst, ◌∙◌}
 use Rattle.nic_device.specs.DmaArena.Whereabouts.{times_in_hand}
-use Rattle.pmd_seam.specs.Slots.{ring_blocks, is_ring_block}
-use Rattle.pmd_seam.proofs.Rings.{ring_block_out}
+use Rattle.pmd_access.specs.Slots.{ring_blocks, is_ring_block}
+use Rattle.pmd_access.proofs.Rings.{ring_block_out}
 use Rattle.pmd_rx.specs.Receive.{Receive}
 use Rattle.pmd_rx.proofs.ring.ReceiveRing.is_in.Goals as goal
 

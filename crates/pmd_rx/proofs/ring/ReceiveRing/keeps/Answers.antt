@@ -1,7 +1,7 @@
 use Rattle.std.proofs.Common.{◌+◌, take, ap, refl, arith}
 use Rattle.nic_device.specs.DmaArena.Whereabouts.{times_in_hand}
-use Rattle.pmd_seam.specs.Bufs.{numbers_of}
-use Rattle.pmd_seam.specs.declared.packet.Packet.{Packet}
+use Rattle.pmd_access.specs.Bufs.{numbers_of}
+use Rattle.pmd_access.specs.declared.packet.Packet.{Packet}
 use Rattle.pmd_rx.specs.Keeping.{numbers_of_all}
 use Rattle.pmd_rx.specs.Receive.{Receive}
 use Rattle.pmd_rx.proofs.Closing.{times_part, times_next, none_there}

@@ -1,6 +1,6 @@
 use Rattle.std.proofs.Common.{◌≡◌, ◌≤◌, [], length}
 use Rattle.nic_device.specs.DmaArena.Numbers.{Numbers}
-use Rattle.pmd_seam.specs.Begun.{BeganAs}
+use Rattle.pmd_access.specs.Begun.{BeganAs}
 use Rattle.pmd_rx.specs.Keeping.{Keeps, IsRunning}
 use Rattle.pmd_rx.specs.Plays.{PlaysFrom}
 use Rattle.pmd_rx.specs.declared.ring.Stage.TheVariants.{Looks}

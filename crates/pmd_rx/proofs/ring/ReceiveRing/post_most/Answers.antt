@@ -1,5 +1,5 @@
 use Rattle.std.proofs.Common.{List, [], ◌∷◌, ◌++◌, refl, ap, ◌∙◌, arith}
-use Rattle.pmd_seam.specs.declared.packet.Packet.{Packet}
+use Rattle.pmd_access.specs.declared.packet.Packet.{Packet}
 use Rattle.pmd_rx.proofs.Bursts.{none_out, one_out, all_out}
 use Rattle.pmd_rx.proofs.Keeping.{keeps_none}
 use Rattle.pmd_rx.proofs.Playing.{plays_none}

@@ -1,4 +1,4 @@
-use Rattle.pmd_seam.specs.Bufs.{numbers_of}
+use Rattle.pmd_access.specs.Bufs.{numbers_of}
 use Rattle.pmd_rx.proofs.Earlier.{plays_then, fails_then}
 use Rattle.pmd_rx.proofs.Failing.{no_short, err_same}
 use Rattle.pmd_rx.proofs.Keeping.{keeps_both}

@@ -1,5 +1,5 @@
 use Rattle.std.proofs.Common.{[], sym, ap, subst, ◌∙◌, arith}
-use Rattle.pmd_seam.proofs.Exchanging.{out_kept}
+use Rattle.pmd_access.proofs.Exchanging.{out_kept}
 use Rattle.pmd_rx.specs.Keeping.{blocks_out}
 use Rattle.pmd_rx.specs.Receive.{Receive, HasLent}
 use Rattle.pmd_rx.specs.declared.ring.Stage.{Stage}

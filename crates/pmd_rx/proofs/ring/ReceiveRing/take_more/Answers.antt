@@ -1,7 +1,7 @@
 use Rattle.std.proofs.Common.{[], ◌∙◌, Bool, Result, Ok, refl, ap, arith}
-use Rattle.pmd_seam.proofs.Exchanging.{out_kept}
+use Rattle.pmd_access.proofs.Exchanging.{out_kept}
 use Rattle.pmd_rx.specs.Keeping.{blocks_out}
-use Rattle.pmd_seam.specs.declared.fault.PmdFault.{PmdFault}
+use Rattle.pmd_access.specs.declared.fault.PmdFault.{PmdFault}
 use Rattle.pmd_rx.proofs.Handing.{one_longer}
 use Rattle.pmd_rx.proofs.Earlier.{plays_then}
 use Rattle.pmd_rx.proofs.Keeping.{keeps_none, keeps_both}

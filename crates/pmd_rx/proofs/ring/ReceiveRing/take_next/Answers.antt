@@ -1,5 +1,5 @@
 use Rattle.std.proofs.Common.{[]}
-use Rattle.pmd_seam.proofs.Exchanging.{out_kept}
+use Rattle.pmd_access.proofs.Exchanging.{out_kept}
 use Rattle.pmd_rx.specs.Keeping.{blocks_out}
 use Rattle.pmd_rx.proofs.Failing.{fails_after, fails_of, no_short, err_same}
 use Rattle.pmd_rx.proofs.Keeping.{keeps_both}

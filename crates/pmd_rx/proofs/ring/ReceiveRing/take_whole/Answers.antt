@@ -1,5 +1,5 @@
 use Rattle.std.proofs.Common.{◌∙◌, [], refl, arith}
-use Rattle.pmd_seam.proofs.Exchanging.{out_kept}
+use Rattle.pmd_access.proofs.Exchanging.{out_kept}
 use Rattle.pmd_rx.specs.Keeping.{blocks_out}
 use Rattle.pmd_rx.proofs.Earlier.{plays_then, fails_then}
 use Rattle.pmd_rx.proofs.Handing.{some_rounds, still_both, more_behind}

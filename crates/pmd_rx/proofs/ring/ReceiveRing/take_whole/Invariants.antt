@@ -1,6 +1,6 @@
 use Rattle.std.proofs.Common.{◌≡◌, ◌<◌, ◌+◌, []}
-use Rattle.pmd_seam.specs.Begun.{BeganAs}
-use Rattle.pmd_seam.specs.Home.{AreOut}
+use Rattle.pmd_access.specs.Begun.{BeganAs}
+use Rattle.pmd_access.specs.Home.{AreOut}
 use Rattle.pmd_rx.specs.Keeping.{Keeps, IsRunning, blocks_out}
 use Rattle.pmd_rx.specs.Plays.{PlaysFrom}
 use Rattle.pmd_rx.specs.Shown.{rounds, OneMore, WaitsStill}

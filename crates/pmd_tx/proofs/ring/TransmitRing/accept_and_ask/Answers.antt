@@ -1,5 +1,5 @@
 use Rattle.std.proofs.Common.{ap, ◌∙◌}
-use Rattle.pmd_seam.specs.Bufs.{numbers_of}
+use Rattle.pmd_access.specs.Bufs.{numbers_of}
 use Rattle.pmd_tx.specs.Sending.{Sender, parts_for}
 use Rattle.pmd_tx.specs.Sends.{outgoing_of}
 use Rattle.pmd_tx.specs.declared.answer.TxFault.{TxFault}

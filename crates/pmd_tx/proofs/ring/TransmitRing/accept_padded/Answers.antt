@@ -1,6 +1,6 @@
 use Rattle.std.proofs.Common.{◌∙◌, ℕ, List, drop, ap, subst}
-use Rattle.pmd_seam.specs.Bufs.{numbers_of}
-use Rattle.pmd_seam.specs.declared.packet.Packet.{Packet}
+use Rattle.pmd_access.specs.Bufs.{numbers_of}
+use Rattle.pmd_access.specs.declared.packet.Packet.{Packet}
 use Rattle.pmd_tx.specs.Padding.{padded_packet}
 use Rattle.pmd_tx.specs.Plays.{FaultsBy, PlaysWith}
 use Rattle.pmd_tx.specs.Sending.{Outgoing, accepted_by, parts_for}

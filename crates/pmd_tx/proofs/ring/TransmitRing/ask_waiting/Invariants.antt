@@ -1,5 +1,5 @@
 use Rattle.std.proofs.Common.{◌≡◌, ◌≤◌, List, ℕ, length}
-use Rattle.pmd_seam.specs.Begun.{BeganAs}
+use Rattle.pmd_access.specs.Begun.{BeganAs}
 use Rattle.pmd_tx.specs.Plays.{PlaysWith}
 use Rattle.pmd_tx.specs.Sends.{IsNoneAccepted}
 use Rattle.pmd_tx.proofs.ring.TransmitRing.ask_waiting.Given as goal

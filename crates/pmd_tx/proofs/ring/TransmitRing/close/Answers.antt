@@ -1,6 +1,6 @@
 use Rattle.std.proofs.Common.{◌≡◌, ◌∙◌, ◌++◌, ℕ, List, take, drop, sym, ap}
 use Rattle.std.proofs.lemmas.List.{take-map}
-use Rattle.pmd_seam.specs.Slots.{ring_blocks}
+use Rattle.pmd_access.specs.Slots.{ring_blocks}
 use Rattle.pmd_tx.specs.Leaving.{lent_of, waiting_of}
 use Rattle.pmd_tx.specs.Pieces.{places_of}
 use Rattle.pmd_tx.specs.Sending.{Segment, blocks_of}

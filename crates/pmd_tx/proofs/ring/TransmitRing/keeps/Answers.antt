@@ -1,6 +1,6 @@
 use Rattle.std.proofs.Common.{◌≡◌, ◌∙◌, ◌==◌, ◌||◌, ℕ, Bool, false, sym, ap}
 use Rattle.std.specs.List.{list_any}
-use Rattle.pmd_seam.specs.Slots.{is_ring_block}
+use Rattle.pmd_access.specs.Slots.{is_ring_block}
 use Rattle.pmd_tx.specs.Sending.{Sender, blocks_of, keeps}
 use Rattle.pmd_tx.specs.Shown.{outstanding_of}
 use Rattle.pmd_tx.proofs.Outstanding.{any-places, blocks-outstanding}

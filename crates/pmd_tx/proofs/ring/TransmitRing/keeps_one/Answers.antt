@@ -1,6 +1,6 @@
 use Rattle.std.proofs.Common.{◌≡◌, ◌∙◌, ◌||◌, ◌+◌, ℕ, Bool, true, drop, sym, ap, arith}
 use Rattle.std.specs.List.{list_any}
-use Rattle.pmd_seam.specs.Bufs.{numbers_of}
+use Rattle.pmd_access.specs.Bufs.{numbers_of}
 use Rattle.pmd_tx.specs.Sending.{keeps}
 use Rattle.pmd_tx.proofs.Numbering.{numbers-left}
 use Rattle.pmd_tx.proofs.ring.TransmitRing.keeps_one.Goals as goal

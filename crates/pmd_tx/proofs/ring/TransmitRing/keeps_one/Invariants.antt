@@ -1,6 +1,6 @@
 use Rattle.std.proofs.Common.{◌≡◌, drop}
 use Rattle.std.specs.List.{list_any}
-use Rattle.pmd_seam.specs.Bufs.{numbers_of}
+use Rattle.pmd_access.specs.Bufs.{numbers_of}
 use Rattle.pmd_tx.specs.Sending.{keeps}
 use Rattle.pmd_tx.proofs.ring.TransmitRing.keeps_one.Given as goal
 

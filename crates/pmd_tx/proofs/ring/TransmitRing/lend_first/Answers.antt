@@ -1,7 +1,7 @@
 use Rattle.std.proofs.Common.{◌≡◌, ◌∙◌, ◌-◌, ◌<◌, ◌++◌, ◌∷◌, [], ℕ, List, take, drop, sym, ap, arith}
 use Rattle.nic_device.specs.DmaArena.Block.{Block}
-use Rattle.pmd_seam.specs.Bufs.{numbers_of}
-use Rattle.pmd_seam.specs.Packet.{Kept}
+use Rattle.pmd_access.specs.Bufs.{numbers_of}
+use Rattle.pmd_access.specs.Packet.{Kept}
 use Rattle.pmd_tx.specs.Pieces.{pieces_in}
 use Rattle.pmd_tx.specs.Sending.{parts_for}
 use Rattle.pmd_tx.specs.declared.piece.Piece.{Piece}

@@ -1,6 +1,6 @@
 use Rattle.std.proofs.Common.{◌≡◌, ◌≤◌}
 use Rattle.pmd_tx.proofs.Loop.{HasReaped}
-use Rattle.pmd_seam.specs.Begun.{BeganAs}
+use Rattle.pmd_access.specs.Begun.{BeganAs}
 use Rattle.pmd_tx.proofs.ring.TransmitRing.reap_sent.Given as goal
 
 abbrev pub invariant-loop-reaped : goal.invariant-loop-reaped

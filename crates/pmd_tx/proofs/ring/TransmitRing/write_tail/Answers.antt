@@ -1,5 +1,5 @@
 use Rattle.std.proofs.Common.{IfOk, subst}
-use Rattle.pmd_seam.specs.Accesses.{IsWritten}
+use Rattle.pmd_access.specs.Accesses.{IsWritten}
 use Rattle.pmd_tx.specs.Sending.{Sender}
 use Rattle.pmd_tx.proofs.ring.TransmitRing.write_tail.Goals as goal
 

@@ -1,10 +1,10 @@
 use Rattle.std.proofs.Common.{◌≤◌, length, refl, rules, sym, ap, ◌∙◌, subst}
 use Rattle.rtrb.specs.Ring.{sent, SameProducer}
 use Rattle.device_lock.specs.Pass.{PassValue}
-use Rattle.pmd.specs.Blocks.{IsWhole}
-use Rattle.pmd.specs.PmdSeam.Begun.{OfPass, began_at_lock}
-use Rattle.pmd.specs.PmdSeam.Stepped.{AtLock}
-use Rattle.pmd.specs.Started.{left_handed}
+use Rattle.pmd_driver.specs.Blocks.{IsWhole}
+use Rattle.pmd_driver.specs.PmdAccess.Begun.{OfPass, began_at_lock}
+use Rattle.pmd_driver.specs.PmdAccess.Stepped.{AtLock}
+use Rattle.pmd_driver.specs.Started.{left_handed}
 use Rattle.workers.specs.Lived.{HasRun}
 use Rattle.workers.specs.Told.{reports_of}
 use Rattle.workers.specs.declared.assignment.Assignment.{Assignment}

@@ -1,0 +1,79 @@
+-- The debugger's commands as text.
+use Rattle.std.specs.Prelude.{ℕ, List, [], ◌∷◌, ◌++◌, Option, Some, None, Result, Ok, Err, codes, nat_lt, option_and_then, if◌then◌else◌}
+use Rattle.std.specs.Option.{option_map}
+use Rattle.std.specs.Result.{result_ok}
+use Rattle.std.specs.Str.{bytes_eq}
+use Rattle.text_format.specs.Lines.{NumberedLine}
+use Rattle.text_format.specs.Number.{number_of}
+use Rattle.text_format.specs.Words.{words_of}
+use Rattle.script_text.specs.Target.{target_of}
+use Rattle.debugger.specs.declared.Command.{Command}
+use Rattle.debugger.specs.declared.Command.TheVariants.{Back, Break, Clear, Continue, Show, ShowVf, Step}
+
+-- the number that a word writes, below 2^32
+abbrev pub number_said : List ℕ → Option ℕ
+number_said word = result_ok (number_of word)
+
+-- the address that a word names, as in scripts
+abbrev pub target_said : List ℕ → Option ℕ
+target_said word = result_ok (target_of word)
+
+-- virtual functions are numbered from 0 to 62
+abbrev pub if_function : ℕ → Option ℕ
+if_function number = if nat_lt number 63 then Some number else None
+
+-- what stands beside the name in a table of commands; another name is no command
+abbrev pub beside : List ℕ → List (List ℕ × Option Command) → Option Command
+beside name [] = None
+beside name (row ∷ more) = if bytes_eq name row.0 then row.1 else beside name more
+
+-- the commands with one operand: `step COUNT`, `back COUNT`, `continue LIMIT`, `break PC`, `clear PC`, `show TARGET`
+abbrev pub table_of_one : List ℕ → List (List ℕ × Option Command)
+table_of_one a =
+    (codes "step", option_map Step (number_said a)) ∷
+    (codes "back", option_map Back (number_said a)) ∷
+    (codes "continue", option_map Continue (number_said a)) ∷
+    (codes "break", option_map Break (number_said a)) ∷
+    (codes "clear", option_map Clear (number_said a)) ∷
+    (codes "show", option_map Show (target_said a)) ∷
+    []
+
+-- `showvf FUNCTION OFFSET`
+abbrev pub show_vf_said : Option ℕ → Option ℕ → Option Command
+show_vf_said (Some function) (Some offset) = Some (ShowVf function offset)
+show_vf_said (Some function) None = None
+show_vf_said None offset = None
+
+abbrev pub table_of_two : List ℕ → List ℕ → List (List ℕ × Option Command)
+table_of_two a b =
+    (codes "showvf", show_vf_said (option_and_then if_function (number_said a)) (number_said b)) ∷
+    []
+
+-- the command that words say
+abbrev pub command_said : List (List ℕ) → Option Command
+command_said [] = None
+command_said (name ∷ []) = None
+command_said (name ∷ a ∷ []) = beside name (table_of_one a)
+command_said (name ∷ a ∷ b ∷ []) = beside name (table_of_two a b)
+command_said (name ∷ a ∷ b ∷ c ∷ more) = None
+
+-- a command, in front of those that lines behind it say
+abbrev pub command_and : ℕ → Option Command → Result (List Command) ℕ → Result (List Command) ℕ
+command_and number None commands = Err number
+command_and number (Some command) (Ok commands) = Ok (command ∷ commands)
+command_and number (Some command) (Err later) = Err later
+
+-- what a line says that has these words, in front of what those behind it say: a line without a word says nothing
+abbrev pub words_and : ℕ → List (List ℕ) → Result (List Command) ℕ → Result (List Command) ℕ
+words_and number [] commands = commands
+words_and number (word ∷ words) commands = command_and number (command_said (word ∷ words)) commands
+
+-- the commands that lines say, or the number of the first line of another form
+unfoldable pub commands_of : List NumberedLine → Result (List Command) ℕ
+commands_of [] = Ok []
+commands_of (line ∷ others) = words_and line.number (words_of line.text) (commands_of others)
+
+-- these commands, and behind them others
+abbrev pub commands_then : List Command → Result (List Command) ℕ → Result (List Command) ℕ
+commands_then before (Ok commands) = Ok (before ++ commands)
+commands_then before (Err number) = Err number

@@ -1,0 +1,100 @@
+//! What a request is answered.
+ghost use Rattle.std.specs.Prelude.{◌≡◌, Err, false, true};
+ghost use Rattle.bench_commands.specs.Answer.{GivesRight};
+ghost use Rattle.bench_commands.specs.Ending.{AnswersRequest, IsBytesAnswer, IsGivenAnswer, IsTextAnswer};
+ghost use Rattle.bench_commands.specs.Reading.{CouldNotBeRead};
+
+use crate::eeprom::{load_image, write_image};
+use crate::failure::Failure;
+use crate::hashing::hash_lines;
+use crate::input::Input;
+use crate::objects::{write_object, write_script};
+use crate::output::Output;
+use crate::reading::{InputFault, read_input};
+use crate::refusal::{Refusal, write_refusal};
+use crate::script_run::run_script;
+use crate::session::debug_script;
+use command_line::{BytesRequest, Request, TextRequest};
+use std::alloc::Global;
+use std::io::{Read, Write};
+use std::str;
+
+/// Answers a text.
+fn answer_text<W: Write>(
+    alloc: Global,
+    text: &str,
+    request: TextRequest,
+    output: &mut Output<W>,
+) -> Result<u8, Failure>
+    ensures { GivesRight result (W.contents output.old.writer) (W.contents output.new.writer)
+        output.new.has_failed (IsTextAnswer request text.now) }
+{
+    match request {
+        TextRequest::Run(options) => run_script(alloc, text, options, output),
+        TextRequest::Debug(options) => debug_script(alloc, text, options, output),
+        TextRequest::Hash => hash_lines(alloc, text, output),
+        TextRequest::Asm => write_object(alloc, text, output),
+        TextRequest::Eeprom => write_image(alloc, text, output),
+    }
+}
+
+/// Answers bytes.
+fn answer_bytes<W: Write>(
+    alloc: Global,
+    bytes: &[u8],
+    request: BytesRequest,
+    output: &mut Output<W>,
+) -> Result<u8, Failure>
+    ensures { GivesRight result (W.contents output.old.writer) (W.contents output.new.writer)
+        output.new.has_failed (IsBytesAnswer request bytes.now) }
+{
+    match request {
+        BytesRequest::Dis => write_script(alloc, bytes, output),
+        BytesRequest::LoadEeprom => load_image(alloc, bytes, output),
+    }
+}
+
+/// Answers what was read, as text where a text is wanted.
+fn answer_input<W: Write>(
+    alloc: Global,
+    bytes: &[u8],
+    request: Request,
+    output: &mut Output<W>,
+) -> Result<u8, Failure>
+    ensures { GivesRight result (W.contents output.old.writer) (W.contents output.new.writer)
+        output.new.has_failed (IsGivenAnswer request bytes.now) }
+{
+    match request {
+        Request::Bytes(request) => answer_bytes(alloc, bytes, request, output),
+        Request::Text(request) => match str::from_utf8(bytes) {
+            Ok(text) => answer_text(alloc, text, request, output),
+            Err(_) => write_refusal(output, &Refusal::named("Input")),
+        },
+    }
+}
+
+/// Reads all input, and writes what is asked for of it, to an output of which no write has failed before: so an answer
+/// is given up for a write only where one fails meanwhile. An `Ok` has the status; then what is written and the status
+/// are those of what is asked for, of all bytes of the input. After `Failure::Read` nothing is written, after
+/// `Failure::OutOfMemory` a part of the answer from its beginning on, and after `Failure::Write` nothing more is
+/// written.
+pub fn answer<R: Read, W: Write>(
+    alloc: Global,
+    input: &mut Input<R>,
+    output: &mut Output<W>,
+    request: Request,
+) -> Result<u8, Failure>
+    requires { output.old.has_failed ≡ false }
+    ensures answer { AnswersRequest request (R.remaining input.old.reader)
+        (W.contents output.old.writer) (W.contents output.new.writer) result }
+    ensures unread { result ≡ Err Failure.Read
+        → CouldNotBeRead (R.remaining input.old.reader) input.new × (output.new ≡ output.old) }
+    ensures unwritten { result ≡ Err Failure.Write → output.new.has_failed ≡ true }
+{
+    match read_input(alloc, input) {
+        Ok(bytes) => answer_input(alloc, &bytes, request, output),
+        Err(InputFault::TooLong) => write_refusal(output, &Refusal::named("TooLong")),
+        Err(InputFault::Unread) => Err(Failure::Read),
+        Err(InputFault::OutOfMemory) => Err(Failure::OutOfMemory),
+    }
+}

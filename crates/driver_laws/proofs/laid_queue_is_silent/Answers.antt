@@ -1,2 +1,0 @@
-pub returns : Rattle.driver_laws.proofs.laid_queue_is_silent.Goals.returns
-returns c = Rattle.driver_laws.proofs.Laid.laid_queue_is_silent

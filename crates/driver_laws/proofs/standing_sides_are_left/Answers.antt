@@ -1,2 +1,0 @@
-pub returns : Rattle.driver_laws.proofs.standing_sides_are_left.Goals.returns
-returns c = Rattle.driver_laws.proofs.Points.standing_sides_are_left

@@ -1,5 +1,0 @@
-use Rattle.driver_laws.proofs.Ground.{words_taken}
-use Rattle.nic_device.specs.DmaRing.declared.dir.Dir.TheVariants.{Rx, Tx}
-
-pub returns : Rattle.driver_laws.proofs.words_of_an_off_side_are_taken.Goals.returns
-returns c = record { receive = words_taken Rx; transmit = words_taken Tx }

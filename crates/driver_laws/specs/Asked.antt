@@ -1,0 +1,15 @@
+-- Which blocks of an arena are its driver's over a history, so that others may have the rest in hand, and lend them.
+use Rattle.std.specs.Prelude.{◌&&◌, ◌++◌, ◌∷◌, ◌≡◌, ◌≢◌, IsTrue, List, ℕ}
+use Rattle.start_laws.specs.{Before.is_asked, Prelude.Blocks, Prelude.Entry, Prelude.Numbers, Prelude.Watched}
+use Rattle.start_laws.specs.{Prelude.calls_of, Prelude.is_own, RingLaws.HistoryLaws.Lent.LendsNone}
+use Rattle.device_lock.specs.Alone.{has_begun}
+
+-- those that the driver's pass asks to lend, whatever the reply
+abbrev pub asked_of : Watched → Numbers → List Entry → Blocks
+asked_of w a h number = is_own a number && is_asked (calls_of w.pass h) number
+
+-- behind the pass's first entry no other pass lends any of these, whatever the reply
+abbrev pub OthersLendNone : ℕ → Blocks → List Entry → Type 0
+OthersLendNone pass own h =
+    (before : List Entry) (e : Entry) (behind : List Entry) → h ≡ before ++ e ∷ behind → IsTrue (has_begun pass before)
+    → e.pass ≢ pass → LendsNone own e.event

@@ -1,0 +1,61 @@
+-- A driver beside whatever calls its author makes, of whose arena nobody else lends a block that it asks to lend: no
+-- call of its finds the device at fault, and each block is in one place.
+use Rattle.std.specs.Prelude.{if◌then◌else◌, ◌++◌, ◌≡◌, IsTrue, List, ℕ}
+use Rattle.start_laws.specs.{Prelude.Call, Prelude.HasAll, Prelude.arena_of, Prelude.calls_of}
+use Rattle.start_laws.specs.{Prelude.halted_of, Prelude.has_block, Prelude.is_free, Prelude.is_own, Prelude.places_of}
+use Rattle.start_laws.specs.Prelude.{times_in_hand}
+use Rattle.driver_laws.specs.{Asked.OthersLendNone, Asked.asked_of, Places.lent_elsewhere}
+use Rattle.driver_laws.specs.{Places.is_out, Places.memory_after, Prelude.BeforeLast, Told.Moment}
+use Rattle.driver_laws.specs.Beside.{Beside, IsToldBeside, now}
+use Rattle.driver_laws.specs.Faultless.{FindsFault, IsFresh, MeetsFault, NoneLent}
+
+-- as the history is told anew, the driver's own calls up to its last moment were made, then one of its calls, and maybe
+-- more behind. Just before its first access frames were short; and of its arena's blocks, those that it asks to lend
+-- weren't lent there, and nobody else lends any of them, another pass or the author
+pub record IsCalledApart (x : Beside) (n : Moment) : Type 0 where
+  pub fresh :
+      BeforeLast x.w x.origin x.g (x.ahead ++ x.told.first) (IsFresh x.w.queue x.frame (asked_of x.w x.a x.g))
+  pub others : OthersLendNone x.w.pass (asked_of x.w x.a x.g) x.g
+  pub since : List Call
+  pub made : n.made ≡ (now x).made ++ since
+  pub more : List Call
+  pub all : calls_of x.w.pass x.g ≡ (x.own ++ since) ++ more
+
+-- no such history has a call that finds the device at fault, nor a burst that meets it at fault
+
+abbrev pub NoCallFindsFault : Type 0
+NoCallFindsFault = (x : Beside) (n : Moment) → FindsFault (now x) n → ¬ IsCalledApart x n
+
+abbrev pub NoBurstMeetsFault : Type 0
+NoBurstMeetsFault = (x : Beside) (n : Moment) → MeetsFault (now x) n → ¬ IsCalledApart x n
+
+-- each block that the driver has out is lent at the device
+abbrev pub OutIsLent : Type 0
+OutIsLent =
+    (x : Beside) → IsToldBeside x → (number : ℕ) → IsTrue (is_out (now x).driver.rings number) →
+    IsTrue (has_block (memory_after x.origin x.h) number)
+
+-- of its arena's blocks, those that the driver asks to lend weren't lent just before its first access; and nobody else
+-- lends any of them
+pub record IsAloneBeside (x : Beside) : Type 0 where
+  pub told : IsToldBeside x
+  pub fresh : BeforeLast x.w x.origin x.g (x.ahead ++ x.told.first) (NoneLent (asked_of x.w x.a x.g))
+  pub others : OthersLendNone x.w.pass (asked_of x.w x.a x.g) x.g
+
+-- each of these that is lent there is out
+abbrev pub LentIsOut : Type 0
+LentIsOut =
+    (x : Beside) → IsAloneBeside x → (number : ℕ) → IsTrue (asked_of x.w x.a x.g number) →
+    IsTrue (has_block (memory_after x.origin x.h) number) → IsTrue (is_out (now x).driver.rings number)
+
+-- and each that was free in the arena that came to the driver is in one place, those among them that were given out of
+-- hand and that others lent
+abbrev pub EachInOnePlace : Type 0
+EachInOnePlace =
+    (x : Beside) → IsAloneBeside x → (hand elsewhere : List ℕ) →
+    HasAll x.a (halted_of (now x).driver.rings) (hand ++ elsewhere) → (number : ℕ) → IsTrue (is_own x.a number) →
+    times_in_hand elsewhere number
+    ≡ lent_elsewhere (calls_of x.w.pass x.g) (memory_after x.origin x.h) number →
+    places_of (arena_of (now x).driver.rings) ((halted_of (now x).driver.rings).held ++ hand)
+    (memory_after x.origin x.h) number
+    ≡ (if is_free x.a number then 1 else 0)

@@ -1,0 +1,29 @@
+-- The passes that close a history, and where the calls of one of them stand in it.
+use Rattle.std.specs.Prelude.{[], ◌++◌, ◌∷◌, ◌≡◌, Contains, List, ℕ}
+use Rattle.start_laws.specs.Prelude.{Call, Entry, calls_of}
+use Rattle.device_lock.specs.{Closing.Closes, Pass.PassValue}
+
+-- a pass is among some, with the calls that it had, and maybe more behind them
+pub record IsAmong (ps : List PassValue) (pass : PassValue) : Type 0 where
+  pub later : PassValue
+  pub among : Contains ps later
+  pub tag : later.tag ≡ pass.tag
+  pub more : List Call
+  pub calls : later.calls ≡ pass.calls ++ more
+
+-- the entries of a history up to where a pass had made just these calls
+pub record UpTo (tag : ℕ) (h : List Entry) (calls : List Call) : Type 0 where
+  pub done : List Entry
+  pub rest : List Entry
+  pub all : done ++ rest ≡ h
+  pub made : calls_of tag done ≡ calls
+
+-- where there are some, the last of them is the pass's own
+abbrev pub EndOwn : ℕ → List Entry → Type 0
+EndOwn tag done = (before : List Entry) (e : Entry) → before ++ e ∷ [] ≡ done → e.pass ≡ tag
+
+-- where passes close a history, the calls that one of them had stand in it, up to the last of them
+abbrev pub CallsStand : Type 0
+CallsStand =
+    (bench count : ℕ) (h : List Entry) (ps : List PassValue) (pass : PassValue) → Closes bench count h ps →
+    IsAmong ps pass → (u : UpTo pass.tag h pass.calls) × EndOwn pass.tag u.done

@@ -1,0 +1,30 @@
+-- A driver that is started over a history.
+use Rattle.std.specs.Prelude.{ℕ, ◌≡◌, List, []}
+use Rattle.start_laws.specs.Prelude.{Numbers, State, Watched, Call, Entry, AtPort, delivered, bytes_of, sent_since}
+use Rattle.pmd_driver.specs.PmdAccess.Packet.{Kept}
+use Rattle.start_laws.specs.RingLaws.Delivered as receive
+use Rattle.start_laws.specs.RingLaws.Laws as transmit
+
+-- so it is started with an arena, behind some calls of its pass, where its queue is watched over a history from some
+-- state on
+pub record Course : Type 0 where
+  pub w : Watched
+  pub origin : State
+  pub h : List Entry
+  pub q : AtPort
+  pub size : ℕ
+  pub frame : ℕ
+  pub old : List Call
+  pub a : Numbers
+
+-- what was handed out is a prefix of what was delivered on the queue since its receive side went on
+abbrev pub IsHandedInOrder : Course → List Kept → Type 0
+IsHandedInOrder c handed = receive.IsPrefixOf handed (delivered c.w.queue c.origin c.h)
+
+-- what was sent on it since its transmit side went on is a prefix of what was accepted, or it is all of that
+
+abbrev pub IsSentInOrder : Course → List Kept → Type 0
+IsSentInOrder c accepted = transmit.IsPrefixOf (sent_since c.w.queue c.origin [] c.h) (bytes_of accepted)
+
+abbrev pub IsAllSent : Course → List Kept → Type 0
+IsAllSent c accepted = bytes_of accepted ≡ sent_since c.w.queue c.origin [] c.h

@@ -1,0 +1,40 @@
+-- How many slots are taken where a driver's ring is told to be full.
+use Rattle.std.specs.Prelude.{◌+◌, ◌<◌, ◌∷◌, ◌≤◌, List, Ok, ℕ, length}
+use Rattle.start_laws.specs.Prelude.{AtPort, Call, Down, Numbers, Packet, Rings, Up, WhereUp, parts_for}
+use Rattle.pmd_driver.specs.Bursts.{IsSendBurst}
+use Rattle.pmd_driver.specs.PmdTx.{Sends.IsFullWhereTold, declared.answer.TxAnswer.TheVariants.RingFull}
+use Rattle.driver_laws.specs.Told.{Drove, IsTold, Moment, last}
+
+-- a call of `tx` answered that the ring is full, as `full` in its clause `sent` tells
+abbrev pub TellsFull : Moment → Moment → Packet → Type 0
+TellsFull m n p =
+    WhereUp m.driver.rings n.driver.rings (λ r s. IsFullWhereTold r.transmit p (Ok (RingFull p)))
+
+-- how many parts of packets of a driver that runs are outstanding, each in a slot
+abbrev pub outstanding : Rings → ℕ
+outstanding (Up r) = length r.transmit.outstanding
+outstanding (Down h) = 0
+
+-- fewer are outstanding than its start was given descriptors, and with those of the packet that was given there are no
+-- fewer: so all slots but one are taken where that has one part
+abbrev pub FullHasNoRoom : Type 0
+FullHasNoRoom =
+    (q : AtPort) (size frame : ℕ) (old : List Call) (a : Numbers) (m : Moment) (later : List Moment) (n : Moment)
+    (p : Packet) → IsTold q size frame old a m later → TellsFull (last m later) n p →
+    (outstanding (last m later).driver.rings < size)
+    × (size ≤ outstanding (last m later).driver.rings + parts_for p.len)
+
+-- a call of `tx_burst` accepted none and answered no fault, and left this packet first, as its clause `sent` tells
+abbrev pub AcceptsNone : Moment → Moment → Packet → Type 0
+AcceptsNone m n p =
+    WhereUp m.driver.rings n.driver.rings
+    (λ r s.
+    (vacant : ℕ) × (given : List Packet) × (rest : List Packet)
+    × IsSendBurst vacant given (p ∷ rest) (Ok 0) m.made r n.made s)
+
+-- so it is of the packets that are outstanding behind that call
+abbrev pub NoneHasNoRoom : Type 0
+NoneHasNoRoom =
+    (q : AtPort) (size frame : ℕ) (old : List Call) (a : Numbers) (m : Moment) (later : List Moment) (n : Moment)
+    (p : Packet) → IsTold q size frame old a m later → Drove (last m later) n → AcceptsNone (last m later) n p →
+    (outstanding n.driver.rings < size) × (size ≤ outstanding n.driver.rings + parts_for p.len)

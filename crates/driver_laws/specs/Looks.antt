@@ -1,0 +1,39 @@
+-- A call of a driver that looks in vain, whether it was to hand out one packet or several: it finds none that is whole.
+use Rattle.std.specs.Prelude.{ℕ, ◌≡◌, List, [], ◌∷◌, ◌++◌}
+use Rattle.start_laws.specs.Prelude.{call_in, calls_of, Call, Entry, Receive, delivered}
+use Rattle.pmd_driver.specs.PmdRx.Plays as receiving
+use Rattle.start_laws.specs.Beside.{AddsHarmless}
+use Rattle.driver_laws.specs.Life.{Life}
+
+-- an entry of a history by which the pass has made just these calls
+pub record EndsAt (pass : ℕ) (h : List Entry) (calls : List Call) : Type 0 where
+  pub before : List Entry
+  pub entry : Entry
+  pub behind : List Entry
+  pub all : before ++ entry ∷ behind ≡ h
+  pub made : calls_of pass before ++ call_in entry ∷ [] ≡ calls
+
+-- where the pass has made some calls, and maybe more behind them, there is such an entry
+abbrev pub CallsEnd : Type 0
+CallsEnd =
+    (pass : ℕ) (h : List Entry) (calls more : List Call) (c : Call) →
+    calls_of pass h ≡ (calls ++ c ∷ []) ++ more → EndsAt pass h (calls ++ c ∷ [])
+
+-- behind a life one call of the driver looked at the slots of a packet, and found the last of these not done, at an
+-- entry of the history
+pub record LooksInVain (x : Life) (new : List Call) (v : Receive) : Type 0 where
+  pub looks : receiving.LooksInVain x.made x.k.receive new v
+  pub look : EndsAt x.w.pass x.h new
+
+-- what the driver had handed out is all that was delivered before the entry of that last look, whatever came behind it
+abbrev pub NoneIsAllBefore : Type 0
+NoneIsAllBefore =
+    (x : Life) (new : List Call) (v : Receive) (looked : LooksInVain x new v) →
+    x.k.receive.handed ≡ delivered x.w.queue x.origin looked.look.before
+
+-- and it is all that was delivered before the first event of that call's own, harmless calls ahead of it included
+abbrev pub NoneIsAllAtFirst : Type 0
+NoneIsAllAtFirst =
+    (x : Life) (new : List Call) (v : Receive) (looked : LooksInVain x new v) (before more : List Entry) →
+    before ++ more ≡ looked.look.before → AddsHarmless x.made (calls_of x.w.pass before) →
+    x.k.receive.handed ≡ delivered x.w.queue x.origin before

@@ -1,0 +1,49 @@
+-- A driver whose start was refused, and what was sent on its queue meanwhile.
+use Rattle.std.specs.Prelude.{◌≡◌, List, [], ◌∷◌, ◌++◌}
+use Rattle.start_laws.specs.Prelude.{calls_of, leads_to, Call, Entry, left_accepted, left_handed, Rest, StartRefused}
+use Rattle.start_laws.specs.Prelude.{AreSteps, delivered, bytes_of, sent_in, sent_since}
+use Rattle.driver_laws.specs.Course.{Course}
+use Rattle.driver_laws.specs.Prelude.{IsAlong, IsQuiet}
+use Rattle.pmd_driver.specs.Life.{NeverLived}
+use Rattle.start_laws.specs.RingLaws.Delivered as receive
+use Rattle.start_laws.specs.RingLaws.Laws as transmit
+
+-- a driver's start was refused over a legal history of a sound device that leaves the queue alone, up to some place
+-- amid the start and the stop of what it left, or to where these ended
+pub record Refused : Type 0 where
+  pub course : Course
+  pub open course use *
+  pub e : StartRefused
+  pub new : List Call
+  pub left : Rest
+  pub never : NeverLived q size frame old a e new left
+  pub along : IsAlong w origin h
+  -- an entry is the start's first, behind steps of the device: just before it port and queue name the queue, and both
+  -- sides are off and not wanted on
+  pub before : List Entry
+  pub first : Entry
+  pub behind : List Entry
+  pub split : before ++ first ∷ behind ≡ h
+  pub own : first.pass ≡ w.pass
+  pub steps : List Call
+  pub stepped : AreSteps steps
+  pub ahead : calls_of w.pass before ≡ old ++ steps
+  pub quiet : IsQuiet w.queue q frame (leads_to origin before)
+  -- these of its calls were made so far
+  pub since : List Call
+  pub rest : List Call
+  pub all : new ≡ (old ++ since) ++ rest
+  pub calls : calls_of w.pass h ≡ old ++ since
+
+-- from its start's first event on nothing is sent on the queue
+abbrev pub RefusedSendsNothing : Type 0
+RefusedSendsNothing = (x : Refused) → sent_in x.w.queue (leads_to x.origin x.before) (x.first ∷ x.behind) ≡ []
+
+-- so what is left as handed out is a prefix of what was delivered from there on, counted since the receive side went
+-- on, and what was sent from there on, counted so too, a prefix of what is left as accepted: both lists left are empty
+abbrev pub LeftOfRefusedIsPrefix : Type 0
+LeftOfRefusedIsPrefix =
+    (x : Refused) →
+    let s = leads_to x.origin x.before in
+    receive.IsPrefixOf (left_handed x.left) (delivered x.w.queue s (x.first ∷ x.behind))
+    × transmit.IsPrefixOf (sent_since x.w.queue s [] (x.first ∷ x.behind)) (bytes_of (left_accepted x.left))

@@ -1,0 +1,18 @@
+-- Where an arena has room for a driver's rings.
+use Rattle.std.specs.Prelude.{ℕ, ◌≡◌, ◌↔◌, ◌+◌, ◌<◌, ◌≤◌, true, is_some}
+use Rattle.start_laws.specs.Prelude.{Numbers}
+use Rattle.nic_device.specs.DmaArena.Run.{IsFreeRun}
+use Rattle.pmd_driver.specs.Runs.{second_run}
+
+-- two runs of so many free blocks, which share none
+pub record HasTwoRuns (a : Numbers) (count : ℕ) : Type 0 where
+  pub first : ℕ
+  pub second : ℕ
+  pub one : IsFreeRun a first count
+  pub two : IsFreeRun a second count
+  pub apart : first + count ≤ second
+
+-- a start finds two exactly where there are two
+abbrev pub TwoRunsAreFound : Type 0
+TwoRunsAreFound =
+    (a : Numbers) (count : ℕ) → 0 < count → (is_some (second_run a count) ≡ true) ↔ HasTwoRuns a count

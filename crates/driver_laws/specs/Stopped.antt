@@ -1,0 +1,51 @@
+-- A driver's life, and then calls of its stop.
+use Rattle.std.specs.Prelude.{◌≡◌, List}
+use Rattle.start_laws.specs.Prelude.{AtPort, Call, Halted, PmdFault, calls_of}
+use Rattle.driver_laws.specs.{Course.IsHandedInOrder, Course.IsSentInOrder, Life.Life, Prelude.Ends}
+use Rattle.driver_laws.specs.{Prelude.TakesOnceOff}
+use Rattle.pmd_driver.specs.{Stopping.StopFails, Stopping.Stops, declared.home.Home.Home}
+
+-- behind a life the pass made the calls of a stop, and no others: none writes the queue's enable words with bit 25
+pub record IsStopping (x : Life) (new : List Call) : Type 0 where
+  pub ends : Ends x.q x.made new
+  pub calls : calls_of x.w.pass x.h ≡ new
+
+-- what the driver handed out is a prefix of what was delivered on its queue since the receive side went on, over the
+-- whole history
+abbrev pub HandedIsPrefix : Type 0
+HandedIsPrefix =
+    (x : Life) (new : List Call) → IsStopping x new → IsHandedInOrder x.course x.k.receive.handed
+
+-- where the stop takes blocks back only once both sides were seen off, what was sent on the queue since its transmit
+-- side went on is a prefix of what the driver accepted, over the whole history
+abbrev pub SentIsPrefix : Type 0
+SentIsPrefix =
+    (x : Life) (new : List Call) → IsStopping x new → TakesOnceOff x.q x.made new →
+    IsSentInOrder x.course x.k.transmit.accepted
+
+-- the calls of a driver's stop are such, and so are those of one that fails
+
+abbrev pub StopEnds : Type 0
+StopEnds =
+    (q : AtPort) (old : List Call) (h : Halted) (new : List Call) (home : Home) → Stops q old h new home →
+    Ends q old new
+
+abbrev pub FailedStopEnds : Type 0
+FailedStopEnds =
+    (f : PmdFault) (q : AtPort) (old : List Call) (h : Halted) (new : List Call) (left : Halted) →
+    StopFails f q old h new left → Ends q old new
+
+-- and blocks are taken back only once both sides were seen off: by a stop, by one that fails, and by one behind another
+
+abbrev pub StopTakesOnceOff : Type 0
+StopTakesOnceOff =
+    (q : AtPort) (old mid : List Call) (h : Halted) (new : List Call) (home : Home) → Stops q mid h new home →
+    TakesOnceOff q old mid → TakesOnceOff q old new
+
+abbrev pub FailedStopTakesOnceOff : Type 0
+FailedStopTakesOnceOff =
+    (f : PmdFault) (q : AtPort) (old mid : List Call) (h : Halted) (new : List Call) (left : Halted) →
+    StopFails f q mid h new left → TakesOnceOff q old mid → TakesOnceOff q old new
+
+abbrev pub NoCallTakes : Type 0
+NoCallTakes = (q : AtPort) (old : List Call) → TakesOnceOff q old old

@@ -1,9 +1,0 @@
-use Rattle.std.proofs.Common.{◌≡◌, drop}
-use Rattle.std.specs.List.{list_any}
-use Rattle.pmd_rx.specs.PmdSeam.Bufs.{numbers_of}
-use Rattle.pmd.specs.Halted.{is_out}
-use Rattle.pmd.proofs.halted.Halted.has_one.Given as goal
-
-abbrev pub invariant-loop-number : goal.invariant-loop-number
-invariant-loop-number l = list_any (λ n. is_out l.self n) (numbers_of l.bufs)
-    ≡ list_any (λ n. is_out l.self n) (drop l.number (numbers_of l.bufs))

@@ -1,0 +1,25 @@
+-- Places around a driver's ring.
+use Rattle.std.proofs.Common.{◌≡◌, ◌≢◌, ℕ, ◌+◌, ◌<◌, arith}
+use Rattle.std.proofs.lemmas.Bool.Decides.{nat_tests}
+use Rattle.nic_device.specs.DmaRing.Ring.{next_of}
+use Rattle.pmd_access.specs.Slots.{wrapped}
+
+pub wrapped_below : (size at : ℕ) → at < size + size → wrapped size at < size
+wrapped_below size at h = grind (arith, nat_tests)
+
+pub wrapped_apart : (size slot i j : ℕ) → slot < size → i < size → j < size → i ≢ j
+    → wrapped size (slot + i) ≢ wrapped size (slot + j)
+wrapped_apart size slot i j n a b ne e = ne (grind (arith, nat_tests))
+
+-- the slot after one
+
+pub next_below : (size slot : ℕ) → slot < size → next_of size slot < size
+next_below size slot h = grind (arith, nat_tests)
+
+pub next_wrapped : (size at : ℕ) → 0 < size → at + 1 < size + size
+    → next_of size (wrapped size at) ≡ wrapped size (at + 1)
+next_wrapped size at some h = grind (arith, nat_tests)
+
+pub wrapped_next : (size slot k : ℕ) → slot < size → k < size
+    → wrapped size (next_of size slot + k) ≡ wrapped size (slot + (k + 1))
+wrapped_next size slot k n h = grind (arith, nat_tests)

@@ -1,0 +1,29 @@
+-- Why calls are refused.
+use Rattle.std.proofs.Common.{◌≡◌, Bool, true, IsTrue, refl, sym, ap, subst, Result, Ok, Err, IfErr}
+use Rattle.device_lock.specs.declared.fault.CallFault.{CallFault}
+use Rattle.device_lock.specs.declared.fault.CallFault.TheVariants.{ForeignPass, HistoryFull, OutOfMemory}
+use Rattle.device_lock.specs.Fault.{event_of, fault_with}
+use Rattle.pmd_access.specs.Refusals.{Refusals, CanRefuse}
+
+-- want of memory may be told by each way
+pub memory_refuses : {A E : Type 0} (e : E) (r : Result A (CallFault E)) (way : Refusals)
+    → IfErr r (λ f. f ≡ OutOfMemory e) → IfErr r (λ f. CanRefuse way f)
+memory_refuses e (Ok x) way is = tt
+memory_refuses {E = E} e (Err f) way is = subst (λ (g : CallFault E). CanRefuse way g) (sym is) tt
+
+-- a way that keeps a history tells of a foreign pass where it has one, and of a full history
+pub lock_refuses : {A E : Type 0} (foreign : Bool) (e : E) (r : Result A (CallFault E))
+    → (r ≡ Err (ForeignPass e) → IsTrue foreign) → IfErr r (λ f. event_of f ≡ e)
+    → IfErr r (λ f. CanRefuse (record { foreign = foreign; full = true }) f)
+lock_refuses foreign e (Ok x) only back = tt
+lock_refuses {A = A} {E = E} foreign e (Err (ForeignPass x)) only back =
+    only (ap (λ (y : E). let r : Result A (CallFault E) = Err (ForeignPass y) in r) back)
+lock_refuses foreign e (Err (HistoryFull x)) only back = refl
+lock_refuses foreign e (Err (OutOfMemory x)) only back = tt
+
+-- and so without its event
+pub without_refuses : {E F : Type 0} (f : CallFault E) (other : F) (way : Refusals) → CanRefuse way f
+    → CanRefuse way (fault_with f other)
+without_refuses (ForeignPass event) other way can = can
+without_refuses (HistoryFull event) other way can = can
+without_refuses (OutOfMemory event) other way can = can

@@ -1,0 +1,102 @@
+-- A device in hand that is stepped on.
+use Rattle.std.proofs.Common.{◌≡◌, ℕ, zero, suc, List, [], ◌∷◌, ◌++◌, take, refl, sym, ap, ◌∙◌, append_assoc, Result, Ok, Err, IfOk, IfErr, OnErr}
+use Rattle.std.proofs.lemmas.List.{append-nil}
+use Rattle.nic_device.specs.DmaArena.Block.{Block}
+use Rattle.nic_device.specs.Step.{step_of}
+use Rattle.nic_device.specs.declared.event.Event.{Event}
+use Rattle.nic_device.specs.declared.event.Event.TheVariants as event
+use Rattle.nic_device.specs.declared.event.Reply.{Reply}
+use Rattle.nic_device.specs.DmaRing.declared.dir.Dir.TheVariants as dir
+use Rattle.device_lock.specs.declared.fault.CallFault.{CallFault}
+use Rattle.device_lock.specs.declared.fault.CallFault.TheVariants.{OutOfMemory}
+use Rattle.device_lock.specs.Fault.{event_of}
+use Rattle.device_lock.specs.declared.entry.Call.{Call}
+use Rattle.device_lock.specs.Pass.{call_of}
+use Rattle.device_lock.specs.Stepping.{steps_of_queue}
+use Rattle.pmd_access.specs.Made.{InHand, Adds, AddsSome, StopsAmid, after_event, after_events}
+use Rattle.pmd_access.proofs.Steps.{AllSteps, steps-append}
+
+-- steps add their calls
+pub events_add : (es : List (Event Block)) (old : InHand) → AllSteps es → AddsSome old.calls (after_events old es).calls
+events_add [] old steps = ([], sym (append-nil old.calls), tt)
+events_add (e ∷ es) old steps =
+    let rest = events_add es (after_event old e) steps.1 in
+    let one : List Call = call_of e (step_of old.device e).reply ∷ [] in
+    (one ++ rest.0, rest.1 ∙ append_assoc old.calls one rest.0, (steps.0, rest.2))
+
+pub first_steps : (n : ℕ) (es : List (Event Block)) → AllSteps es → AllSteps (take n es)
+first_steps zero es steps = tt
+first_steps (suc n) [] steps = tt
+first_steps (suc n) (e ∷ es) steps = (steps.0, first_steps n es steps.1)
+
+pub queue_steps : (queue : ℕ) → AllSteps (steps_of_queue queue)
+queue_steps queue = (refl, (refl, (refl, (refl, tt))))
+
+pub amid_adds : (old new : InHand) → StopsAmid old new → AddsSome old.calls new.calls
+amid_adds old new (made, is) =
+    let steps = first_steps made (steps_of_queue old.queue) (queue_steps old.queue) in
+    let some = events_add (take made (steps_of_queue old.queue)) old steps in
+    (some.0, ap (λ (h : InHand). h.calls) is ∙ some.1, some.2)
+
+-- the last of some events adds its own call, behind steps
+pub last_adds : (es : List (Event Block)) (e : Event Block) (r : Reply Block) (old mid new : InHand) → AllSteps es
+    → mid ≡ after_events old es → Adds mid.calls new.calls e r → Adds old.calls new.calls e r
+last_adds es e r old mid new steps is (before, adds, are) =
+    let some = events_add es old steps in
+    let one : List Call = before ++ call_of e r ∷ [] in (
+      some.0 ++ before,
+      adds ∙ ap (λ (h : InHand). h.calls ++ one) is ∙ ap (λ (l : List Call). l ++ one) some.1
+          ∙ append_assoc old.calls some.0 one
+          ∙ ap (λ (l : List Call). old.calls ++ l) (sym (append_assoc some.0 before (call_of e r ∷ []))),
+      steps-append some.0 before some.2 are,
+    )
+
+pub one_adds : (old new : InHand) (e : Event Block) (r : Reply Block) → new ≡ after_event old e
+    → r ≡ (step_of old.device e).reply → Adds old.calls new.calls e r
+one_adds old new e r is reply =
+    ([], ap (λ (h : InHand). h.calls) is ∙ ap (λ (x : Reply Block). old.calls ++ call_of e x ∷ []) (sym reply), tt)
+
+-- all steps were made, and no more
+pub stops_after : (old mid new : InHand) → mid ≡ after_events old (steps_of_queue old.queue) → new ≡ mid
+    → StopsAmid old new
+stops_after old mid new all same = (4, same ∙ all)
+
+-- two steps were made, or three
+pub two_made : (old a b new : InHand) (queue : ℕ) → queue ≡ old.queue
+    → a ≡ after_event old (event.QueueStep dir.Rx queue)
+    → b ≡ after_event a (event.QueueStep dir.Tx queue) → new ≡ b → StopsAmid old new
+two_made old a b new queue own p q r =
+    let both : ℕ → InHand = λ n. after_event (after_event old (event.QueueStep dir.Rx n)) (event.QueueStep dir.Tx n) in
+    (2, r ∙ q ∙ ap (λ (h : InHand). after_event h (event.QueueStep dir.Tx queue)) p ∙ ap both own)
+
+pub three_made : (old a b d new : InHand) (queue : ℕ) → queue ≡ old.queue
+    → a ≡ after_event old (event.QueueStep dir.Rx queue) → b ≡ after_event a (event.QueueStep dir.Tx queue)
+    → d ≡ after_event b (event.TxStep queue) → new ≡ d → StopsAmid old new
+three_made old a b d new queue own p q r s =
+    let all : ℕ → InHand = λ n.
+    after_event (after_event (after_event old (event.QueueStep dir.Rx n)) (event.QueueStep dir.Tx n))
+    (event.TxStep n) in (
+      3,
+      s ∙ r ∙ ap (λ (h : InHand). after_event h (event.TxStep queue)) q
+          ∙ ap (λ (h : InHand). after_event (after_event h (event.QueueStep dir.Tx queue))
+          (event.TxStep queue)) p ∙ ap all own,
+    )
+
+-- the reply to the last of some events, or its refusal
+pub reply_adds : (es : List (Event Block)) (e : Event Block) (r : Result (Reply Block) (CallFault (Event Block)))
+    (old mid new : InHand) → AllSteps es → mid ≡ after_events old es → IfOk r (λ x. Adds mid.calls new.calls e x)
+    → IfOk r (λ x. Adds old.calls new.calls e x)
+reply_adds es e (Ok x) old mid new steps is adds = last_adds es e x old mid new steps is adds
+reply_adds es e (Err f) old mid new steps is adds = tt
+
+pub refused_amid : (r : Result (Reply Block) (CallFault (Event Block))) (old mid new : InHand)
+    → mid ≡ after_events old (steps_of_queue old.queue) → OnErr r (new ≡ mid) → OnErr r (StopsAmid old new)
+refused_amid (Ok x) old mid new all same = tt
+refused_amid (Err f) old mid new all same = stops_after old mid new all same
+
+pub refused_adds : (e : Event Block) (r : Result (Reply Block) (CallFault (Event Block))) (old new : InHand)
+    → IfErr r (λ f. f ≡ OutOfMemory e) → OnErr r (StopsAmid old new)
+    → IfErr r (λ f. (event_of f ≡ e) × AddsSome old.calls new.calls)
+refused_adds e (Ok x) old new back amid = tt
+refused_adds e (Err f) old new back amid =
+    (ap (λ (g : CallFault (Event Block)). event_of g) back, amid_adds old new amid)

@@ -1,0 +1,24 @@
+use Rattle.device_lock.specs.Stepping.{steps_of_queue}
+use Rattle.pmd_access.proofs.Begun.{amid_begins, call_begins}
+use Rattle.pmd_access.proofs.Stepping.{queue_steps, reply_adds, refused_amid}
+use Rattle.pmd_access.proofs.direct.Direct.step_and_make.Goals as goal
+
+pub returns-in-Ok-clause-adds : goal.returns-in-Ok-clause-adds
+returns-in-Ok-clause-adds c =
+    reply_adds (steps_of_queue c.args.self.now.queue) c.args.event c.make_last.result c.args.self.now c.step_on.new.self
+    c.make_last.new.self (queue_steps c.args.self.now.queue) c.in-Ok.ensures.made c.make_last.ensures.adds
+
+pub returns-in-Ok-clause-amid : goal.returns-in-Ok-clause-amid
+returns-in-Ok-clause-amid c =
+    refused_amid c.make_last.result c.args.self.now c.step_on.new.self c.make_last.new.self c.in-Ok.ensures.made
+    c.make_last.ensures.unchanged
+
+pub returns-in-Ok-clause-began : goal.returns-in-Ok-clause-began
+returns-in-Ok-clause-began c =
+    call_begins c.make_last.result c.args.event c.args.self.now c.step_on.new.self c.make_last.new.self
+    c.is_of_a_driver.ensures c.steps_are_of_a_driver.ensures c.in-Ok.ensures.made c.make_last.ensures.made
+    c.make_last.ensures.unchanged
+
+pub returns-in-Err-clause-began : goal.returns-in-Err-clause-began
+returns-in-Err-clause-began c =
+    amid_begins c.args.self.now c.step_on.new.self c.steps_are_of_a_driver.ensures c.in-Err.ensures.refused

@@ -1,0 +1,21 @@
+use Rattle.std.proofs.Common.{refl, subst}
+use Rattle.nic_device.specs.RegTable.declared.rows.RowId.{RowId}
+use Rattle.nic_device.specs.declared.event.Event.TheVariants as event
+use Rattle.nic_device.specs.declared.event.Port.{Port}
+use Rattle.nic_device.specs.declared.event.Reply.TheVariants as reply
+use Rattle.pmd_access.specs.Made.{Adds}
+use Rattle.pmd_access.specs.Named.{IsNumberOf}
+use Rattle.pmd_access.proofs.names.Queue.is_on.Goals as goal
+
+pub returns-in-Ok-Some-clause-seen : goal.returns-in-Ok-Some-clause-seen
+returns-in-Ok-Some-clause-seen g c =
+    let q = c.args.self.now in
+    let number = c.number_of-number.result in
+    let word = c.in-Ok-Some.word in (
+      number,
+      word,
+      subst (λ (row : RowId). IsNumberOf q.port row q.queue number) c.enable_row.ensures c.number_of-number.ensures,
+      refl,
+      subst (λ (p : Port). Adds (g.N.Nic.made c.args.nic.now) (g.N.Nic.made c.read.new.nic) (event.Read p number)
+          (reply.Word word)) c.port.ensures (rw c.in-Ok-Some.field-0-is at c.in-Ok-Some.ensures.made),
+    )

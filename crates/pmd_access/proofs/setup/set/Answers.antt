@@ -1,0 +1,13 @@
+use Rattle.std.proofs.Common.{refl}
+use Rattle.pmd_access.proofs.setup.set.Goals as goal
+
+pub returns-in-Ok-true-clause-set : goal.returns-in-Ok-true-clause-set
+returns-in-Ok-true-clause-set g c = (
+  g.N.Nic.made c.write.new.nic,
+  (
+    c.address_of-address.result,
+    c.address_of-address.ensures,
+    rw c.in-Ok-true.field-0-test at c.in-Ok-true.ensures.made,
+  ),
+  refl,
+)

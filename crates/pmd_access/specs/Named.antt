@@ -1,0 +1,56 @@
+-- The registers of a queue, as a port names them.
+use Rattle.std.specs.Prelude.{ℕ, ◌≡◌, ◌+◌, ◌*◌, ◌<◌, ◌≤◌, Bool, true, false, if◌then◌else◌}
+use Rattle.nic_device.specs.declared.event.Port.{Port}
+use Rattle.nic_device.specs.declared.event.Port.TheVariants.{Pf, Vf}
+use Rattle.nic_device.specs.RegTable.Rows.{row_of}
+use Rattle.nic_device.specs.RegTable.declared.rows.RowId.{RowId}
+use Rattle.nic_device.specs.RegTable.declared.rows.RowId.TheVariants.{Rdbal, Rdbah, Rdlen, Rdh, Srrctl, Rdt, Rxdctl, Tdbal, Tdbah, Tdlen, Tdh, Tdt, Txdctl, Tdwbal}
+use Rattle.nic_device.specs.VfMap.Map.{behind}
+use Rattle.nic_device.specs.VfMap.Owner.{is_receive}
+use Rattle.pmd_access.specs.Setup.{IsAddressOf}
+
+-- how many queues a port can name: the device has 128, and a virtual function's offsets have room for 64 of its own
+abbrev pub queues_named : Port → ℕ
+queues_named Pf = 128
+queues_named (Vf v) = 64
+
+-- a queue at a port
+pub record AtPort : Type 0 where
+  pub port : Port
+  pub queue : ℕ
+
+abbrev pub CanName : AtPort → Type 0
+CanName q = q.queue < queues_named q.port
+
+-- the registers that a driver has of a queue
+abbrev pub is_driven : RowId → Bool
+is_driven Rdbal = true
+is_driven Rdbah = true
+is_driven Rdlen = true
+is_driven Rdh = true
+is_driven Srrctl = true
+is_driven Rdt = true
+is_driven Rxdctl = true
+is_driven Tdbal = true
+is_driven Tdbah = true
+is_driven Tdlen = true
+is_driven Tdh = true
+is_driven Tdt = true
+is_driven Txdctl = true
+is_driven Tdwbal = true
+is_driven other = false
+
+-- the register is one of them, and each of the device's queues has it
+abbrev pub IsDriven : RowId → Type 0
+IsDriven row = (is_driven row ≡ true) × (128 ≤ (row_of row).count)
+
+-- the offset of a register of a virtual function's own queue: the map of virtual functions has each side of a queue in
+-- 64 bytes, its registers as far apart as the device has them
+abbrev pub offset_of : RowId → ℕ → ℕ
+offset_of row queue =
+    if is_receive row then 0x1000 + 0x40 * queue + behind Rdbal row else 0x2000 + 0x40 * queue + behind Tdbal row
+
+-- the number of a queue's register at a port: its first address, or its offset
+abbrev pub IsNumberOf : Port → RowId → ℕ → ℕ → Type 0
+IsNumberOf Pf row queue number = IsAddressOf number (record { row = row; index = queue })
+IsNumberOf (Vf v) row queue number = number ≡ offset_of row queue

@@ -1,0 +1,79 @@
+-- The accesses of a queue's registers that a driver makes, in order, and where they stop.
+use Rattle.std.specs.Prelude.{ℕ, ◌≡◌, ◌⊎◌, List, [], ◌∷◌, ◌++◌, Bool, not}
+use Rattle.nic_device.specs.declared.event.Event.TheVariants as event
+use Rattle.nic_device.specs.declared.event.Reply.TheVariants as reply
+use Rattle.device_lock.specs.declared.entry.Call.{Call}
+use Rattle.nic_device.specs.RegTable.declared.rows.RowId.{RowId}
+use Rattle.nic_device.specs.RegisterFile.Bits.{has_bit}
+use Rattle.pmd_access.specs.Made.{Adds, AddsSome}
+use Rattle.pmd_access.specs.declared.fault.PmdFault.{PmdFault}
+use Rattle.pmd_access.specs.declared.fault.PmdFault.TheVariants.{BadSize, ForeignBlock, StartTimeout, NoBuffer}
+use Rattle.pmd_access.specs.declared.fault.PmdFault.TheVariants.{DeviceFault}
+use Rattle.pmd_access.specs.declared.fault.PmdFault.TheVariants as fault
+use Rattle.pmd_access.specs.Named.{AtPort, IsNumberOf}
+
+-- an access of a register of the queue: it shows bit 25, ENABLE, on or off, or is given a word
+pub data Access : Type 0 where
+  Sees : RowId → Bool → Access
+  Sets : RowId → ℕ → Access
+
+-- the word was read there, and it has ENABLE so
+abbrev pub IsSeen : AtPort → List Call → List Call → RowId → Bool → Type 0
+IsSeen q old new row on =
+    (number : ℕ) × (word : ℕ) × IsNumberOf q.port row q.queue number × (has_bit 25 word ≡ on)
+    × Adds old new (event.Read q.port number) (reply.Word word)
+
+-- the word was written there
+abbrev pub IsSet : AtPort → List Call → List Call → RowId → ℕ → Type 0
+IsSet q old new row word =
+    (number : ℕ) × IsNumberOf q.port row q.queue number
+    × Adds old new (event.Write q.port number word) reply.Done
+
+-- the port has no such register: a read is stray, and a write
+abbrev pub IsStrayRead : AtPort → List Call → List Call → RowId → Type 0
+IsStrayRead q old new row =
+    (number : ℕ) × (word : ℕ) × IsNumberOf q.port row q.queue number
+    × Adds old new (event.Read q.port number) (reply.Stray word)
+
+abbrev pub IsStrayWrite : AtPort → List Call → List Call → RowId → ℕ → Type 0
+IsStrayWrite q old new row word =
+    (number : ℕ) × (told : ℕ) × IsNumberOf q.port row q.queue number
+    × Adds old new (event.Write q.port number word) (reply.Stray told)
+
+abbrev pub IsMade : AtPort → List Call → List Call → Access → Type 0
+IsMade q old new (Sees row on) = IsSeen q old new row on
+IsMade q old new (Sets row word) = IsSet q old new row word
+
+-- the access was answered otherwise
+abbrev pub IsOtherwise : AtPort → List Call → List Call → Access → Type 0
+IsOtherwise q old new (Sees row on) = IsSeen q old new row (not on) ⊎ IsStrayRead q old new row
+IsOtherwise q old new (Sets row word) = IsStrayWrite q old new row word
+
+-- accesses were made, in order
+abbrev pub AreMade : AtPort → List Call → List Call → List Access → Type 0
+AreMade q old new [] = new ≡ old
+AreMade q old new (a ∷ rest) = (mid : List Call) × IsMade q old mid a × AreMade q mid new rest
+
+-- why an access fails: it was answered otherwise, or a call was refused
+abbrev pub FailsBy : PmdFault → AtPort → List Call → List Call → Access → Type 0
+FailsBy BadSize q old new a = ⊥
+FailsBy ForeignBlock q old new a = ⊥
+FailsBy StartTimeout q old new a = ⊥
+FailsBy NoBuffer q old new a = ⊥
+FailsBy DeviceFault q old new a = IsOtherwise q old new a
+FailsBy (fault.Call refused) q old new a = AddsSome old new
+
+-- why a read of a word fails, whatever the word
+abbrev pub ReadFails : PmdFault → AtPort → List Call → List Call → RowId → Type 0
+ReadFails BadSize q old new row = ⊥
+ReadFails ForeignBlock q old new row = ⊥
+ReadFails StartTimeout q old new row = ⊥
+ReadFails NoBuffer q old new row = ⊥
+ReadFails DeviceFault q old new row = IsStrayRead q old new row
+ReadFails (fault.Call refused) q old new row = AddsSome old new
+
+-- some of the accesses were made, from the first on, and the next one fails
+abbrev pub StopsBy : PmdFault → AtPort → List Call → List Call → List Access → Type 0
+StopsBy f q old new all =
+    (done : List Access) × (a : Access) × (rest : List Access) × (mid : List Call)
+    × (all ≡ done ++ a ∷ rest) × AreMade q old mid done × FailsBy f q mid new a

@@ -1,0 +1,116 @@
+-- The set-up of the whole device.
+use Rattle.std.specs.Prelude.{ℕ, zero, suc, ◌≡◌, ◌+◌, ◌*◌, ◌<◌, List, [], ◌∷◌, ◌++◌, Bool, nat_lt, Some, if◌then◌else◌, slice_range}
+use Rattle.std.specs.Int.{w32, from_le_bytes}
+use Rattle.nic_device.specs.declared.event.Event.TheVariants as event
+use Rattle.nic_device.specs.declared.event.Port.TheVariants.{Pf}
+use Rattle.nic_device.specs.declared.event.Reply.TheVariants as reply
+use Rattle.nic_device.specs.RegTable.Place.{place_among, view_among, address_among}
+use Rattle.nic_device.specs.RegTable.Rows.{row_of}
+use Rattle.nic_device.specs.RegTable.Runs.{runs}
+use Rattle.nic_device.specs.RegTable.declared.place.Place.{Place}
+use Rattle.nic_device.specs.RegTable.declared.rows.RowId.{RowId}
+use Rattle.nic_device.specs.RegTable.declared.rows.RowId.TheVariants.{GcrExt, VtCtl, Vfre, Vfte, Mrqc, Rssrk, Reta, Rxcsum, Fctrl, Maxfrs, Hlreg0, Dmatxctl, Rxctrl}
+use Rattle.nic_device.specs.RegisterFile.Columns.{place}
+use Rattle.nic_device.specs.VfMap.declared.mode.Mode.{Mode}
+use Rattle.nic_device.specs.VfMap.declared.mode.Mode.TheVariants.{Off, Pools16, Pools32, Pools64}
+use Rattle.device_lock.specs.declared.entry.Call.{Call}
+use Rattle.pmd_access.specs.Frames.{shortest_frame}
+use Rattle.pmd_access.specs.Made.{Adds, AddsSome}
+use Rattle.pmd_access.specs.declared.fault.PmdFault.{PmdFault}
+use Rattle.pmd_access.specs.declared.fault.PmdFault.TheVariants as fault
+use Rattle.pmd_access.specs.declared.setup.Setting.{Setting}
+use Rattle.pmd_access.specs.declared.setup.Setup.{Setup}
+
+-- the index is one of the row's
+abbrev pub IsInRow : Place → Type 0
+IsInRow p = p.index < (row_of p.row).count
+
+-- the first address of a register: it names the register, and shows all of its bits
+pub record IsAddressOf (address : ℕ) (p : Place) : Type 0 where
+  pub first : address_among runs p ≡ Some address
+  pub names : place_among runs address ≡ Some p
+  pub whole : view_among runs address ≡ 0xFFFFFFFF
+
+-- a register was written through the physical function, by its first address
+abbrev pub IsSet : List Call → List Call → Setting → Type 0
+IsSet old new s =
+    (address : ℕ) × IsAddressOf address s.place × Adds old new (event.Write Pf address s.word) reply.Done
+
+-- registers were written, in order
+abbrev pub AreSet : List Call → List Call → List Setting → Type 0
+AreSet old new [] = new ≡ old
+AreSet old new (s ∷ ss) = (mid : List Call) × IsSet old mid s × AreSet mid new ss
+
+-- why a register isn't written: the device knows it not, or the write was refused
+abbrev pub SettingFails : PmdFault → List Call → List Call → Setting → Type 0
+SettingFails fault.DeviceFault old new s =
+    (address : ℕ) × (seen : ℕ) × IsAddressOf address s.place
+    × Adds old new (event.Write Pf address s.word) (reply.Stray seen)
+SettingFails (fault.Call refusal) old new s = AddsSome old new
+SettingFails fault.BadSize old new s = ⊥
+SettingFails fault.ForeignBlock old new s = ⊥
+SettingFails fault.StartTimeout old new s = ⊥
+SettingFails fault.NoBuffer old new s = ⊥
+
+-- some of the registers were written, from the first on, and the next one wasn't
+abbrev pub StopsSetting : PmdFault → List Call → List Call → List Setting → Type 0
+StopsSetting f old new ss =
+    (done : List Setting) × (s : Setting) × (rest : List Setting) × (mid : List Call)
+    × (ss ≡ done ++ s ∷ rest) × AreSet old mid done × SettingFails f mid new s
+
+abbrev pub setting : RowId → ℕ → ℕ → Setting
+setting row index word = record { place = place row index; word = word }
+
+-- GCR_EXT and VT_CTL by the mode
+abbrev pub mode_word : Mode → ℕ
+mode_word Off = 0
+mode_word Pools16 = 1
+mode_word Pools32 = 2
+mode_word Pools64 = 3
+
+abbrev pub pools_word : Mode → ℕ
+pools_word Off = 0
+pools_word Pools16 = 1
+pools_word Pools32 = 1
+pools_word Pools64 = 1
+
+-- the pools: the mode, and each pool receives and sends
+abbrev pub pool_settings : Mode → List Setting
+pool_settings mode =
+    setting GcrExt 0 (mode_word mode) ∷ setting VtCtl 0 (pools_word mode)
+    ∷ setting Vfre 0 0xFFFFFFFF ∷ setting Vfre 1 0xFFFFFFFF
+    ∷ setting Vfte 0 0xFFFFFFFF ∷ setting Vfte 1 0xFFFFFFFF ∷ []
+
+-- the word of four bytes, the lowest first
+abbrev pub word_in : List ℕ → ℕ → ℕ
+word_in bytes index = from_le_bytes w32 (slice_range bytes (4 * index) (4 * index + 4))
+
+-- the first registers of a row, each with four of the bytes
+unfoldable pub packed : RowId → List ℕ → ℕ → List Setting
+packed row bytes zero = []
+packed row bytes (suc count) = packed row bytes count ++ setting row count (word_in bytes count) ∷ []
+
+-- what passes, how long a frame may be, and that receiving and transmitting are on: by HLREG0 frames of 1,518 bytes
+-- pass, and where longer ones are to, it has its bit 2, and MAXFRS the length
+abbrev pub fctrl_word : Bool → ℕ
+fctrl_word promiscuous = if promiscuous then 0x700 else 0x400
+
+abbrev pub opening_short : Bool → List Setting
+opening_short promiscuous =
+    setting Rxcsum 0 0x2000 ∷ setting Fctrl 0 (fctrl_word promiscuous) ∷ setting Hlreg0 0 0x403
+    ∷ setting Dmatxctl 0 1 ∷ setting Rxctrl 0 1 ∷ []
+
+abbrev pub opening_long : ℕ → Bool → List Setting
+opening_long frame promiscuous =
+    setting Rxcsum 0 0x2000 ∷ setting Fctrl 0 (fctrl_word promiscuous) ∷ setting Maxfrs 0 (65536 * frame)
+    ∷ setting Hlreg0 0 0x407 ∷ setting Dmatxctl 0 1 ∷ setting Rxctrl 0 1 ∷ []
+
+abbrev pub opening : ℕ → Bool → List Setting
+opening frame promiscuous =
+    if nat_lt shortest_frame frame then opening_long frame promiscuous else opening_short promiscuous
+
+-- all registers of the set-up, in order
+abbrev pub settings_of : Setup → List Setting
+settings_of s =
+    pool_settings s.mode ++ (setting Mrqc 0 s.mrqc ∷ []) ++ packed Rssrk s.key 10 ++ packed Reta s.reta 32
+    ++ opening s.frame s.promiscuous

@@ -1,0 +1,63 @@
+-- How a side of a queue is made ready and switched.
+use Rattle.std.specs.Prelude.{ℕ, ◌*◌, ◌<◌, List, [], ◌∷◌, ◌++◌, replicate, Bool, true, false, not}
+use Rattle.device_lock.specs.declared.entry.Call.{Call}
+use Rattle.nic_device.specs.RegTable.declared.rows.RowId.TheVariants.{Rdbal, Rdbah, Rdlen, Rdh, Srrctl, Rdt, Tdbal, Tdbah, Tdlen, Tdh, Tdt, Tdwbal}
+use Rattle.nic_device.specs.RegisterFile.Queue.{enable_row}
+use Rattle.nic_device.specs.DmaRing.declared.dir.Dir.{Dir}
+use Rattle.nic_device.specs.DmaRing.declared.dir.Dir.TheVariants.{Rx, Tx}
+use Rattle.pmd_access.specs.Made.{AddsSome}
+use Rattle.pmd_access.specs.declared.fault.PmdFault.{PmdFault}
+use Rattle.pmd_access.specs.declared.fault.PmdFault.TheVariants.{BadSize, ForeignBlock, StartTimeout, NoBuffer}
+use Rattle.pmd_access.specs.declared.fault.PmdFault.TheVariants.{DeviceFault}
+use Rattle.pmd_access.specs.declared.fault.PmdFault.TheVariants as fault
+use Rattle.pmd_access.specs.Named.{AtPort}
+use Rattle.pmd_access.specs.QueueMade.{Access, Sees, Sets, AreMade, IsStrayRead}
+use Rattle.pmd_access.specs.declared.sides.Word.{Word}
+
+-- the word of RXDCTL or TXDCTL that asks for a side to be on or off
+abbrev pub enable_word : Bool → ℕ
+enable_word true = 0x2000000
+enable_word false = 0
+
+-- a side is off, and nobody waits for it to go on: it is seen off, asked to be off, and seen off again. So no word of
+-- its ring is held, and no step of the device switches it on while these are written
+abbrev pub quiet : Dir → List Access
+quiet side = Sees (enable_row side) false ∷ Sets (enable_row side) 0 ∷ Sees (enable_row side) false ∷ []
+
+-- the words of a ring of so many descriptors in a block, empty: buffers of 2,048 bytes by advanced descriptors, and no
+-- write-back of the head
+abbrev pub ring_words : Dir → (ring size : ℕ) → List Access
+ring_words Rx ring size =
+    Sets Rdbal (2048 * ring) ∷ Sets Rdbah 0 ∷ Sets Rdlen (16 * size) ∷ Sets Srrctl 0x2000002
+    ∷ Sets Rdh 0 ∷ Sets Rdt 0 ∷ []
+ring_words Tx ring size =
+    Sets Tdbal (2048 * ring) ∷ Sets Tdbah 0 ∷ Sets Tdlen (16 * size) ∷ Sets Tdwbal 0
+    ∷ Sets Tdh 0 ∷ Sets Tdt 0 ∷ []
+
+-- a word as the access that writes it
+abbrev pub set_of : Word → Access
+set_of w = Sets w.row w.word
+
+-- a side is asked to go on or off
+abbrev pub asked : Dir → Bool → List Access
+asked side on = Sets (enable_row side) (enable_word on) ∷ []
+
+-- so many polls of a side without what is wanted, and polls up to the one with it
+abbrev pub missed : Dir → Bool → ℕ → List Access
+missed side on polls = replicate polls (Sees (enable_row side) (not on))
+
+abbrev pub polled : Dir → Bool → ℕ → List Access
+polled side on misses = missed side on misses ++ Sees (enable_row side) on ∷ []
+
+-- polls end: all that were allowed are without what is wanted; the port has no such register; or a call was refused
+abbrev pub PollsEnd : PmdFault → AtPort → List Call → List Call → Dir → Bool → ℕ → Type 0
+PollsEnd BadSize q old new side on polls = ⊥
+PollsEnd ForeignBlock q old new side on polls = ⊥
+PollsEnd NoBuffer q old new side on polls = ⊥
+PollsEnd StartTimeout q old new side on polls = AreMade q old new (missed side on polls)
+PollsEnd DeviceFault q old new side on polls =
+    (misses : ℕ) × (mid : List Call) × (misses < polls) × AreMade q old mid (missed side on misses)
+    × IsStrayRead q mid new (enable_row side)
+PollsEnd (fault.Call refused) q old new side on polls =
+    (misses : ℕ) × (mid : List Call) × (misses < polls) × AreMade q old mid (missed side on misses)
+    × AddsSome mid new

@@ -1,0 +1,148 @@
+//! The accesses that a driver makes, each with the replies that it can have.
+
+ghost use Rattle.std.specs.Prelude.{◌≡◌, IfOk, IfErr, OnErr, IfSome};
+ghost use Rattle.pmd_access.specs.Accesses.{IsRead, IsWritten, IsLent, IsTaken, IsPeeked, IsPoked};
+ghost use Rattle.pmd_access.specs.Begun.{BeganAs};
+ghost use Rattle.pmd_access.specs.Made.{AddsSome};
+ghost use Rattle.pmd_access.specs.Refusals.{CanRefuse};
+
+use crate::fault::{with_block, without_event};
+use crate::nic::Nic;
+use device_lock::CallFault;
+use nic_device::{Buf, Event, Port, Reply};
+use std::alloc::Global;
+
+/// Reads a register by its number at the port. None where there is none.
+pub fn read<N: Nic>(
+    alloc: Global,
+    nic: &mut N,
+    port: Port,
+    number: u32,
+) -> Result<Option<u32>, CallFault<()>>
+    ensures made { IfOk result (λ word. IsRead (N.made nic.old) (N.made nic.new) port number word) }
+    ensures began { BeganAs N.began nic.old nic.new }
+    ensures refuses { N.refuses nic.new ≡ N.refuses nic.old }
+    ensures refusal { IfErr result (λ refusal. CanRefuse (N.refuses nic.new) refusal) }
+    ensures refused { OnErr result (AddsSome (N.made nic.old) (N.made nic.new)) }
+{
+    match nic.call(alloc, Event::Read(port, number)) {
+        Ok(reply) => match reply {
+            Reply::Word(word) => Ok(Some(word)),
+            Reply::Stray(_) => Ok(None),
+            _ => unreachable!(),
+        },
+        Err(fault) => Err(without_event(fault)),
+    }
+}
+
+/// Writes a register by its number at the port. Answers whether there is one.
+pub fn write<N: Nic>(
+    alloc: Global,
+    nic: &mut N,
+    port: Port,
+    number: u32,
+    word: u32,
+) -> Result<bool, CallFault<()>>
+    ensures made { IfOk result (λ known. IsWritten (N.made nic.old) (N.made nic.new) port number word known) }
+    ensures began { BeganAs N.began nic.old nic.new }
+    ensures refuses { N.refuses nic.new ≡ N.refuses nic.old }
+    ensures refusal { IfErr result (λ refusal. CanRefuse (N.refuses nic.new) refusal) }
+    ensures refused { OnErr result (AddsSome (N.made nic.old) (N.made nic.new)) }
+{
+    match nic.call(alloc, Event::Write(port, number, word)) {
+        Ok(reply) => match reply {
+            Reply::Done => Ok(true),
+            Reply::Stray(_) => Ok(false),
+            _ => unreachable!(),
+        },
+        Err(fault) => Err(without_event(fault)),
+    }
+}
+
+/// Lends a block. It comes back where one of its number is lent already, and with a refusal.
+pub fn lend<N: Nic>(
+    alloc: Global,
+    nic: &mut N,
+    buf: Buf,
+) -> Result<Option<Buf>, (CallFault<()>, Buf)>
+    ensures made { IfOk result (λ twice. IsLent (N.made nic.old) (N.made nic.new) buf twice) }
+    ensures number { IfOk result (λ twice. IfSome twice (λ back. back.number ≡ buf.number)) }
+    ensures began { BeganAs N.began nic.old nic.new }
+    ensures refuses { N.refuses nic.new ≡ N.refuses nic.old }
+    ensures refusal { IfErr result (λ refused. CanRefuse (N.refuses nic.new) refused.0) }
+    ensures back { IfErr result (λ refused. refused.1 ≡ buf) }
+    ensures refused { OnErr result (AddsSome (N.made nic.old) (N.made nic.new)) }
+{
+    match nic.call(alloc, Event::Lend(buf)) {
+        Ok(reply) => match reply {
+            Reply::Done => Ok(None),
+            Reply::Twice(buf) => Ok(Some(buf)),
+            _ => unreachable!(),
+        },
+        Err(fault) => Err(with_block(fault)),
+    }
+}
+
+/// Takes a block back. None where none of this number is lent.
+pub fn take<N: Nic>(alloc: Global, nic: &mut N, block: u32) -> Result<Option<Buf>, CallFault<()>>
+    ensures made { IfOk result (λ taken. IsTaken (N.made nic.old) (N.made nic.new) block taken) }
+    ensures number { IfOk result (λ taken. IfSome taken (λ buf. buf.number ≡ block)) }
+    ensures began { BeganAs N.began nic.old nic.new }
+    ensures refuses { N.refuses nic.new ≡ N.refuses nic.old }
+    ensures refusal { IfErr result (λ refusal. CanRefuse (N.refuses nic.new) refusal) }
+    ensures refused { OnErr result (AddsSome (N.made nic.old) (N.made nic.new)) }
+{
+    match nic.call(alloc, Event::Take(block)) {
+        Ok(reply) => match reply {
+            Reply::Buf(buf) => Ok(Some(buf)),
+            Reply::NotLent => Ok(None),
+            _ => unreachable!(),
+        },
+        Err(fault) => Err(without_event(fault)),
+    }
+}
+
+/// Reads the 16 bytes at a bus address. None where they aren't lent, or the address is no multiple of 16.
+pub fn peek<N: Nic>(
+    alloc: Global,
+    nic: &mut N,
+    address: u32,
+) -> Result<Option<[u8; 16]>, CallFault<()>>
+    ensures made { IfOk result (λ bytes. IsPeeked (N.made nic.old) (N.made nic.new) address bytes) }
+    ensures began { BeganAs N.began nic.old nic.new }
+    ensures refuses { N.refuses nic.new ≡ N.refuses nic.old }
+    ensures refusal { IfErr result (λ refusal. CanRefuse (N.refuses nic.new) refusal) }
+    ensures refused { OnErr result (AddsSome (N.made nic.old) (N.made nic.new)) }
+{
+    match nic.call(alloc, Event::Peek16(address)) {
+        Ok(reply) => match reply {
+            Reply::Bytes(bytes) => Ok(Some(bytes)),
+            Reply::NotLent | Reply::Misaligned => Ok(None),
+            _ => unreachable!(),
+        },
+        Err(fault) => Err(without_event(fault)),
+    }
+}
+
+/// Writes 16 bytes at a bus address. Answers whether they are lent and the address is a multiple of 16.
+pub fn poke<N: Nic>(
+    alloc: Global,
+    nic: &mut N,
+    address: u32,
+    bytes: [u8; 16],
+) -> Result<bool, CallFault<()>>
+    ensures made { IfOk result (λ known. IsPoked (N.made nic.old) (N.made nic.new) address bytes known) }
+    ensures began { BeganAs N.began nic.old nic.new }
+    ensures refuses { N.refuses nic.new ≡ N.refuses nic.old }
+    ensures refusal { IfErr result (λ refusal. CanRefuse (N.refuses nic.new) refusal) }
+    ensures refused { OnErr result (AddsSome (N.made nic.old) (N.made nic.new)) }
+{
+    match nic.call(alloc, Event::Poke16(address, bytes)) {
+        Ok(reply) => match reply {
+            Reply::Done => Ok(true),
+            Reply::NotLent | Reply::Misaligned => Ok(false),
+            _ => unreachable!(),
+        },
+        Err(fault) => Err(without_event(fault)),
+    }
+}

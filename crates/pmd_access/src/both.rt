@@ -1,0 +1,59 @@
+//! Both sides of a queue, made ready and switched.
+
+ghost use Rattle.std.specs.Prelude.{◌≡◌, IfErr, OnOk};
+ghost use Rattle.pmd_access.specs.Begun.{BeganAs};
+ghost use Rattle.pmd_access.specs.Both.{both_quiet, both_asked, IsSwitched, SwitchFails};
+ghost use Rattle.pmd_access.specs.QueueMade.{AreMade, StopsBy};
+ghost use Rattle.pmd_access.specs.Refusals.{CanFail};
+
+use crate::fault::PmdFault;
+use crate::names::Queue;
+use crate::nic::Nic;
+use crate::sides::POLLS;
+use nic_device::Dir;
+use std::alloc::Global;
+
+impl Queue {
+    /// Sees to it that both sides of the queue are off and stay so, the receive side first.
+    ///
+    /// `DeviceFault` where one is on, or the port has no such register.
+    pub fn disable_both<N: Nic>(&self, alloc: Global, nic: &mut N) -> Result<(), PmdFault>
+        ensures made { OnOk result (AreMade self.now (N.made nic.old) (N.made nic.new) both_quiet) }
+        ensures failed { IfErr result (λ f. StopsBy f self.now (N.made nic.old) (N.made nic.new) both_quiet) }
+        ensures began { BeganAs N.began nic.old nic.new }
+        ensures refuses { N.refuses nic.new ≡ N.refuses nic.old }
+        ensures refusal { IfErr result (λ f. CanFail (N.refuses nic.new) f) }
+    {
+        self.disable(alloc, nic, Dir::Rx)?;
+        self.disable(alloc, nic, Dir::Tx)
+    }
+
+    /// Asks for both sides of the queue to go on or off, and polls until they are, the receive side first: `POLLS`
+    /// times at most for both, where a poll counts that shows it otherwise.
+    ///
+    /// `StartTimeout` where as many show it otherwise, `DeviceFault` where the port has no such register.
+    pub fn switch_both<N: Nic>(&self, alloc: Global, nic: &mut N, on: bool) -> Result<(), PmdFault>
+        ensures switched { OnOk result (IsSwitched self.now (N.made nic.old) (N.made nic.new) on 1000) }
+        ensures failed { IfErr result (λ f. SwitchFails f self.now (N.made nic.old) (N.made nic.new) on 1000) }
+        ensures began { BeganAs N.began nic.old nic.new }
+        ensures refuses { N.refuses nic.new ≡ N.refuses nic.old }
+        ensures refusal { IfErr result (λ f. CanFail (N.refuses nic.new) f) }
+    {
+        self.ask_both(alloc, nic, on)?;
+        let left = self.poll(alloc, nic, Dir::Rx, on, POLLS)?;
+        let _last = self.poll(alloc, nic, Dir::Tx, on, left)?;
+        Ok(())
+    }
+
+    /// Asks for both sides to go on or off.
+    fn ask_both<N: Nic>(&self, alloc: Global, nic: &mut N, on: bool) -> Result<(), PmdFault>
+        ensures made { OnOk result (AreMade self.now (N.made nic.old) (N.made nic.new) (both_asked on)) }
+        ensures failed { IfErr result (λ f. StopsBy f self.now (N.made nic.old) (N.made nic.new) (both_asked on)) }
+        ensures began { BeganAs N.began nic.old nic.new }
+        ensures refuses { N.refuses nic.new ≡ N.refuses nic.old }
+        ensures refusal { IfErr result (λ f. CanFail (N.refuses nic.new) f) }
+    {
+        self.ask(alloc, nic, Dir::Rx, on)?;
+        self.ask(alloc, nic, Dir::Tx, on)
+    }
+}

@@ -1,0 +1,169 @@
+//! The Bufs that a packet is in: five at most, one after the other.
+
+ghost use Rattle.pmd_access.specs.Bufs.{blocks_in, bytes_of, numbers_of};
+ghost use Rattle.nic_device.specs.DmaArena.Memory.{put_bytes};
+ghost use Rattle.nic_device.specs.DmaArena.Whereabouts.{times_in_hand};
+ghost use Rattle.std.specs.Prelude.{◌≡◌, ◌≤◌, ◌<◌, ◌+◌, ◌*◌, ◌↔◌, true, false, ◌++◌, ◌∷◌, [], length, slice_index_or, option_to_list, IfNone, IsNone};
+
+use nic_device::{BLOCK_BYTES, Buf};
+use std::marker::Model;
+use std::mem;
+
+/// The most Bufs that a packet is in.
+pub const MOST_BUFS: usize = 5;
+
+/// Bufs of a packet, in order. There may be none.
+pub struct Bufs {
+    places: [Option<Buf>; 5],
+    count: usize,
+}
+
+impl Model for Bufs {
+    ghost use Rattle.std.specs.Prelude.{◌≡◌, List, length};
+    ghost use Rattle.nic_device.specs.DmaArena.Block.{Block};
+    ghost use Rattle.pmd_access.specs.Bufs.{blocks_in, StandFirst};
+
+    ghost Value = { List Block };
+
+    ghost view = { λ b. blocks_in b.places };
+
+    ghost invariant = { λ b. StandFirst b.count b.places × (length b.places ≡ 5) };
+}
+
+impl Bufs {
+    /// No Buf.
+    pub fn none() -> Bufs
+        ensures { result ≡ [] }
+    {
+        Bufs {
+            places: [None, None, None, None, None],
+            count: 0,
+        }
+    }
+
+    /// One Buf.
+    pub fn of(buf: Buf) -> Bufs
+        ensures { result ≡ buf ∷ [] }
+    {
+        Bufs {
+            places: [Some(buf), None, None, None, None],
+            count: 1,
+        }
+    }
+
+    /// How many there are.
+    pub fn count(&self) -> usize
+        ensures count { result ≡ length self.now }
+        ensures few { result ≤ 5 }
+    {
+        self.count
+    }
+
+    /// The Buf of this number, from 0 on.
+    pub fn get(&self, number: usize) -> &Buf
+        requires { number < length self.now }
+        ensures { result.now ≡ slice_index_or self.now number result.now }
+    {
+        let places = &self.places;
+        match &places[number] {
+            Some(buf) => buf,
+            None => unreachable!(),
+        }
+    }
+
+    /// Whether the block of this number is one of them.
+    pub fn has(&self, block: u32) -> bool
+        ensures { (result ≡ true) ↔ (0 < times_in_hand (numbers_of self.now) block) }
+    {
+        for number in 0..self.count() {
+            if self.get(number).block() == block {
+                return true;
+            }
+        }
+        false
+    }
+
+    /// Adds a Buf behind the others.
+    pub fn push(&mut self, buf: Buf)
+        requires { length self.old < 5 }
+        ensures { self.new ≡ self.old ++ buf ∷ [] }
+    {
+        match self.places[self.count].replace(buf) {
+            None => self.count += 1,
+            Some(_buf) => unreachable!(),
+        }
+    }
+
+    /// Takes the first Buf. None where there is none.
+    pub fn take_first(&mut self) -> Option<Buf>
+        ensures first { self.old ≡ option_to_list result ++ self.new }
+        ensures none { IfNone result (self.old ≡ []) }
+    {
+        let first = self.places[0].take()?;
+        self.places.rotate_left(1);
+        self.count -= 1;
+        Some(first)
+    }
+
+    /// Writes bytes over those of the Bufs from a place on, across Bufs: the first Buf's first byte is at 0. Where they
+    /// would go beyond the last Buf nothing is written, and it answers false.
+    pub fn write_at(&mut self, at: usize, bytes: &[u8]) -> bool
+        ensures fits { (result ≡ true) ↔ (at + length bytes.now ≤ 2048 * length self.old) }
+        ensures written { result ≡ true → bytes_of self.new ≡ put_bytes (bytes_of self.old) at bytes.now }
+        ensures numbers { numbers_of self.new ≡ numbers_of self.old }
+        ensures unchanged { result ≡ false → self.new ≡ self.old }
+    {
+        if at.saturating_add(bytes.len()) > BLOCK_BYTES * self.count() {
+            return false;
+        }
+        let mut left = mem::replace(self, Bufs::none());
+        let mut from = at;
+        let mut rest = bytes;
+        for _written in 0..left.count() {
+            match left.take_first() {
+                Some(mut buf) => {
+                    let size = buf.bytes().len();
+                    let start = from.min(size);
+                    let more = rest.len().min(size - start);
+                    buf.put(start, &rest[..more]);
+                    self.push(buf);
+                    from -= start;
+                    rest = &rest[more..];
+                }
+                None => unreachable!(),
+            }
+        }
+        left.finish();
+        true
+    }
+
+    /// Ends Bufs of which there are none.
+    pub fn finish(self)
+        requires { self ≡ [] }
+    {
+        let Bufs { places, count: _ } = self;
+        end_all(places)
+    }
+}
+
+/// Ends places where no Buf is.
+fn end_all(places: [Option<Buf>; 5])
+    requires { blocks_in places ≡ [] }
+{
+    let [first, second, third, fourth, fifth] = places;
+    empty(first);
+    empty(second);
+    empty(third);
+    empty(fourth);
+    empty(fifth);
+}
+
+/// Ends a place where no Buf is.
+fn empty(place: Option<Buf>)
+    requires { IsNone place }
+{
+    match place {
+        None => {}
+        Some(_buf) => unreachable!(),
+    }
+}

@@ -1,0 +1,189 @@
+ghost use Rattle.std.specs.Prelude.{◌≡◌, ◌<◌, [], true, false, IfOk, IfErr, OnOk, OnErr};
+ghost use Rattle.nic_device.specs.Answering.{may_answer};
+ghost use Rattle.nic_device.specs.Step.{step_of};
+ghost use Rattle.device_lock.specs.Events.{is_step};
+ghost use Rattle.device_lock.specs.Stepping.{steps_of_queue};
+ghost use Rattle.pmd_access.specs.Begun.{BeganAs, From, began_in_hand};
+ghost use Rattle.pmd_access.specs.Made.{Adds, StopsAmid, after_event, after_events};
+ghost use Rattle.pmd_access.specs.Refusals.{memory_alone};
+
+use crate::fault::no_memory;
+use crate::nic::Nic;
+use device_lock::{CallFault, Calls};
+use nic_device::{Device, Dir, Event, OutOfMemory, Reply};
+use std::alloc::Global;
+use std::marker::Model;
+
+/// A device in hand. Before each call it is stepped on: both sides of a queue are switched, the queue sends, and the
+/// device receives. It can't be dropped, as the device can't.
+pub struct Direct {
+    device: Device,
+    queue: u16,
+    calls: Calls,
+}
+
+impl Model for Direct {
+    ghost use Rattle.std.specs.Coded.{codes};
+    ghost use Rattle.nic_device.specs.State.{state_code};
+    ghost use Rattle.pmd_access.specs.Made.{InHand};
+
+    ghost Value = { InHand };
+
+    ghost coded = { Prim.hlevel (codes, state_code) };
+
+    ghost view = { λ d. record { device = d.device; queue = d.queue; calls = d.calls } };
+}
+
+impl Direct {
+    /// A device, which steps on the queue of this number before each call. Nothing was made yet.
+    pub fn new(alloc: Global, device: Device, queue: u16) -> Direct
+        ensures opened { result ≡ record { device = device; queue = queue; calls = [] } }
+        ensures began { began_in_hand result (From device) }
+    {
+        Direct {
+            device,
+            queue,
+            calls: Calls::new(alloc),
+        }
+    }
+
+    /// The calls that were made, with their replies, the oldest first.
+    pub fn calls(&self) -> &Calls
+        ensures { result.now ≡ self.now.calls }
+    {
+        &self.calls
+    }
+
+    /// The device, and the calls that were made.
+    pub fn finish(self) -> (Device, Calls)
+        ensures device { result.0 ≡ self.device }
+        ensures calls { result.1 ≡ self.calls }
+    {
+        let Direct {
+            device,
+            queue: _,
+            calls,
+        } = self;
+        (device, calls)
+    }
+
+    /// Makes one event, and keeps the call.
+    fn make(&mut self, alloc: Global, event: Event) -> Result<Reply, OutOfMemory<Event>>
+        ensures made { OnOk result (self.new ≡ after_event self.old event) }
+        ensures reply { IfOk result (λ reply. reply ≡ (step_of self.old.device event).reply) }
+        ensures fits { IfOk result (λ reply. may_answer event reply ≡ true) }
+        ensures back { IfErr result (λ refused. refused.event ≡ event) }
+        ensures unchanged { OnErr result (self.new ≡ self.old) }
+    {
+        self.calls.make(alloc, &mut self.device, event)
+    }
+}
+
+impl Direct {
+    /// The number of the queue is in the range of its type, so that a driver can make its steps. It does nothing.
+    fn steps_are_of_a_driver(&self)
+        ensures { self.now.queue < 65536 }
+    {
+        let _queue = self.queue;
+    }
+
+    /// The device steps that are made before each call.
+    fn step_on(&mut self, alloc: Global) -> Result<(), OutOfMemory<()>>
+        ensures made { OnOk result (self.new ≡ after_events self.old (steps_of_queue self.old.queue)) }
+        ensures refused { OnErr result (StopsAmid self.old self.new) }
+    {
+        if self.rest() {
+            return Ok(());
+        }
+        self.make_steps(alloc)
+    }
+
+    /// Makes them where the queue is at rest and there is memory: each is idle. Else it makes none of them. Answers
+    /// whether they are made.
+    fn rest(&mut self) -> bool
+        ensures made { result ≡ true → self.new ≡ after_events self.old (steps_of_queue self.old.queue) }
+        ensures unchanged { result ≡ false → self.new ≡ self.old }
+    {
+        self.calls.rest(&self.device, self.queue)
+    }
+
+    /// Makes them one after the other.
+    fn make_steps(&mut self, alloc: Global) -> Result<(), OutOfMemory<()>>
+        ensures made { OnOk result (self.new ≡ after_events self.old (steps_of_queue self.old.queue)) }
+        ensures refused { OnErr result (StopsAmid self.old self.new) }
+    {
+        let queue = self.queue;
+        self.make_step(alloc, Event::QueueStep(Dir::Rx, queue))?;
+        self.make_step(alloc, Event::QueueStep(Dir::Tx, queue))?;
+        self.make_step(alloc, Event::TxStep(queue))?;
+        self.make_step(alloc, Event::RxStep)?;
+        Ok(())
+    }
+
+    /// Makes the event itself, once the device steps are made.
+    fn make_last(&mut self, alloc: Global, event: Event) -> Result<Reply, CallFault>
+        ensures made { OnOk result (self.new ≡ after_event self.old event) }
+        ensures adds { IfOk result (λ reply. Adds self.old.calls self.new.calls event reply) }
+        ensures fits { IfOk result (λ reply. may_answer event reply ≡ true) }
+        ensures memory { IfErr result (λ fault. fault ≡ CallFault.OutOfMemory event) }
+        ensures unchanged { OnErr result (self.new ≡ self.old) }
+    {
+        match self.make(alloc, event) {
+            Ok(reply) => Ok(reply),
+            Err(refused) => Err(no_memory(refused)),
+        }
+    }
+
+    /// Makes one device step. Its reply is in the calls.
+    fn make_step(&mut self, alloc: Global, step: Event) -> Result<(), OutOfMemory<()>>
+        requires { is_step step ≡ true }
+        ensures made { OnOk result (self.new ≡ after_event self.old step) }
+        ensures unchanged { OnErr result (self.new ≡ self.old) }
+    {
+        match self.make(alloc, step) {
+            Ok(reply) => match reply.into_buf() {
+                None => Ok(()),
+                Some(_buf) => unreachable!(),
+            },
+            Err(refused) => match refused.event.into_buf() {
+                None => Err(OutOfMemory { event: () }),
+                Some(_buf) => unreachable!(),
+            },
+        }
+    }
+}
+
+impl Direct {
+    /// Makes the device steps, and then the event. `Nic::call` does the same.
+    ///
+    /// `OutOfMemory` where there was no memory for one of them or its note: the steps so far are made, and the event
+    /// isn't.
+    pub fn step_and_make(&mut self, alloc: Global, event: Event) -> Result<Reply, CallFault>
+        ensures exact { OnOk result
+            (self.new ≡ after_event (after_events self.old (steps_of_queue self.old.queue)) event) }
+        ensures adds { IfOk result (λ reply. Adds self.old.calls self.new.calls event reply) }
+        ensures fits { IfOk result (λ reply. may_answer event reply ≡ true) }
+        ensures memory { IfErr result (λ fault. fault ≡ CallFault.OutOfMemory event) }
+        ensures amid { OnErr result (StopsAmid self.old self.new) }
+        ensures began { BeganAs began_in_hand self.old self.new }
+    {
+        event.is_of_a_driver();
+        self.steps_are_of_a_driver();
+        match self.step_on(alloc) {
+            Ok(()) => self.make_last(alloc, event),
+            Err(_) => Err(CallFault::OutOfMemory(event)),
+        }
+    }
+}
+
+impl Nic for Direct {
+    ghost made = { λ d. d.calls };
+
+    ghost began = { began_in_hand };
+
+    ghost refuses = { λ d. memory_alone };
+
+    fn call(&mut self, alloc: Global, event: Event) -> Result<Reply, CallFault> {
+        self.step_and_make(alloc, event)
+    }
+}

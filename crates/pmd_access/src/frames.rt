@@ -1,0 +1,36 @@
+//! How long the frames of a driver may be, with their frame check sequence of 4 bytes.
+
+ghost use Rattle.std.specs.Prelude.{◌≡◌, ◌≤◌, true};
+ghost use Rattle.pmd_access.specs.Frames.{is_frame, longest_frame, most_blocks, packet_limit, shortest_frame};
+
+/// The shortest limit on the length of a frame.
+pub const SHORTEST_FRAME: u16 = 1518;
+
+/// The longest.
+pub const LONGEST_FRAME: u16 = 9728;
+
+/// Whether frames of a driver may be of so many bytes.
+pub fn is_frame(frame: u16) -> bool
+    ensures { result ≡ is_frame frame }
+{
+    SHORTEST_FRAME <= frame && frame <= LONGEST_FRAME
+}
+
+/// How many bytes a packet has at most, where a frame has so many.
+pub fn packet_limit(frame: u16) -> u16
+    requires { is_frame frame ≡ true }
+    ensures limit { result ≡ packet_limit frame }
+    ensures few { result ≤ 9724 }
+{
+    frame - 4
+}
+
+/// The most blocks that a packet is in then.
+pub fn most_blocks(frame: u16) -> u16
+    requires { is_frame frame ≡ true }
+    ensures most { result ≡ most_blocks frame }
+    ensures some { 1 ≤ result }
+    ensures few { result ≤ 5 }
+{
+    (packet_limit(frame) + 2047) / 2048
+}

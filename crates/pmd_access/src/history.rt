@@ -1,0 +1,59 @@
+//! What was made of a device in hand, as a history of it.
+
+ghost use Rattle.std.specs.Prelude.{◌≡◌, IfOk, IfErr, if◌then◌else◌};
+ghost use Rattle.pmd_access.specs.Begun.{entries_in, entry_by, marked_entries, tag_of};
+
+use device_lock::{Call, Entry};
+use std::alloc::Global;
+
+/// The pass of own calls, and that of foreign ones.
+const OWN: u8 = 0;
+
+const FOREIGN: u8 = 1;
+
+/// The entry of a call, by this pass.
+fn entry_by(pass: u8, call: Call) -> Entry
+    ensures { result ≡ entry_by pass call }
+{
+    let Call { event, reply } = call;
+    Entry { pass, event, reply }
+}
+
+/// The calls that were made through a `Direct` as a history: each is of pass 0. Where there is no memory for it, they
+/// come back.
+pub fn history_of(alloc: Global, calls: Vec<Call>) -> Result<Vec<Entry>, Vec<Call>>
+    ensures entries { IfOk result (λ history. history.items ≡ entries_in calls.items) }
+    ensures back { IfErr result (λ back. back.items ≡ calls.items) }
+{
+    let Ok(mut history) = Vec::with_capacity(alloc, calls.len()) else {
+        return Err(calls);
+    };
+    for call in calls {
+        history.push_reserved(entry_by(OWN, call));
+    }
+    Ok(history)
+}
+
+/// The calls that were made through an `Interleaved` as a history: those that are marked as own are of pass 0, and the
+/// foreign ones of pass 1. It ends where the marks end. Where there is no memory for it, the calls come back.
+pub fn marked_history(
+    alloc: Global,
+    calls: Vec<Call>,
+    own: &[bool],
+) -> Result<Vec<Entry>, Vec<Call>>
+    ensures entries { IfOk result (λ history. history.items ≡ marked_entries calls.items own.now) }
+    ensures back { IfErr result (λ back. back.items ≡ calls.items) }
+{
+    let Ok(mut history) = Vec::with_capacity(alloc, calls.len()) else {
+        return Err(calls);
+    };
+    let mut marks = own;
+    for call in calls {
+        let Some((is_own, others)) = marks.split_first() else {
+            break;
+        };
+        history.push_reserved(entry_by(if *is_own { OWN } else { FOREIGN }, call));
+        marks = others;
+    }
+    Ok(history)
+}

@@ -1,0 +1,154 @@
+//! Blocks on their way home to the arena that they were taken from.
+
+ghost use Rattle.std.specs.Prelude.{◌≡◌, ◌<◌, ◌+◌, ◌++◌, ◌∷◌, [], length, IsTrue, ◌↔◌, true, false, OnOk, OnErr, IfErr};
+ghost use Rattle.nic_device.specs.DmaArena.Numbers.{is_own, is_free, with_free};
+ghost use Rattle.nic_device.specs.DmaArena.Whereabouts.{times_in_hand};
+ghost use Rattle.pmd_access.specs.Begun.{BeganAs};
+ghost use Rattle.pmd_access.specs.Home.{AreOut, BringsOne, BringsAll, StopsBringing};
+ghost use Rattle.pmd_access.specs.Made.{AddsSome};
+ghost use Rattle.pmd_access.specs.Refusals.{CanRefuse};
+
+use crate::accesses::take;
+use crate::nic::Nic;
+use device_lock::CallFault;
+use nic_device::{Arena, Buf};
+use std::alloc::{AllocError, Global};
+use std::collections::VecDeque;
+use std::marker::Model;
+
+/// Blocks on their way home: the numbers of those that are lent still, and how many of them the device had no longer.
+#[derive(Debug, Drop)]
+pub struct Reclaim {
+    lent: VecDeque<u32>,
+    lost: u32,
+}
+
+impl Model for Reclaim {
+    ghost use Rattle.std.specs.Prelude.{◌+◌, ◌<◌, length};
+    ghost use Rattle.pmd_access.specs.Home.{Homebound};
+
+    ghost Value = { Homebound };
+
+    ghost view = { λ h. record { lent = h.lent.items; lost = h.lost } };
+
+    ghost invariant = { λ h. h.lost + length h.lent.items < 4294967296 };
+}
+
+impl Reclaim {
+    /// No block is on its way, and none is lost.
+    pub fn new(alloc: Global) -> Reclaim
+        ensures { result ≡ record { lent = []; lost = 0 } }
+    {
+        Reclaim {
+            lent: VecDeque::new(alloc),
+            lost: 0,
+        }
+    }
+
+    /// Blocks that are lent, fewer than 2^32, by their numbers.
+    pub fn of(lent: VecDeque<u32>) -> Reclaim
+        requires { length lent.items < 4294967296 }
+        ensures { result ≡ record { lent = lent.items; lost = 0 } }
+    {
+        Reclaim { lent, lost: 0 }
+    }
+
+    /// Adds the number of a block that is lent. Nothing is added where there is no memory.
+    pub fn add(&mut self, block: u32) -> Result<(), AllocError>
+        requires { self.old.lost + length self.old.lent + 1 < 4294967296 }
+        ensures added { OnOk result (self.new ≡ record self.old { lent = self.old.lent ++ block ∷ [] }) }
+        ensures kept { OnErr result (self.new ≡ self.old) }
+    {
+        self.lent.reserve(1)?;
+        self.lent.push_back_reserved(block);
+        Ok(())
+    }
+
+    /// Whether the block of this number is on its way.
+    pub fn has(&self, block: u32) -> bool
+        ensures { (result ≡ true) ↔ (0 < times_in_hand self.now.lent block) }
+    {
+        self.lent.iter().filter(|lent| **lent == block).count() > 0
+    }
+
+    /// How many blocks the device had no longer as they were to be taken.
+    pub fn lost(&self) -> u32
+        ensures { result ≡ self.now.lost }
+    {
+        self.lost
+    }
+
+    /// Takes the blocks back, in turn, and gives them to the arena. One that the device has no longer is lost.
+    ///
+    /// Where a call is refused, those that weren't taken yet stay on their way, so that it can be tried again.
+    pub fn bring<N: Nic>(
+        &mut self,
+        alloc: Global,
+        nic: &mut N,
+        arena: &mut Arena,
+    ) -> Result<(), CallFault<()>>
+        requires { AreOut arena.old self.old.lent }
+        ensures all { OnOk result (BringsAll
+            (record { made = N.made nic.old; arena = arena.old; way = self.old })
+            (record { made = N.made nic.new; arena = arena.new; way = self.new })) }
+        ensures stopped { OnErr result (StopsBringing
+            (record { made = N.made nic.old; arena = arena.old; way = self.old })
+            (record { made = N.made nic.new; arena = arena.new; way = self.new })) }
+        ensures out { AreOut arena.new self.new.lent }
+        ensures began { BeganAs N.began nic.old nic.new }
+        ensures refuses { N.refuses nic.new ≡ N.refuses nic.old }
+        ensures refusal { IfErr result (λ refusal. CanRefuse (N.refuses nic.new) refusal) }
+    {
+        for _count in 0..self.waiting() {
+            self.bring_one(alloc, nic, arena)?;
+        }
+        Ok(())
+    }
+
+    /// How many blocks are on their way.
+    fn waiting(&self) -> usize
+        ensures { result ≡ length self.now.lent }
+    {
+        self.lent.len()
+    }
+
+    /// The same with the first block.
+    fn bring_one<N: Nic>(
+        &mut self,
+        alloc: Global,
+        nic: &mut N,
+        arena: &mut Arena,
+    ) -> Result<(), CallFault<()>>
+        requires some { 0 < length self.old.lent }
+        requires out { AreOut arena.old self.old.lent }
+        ensures one { OnOk result (BringsOne
+            (record { made = N.made nic.old; arena = arena.old; way = self.old })
+            (record { made = N.made nic.new; arena = arena.new; way = self.new })) }
+        ensures out { AreOut arena.new self.new.lent }
+        ensures same { OnErr result ((self.new ≡ self.old) × (arena.new ≡ arena.old)) }
+        ensures refused { OnErr result (AddsSome (N.made nic.old) (N.made nic.new)) }
+        ensures began { BeganAs N.began nic.old nic.new }
+        ensures refuses { N.refuses nic.new ≡ N.refuses nic.old }
+        ensures refusal { IfErr result (λ refusal. CanRefuse (N.refuses nic.new) refusal) }
+    {
+        let block = self.lent[0];
+        match take(alloc, nic, block)? {
+            Some(buf) => give_back(arena, buf),
+            None => self.lost += 1,
+        }
+        let _brought = self.lent.pop_front();
+        Ok(())
+    }
+}
+
+/// Gives a block back to the arena that it was taken from.
+pub fn give_back(arena: &mut Arena, buf: Buf)
+    requires own { is_own arena.old buf.number ≡ true }
+    requires away { is_free arena.old buf.number ≡ false }
+    ensures { arena.new ≡ with_free arena.old buf.number true }
+{
+    match arena.give(buf) {
+        Ok(()) => {}
+        Err(_buf) => unreachable!(),
+    }
+}

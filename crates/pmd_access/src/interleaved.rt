@@ -1,0 +1,165 @@
+//! The way to a device among foreign events.
+
+ghost use Rattle.std.specs.Prelude.{◌≡◌, [], length, map, true, IfOk, IfErr, OnOk, OnErr};
+ghost use Rattle.device_lock.specs.Fault.{event_of};
+ghost use Rattle.nic_device.specs.Answering.{may_answer};
+ghost use Rattle.nic_device.specs.Step.{step_of};
+ghost use Rattle.pmd_access.specs.Begun.{BeganAs, From, began_handled, began_scheduled};
+ghost use Rattle.pmd_access.specs.Made.{Adds, AddsSome};
+ghost use Rattle.pmd_access.specs.Refusals.{CanRefuse, memory_alone};
+ghost use Rattle.pmd_access.specs.Scheduled.{StopsInList, StopsCall, after_call, after_list, made_of, next_list};
+ghost use Rattle.pmd_access.specs.Scheduled.{with_list_made};
+
+use crate::handled::Handled;
+use crate::nic::Nic;
+use device_lock::{CallFault, Calls};
+use nic_device::{Device, Event, OutOfMemory, Reply};
+use std::alloc::Global;
+use std::collections::VecDeque;
+use std::marker::Model;
+
+/// A device in hand, and lists of foreign events: the next list is made before each call, none where they are used up.
+/// It can't be dropped, as the device can't.
+pub struct Interleaved {
+    handled: Handled,
+    schedule: VecDeque<Vec<Event>>,
+}
+
+impl Model for Interleaved {
+    ghost use Rattle.std.specs.Prelude.{map};
+    ghost use Rattle.std.specs.Coded.{codes};
+    ghost use Rattle.nic_device.specs.State.{state_code};
+    ghost use Rattle.pmd_access.specs.Scheduled.{Scheduled};
+
+    ghost Value = { Scheduled };
+
+    ghost coded = { Prim.hlevel (codes, state_code) };
+
+    ghost view = { λ i. record { handled = i.handled; lists = map (λ list. list.items) i.schedule.items } };
+}
+
+/// What an `Interleaved` held at its end.
+pub struct Finished {
+    /// The device.
+    pub device: Device,
+    /// The calls that were made, foreign and own, with their replies, the oldest first.
+    pub calls: Calls,
+    /// The replies to the foreign events, the oldest first. They may hold blocks.
+    pub foreign: Vec<Reply>,
+    /// The lists of foreign events that weren't made, the next first.
+    pub schedule: Vec<Vec<Event>>,
+}
+
+impl Interleaved {
+    /// A device, and the lists of foreign events: the first list is made before the first call. Nothing was made yet.
+    pub fn new(alloc: Global, device: Device, schedule: Vec<Vec<Event>>) -> Interleaved
+        ensures opened { result ≡ record {
+          handled = record { device = device; calls = []; own = []; foreign = [] };
+          lists = map (λ list. list.items) schedule.items;
+        } }
+        ensures began { began_scheduled result (From device) }
+    {
+        let handled = Handled {
+            device,
+            calls: Calls::new(alloc),
+            own: Vec::new(alloc),
+            foreign: Vec::new(alloc),
+        };
+        Interleaved {
+            handled,
+            schedule: VecDeque::from_vec(schedule),
+        }
+    }
+
+    /// The calls that were made, foreign and own, with their replies, the oldest first.
+    pub fn calls(&self) -> &Calls
+        ensures { result.now ≡ self.now.handled.calls }
+    {
+        &self.handled.calls
+    }
+
+    /// For each of these calls, in turn, whether it is own: made by `Nic::call` for its caller, and not foreign.
+    pub fn own(&self) -> &[bool]
+        ensures own { result.now ≡ self.now.handled.own }
+        ensures each { length result.now ≡ length self.now.handled.calls }
+    {
+        self.handled.own()
+    }
+
+    /// All that it holds: the device, the calls, the foreign replies and the lists that weren't made.
+    pub fn finish(self) -> Finished
+        ensures device { result.device ≡ self.handled.device }
+        ensures calls { result.calls ≡ self.handled.calls }
+        ensures foreign { result.foreign.items ≡ self.handled.foreign }
+        ensures schedule { map (λ list. list.items) result.schedule.items ≡ self.lists }
+    {
+        let Interleaved { handled, schedule } = self;
+        let Handled {
+            device,
+            calls,
+            own: _,
+            foreign,
+        } = handled;
+        Finished {
+            device,
+            calls,
+            foreign,
+            schedule: schedule.into_vec(),
+        }
+    }
+
+    /// Makes the next list. A refused event of it stays first in line, and those behind it.
+    fn make_next_list(&mut self, alloc: Global) -> Result<(), OutOfMemory<()>>
+        ensures made { OnOk result (self.new ≡ with_list_made self.old) }
+        ensures none { made_of self.new.handled ≡ made_of self.old.handled }
+        ensures stopped { OnErr result (StopsInList self.old self.new) }
+        ensures began { BeganAs began_handled self.old.handled self.new.handled }
+    {
+        let Some(list) = self.schedule.pop_front() else {
+            return Ok(());
+        };
+        let mut waiting = VecDeque::from_vec(list);
+        match self.handled.make_list(alloc, &mut waiting) {
+            Ok(()) => {
+                waiting.destroy_empty();
+                Ok(())
+            }
+            Err(refused) => {
+                self.schedule.push_front_reserved(waiting.into_vec());
+                Err(refused)
+            }
+        }
+    }
+}
+
+impl Nic for Interleaved {
+    ghost made = { λ i. made_of i.handled };
+
+    ghost began = { began_scheduled };
+
+    ghost refuses = { λ i. memory_alone };
+
+    /// Makes the next list of foreign events, and then the event.
+    ///
+    /// `OutOfMemory` where there was no memory for one of them or its note: those before it are made, and the event
+    /// isn't. A refused foreign event stays first in line with those behind it, so that the next call makes them. A
+    /// list that was made is used up.
+    fn call(&mut self, alloc: Global, event: Event) -> Result<Reply, CallFault>
+        ensures made { IfOk result (λ reply. Adds (made_of self.old.handled) (made_of self.new.handled) event reply) }
+        ensures fits { IfOk result (λ reply. may_answer event reply ≡ true) }
+        ensures refused { IfErr result (λ fault.
+            (event_of fault ≡ event) × AddsSome (made_of self.old.handled) (made_of self.new.handled)) }
+        ensures began { BeganAs began_scheduled self.old self.new }
+        ensures refusal { IfErr result (λ fault. CanRefuse memory_alone fault) }
+        ensures exact { OnOk result (self.new ≡ after_call self.old event) }
+        ensures reply { IfOk result (λ reply.
+            reply ≡ (step_of (after_list self.old.handled (next_list self.old.lists)).device event).reply) }
+        ensures memory { IfErr result (λ fault. fault ≡ CallFault.OutOfMemory event) }
+        ensures stopped { OnErr result (StopsCall self.old self.new) }
+    {
+        match self.make_next_list(alloc) {
+            Ok(()) => self.handled.make(alloc, event),
+            Err(_refused) => Err(CallFault::OutOfMemory(event)),
+        }
+    }
+}

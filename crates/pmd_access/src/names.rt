@@ -1,0 +1,119 @@
+//! The registers of a queue, as a port names them.
+
+ghost use Rattle.std.specs.Prelude.{◌≡◌, ◌+◌, ◌*◌, ◌<◌, ◌↔◌, true, IfSome, IsNone};
+ghost use Rattle.pmd_access.specs.Setup.{IsAddressOf};
+ghost use Rattle.pmd_access.specs.Named.{CanName, IsNumberOf, IsDriven, is_driven, offset_of};
+ghost use Rattle.nic_device.specs.RegisterFile.Queue.{tail_row};
+
+use nic_device::{Dir, Place, Port, QUEUES, RowId, addr_of};
+use std::marker::Model;
+
+/// How many queues of its own a virtual function's offsets have room for.
+const OWN_QUEUES: u16 = 64;
+
+/// The offset of the receive side of a virtual function's first queue. The transmit side's is as far behind.
+const SIDE: u32 = 0x1000;
+
+/// How many bytes of offsets one side of a queue has.
+const QUEUE: u32 = 0x40;
+
+/// A queue that a port can name.
+#[derive(Debug, Drop)]
+pub struct Queue {
+    port: Port,
+    queue: u16,
+}
+
+impl Model for Queue {
+    ghost use Rattle.pmd_access.specs.Named.{AtPort, CanName};
+
+    ghost Value = { AtPort };
+
+    ghost view = { λ q. record { port = q.port; queue = q.queue } };
+
+    ghost invariant = { λ q. CanName (record { port = q.port; queue = q.queue }) };
+}
+
+impl Queue {
+    /// The queue of this number at a port: of the device's 128 through the physical function, of its own through a
+    /// virtual function. None where the port can't name it: from 128 on, or from 64 on.
+    pub fn new(port: Port, queue: u16) -> Option<Queue>
+        ensures some { IfSome result (λ q. q ≡ record { port = port; queue = queue }) }
+        ensures none { IsNone result ↔ ¬ CanName (record { port = port; queue = queue }) }
+    {
+        let named = match port {
+            Port::Pf => QUEUES,
+            Port::Vf(_) => OWN_QUEUES,
+        };
+        if queue < named {
+            Some(Queue { port, queue })
+        } else {
+            None
+        }
+    }
+
+    /// The port.
+    pub fn port(&self) -> Port
+        ensures { result ≡ self.now.port }
+    {
+        self.port
+    }
+
+    /// The number that the queue has at the port.
+    pub fn queue(&self) -> u16
+        ensures { result ≡ self.now.queue }
+    {
+        self.queue
+    }
+
+    /// The number that the register of a side's tail has at the port.
+    pub fn tail_number(&self, side: Dir) -> u32
+        ensures { IsNumberOf self.now.port (tail_row side) self.now.queue result }
+    {
+        match side {
+            Dir::Rx => self.number_of(RowId::Rdt),
+            Dir::Tx => self.number_of(RowId::Tdt),
+        }
+    }
+
+    /// The number of one of the queue's registers at the port.
+    pub(crate) fn number_of(&self, row: RowId) -> u32
+        requires { IsDriven row }
+        ensures { IsNumberOf self.now.port row self.now.queue result }
+    {
+        match self.port {
+            Port::Pf => addr_of(Place {
+                row,
+                index: self.queue,
+            }),
+            Port::Vf(_) => offset_of(row, self.queue),
+        }
+    }
+}
+
+/// The offset of a register of a virtual function's own queue.
+#[rattlefmt::skip]
+fn offset_of(row: RowId, queue: u16) -> u32
+    requires driven { is_driven row ≡ true }
+    requires own { queue < 64 }
+    ensures { result ≡ offset_of row queue }
+{
+    let start = QUEUE * u32::from(queue);
+    match row {
+        RowId::Rdbal  => start + SIDE,
+        RowId::Rdbah  => start + SIDE + 0x04,
+        RowId::Rdlen  => start + SIDE + 0x08,
+        RowId::Rdh    => start + SIDE + 0x10,
+        RowId::Srrctl => start + SIDE + 0x14,
+        RowId::Rdt    => start + SIDE + 0x18,
+        RowId::Rxdctl => start + SIDE + 0x28,
+        RowId::Tdbal  => start + 2 * SIDE,
+        RowId::Tdbah  => start + 2 * SIDE + 0x04,
+        RowId::Tdlen  => start + 2 * SIDE + 0x08,
+        RowId::Tdh    => start + 2 * SIDE + 0x10,
+        RowId::Tdt    => start + 2 * SIDE + 0x18,
+        RowId::Txdctl => start + 2 * SIDE + 0x28,
+        RowId::Tdwbal => start + 2 * SIDE + 0x38,
+        _ => unreachable!(),
+    }
+}

@@ -1,0 +1,192 @@
+//! Packets in hand, and the records of them.
+
+ghost use Rattle.std.specs.Prelude.{◌≡◌, ◌<◌, ◌≤◌, ◌+◌, ◌*◌, ◌⊎◌, ◌↔◌, true, false, [], length, take, min, IsNone};
+ghost use Rattle.std.specs.Vec.{vec_capacity};
+ghost use Rattle.nic_device.specs.DmaArena.Memory.{put_bytes};
+ghost use Rattle.nic_device.specs.DmaArena.Numbers.{free_count};
+ghost use Rattle.pmd_access.specs.Bufs.{bytes_of, numbers_of, with_all_free};
+ghost use Rattle.pmd_access.specs.Fresh.{IsFresh, IsDrawnAs, bufs_for};
+ghost use Rattle.pmd_access.specs.Home.{AreOut};
+ghost use Rattle.pmd_access.specs.Packet.{kept_of};
+
+use crate::bufs::{Bufs, MOST_BUFS};
+use crate::home::give_back;
+use nic_device::{Arena, BLOCK_BYTES, Octets};
+use std::marker::Model;
+
+/// A packet in hand. Its bytes are the first `len` of its Bufs', one Buf after the other.
+pub struct Packet {
+    /// The Bufs that it is in.
+    pub bufs: Bufs,
+    /// How many bytes it has.
+    pub len: u16,
+    /// The number of its RSS type, below 16.
+    pub rss: u8,
+    /// Its RSS hash, 0 where none was told.
+    pub hash: u32,
+}
+
+/// How many Bufs a packet of so many bytes is in: one at least.
+fn bufs_for(len: u16) -> u32
+    ensures { result ≡ bufs_for len }
+{
+    ((u32::from(len) + 2047) / 2048).max(1)
+}
+
+/// A packet of `len` bytes in free blocks of the arena, all zero. None where too few blocks are free, or the length is
+/// above 10,240: nothing is taken then.
+pub fn fresh_packet(arena: &mut Arena, len: u16) -> Option<Packet>
+    ensures none { IsNone result ↔ ((10240 < len) ⊎ (free_count arena.old < bufs_for len)) }
+    ensures made { IsFresh arena.old len result arena.new }
+{
+    if usize::from(len) > MOST_BUFS * BLOCK_BYTES {
+        return None;
+    }
+    let count = bufs_for(len);
+    if arena.free_blocks() < count {
+        return None;
+    }
+    Some(Packet {
+        bufs: draw(arena, count),
+        len,
+        rss: 0,
+        hash: 0,
+    })
+}
+
+/// So many free blocks of the arena, five at most, each byte 0.
+fn draw(arena: &mut Arena, count: u32) -> Bufs
+    requires few { count ≤ 5 }
+    requires free { count ≤ free_count arena.old }
+    ensures { IsDrawnAs count arena.old result arena.new }
+{
+    let mut bufs = Bufs::none();
+    for _drawn in 0..count {
+        match arena.take() {
+            Some(buf) => bufs.push(buf),
+            None => unreachable!(),
+        }
+    }
+    bufs
+}
+
+/// Gives a packet's blocks back to the arena that they were taken from.
+pub fn give_packet(arena: &mut Arena, packet: Packet)
+    requires { AreOut arena.old (numbers_of packet.bufs) }
+    ensures { arena.new ≡ with_all_free arena.old (numbers_of packet.bufs) }
+{
+    let Packet {
+        bufs,
+        len: _,
+        rss: _,
+        hash: _,
+    } = packet;
+    give_bufs(arena, bufs)
+}
+
+/// Gives Bufs back to the arena that they were taken from.
+pub fn give_bufs(arena: &mut Arena, bufs: Bufs)
+    requires { AreOut arena.old (numbers_of bufs) }
+    ensures { arena.new ≡ with_all_free arena.old (numbers_of bufs) }
+{
+    let mut left = bufs;
+    for _given in 0..left.count() {
+        match left.take_first() {
+            Some(buf) => give_back(arena, buf),
+            None => unreachable!(),
+        }
+    }
+    left.finish()
+}
+
+/// What is kept of a packet that was handed out or accepted.
+#[derive(Debug, Drop)]
+pub struct Record {
+    bytes: Octets,
+    rss: u8,
+    hash: u32,
+}
+
+impl Model for Record {
+    ghost use Rattle.pmd_access.specs.Packet.{Kept};
+
+    ghost Value = { Kept };
+
+    ghost view = { λ r. record { bytes = r.bytes; rss = r.rss; hash = r.hash } };
+}
+
+impl Packet {
+    /// How many bytes a record of the packet keeps: the packet's, and no more than its Bufs have.
+    pub fn record_room(&self) -> usize
+        ensures { result ≡ min self.now.len (2048 * length self.now.bufs) }
+    {
+        usize::from(self.len).min(BLOCK_BYTES * self.bufs.count())
+    }
+
+    /// Writes bytes over the packet's from a place on, across its Bufs: the packet's first byte is at 0. Where they
+    /// would go beyond its `len` bytes, or beyond its last Buf, nothing is written, and it answers false.
+    pub fn write_at(&mut self, at: usize, bytes: &[u8]) -> bool
+        ensures fits { (result ≡ true) ↔ (at + length bytes.now ≤ min self.old.len (2048 * length self.old.bufs)) }
+        ensures written { result ≡ true → bytes_of self.new.bufs ≡ put_bytes (bytes_of self.old.bufs) at bytes.now }
+        ensures numbers { numbers_of self.new.bufs ≡ numbers_of self.old.bufs }
+        ensures rest { self.new ≡ record self.old { bufs = self.new.bufs } }
+        ensures unchanged { result ≡ false → self.new ≡ self.old }
+    {
+        at.saturating_add(bytes.len()) <= usize::from(self.len) && self.bufs.write_at(at, bytes)
+    }
+}
+
+impl Record {
+    /// The record of a packet. Its bytes are copied into a vector that has room for them.
+    pub fn of(packet: &Packet, room: Vec<u8>) -> Record
+        requires empty { room.items ≡ [] }
+        requires room { min packet.now.len (2048 * length packet.now.bufs) ≤ vec_capacity room }
+        ensures { result ≡ kept_of packet.now }
+    {
+        Record {
+            bytes: Octets::of(copied(&packet.bufs, usize::from(packet.len), room)),
+            rss: packet.rss,
+            hash: packet.hash,
+        }
+    }
+
+    /// The packet's bytes.
+    pub fn bytes(&self) -> &[u8]
+        ensures { result.now ≡ self.now.bytes }
+    {
+        self.bytes.bytes()
+    }
+
+    /// The number of its RSS type.
+    pub fn rss(&self) -> u8
+        ensures { result ≡ self.now.rss }
+    {
+        self.rss
+    }
+
+    /// Its RSS hash.
+    pub fn hash(&self) -> u32
+        ensures { result ≡ self.now.hash }
+    {
+        self.hash
+    }
+}
+
+/// The first `len` bytes of Bufs, as many as there are, in a vector that has room for them.
+fn copied(bufs: &Bufs, len: usize, room: Vec<u8>) -> Vec<u8>
+    requires empty { room.items ≡ [] }
+    requires len { len < 65536 }
+    requires room { min len (2048 * length bufs.now) ≤ vec_capacity room }
+    ensures { result.items ≡ take len (bytes_of bufs.now) }
+{
+    let mut bytes = room;
+    for number in 0..bufs.count() {
+        let block: &[u8] = bufs.get(number).bytes();
+        let more = (len - bytes.len()).min(BLOCK_BYTES);
+        match bytes.extend_from_slice(&block[..more]) {
+            Ok(()) => {}
+            Err(_) => unreachable!(),
+        }
+    }
+    bytes
+}

@@ -1,0 +1,108 @@
+ghost use Rattle.std.specs.Prelude.{◌≡◌, ◌↔◌, [], ◌∷◌, true, IsTrue, Err, IfOk, IfErr, OnOk, OnErr};
+ghost use Rattle.device_lock.specs.Fault.{event_of};
+ghost use Rattle.device_lock.specs.Pass.{call_of};
+ghost use Rattle.nic_device.specs.Answering.{may_answer};
+ghost use Rattle.pmd_access.specs.Begun.{BeganAs, began_at_lock};
+ghost use Rattle.pmd_access.specs.Made.{Adds, AddsSome};
+ghost use Rattle.pmd_access.specs.Refusals.{CanRefuse};
+ghost use Rattle.pmd_access.specs.Stepped.{StepsAndMakes, StopsStepping, is_foreign, refusals_of};
+
+use crate::nic::Nic;
+use device_lock::{CallFault, Calls, Pass, Shared};
+use nic_device::{Event, Reply};
+use std::alloc::Global;
+use std::marker::Model;
+use std::sync::Wait;
+
+/// A pass to a shared device, which makes each event under the device's lock. Before each call the device is stepped
+/// on: both sides of a queue are switched, the queue sends, and the device receives. The lock is held meanwhile.
+pub struct ThroughLock<'a, R: Wait, const VFS: u8, const FIFO: u16> {
+    rt: &'a R,
+    shared: &'a Shared<VFS, FIFO>,
+    pass: Pass,
+    queue: u16,
+}
+
+impl<'a, R: Wait, const VFS: u8, const FIFO: u16> Model for ThroughLock<'a, R, VFS, FIFO> {
+    ghost use Rattle.pmd_access.specs.Refusals.{CanRefuse};
+    ghost use Rattle.pmd_access.specs.Stepped.{AtLock};
+
+    ghost Value = { AtLock };
+
+    ghost view = { λ t.
+        record { bench = t.shared.now.bench; passes = t.shared.now.passes; queue = t.queue; pass = t.pass } };
+}
+
+impl<'a, R: Wait, const VFS: u8, const FIFO: u16> ThroughLock<'a, R, VFS, FIFO> {
+    /// A way to the shared device by this pass, which steps on the queue of this number before each call.
+    pub fn new(rt: &'a R, shared: &'a Shared<VFS, FIFO>, pass: Pass, queue: u16) -> Self
+        ensures { result
+            ≡ record { bench = shared.now.bench; passes = shared.now.passes; queue = queue; pass = pass } }
+    {
+        ThroughLock {
+            rt,
+            shared,
+            pass,
+            queue,
+        }
+    }
+
+    /// The calls that the pass made, with their replies, the oldest first.
+    pub fn calls(&self) -> &Calls
+        ensures { result.now ≡ self.now.pass.calls }
+    {
+        self.pass.calls()
+    }
+
+    /// The pass, with the calls that it made.
+    pub fn finish(self) -> Pass
+        ensures { result ≡ self.entry.pass }
+    {
+        let ThroughLock {
+            rt: _,
+            shared: _,
+            pass,
+            queue: _,
+        } = self;
+        pass
+    }
+
+    /// Makes the device steps, and then the event, under the lock, which is waited for once. `Nic::call` does the same.
+    ///
+    /// `ForeignPass` exactly where the pass is of another bench or has no tag of this one: nothing is made. Else what
+    /// `Shared::call` refuses one of them for: the steps so far are made, and the event isn't.
+    pub fn step_and_make(&mut self, alloc: Global, event: Event) -> Result<Reply, CallFault>
+        ensures exact { IfOk result (λ reply. StepsAndMakes self.old self.new event reply) }
+        ensures fits { IfOk result (λ reply. may_answer event reply ≡ true) }
+        ensures foreign { IsTrue (is_foreign self.old)
+            → (result ≡ Err (CallFault.ForeignPass event)) × (self.new ≡ self.old) }
+        ensures only { result ≡ Err (CallFault.ForeignPass event) → IsTrue (is_foreign self.old) }
+        ensures back { IfErr result (λ fault. event_of fault ≡ event) }
+        ensures amid { OnErr result (StopsStepping self.old self.new) }
+    {
+        self.shared
+            .call_stepped(self.rt, alloc, &mut self.pass, self.queue, event)
+    }
+}
+
+impl<'a, R: Wait, const VFS: u8, const FIFO: u16> Nic for ThroughLock<'a, R, VFS, FIFO> {
+    ghost made = { λ t. t.pass.calls };
+
+    ghost began = { began_at_lock };
+
+    ghost refuses = { refusals_of };
+
+    fn call(&mut self, alloc: Global, event: Event) -> Result<Reply, CallFault>
+        ensures made { IfOk result (λ reply. Adds self.old.pass.calls self.new.pass.calls event reply) }
+        ensures began { BeganAs began_at_lock self.old self.new }
+        ensures refuses { refusals_of self.new ≡ refusals_of self.old }
+        ensures refusal { IfErr result (λ fault. CanRefuse (refusals_of self.new) fault) }
+        ensures fits { IfOk result (λ reply. may_answer event reply ≡ true) }
+        ensures refused { IfErr result (λ fault.
+            (event_of fault ≡ event) × AddsSome self.old.pass.calls self.new.pass.calls) }
+        ensures steps { IfOk result (λ reply. StepsAndMakes self.old self.new event reply) }
+        ensures amid { OnErr result (StopsStepping self.old self.new) }
+    {
+        self.step_and_make(alloc, event)
+    }
+}

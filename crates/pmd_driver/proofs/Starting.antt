@@ -1,0 +1,153 @@
+-- Where the blocks of a driver are as its rings come up.
+use Rattle.std.proofs.Common.{◌≡◌, ℕ, zero, suc, ◌+◌, ◌≤◌, inl, inr, Bool, true, false, cond, List, [], ◌∷◌, ◌++◌, length, refl, sym, ap, subst, ◌∙◌, arith}
+use Rattle.std.proofs.lemmas.Bool.{cases_eq}
+use Rattle.std.specs.List.{range_with_len}
+use Rattle.nic_device.specs.DmaArena.Numbers.{Numbers, free_count, is_own, is_free, with_free}
+use Rattle.nic_device.specs.DmaArena.Whereabouts.{times_in_hand}
+use Rattle.nic_device.proofs.DmaArena.Arenas.{is_own-of_free, is_free-with_free_other, free_count_taken}
+use Rattle.pmd_rx.specs.DeviceLock.declared.entry.Call.{Call}
+use Rattle.nic_device.specs.DmaRing.declared.dir.Dir.{Dir}
+use Rattle.nic_device.specs.DmaRing.declared.dir.Dir.TheVariants.{Rx, Tx}
+use Rattle.pmd_rx.specs.PmdAccess.Home.{AreOut, IsDrawn}
+use Rattle.pmd_rx.specs.PmdAccess.Slots.{blocks_for, ring_blocks}
+use Rattle.pmd_rx.specs.PmdAccess.declared.fault.PmdFault.{PmdFault}
+use Rattle.pmd_rx.proofs.PmdAccess.Outside.{times_first, times_rest, times-append, out_fewer, all_drawn, out_exchanged}
+use Rattle.pmd_rx.proofs.PmdAccess.Rings.{ring_blocks_many}
+use Rattle.pmd_rx.specs.PmdAccess.Named.{AtPort}
+use Rattle.pmd_rx.specs.Keeping.{Keeps, blocks_out}
+use Rattle.pmd_rx.specs.Receive.{Receive, no_packet}
+use Rattle.pmd_rx.specs.declared.ring.Stage.TheVariants.{Looks}
+use Rattle.pmd_tx.specs.Sending.{Sender}
+use Rattle.nic_device.specs.DmaArena.Run.{IsFreeRun}
+use Rattle.pmd_driver.specs.Running.{kept_out}
+use Rattle.pmd_driver.specs.Starting.{IsPrepared, IsReceiveReady, IsTransmitReady, PreparingFails, ReceiveFails}
+
+-- how many blocks are free once a ring is prepared
+
+drawn_count : (a : Numbers) (ns : List ℕ) (b : Numbers) → IsDrawn a ns b → free_count b + length ns ≡ free_count a
+drawn_count a [] b is = rw is (omega arith)
+drawn_count a (n ∷ ns) b (free, is) =
+    omega (arith, drawn_count (with_free a n false) ns b is, free_count_taken a n free)
+
+pub prepared_count : (q : AtPort) (side : Dir) (size : ℕ) (old : List Call) (a : Numbers) (new : List Call)
+    (b : Numbers) (ring : ℕ) → IsPrepared q side size old a new b ring
+    → free_count b + blocks_for size ≡ free_count a
+prepared_count q side size old a new b ring ready =
+    let drawn = drawn_count a (ring_blocks ring size) b ready.drawn in
+    omega (arith, drawn, ring_blocks_many ring size)
+
+-- which blocks are out
+
+none_at : (f o : Bool) → (f ≡ true → o ≡ true) → cond f 1 0 + 0 ≤ cond o 1 0
+none_at true o owns = rw (owns refl) (omega arith)
+none_at false o owns = omega arith
+
+none_out : (a : Numbers) → AreOut a []
+none_out a k = none_at (is_free a k) (is_own a k) (is_own-of_free a k)
+
+pub receive_out : (q : AtPort) (size frame : ℕ) (old : List Call) (a : Numbers) (new : List Call) (b : Numbers)
+    (v : Receive) → IsReceiveReady q size frame old a new b v → AreOut b (blocks_out v)
+receive_out q size frame old a new b v ready =
+    let ends : List ℕ = ring_blocks ready.ring size in
+    subst (λ (x : Receive). AreOut b (blocks_out x)) (sym ready.fresh)
+    (all_drawn a ends b [] (ends ++ []) ready.prepared.drawn (none_out a) (λ k. omega (arith, times-append ends [] k)))
+
+transmit_out : (q : AtPort) (size frame : ℕ) (old : List Call) (a : Numbers) (new : List Call) (b : Numbers)
+    (v : Sender)
+    (out : List ℕ) → IsTransmitReady q size frame old a new b v → AreOut a out → AreOut b (out ++ kept_out v)
+transmit_out q size frame old a new b v out ready are =
+    let ends : List ℕ = ring_blocks ready.ring size in
+    subst (λ (x : Sender). AreOut b (out ++ kept_out x)) (sym ready.fresh)
+    (all_drawn a ends b out (out ++ ends) ready.prepared.drawn are (λ k. omega (arith, times-append out ends k)))
+
+-- both rings are lent
+pub rings_out : (q : AtPort) (size frame : ℕ) (old mid new : List Call) (a b d : Numbers) (v : Receive) (s : Sender)
+    → IsReceiveReady q size frame old a mid b v → IsTransmitReady q size frame mid b new d s
+    → AreOut d (blocks_out v ++ kept_out s)
+rings_out q size frame old mid new a b d v s ready also =
+    transmit_out q size frame mid b new d s (blocks_out v) also (receive_out q size frame old a mid b v ready)
+
+pub one_out : (a : Numbers) (out others : List ℕ) → AreOut a (out ++ others) → AreOut a out
+one_out a out others are = out_fewer a (out ++ others) out are (λ k. omega (arith, times-append out others k))
+
+filled_out : (a b : Numbers) (v w : Receive) (others : List ℕ) → AreOut a (blocks_out v ++ others)
+    → Keeps a v b w [] → AreOut b (blocks_out w ++ others)
+filled_out a b v w others are keeps = out_exchanged a (blocks_out v) b (blocks_out w) others are keeps.arena
+
+-- both rings are lent, and the receive ring was filled
+pub filled_rings : (q : AtPort) (size frame : ℕ) (old mid new : List Call) (a b d e : Numbers) (v w : Receive)
+    (s : Sender)
+    → IsReceiveReady q size frame old a mid b v → IsTransmitReady q size frame mid b new d s → Keeps d v e w []
+    → AreOut e (blocks_out w ++ kept_out s)
+filled_rings q size frame old mid new a b d e v w s ready also keeps =
+    filled_out d e v w (kept_out s) (rings_out q size frame old mid new a b d v s ready also) keeps
+
+-- where a ring wasn't prepared, the blocks that are out were drawn
+
+pub preparing_drawn : (f : PmdFault) (q : AtPort) (side : Dir) (size : ℕ) (old : List Call) (a : Numbers)
+    (new : List Call) (b : Numbers) (out : List ℕ) → PreparingFails f q side size old a new b out → IsDrawn a out b
+preparing_drawn f q side size old a new b out (ring, free, inl (stops, same, none)) =
+    subst (λ (l : List ℕ). IsDrawn a l b) (sym none) same
+preparing_drawn f q side size old a new b out (ring, free, inr (mid, words, stops)) = stops.drawn
+
+pub receive_drawn : (f : PmdFault) (q : AtPort) (size : ℕ) (old : List Call) (a : Numbers) (new : List Call)
+    (b : Numbers) (out : List ℕ) → ReceiveFails f q size old a new b out → IsDrawn a out b
+receive_drawn f q size old a new b out (inl (stops, same, none)) =
+    subst (λ (l : List ℕ). IsDrawn a l b) (sym none) same
+receive_drawn f q size old a new b out (inr (mid, made, fails)) = preparing_drawn f q Rx size mid a new b out fails
+
+pub before_out : (f : PmdFault) (q : AtPort) (size : ℕ) (old : List Call) (a : Numbers) (new : List Call)
+    (b : Numbers) (out : List ℕ) → ReceiveFails f q size old a new b out → AreOut b out
+before_out f q size old a new b out fails =
+    all_drawn a out b [] out (receive_drawn f q size old a new b out fails) (none_out a) (λ k. omega arith)
+
+pub after_out : (f : PmdFault) (q : AtPort) (size frame : ℕ) (old mid new : List Call) (a b d : Numbers) (v : Receive)
+    (out : List ℕ) → IsReceiveReady q size frame old a mid b v → PreparingFails f q Tx size mid b new d out
+    → AreOut d (blocks_out v ++ out)
+after_out f q size frame old mid new a b d v out ready fails =
+    all_drawn b out d (blocks_out v) (blocks_out v ++ out) (preparing_drawn f q Tx size mid b new d out fails)
+    (receive_out q size frame old a mid b v ready) (λ k. omega (arith, times-append (blocks_out v) out k))
+
+-- what is free stays so where others are drawn
+
+pub drawn_keeps : (a : Numbers) (xs : List ℕ) (b : Numbers) (n : ℕ) → IsDrawn a xs b → is_free a n ≡ true
+    → times_in_hand xs n ≡ 0 → is_free b n ≡ true
+drawn_keeps a [] b n is free none = ap (λ (x : Numbers). is_free x n) is ∙ free
+drawn_keeps a (x ∷ xs) b n (here, is) free none = elim (cases_eq n x) [
+  | inl same ↦
+      let one : times_in_hand (x ∷ xs) n ≡ 1 + times_in_hand xs n =
+      subst (λ (k : ℕ). times_in_hand (x ∷ xs) k ≡ 1 + times_in_hand xs k) (sym same) (times_first xs x) in
+      absurd (omega (arith, none, one))
+  | inr ne ↦
+      drawn_keeps (with_free a x false) xs b n is
+      (is_free-with_free_other a x false n (is_own-of_free a x here) ne ∙ free)
+      (sym (times_rest xs x n ne) ∙ none)
+]
+
+-- a number behind a run isn't in it
+pub none_behind : (many first n : ℕ) → first + many ≤ n → times_in_hand (range_with_len first many) n ≡ 0
+none_behind zero first n behind = refl
+none_behind (suc many) first n behind =
+    times_rest (range_with_len (first + 1) many) first n (λ e. absurd (omega (arith, behind, e)))
+    ∙ none_behind many (first + 1) n (omega (arith, behind))
+
+pub still_free : (a : Numbers) (ring size : ℕ) (b : Numbers) (other count : ℕ) → IsDrawn a (ring_blocks ring size) b
+    → ring + blocks_for size ≤ other → IsFreeRun a other count → IsFreeRun b other count
+still_free a ring size b other count drawn apart free k below =
+    drawn_keeps a (ring_blocks ring size) b (other + k) drawn (free k below)
+    (none_behind (blocks_for size) ring (other + k) (omega (arith, apart)))
+
+-- the ring is empty
+pub ready_empty : (q : AtPort) (size frame : ℕ) (old : List Call) (a : Numbers) (new : List Call) (b : Numbers)
+    (v : Receive) → IsReceiveReady q size frame old a new b v
+    → (v.layout.blocks ≡ []) × (v.stage ≡ Looks) × (v.layout.size ≡ size) × (v.seen ≡ []) × (v.held ≡ no_packet)
+    × (v.whole ≡ []) × (v.named ≡ [])
+ready_empty q size frame old a new b v ready = (
+  ap (λ (x : Receive). x.layout.blocks) ready.fresh,
+  ap (λ (x : Receive). x.stage) ready.fresh,
+  ap (λ (x : Receive). x.layout.size) ready.fresh,
+  ap (λ (x : Receive). x.seen) ready.fresh,
+  ap (λ (x : Receive). x.held) ready.fresh,
+  ap (λ (x : Receive). x.whole) ready.fresh,
+  ap (λ (x : Receive). x.named) ready.fresh,
+)

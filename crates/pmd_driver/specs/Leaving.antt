@@ -1,0 +1,21 @@
+-- A driver whose rings are closed.
+use Rattle.std.specs.Prelude.{List, []}
+use Rattle.nic_device.specs.DmaArena.Numbers.{Numbers}
+use Rattle.pmd_rx.specs.DeviceLock.declared.entry.Call.{Call}
+use Rattle.pmd_rx.specs.PmdAccess.Home.{Homebound, Bringing}
+use Rattle.pmd_driver.specs.Halted.{Halted, both_ways}
+use Rattle.pmd_driver.specs.declared.stopping.Leaving.{Leaving}
+
+-- as a driver that isn't running
+abbrev pub leaving_as : Leaving → Halted
+leaving_as l = record {
+  arena = l.arena;
+  held = [];
+  way = both_ways l.receive l.transmit;
+  handed = l.handed.items;
+  accepted = l.accepted.items;
+}
+
+-- two ways home as one, with what was made
+abbrev pub bringing_both : List Call → Numbers → Homebound → Homebound → Bringing
+bringing_both made a first second = record { made = made; arena = a; way = both_ways first second }

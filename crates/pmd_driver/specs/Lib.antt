@@ -1,0 +1,19 @@
+pub use Rattle.pmd_rx.specs.PmdAccess
+pub use Rattle.pmd_rx.specs as PmdRx
+pub use Rattle.pmd_tx.specs as PmdTx
+pub mod Apart
+pub mod Blocks
+pub mod Bursts
+pub mod Driver
+pub mod DriverCalls
+pub mod Ends
+pub mod Halted
+pub mod Halves
+pub mod Leaving
+pub mod Life
+pub mod Queueing
+pub mod Running
+pub mod Runs
+pub mod Started
+pub mod Starting
+pub mod Stopping

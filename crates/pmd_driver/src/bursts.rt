@@ -1,0 +1,187 @@
+//! Several packets at once: as many as wait, with one move of the tail.
+
+ghost use Rattle.std.specs.Prelude.{◌≡◌, ◌<◌, ◌+◌, ◌==◌, if◌then◌else◌, [], true, false, None, length, IfErr, IfSome};
+ghost use Rattle.nic_device.specs.DmaArena.Numbers.{is_own};
+ghost use Rattle.pmd_rx.specs.Keeping.{numbers_of_all};
+ghost use Rattle.pmd_tx.specs.Sends.{IsLate};
+ghost use Rattle.pmd_driver.specs.Apart.{DrivesRings, FindsBy};
+ghost use Rattle.pmd_driver.specs.Blocks.{KeepsUp};
+ghost use Rattle.pmd_driver.specs.Bursts.{IsSendBurst, MakesRoom, SendsBurst, Stops, fault_of, vacant_in};
+ghost use Rattle.pmd_driver.specs.Halves.{halves_of};
+ghost use Rattle.pmd_driver.specs.Queueing.{Queues, StaysShut};
+ghost use Rattle.pmd_rx.specs.PmdAccess.Begun.{BeganAs};
+ghost use Rattle.pmd_rx.specs.PmdAccess.Refusals.{CanFail};
+
+use crate::running::Running;
+use pmd_rx::{Nic, Packet, PmdFault};
+use pmd_tx::{TxAnswer, TxFault};
+use std::alloc::Global;
+use std::collections::VecDeque;
+
+/// How many packets were queued, and the fault that the next one met, or the last one, where one did.
+pub(crate) struct Queued {
+    pub(crate) sent: u16,
+    pub(crate) met: Option<PmdFault>,
+}
+
+impl Running {
+    /// Sends packets from the front of the list, as many as there is room for, with one move of the tail behind the
+    /// last. Where fewer than `vacant` slots of the ring are vacant, it first frees the blocks of packets that were
+    /// sent, as `reap` does; with 0 it never does, and above 1,023 always. It stops at the first packet that has no
+    /// room, is refused or meets a fault. Answers how many were accepted: they are gone from the list, and the others
+    /// are left there in their order.
+    ///
+    /// A fault is answered where no packet was accepted: that of `reap`, or what the first packet meets, as by `tx`.
+    /// It is also answered where the tail couldn't be moved behind those that were accepted, which the list shows: the
+    /// next call goes on with them.
+    pub fn tx_burst<N: Nic>(
+        &mut self,
+        alloc: Global,
+        nic: &mut N,
+        vacant: u16,
+        packets: &mut VecDeque<Packet>,
+    ) -> Result<u16, PmdFault>
+        ensures drives { DrivesRings (N.made nic.old) self.old (N.made nic.new) self.new }
+        ensures sent { IsSendBurst vacant packets.old.items packets.new.items result (N.made nic.old) self.old
+            (N.made nic.new) self.new }
+        ensures blocks { KeepsUp self.old (numbers_of_all packets.old.items) self.new
+            (numbers_of_all packets.new.items) }
+        ensures began { BeganAs N.began nic.old nic.new }
+        ensures refuses { N.refuses nic.new ≡ N.refuses nic.old }
+        ensures refusal { IfErr result (λ f. CanFail (N.refuses nic.new) f) }
+    {
+        match self.make_room(alloc, nic, vacant) {
+            Ok(()) => self.send_burst(alloc, nic, packets),
+            Err(fault) => Err(fault),
+        }
+    }
+
+    /// Frees the blocks of packets that were sent, where fewer slots than so many are vacant.
+    fn make_room<N: Nic>(&mut self, alloc: Global, nic: &mut N, vacant: u16) -> Result<(), PmdFault>
+        ensures drives { DrivesRings (N.made nic.old) self.old (N.made nic.new) self.new }
+        ensures room { MakesRoom vacant (fault_of result) (N.made nic.old) self.old (N.made nic.new) self.new }
+        ensures accepted { self.new.transmit.accepted ≡ self.old.transmit.accepted }
+        ensures late { IfErr result (λ f. IsLate f) }
+        ensures finds { IfErr result (λ f.
+            FindsBy f (is_own self.old.arena) (N.made nic.old) (halves_of self.old) (N.made nic.new)) }
+        ensures layout { self.new.transmit.layout
+            ≡ record self.old.transmit.layout { next = self.new.transmit.layout.next } }
+        ensures receive { self.new.receive ≡ self.old.receive }
+        ensures blocks { KeepsUp self.old [] self.new [] }
+        ensures began { BeganAs N.began nic.old nic.new }
+        ensures refuses { N.refuses nic.new ≡ N.refuses nic.old }
+        ensures refusal { IfErr result (λ f. CanFail (N.refuses nic.new) f) }
+    {
+        if self.vacant() >= vacant {
+            return Ok(());
+        }
+        match self.reap(alloc, nic) {
+            Ok(_) => Ok(()),
+            Err(fault) => Err(fault),
+        }
+    }
+
+    /// The same as `tx_burst`, where room was made.
+    fn send_burst<N: Nic>(
+        &mut self,
+        alloc: Global,
+        nic: &mut N,
+        packets: &mut VecDeque<Packet>,
+    ) -> Result<u16, PmdFault>
+        ensures drives { DrivesRings (N.made nic.old) self.old (N.made nic.new) self.new }
+        ensures sent { SendsBurst packets.old.items packets.new.items result (N.made nic.old) self.old
+            (N.made nic.new) self.new }
+        ensures blocks { KeepsUp self.old (numbers_of_all packets.old.items) self.new
+            (numbers_of_all packets.new.items) }
+        ensures began { BeganAs N.began nic.old nic.new }
+        ensures refuses { N.refuses nic.new ≡ N.refuses nic.old }
+        ensures refusal { IfErr result (λ f. CanFail (N.refuses nic.new) f) }
+    {
+        let Queued { sent, met } = self.queue_burst(alloc, nic, packets);
+        match at_first(sent, met) {
+            Some(fault) => Err(fault),
+            None => match self.flush(alloc, nic) {
+                Ok(()) => Ok(sent),
+                Err(fault) => Err(fault),
+            },
+        }
+    }
+
+    /// Queues packets from the front of the list, up to the first that has no room, is refused or meets a fault.
+    fn queue_burst<N: Nic>(
+        &mut self,
+        alloc: Global,
+        nic: &mut N,
+        packets: &mut VecDeque<Packet>,
+    ) -> Queued
+        ensures queues { Queues packets.old.items packets.new.items result.sent result.met (N.made nic.old) self.old
+            (N.made nic.new) self.new }
+        ensures stops { Stops result.met self.new packets.new.items }
+        ensures shut { StaysShut packets.old.items packets.new.items result.sent result.met (N.made nic.old) self.old
+            (N.made nic.new) self.new }
+        ensures began { BeganAs N.began nic.old nic.new }
+        ensures refuses { N.refuses nic.new ≡ N.refuses nic.old }
+        ensures refusal { IfSome result.met (λ f. CanFail (N.refuses nic.new) f) }
+    {
+        let _room = self.vacant();
+        let mut sent = 0;
+        for _first in 0..packets.len() {
+            let (Queued { sent: more, met }, ends) = self.queue_first(alloc, nic, packets);
+            sent += more;
+            if ends {
+                return Queued { sent, met };
+            }
+        }
+        Queued { sent, met: None }
+    }
+
+    /// Queues the first packet of the list, and tells whether a burst ends with that.
+    fn queue_first<N: Nic>(
+        &mut self,
+        alloc: Global,
+        nic: &mut N,
+        packets: &mut VecDeque<Packet>,
+    ) -> (Queued, bool)
+        requires { 0 < length packets.old.items }
+        ensures queues { Queues packets.old.items packets.new.items result.0.sent result.0.met (N.made nic.old) self.old
+            (N.made nic.new) self.new }
+        ensures ends { result.1 ≡ true → Stops result.0.met self.new packets.new.items }
+        ensures shut { StaysShut packets.old.items packets.new.items result.0.sent result.0.met (N.made nic.old)
+            self.old (N.made nic.new) self.new }
+        ensures goes_on { result.1 ≡ false → (result.0.met ≡ None)
+            × (length packets.new.items + 1 ≡ length packets.old.items) }
+        ensures began { BeganAs N.began nic.old nic.new }
+        ensures refuses { N.refuses nic.new ≡ N.refuses nic.old }
+        ensures refusal { IfSome result.0.met (λ f. CanFail (N.refuses nic.new) f) }
+    {
+        let packet = match packets.pop_front() {
+            Some(packet) => packet,
+            None => unreachable!(),
+        };
+        match self.queue_packet(alloc, nic, packet) {
+            Ok(TxAnswer::Taken) => (Queued { sent: 1, met: None }, false),
+            Ok(TxAnswer::RingFull(full)) => {
+                packets.push_front_reserved(full);
+                (Queued { sent: 0, met: None }, true)
+            }
+            Err(failed) => {
+                let TxFault { fault, packet } = failed;
+                let met = Some(fault);
+                match packet {
+                    None => (Queued { sent: 1, met }, true),
+                    Some(packet) => {
+                        packets.push_front_reserved(packet);
+                        (Queued { sent: 0, met }, true)
+                    }
+                }
+            }
+        }
+    }
+}
+
+/// The fault that a burst met, where it is the first packet's.
+fn at_first(sent: u16, met: Option<PmdFault>) -> Option<PmdFault>
+    ensures { result ≡ (if sent == 0 then met else None) }
+{
+    if sent == 0 { met } else { None }
+}

@@ -1,0 +1,330 @@
+//! A driver of one queue.
+
+ghost use Rattle.std.specs.Prelude.{ℕ, ◌≡◌, ◌<◌, ◌⊎◌, ◌++◌, ◌∷◌, ◌↔◌, [], true, Some, Err, All, drop, length, IfOk, IfErr, IfSome, IsNone, IsOk, OnOk, OnErr};
+ghost use Rattle.nic_device.specs.DmaArena.Numbers.{free_count, is_own, is_free};
+ghost use Rattle.pmd_rx.specs.PmdAccess.Begun.{BeganAs};
+ghost use Rattle.pmd_rx.specs.PmdAccess.Bufs.{numbers_of, with_all_free};
+ghost use Rattle.pmd_rx.specs.PmdAccess.Fresh.{IsFresh, bufs_for};
+ghost use Rattle.pmd_rx.specs.PmdAccess.Packet.{kept_of};
+ghost use Rattle.pmd_rx.specs.Keeping.{handed_blocks, numbers_in, numbers_of_all};
+ghost use Rattle.pmd_rx.specs.Receive.{records_of};
+ghost use Rattle.pmd_tx.specs.Sends.{returned};
+ghost use Rattle.pmd_driver.specs.Halted.{Halted, all_out, is_free_or_out};
+ghost use Rattle.pmd_driver.specs.Stopping.{Stops, StopFails};
+ghost use Rattle.pmd_driver.specs.Blocks.{KeepsBlocks};
+ghost use Rattle.pmd_driver.specs.Bursts.{IsReceiveBurst, IsSendBurst};
+ghost use Rattle.pmd_driver.specs.DriverCalls.{IsReceiveCall, IsSendCall, IsReapCall};
+ghost use Rattle.pmd_driver.specs.Life.{KeepsHalves, RunsOn};
+ghost use Rattle.pmd_driver.specs.Driver.{arena_of, handed_of, accepted_of, goes_back_to, with_arena, halted_of};
+ghost use Rattle.pmd_driver.specs.Driver.{WhereUp, IsDown};
+ghost use Rattle.pmd_rx.specs.PmdAccess.Refusals.{CanFail};
+
+use crate::halted::Halted;
+use crate::home::{Home, StopFailed};
+use crate::running::Running;
+use pmd_rx::{Nic, Packet, PmdFault, Queue, Record};
+use pmd_tx::{Reaped, TxAnswer, TxFault};
+use std::alloc::Global;
+use std::collections::VecDeque;
+use std::marker::Model;
+
+/// The rings of a driver.
+pub(crate) enum Rings {
+    /// They are up.
+    Up(Running),
+    /// They are on their way down.
+    Down(Halted),
+}
+
+/// A driver of one queue. It can't be dropped: `stop` ends it.
+pub struct Pmd {
+    queue: Queue,
+    rings: Rings,
+}
+
+impl Model for Pmd {
+    ghost use Rattle.pmd_driver.specs.Driver.{Driver};
+
+    ghost Value = { Driver };
+
+    ghost view = { λ p. record { queue = p.queue; rings = p.rings } };
+}
+
+/// A stop that is refused.
+pub struct StopRefused {
+    /// Why.
+    pub fault: PmdFault,
+    /// The driver, which doesn't run any more. `stop` may be tried again.
+    pub pmd: Pmd,
+}
+
+impl Pmd {
+    /// A driver of this queue, with these rings.
+    pub(crate) fn of(queue: Queue, rings: Rings) -> Pmd
+        ensures { result ≡ record { queue = queue; rings = rings } }
+    {
+        Pmd { queue, rings }
+    }
+
+    /// The packets that were handed out, the oldest first.
+    pub fn handed(&self) -> &[Record]
+        ensures { result.now ≡ handed_of self.now.rings }
+    {
+        match &self.rings {
+            Rings::Up(running) => running.handed(),
+            Rings::Down(halted) => halted.handed(),
+        }
+    }
+
+    /// What was accepted, the oldest first.
+    pub fn accepted(&self) -> &[Record]
+        ensures { result.now ≡ accepted_of self.now.rings }
+    {
+        match &self.rings {
+            Rings::Up(running) => running.accepted(),
+            Rings::Down(halted) => halted.accepted(),
+        }
+    }
+}
+
+impl Pmd {
+    /// The next packet that came in, in order. None where one of its slots isn't done.
+    ///
+    /// `NoBuffer` where a packet waits and too few blocks are free for it, `DeviceFault` where a reply is none that a
+    /// healthy queue gives, `Call` where a call was refused, or there was no memory for the packet's record: the driver
+    /// keeps where it was, and the next call goes on. `DeviceFault` without any event where the driver doesn't run.
+    pub fn rx<N: Nic>(&mut self, alloc: Global, nic: &mut N) -> Result<Option<Packet>, PmdFault>
+        ensures drives { RunsOn (N.made nic.old) self.old.rings (N.made nic.new) self.new.rings }
+        ensures received { WhereUp self.old.rings self.new.rings (λ r s.
+            IsReceiveCall result (N.made nic.old) r (N.made nic.new) s) }
+        ensures blocks { KeepsBlocks self.old.rings [] self.new.rings (handed_blocks result) }
+        ensures home { IfOk result (λ out. IfSome out (λ packet.
+            goes_back_to self.new.rings packet ≡ true)) }
+        ensures given { IfOk result (λ out. IfSome out (λ packet.
+            handed_of self.new.rings ≡ handed_of self.old.rings ++ kept_of packet ∷ [])) }
+        ensures down { IsDown self.old.rings → (result ≡ Err PmdFault.DeviceFault)
+            × (N.made nic.new ≡ N.made nic.old) × (self.new ≡ self.old) }
+        ensures queue { self.new.queue ≡ self.old.queue }
+        ensures began { BeganAs N.began nic.old nic.new }
+        ensures refuses { N.refuses nic.new ≡ N.refuses nic.old }
+        ensures refusal { IfErr result (λ f. CanFail (N.refuses nic.new) f) }
+    {
+        match &mut self.rings {
+            Rings::Up(running) => running.rx(alloc, nic),
+            Rings::Down(_) => Err(PmdFault::DeviceFault),
+        }
+    }
+
+    /// Sends a packet, which is padded with zero bytes to 60: one descriptor for each Buf that holds bytes of it.
+    ///
+    /// Before any event: `BadSize` where its length is 0, above the frame limit less 4, or above what its Bufs hold,
+    /// `ForeignBlock` where `release` would hand it back, and `RingFull` where the descriptors that are outstanding and
+    /// the packet's are more than the ring has slots but one. Then `DeviceFault` where the device answers what it can't
+    /// on a healthy queue, and `Call` where a call was refused, or there was no memory for the record. The packet comes
+    /// back where none of its blocks was lent yet; else it is accepted, and the next call goes on with it. Where the
+    /// driver doesn't run, `DeviceFault` without any event, and the packet comes back.
+    pub fn tx<N: Nic>(
+        &mut self,
+        alloc: Global,
+        nic: &mut N,
+        packet: Packet,
+    ) -> Result<TxAnswer, TxFault>
+        ensures drives { RunsOn (N.made nic.old) self.old.rings (N.made nic.new) self.new.rings }
+        ensures sent { WhereUp self.old.rings self.new.rings (λ r s.
+            IsSendCall packet result (N.made nic.old) r (N.made nic.new) s) }
+        ensures blocks { KeepsBlocks self.old.rings (numbers_of packet.bufs) self.new.rings
+            (numbers_in (returned result)) }
+        ensures handed { handed_of self.new.rings ≡ handed_of self.old.rings }
+        ensures down { IsDown self.old.rings
+            → (result ≡ Err (record { fault = PmdFault.DeviceFault; packet = Some packet }))
+            × (N.made nic.new ≡ N.made nic.old) × (self.new ≡ self.old) }
+        ensures queue { self.new.queue ≡ self.old.queue }
+        ensures began { BeganAs N.began nic.old nic.new }
+        ensures refuses { N.refuses nic.new ≡ N.refuses nic.old }
+        ensures refusal { IfErr result (λ failed. CanFail (N.refuses nic.new) failed.fault) }
+    {
+        match &mut self.rings {
+            Rings::Up(running) => running.tx(alloc, nic, packet),
+            Rings::Down(_) => Err(TxFault {
+                fault: PmdFault::DeviceFault,
+                packet: Some(packet),
+            }),
+        }
+    }
+
+    /// Frees the blocks of the packets that were sent, the oldest first. First it goes on with the packet that waits
+    /// since an earlier call, where one does.
+    ///
+    /// `DeviceFault` where the device answers what it can't on a healthy queue, and `Call` where a call was refused:
+    /// what was freed before stays free. `DeviceFault` without any event where the driver doesn't run.
+    pub fn reap<N: Nic>(&mut self, alloc: Global, nic: &mut N) -> Result<Reaped, PmdFault>
+        ensures drives { RunsOn (N.made nic.old) self.old.rings (N.made nic.new) self.new.rings }
+        ensures reaped { WhereUp self.old.rings self.new.rings (λ r s.
+            IsReapCall result (N.made nic.old) r (N.made nic.new) s) }
+        ensures blocks { KeepsBlocks self.old.rings [] self.new.rings [] }
+        ensures handed { handed_of self.new.rings ≡ handed_of self.old.rings }
+        ensures down { IsDown self.old.rings → (result ≡ Err PmdFault.DeviceFault)
+            × (N.made nic.new ≡ N.made nic.old) × (self.new ≡ self.old) }
+        ensures queue { self.new.queue ≡ self.old.queue }
+        ensures began { BeganAs N.began nic.old nic.new }
+        ensures refuses { N.refuses nic.new ≡ N.refuses nic.old }
+        ensures refusal { IfErr result (λ f. CanFail (N.refuses nic.new) f) }
+    {
+        match &mut self.rings {
+            Rings::Up(running) => running.reap(alloc, nic),
+            Rings::Down(_) => Err(PmdFault::DeviceFault),
+        }
+    }
+}
+
+impl Pmd {
+    /// The next packets that came in, in order, `most` at most: they are pushed behind those that `packets` has, once
+    /// one move of the tail has posted the blocks that take the places of theirs. Answers how many they are: 0 where
+    /// `most` is 0, or the slot behind those that were seen isn't done.
+    ///
+    /// A fault is answered as by `rx`, and only where no packet comes out: the next call goes on from there. `Call`
+    /// also where there is no memory for the packets. `DeviceFault` without any event where the driver doesn't run.
+    pub fn rx_burst<N: Nic>(
+        &mut self,
+        alloc: Global,
+        nic: &mut N,
+        most: u16,
+        packets: &mut VecDeque<Packet>,
+    ) -> Result<u16, PmdFault>
+        ensures drives { RunsOn (N.made nic.old) self.old.rings (N.made nic.new) self.new.rings }
+        ensures received { WhereUp self.old.rings self.new.rings (λ r s. IsReceiveBurst most packets.old.items
+            packets.new.items result (N.made nic.old) r (N.made nic.new) s) }
+        ensures blocks { KeepsBlocks self.old.rings (numbers_of_all packets.old.items) self.new.rings
+            (numbers_of_all packets.new.items) }
+        ensures home { All (λ p. goes_back_to self.new.rings p ≡ true)
+            (drop (length packets.old.items) packets.new.items) }
+        ensures given { handed_of self.new.rings ≡ handed_of self.old.rings
+            ++ records_of (drop (length packets.old.items) packets.new.items) }
+        ensures down { IsDown self.old.rings → (result ≡ Err PmdFault.DeviceFault)
+            × (packets.new.items ≡ packets.old.items) × (N.made nic.new ≡ N.made nic.old) × (self.new ≡ self.old) }
+        ensures queue { self.new.queue ≡ self.old.queue }
+        ensures began { BeganAs N.began nic.old nic.new }
+        ensures refuses { N.refuses nic.new ≡ N.refuses nic.old }
+        ensures refusal { IfErr result (λ f. CanFail (N.refuses nic.new) f) }
+    {
+        match &mut self.rings {
+            Rings::Up(running) => running.rx_burst(alloc, nic, most, packets),
+            Rings::Down(_) => Err(PmdFault::DeviceFault),
+        }
+    }
+
+    /// Sends packets from the front of the list, as many as there is room for, with one move of the tail behind the
+    /// last. Where fewer than `vacant` slots of the ring are vacant, it first frees the blocks of packets that were
+    /// sent, as `reap` does: with 0 it never does, and above 1,023 always. It stops at the first packet that has no
+    /// room, is refused or meets a fault. Answers how many were accepted: these are gone from the list, and the others
+    /// are left there in their order.
+    ///
+    /// Where no packet was accepted, a fault is answered: that of `reap`, or what the first packet meets, as by `tx`.
+    /// One is also answered where the tail couldn't be moved behind those that were accepted, which the list shows: the
+    /// next call goes on with them. `DeviceFault` without any event where the driver doesn't run, and all packets are
+    /// left.
+    pub fn tx_burst<N: Nic>(
+        &mut self,
+        alloc: Global,
+        nic: &mut N,
+        vacant: u16,
+        packets: &mut VecDeque<Packet>,
+    ) -> Result<u16, PmdFault>
+        ensures drives { RunsOn (N.made nic.old) self.old.rings (N.made nic.new) self.new.rings }
+        ensures sent { WhereUp self.old.rings self.new.rings (λ r s. IsSendBurst vacant packets.old.items
+            packets.new.items result (N.made nic.old) r (N.made nic.new) s) }
+        ensures blocks { KeepsBlocks self.old.rings (numbers_of_all packets.old.items) self.new.rings
+            (numbers_of_all packets.new.items) }
+        ensures handed { handed_of self.new.rings ≡ handed_of self.old.rings }
+        ensures down { IsDown self.old.rings → (result ≡ Err PmdFault.DeviceFault)
+            × (packets.new.items ≡ packets.old.items) × (N.made nic.new ≡ N.made nic.old) × (self.new ≡ self.old) }
+        ensures queue { self.new.queue ≡ self.old.queue }
+        ensures began { BeganAs N.began nic.old nic.new }
+        ensures refuses { N.refuses nic.new ≡ N.refuses nic.old }
+        ensures refusal { IfErr result (λ f. CanFail (N.refuses nic.new) f) }
+    {
+        match &mut self.rings {
+            Rings::Up(running) => running.tx_burst(alloc, nic, vacant, packets),
+            Rings::Down(_) => Err(PmdFault::DeviceFault),
+        }
+    }
+}
+
+impl Pmd {
+    /// A packet of `len` bytes in free blocks, all zero. None where too few blocks are free, or the length is above
+    /// 10,240: nothing is taken then.
+    pub fn packet(&mut self, len: u16) -> Option<Packet>
+        ensures none { IsNone result ↔ ((10240 < len) ⊎ (free_count (arena_of self.old.rings) < bufs_for len)) }
+        ensures made { IsFresh (arena_of self.old.rings) len result (arena_of self.new.rings) }
+        ensures rings { self.new.rings ≡ with_arena self.old.rings (arena_of self.new.rings) }
+        ensures blocks { KeepsBlocks self.old.rings [] self.new.rings (numbers_in result) }
+        ensures halves { KeepsHalves self.old.rings self.new.rings }
+        ensures queue { self.new.queue ≡ self.old.queue }
+    {
+        match &mut self.rings {
+            Rings::Up(running) => running.packet(len),
+            Rings::Down(halted) => halted.packet(len),
+        }
+    }
+
+    /// Gives a packet's blocks back to the arena. The packet comes back where one of them can't go home: its number is
+    /// none of the arena's, or is free there, or comes twice, or this driver has it lent.
+    pub fn release(&mut self, packet: Packet) -> Result<(), Packet>
+        ensures ok { IsOk result ↔ (goes_back_to self.old.rings packet ≡ true) }
+        ensures released { OnOk result (self.new.rings
+            ≡ with_arena self.old.rings (with_all_free (arena_of self.old.rings) (numbers_of packet.bufs))) }
+        ensures blocks { OnOk result (KeepsBlocks self.old.rings (numbers_of packet.bufs) self.new.rings []) }
+        ensures back { IfErr result (λ back. back ≡ packet) }
+        ensures kept { OnErr result (self.new.rings ≡ self.old.rings) }
+        ensures halves { KeepsHalves self.old.rings self.new.rings }
+        ensures queue { self.new.queue ≡ self.old.queue }
+    {
+        match &mut self.rings {
+            Rings::Up(running) => running.release(packet),
+            Rings::Down(halted) => halted.release(packet),
+        }
+    }
+
+    /// Ends the driver: both sides of the queue are switched off, and all blocks that it has lent are taken back.
+    ///
+    /// It fails as `Halted::stop` does. The driver comes back then, and doesn't run any more.
+    pub fn stop<N: Nic>(self, alloc: Global, nic: &mut N) -> Result<Home, StopRefused>
+        ensures home { IfOk result (λ home.
+            Stops self.queue (N.made nic.old) (halted_of self.rings) (N.made nic.new) home) }
+        ensures owns { IfOk result (λ home. (n : ℕ) → is_own home.arena n ≡ is_own (halted_of self.rings).arena n) }
+        ensures free { IfOk result (λ home. home.lost ≡ 0 → (n : ℕ) → is_free home.arena n
+            ≡ is_free_or_out (halted_of self.rings).arena (all_out (halted_of self.rings)) n) }
+        ensures refused { IfErr result (λ refused. (h : Halted)
+            × (refused.pmd ≡ record { queue = self.queue; rings = Rings.Down h })
+            × StopFails refused.fault self.queue (N.made nic.old) (halted_of self.rings) (N.made nic.new) h) }
+        ensures began { BeganAs N.began nic.old nic.new }
+        ensures refuses { N.refuses nic.new ≡ N.refuses nic.old }
+        ensures refusal { IfErr result (λ refused. CanFail (N.refuses nic.new) refused.fault) }
+    {
+        let Pmd { queue, rings } = self;
+        let halted = halt(rings);
+        match halted.stop(alloc, nic, &queue) {
+            Ok(home) => Ok(home),
+            Err(failed) => {
+                let StopFailed { fault, halted } = failed;
+                Err(StopRefused {
+                    fault,
+                    pmd: Pmd::of(queue, Rings::Down(halted)),
+                })
+            }
+        }
+    }
+}
+
+/// The rings as they stop.
+fn halt(rings: Rings) -> Halted
+    ensures { result ≡ halted_of rings }
+{
+    match rings {
+        Rings::Up(running) => {
+            let (arena, receive, transmit) = running.into_parts();
+            Halted::of_rings(arena, receive, transmit)
+        }
+        Rings::Down(halted) => halted,
+    }
+}

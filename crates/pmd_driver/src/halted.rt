@@ -1,0 +1,248 @@
+//! A driver that isn't running.
+
+ghost use Rattle.std.specs.Prelude.{◌≡◌, ◌↔◌, ◌<◌, ◌++◌, ◌⊎◌, ℕ, [], true, None, IfOk, IfErr, IsOk, IsNone, OnOk, OnErr};
+ghost use Rattle.std.specs.List.{list_any};
+ghost use Rattle.nic_device.specs.DmaArena.Numbers.{free_count, is_own, is_free};
+ghost use Rattle.pmd_rx.specs.PmdAccess.Begun.{BeganAs};
+ghost use Rattle.pmd_rx.specs.PmdAccess.Bufs.{numbers_of, with_all_free};
+ghost use Rattle.pmd_rx.specs.PmdAccess.Home.{AreOut};
+ghost use Rattle.pmd_rx.specs.PmdAccess.Fresh.{IsFresh, bufs_for};
+ghost use Rattle.pmd_rx.specs.Keeping.{blocks_out};
+ghost use Rattle.pmd_driver.specs.Running.{kept_out};
+ghost use Rattle.pmd_driver.specs.Blocks.{KeepsEach};
+ghost use Rattle.pmd_driver.specs.Halted.{IsHalted, all_out, is_out, goes_back, is_free_or_out, with_rings};
+ghost use Rattle.pmd_driver.specs.Halted.{with_receive_ring, with_blocks};
+ghost use Rattle.pmd_driver.specs.Stopping.{Stops, StopFails, IsInPart, IsUnclosed, closed};
+ghost use Rattle.pmd_driver.specs.Leaving.{leaving_as};
+ghost use Rattle.pmd_rx.specs.PmdAccess.Refusals.{CanFail};
+
+use crate::ends::{Receiving, Sending};
+use crate::home::{Home, StopFailed};
+use crate::stopping::Leaving;
+use nic_device::Arena;
+use pmd_rx::{
+    Bufs, CallFault, Nic, Packet, PmdFault, Queue, ReceiveRing, Reclaim, Record, fresh_packet,
+    give_packet,
+};
+use pmd_tx::{TransmitRing, are_out};
+use std::alloc::Global;
+use std::collections::VecDeque;
+use std::marker::Model;
+
+/// A driver that isn't running: its start went wrong with a block lent, or its stop has begun. It can't be dropped, as
+/// its arena can't: `stop` ends it.
+pub struct Halted {
+    arena: Arena,
+    receive: Receiving,
+    transmit: Sending,
+}
+
+impl Model for Halted {
+    ghost use Rattle.pmd_driver.specs.Halted as halted;
+    ghost use Rattle.pmd_driver.specs.Ends.{halted_as};
+
+    ghost Value = { halted.Halted };
+
+    ghost view = { λ h. halted_as h.arena h.receive h.transmit };
+
+    ghost invariant = { λ h. halted.IsHalted (halted_as h.arena h.receive h.transmit) };
+}
+
+impl Halted {
+    /// A driver of two rings of one queue, whose blocks are out of the arena. It takes no memory.
+    pub fn of_rings(arena: Arena, receive: ReceiveRing, transmit: TransmitRing) -> Halted
+        requires { AreOut arena (blocks_out receive ++ kept_out transmit) }
+        ensures { result ≡ with_rings arena receive transmit }
+    {
+        let _count = arena.count();
+        Halted {
+            arena,
+            receive: Receiving::Ring(receive),
+            transmit: Sending::Ring(transmit),
+        }
+    }
+
+    /// A driver of a receive ring and of some blocks that are lent for a transmit ring, which wasn't made yet: all of
+    /// their blocks are out of the arena. It takes no memory.
+    pub fn of_receive(
+        alloc: Global,
+        arena: Arena,
+        receive: ReceiveRing,
+        lent: VecDeque<u32>,
+    ) -> Halted
+        requires { AreOut arena (blocks_out receive ++ lent.items) }
+        ensures { result ≡ with_receive_ring arena receive lent.items }
+    {
+        let _count = arena.count();
+        Halted {
+            arena,
+            receive: Receiving::Ring(receive),
+            transmit: Sending::Leaves(Reclaim::of(lent), Vec::new(alloc)),
+        }
+    }
+
+    /// A driver of some blocks alone that are lent for a receive ring, and out of the arena. It takes no memory.
+    pub fn of_blocks(alloc: Global, arena: Arena, lent: VecDeque<u32>) -> Halted
+        requires { AreOut arena lent.items }
+        ensures { result ≡ with_blocks arena lent.items }
+    {
+        let _count = arena.count();
+        Halted {
+            arena,
+            receive: Receiving::Leaves(Reclaim::of(lent), Vec::new(alloc)),
+            transmit: Sending::Leaves(Reclaim::new(alloc), Vec::new(alloc)),
+        }
+    }
+
+    /// The packets that were handed out, the oldest first.
+    pub fn handed(&self) -> &[Record]
+        ensures { result.now ≡ self.now.handed }
+    {
+        self.receive.handed()
+    }
+
+    /// What was accepted, the oldest first.
+    pub fn accepted(&self) -> &[Record]
+        ensures { result.now ≡ self.now.accepted }
+    {
+        self.transmit.accepted()
+    }
+}
+
+impl Halted {
+    /// A packet of `len` bytes in free blocks, all zero. None where too few blocks are free, or the length is above
+    /// 10,240: nothing is taken then.
+    pub fn packet(&mut self, len: u16) -> Option<Packet>
+        ensures none { IsNone result ↔ ((10240 < len) ⊎ (free_count self.old.arena < bufs_for len)) }
+        ensures made { IsFresh self.old.arena len result self.new.arena }
+        ensures rest { self.new ≡ record self.old { arena = self.new.arena } }
+    {
+        fresh_packet(&mut self.arena, len)
+    }
+
+    /// Whether the driver has the block of this number out.
+    fn is_out(&self, block: u32) -> bool
+        ensures { result ≡ is_out self.now block }
+    {
+        self.receive.has(block) || self.transmit.has(block)
+    }
+
+    /// Whether the driver has one of these blocks out.
+    fn has_one(&self, bufs: &Bufs) -> bool
+        ensures { result ≡ list_any (λ n. is_out self.now n) (numbers_of bufs.now) }
+    {
+        for number in 0..bufs.count() {
+            if self.is_out(bufs.get(number).block()) {
+                return true;
+            }
+        }
+        false
+    }
+
+    /// Whether the blocks of a packet can go back to the arena.
+    fn goes_back(&self, packet: &Packet) -> bool
+        ensures { result ≡ goes_back self.now packet.now }
+    {
+        are_out(&self.arena, &packet.bufs) && !self.has_one(&packet.bufs)
+    }
+
+    /// Gives a packet's blocks back to the arena. The packet comes back where one of them can't go home: its number is
+    /// none of the arena's, or is free there, or comes twice, or this driver has it out.
+    pub fn release(&mut self, packet: Packet) -> Result<(), Packet>
+        ensures ok { IsOk result ↔ (goes_back self.old packet ≡ true) }
+        ensures released { OnOk result
+            (self.new ≡ record self.old { arena = with_all_free self.old.arena (numbers_of packet.bufs) }) }
+        ensures blocks { OnOk result (KeepsEach self.old.arena (all_out self.old ++ numbers_of packet.bufs)
+            self.new.arena (all_out self.new ++ [])) }
+        ensures back { IfErr result (λ back. back ≡ packet) }
+        ensures kept { OnErr result (self.new ≡ self.old) }
+    {
+        if self.goes_back(&packet) {
+            give_packet(&mut self.arena, packet);
+            return Ok(());
+        }
+        Err(packet)
+    }
+}
+
+impl Halted {
+    /// Stops: closes the rings, switches both sides of the queue off, and takes all blocks home.
+    ///
+    /// `Call(OutOfMemory)` before any event where there is no memory for closing a ring. Then `StartTimeout` where a
+    /// side doesn't go off within the polls, `DeviceFault` where the port has no such register, and `Call` where a call
+    /// was refused. The driver comes back where it was left, and the stop may be tried again: it asks and polls again,
+    /// and goes on with the blocks that are still out. A block that the device has no longer is lost.
+    pub fn stop<N: Nic>(self, alloc: Global, nic: &mut N, queue: &Queue) -> Result<Home, StopFailed>
+        ensures home { IfOk result (λ home. Stops queue.now (N.made nic.old) self (N.made nic.new) home) }
+        ensures owns { IfOk result (λ home. (n : ℕ) → is_own home.arena n ≡ is_own self.arena n) }
+        ensures free { IfOk result (λ home. home.lost ≡ 0
+            → (n : ℕ) → is_free home.arena n ≡ is_free_or_out self.arena (all_out self) n) }
+        ensures failed { IfErr result (λ failed.
+            StopFails failed.fault queue.now (N.made nic.old) self (N.made nic.new) failed.halted) }
+        ensures began { BeganAs N.began nic.old nic.new }
+        ensures refuses { N.refuses nic.new ≡ N.refuses nic.old }
+        ensures refusal { IfErr result (λ failed. CanFail (N.refuses nic.new) failed.fault) }
+    {
+        match self.close(alloc) {
+            Ok(leaving) => leaving.go_home(alloc, nic, queue),
+            Err(halted) => Err(StopFailed {
+                fault: PmdFault::Call(CallFault::OutOfMemory(())),
+                halted,
+            }),
+        }
+    }
+
+    /// Closes the rings. Where there is no memory, one of them may be closed.
+    fn close(self, alloc: Global) -> Result<Leaving, Halted>
+        ensures closed { IfOk result (λ leaving. leaving_as leaving ≡ closed self) }
+        ensures out { IsHalted self }
+        ensures left { IfErr result (λ halted. IsInPart self halted) }
+    {
+        let Halted {
+            arena,
+            receive,
+            transmit,
+        } = self;
+        let mut arena = arena;
+        match receive.close(&mut arena) {
+            Ok((receive, handed)) => match transmit.close(alloc, &mut arena) {
+                Ok((transmit, accepted)) => Ok(Leaving {
+                    arena,
+                    receive,
+                    transmit,
+                    handed,
+                    accepted,
+                }),
+                Err(transmit) => Err(Halted {
+                    arena,
+                    receive: Receiving::Leaves(receive, handed),
+                    transmit,
+                }),
+            },
+            Err(receive) => Err(Halted {
+                arena,
+                receive,
+                transmit,
+            }),
+        }
+    }
+
+    /// A driver whose rings are closed.
+    pub(crate) fn of_leaving(leaving: Leaving) -> Halted
+        requires { IsHalted (leaving_as leaving) }
+        ensures { result ≡ leaving_as leaving }
+    {
+        let Leaving {
+            arena,
+            receive,
+            transmit,
+            handed,
+            accepted,
+        } = leaving;
+        Halted {
+            arena,
+            receive: Receiving::Leaves(receive, handed),
+            transmit: Sending::Leaves(transmit, accepted),
+        }
+    }
+}

@@ -1,0 +1,286 @@
+//! A driver whose two rings are up.
+
+ghost use Rattle.std.specs.Prelude.{◌≡◌, ◌<◌, ◌≤◌, ◌+◌, ◌⊎◌, ◌↔◌, [], ◌∷◌, nat_lt, true, drop, length, All, IfOk, IfErr, IfSome, IfNone, IsNone, IsOk, OnOk, OnErr};
+ghost use Rattle.std.specs.List.{list_any};
+ghost use Rattle.nic_device.specs.DmaArena.Numbers.{free_count, is_own};
+ghost use Rattle.nic_device.specs.DmaArena.Whereabouts.{times_in_hand};
+ghost use Rattle.pmd_rx.specs.PmdAccess.Begun.{BeganAs};
+ghost use Rattle.pmd_rx.specs.PmdAccess.Bufs.{numbers_of};
+ghost use Rattle.pmd_rx.specs.PmdAccess.Fresh.{IsFresh, bufs_for};
+ghost use Rattle.pmd_rx.specs.Keeping.{blocks_out, handed_blocks, numbers_in, numbers_of_all};
+ghost use Rattle.pmd_tx.specs.Sends.{returned, IsBack, IsFullWhereTold, IsLate};
+ghost use Rattle.pmd_driver.specs.Apart.{DrivesRings, OwnsSame};
+ghost use Rattle.pmd_driver.specs.Blocks.{KeepsUp};
+ghost use Rattle.pmd_driver.specs.Bursts.{Accepts, FailsAmid, IsKeptOut, IsReceiveBurst, MayAnswer, vacant_in};
+ghost use Rattle.pmd_driver.specs.DriverCalls.{IsReceiveCall, IsSendCall, IsReapCall};
+ghost use Rattle.pmd_driver.specs.Halves.{halves_of};
+ghost use Rattle.pmd_driver.specs.Running.{IsUp, IsReleased, goes_back, receives};
+ghost use Rattle.pmd_rx.specs.PmdAccess.Refusals.{CanFail};
+
+use nic_device::Arena;
+use pmd_rx::{Bufs, Nic, Packet, PmdFault, ReceiveRing, Record, fresh_packet, give_packet};
+use pmd_tx::{Reaped, TransmitRing, TxAnswer, TxFault, bytes_in};
+use std::alloc::Global;
+use std::collections::VecDeque;
+use std::marker::Model;
+
+/// A driver whose two rings are up: the arena of its blocks, and the rings.
+pub struct Running {
+    arena: Arena,
+    receive: ReceiveRing,
+    transmit: TransmitRing,
+}
+
+impl Model for Running {
+    ghost use Rattle.pmd_driver.specs.Running as running;
+
+    ghost Value = { running.Running };
+
+    ghost view = { λ r. record { arena = r.arena; receive = r.receive; transmit = r.transmit } };
+
+    ghost invariant = { λ r. running.IsUp (record { arena = r.arena; receive = r.receive; transmit = r.transmit }) };
+}
+
+impl Running {
+    /// A driver of two rings of one queue that are up, whose blocks are out of the arena: the receive ring has all of
+    /// its slots posted but one, and the transmit ring has a slot.
+    pub fn new(arena: Arena, receive: ReceiveRing, transmit: TransmitRing) -> Running
+        requires { IsUp (record { arena = arena; receive = receive; transmit = transmit }) }
+        ensures { result ≡ record { arena = arena; receive = receive; transmit = transmit } }
+    {
+        Running {
+            arena,
+            receive,
+            transmit,
+        }
+    }
+
+    /// The arena and the rings.
+    pub fn into_parts(self) -> (Arena, ReceiveRing, TransmitRing)
+        ensures arena { result.0 ≡ self.arena }
+        ensures receive { result.1 ≡ self.receive }
+        ensures transmit { result.2 ≡ self.transmit }
+        ensures up { IsUp self }
+    {
+        let Running {
+            arena,
+            receive,
+            transmit,
+        } = self;
+        (arena, receive, transmit)
+    }
+
+    /// The packets that were handed out, the oldest first.
+    pub fn handed(&self) -> &[Record]
+        ensures { result.now ≡ self.now.receive.handed }
+    {
+        self.receive.handed()
+    }
+
+    /// What was accepted, the oldest first.
+    pub fn accepted(&self) -> &[Record]
+        ensures { result.now ≡ self.now.transmit.accepted }
+    {
+        self.transmit.accepted()
+    }
+}
+
+impl Running {
+    /// The next packet that came in, in order. None where one of its slots isn't done.
+    ///
+    /// `NoBuffer` where a packet waits and too few blocks are free for it, `DeviceFault` where a reply is none that a
+    /// healthy queue gives, `Call` where a call was refused, or there was no memory for the packet's record: the driver
+    /// keeps where it was, and the next call goes on.
+    pub fn rx<N: Nic>(&mut self, alloc: Global, nic: &mut N) -> Result<Option<Packet>, PmdFault>
+        ensures drives { DrivesRings (N.made nic.old) self.old (N.made nic.new) self.new }
+        ensures received { IsReceiveCall result (N.made nic.old) self.old (N.made nic.new) self.new }
+        ensures home { IfOk result (λ out. IfSome out (λ packet. goes_back self.new packet ≡ true)) }
+        ensures blocks { KeepsUp self.old [] self.new (handed_blocks result) }
+        ensures began { BeganAs N.began nic.old nic.new }
+        ensures refuses { N.refuses nic.new ≡ N.refuses nic.old }
+        ensures refusal { IfErr result (λ f. CanFail (N.refuses nic.new) f) }
+    {
+        self.receive.receive(alloc, nic, &mut self.arena)
+    }
+
+    /// The next packets that came in, in order, `most` at most: they are pushed behind those that `packets` has, once
+    /// one move of the tail has posted the blocks that take the places of theirs. Answers how many they are: 0 where
+    /// `most` is 0, or the slot behind those that were seen isn't done.
+    ///
+    /// A fault is answered as by `rx`, and only where no packet comes out: the next call goes on from there. `Call`
+    /// also where there is no memory for the packets.
+    pub fn rx_burst<N: Nic>(
+        &mut self,
+        alloc: Global,
+        nic: &mut N,
+        most: u16,
+        packets: &mut VecDeque<Packet>,
+    ) -> Result<u16, PmdFault>
+        ensures drives { DrivesRings (N.made nic.old) self.old (N.made nic.new) self.new }
+        ensures received { IsReceiveBurst most packets.old.items packets.new.items result (N.made nic.old) self.old
+            (N.made nic.new) self.new }
+        ensures home { All (λ p. goes_back self.new p ≡ true)
+            (drop (length packets.old.items) packets.new.items) }
+        ensures blocks { KeepsUp self.old (numbers_of_all packets.old.items) self.new
+            (numbers_of_all packets.new.items) }
+        ensures began { BeganAs N.began nic.old nic.new }
+        ensures refuses { N.refuses nic.new ≡ N.refuses nic.old }
+        ensures refusal { IfErr result (λ f. CanFail (N.refuses nic.new) f) }
+    {
+        self.receive
+            .receive_burst(alloc, nic, &mut self.arena, most, packets)
+    }
+
+    /// Sends a packet, which is padded with zero bytes to 60: one descriptor for each Buf that holds bytes of it.
+    ///
+    /// Before any event: `BadSize` where its length is 0, above the frame limit less 4, or above what its Bufs hold,
+    /// `ForeignBlock` where `release` would hand it back, and `RingFull` where the descriptors that are outstanding and
+    /// the packet's are more than the ring has slots but one. Then `DeviceFault` where the device answers what it can't
+    /// on a healthy queue, and `Call` where a call was refused, or there was no memory for the record. The packet comes
+    /// back where none of its blocks was lent yet; else it is accepted, and the next call goes on with it.
+    pub fn tx<N: Nic>(
+        &mut self,
+        alloc: Global,
+        nic: &mut N,
+        packet: Packet,
+    ) -> Result<TxAnswer, TxFault>
+        ensures drives { DrivesRings (N.made nic.old) self.old (N.made nic.new) self.new }
+        ensures sent { IsSendCall packet result (N.made nic.old) self.old (N.made nic.new) self.new }
+        ensures blocks { KeepsUp self.old (numbers_of packet.bufs) self.new (numbers_in (returned result)) }
+        ensures began { BeganAs N.began nic.old nic.new }
+        ensures refuses { N.refuses nic.new ≡ N.refuses nic.old }
+        ensures refusal { IfErr result (λ failed. CanFail (N.refuses nic.new) failed.fault) }
+    {
+        let _whole = bytes_in(&packet.bufs);
+        let elsewhere = self.receives(&packet.bufs);
+        self.transmit
+            .send(alloc, nic, &mut self.arena, elsewhere, packet)
+    }
+
+    /// Frees the blocks of the packets that were sent, the oldest first. First it goes on with the packet that waits
+    /// since an earlier call, where one does.
+    ///
+    /// `DeviceFault` where the device answers what it can't on a healthy queue, and `Call` where a call was refused:
+    /// what was freed before stays free.
+    pub fn reap<N: Nic>(&mut self, alloc: Global, nic: &mut N) -> Result<Reaped, PmdFault>
+        ensures drives { DrivesRings (N.made nic.old) self.old (N.made nic.new) self.new }
+        ensures reaped { IsReapCall result (N.made nic.old) self.old (N.made nic.new) self.new }
+        ensures blocks { KeepsUp self.old [] self.new [] }
+        ensures began { BeganAs N.began nic.old nic.new }
+        ensures refuses { N.refuses nic.new ≡ N.refuses nic.old }
+        ensures refusal { IfErr result (λ f. CanFail (N.refuses nic.new) f) }
+    {
+        self.transmit.reap(alloc, nic, &mut self.arena)
+    }
+}
+
+impl Running {
+    /// How many more segments have room in the transmit ring, 0 to 1,023.
+    pub(crate) fn vacant(&self) -> u16
+        ensures vacant { result ≡ vacant_in self.now.transmit }
+        ensures few { result < 1024 }
+    {
+        self.transmit.vacant()
+    }
+
+    /// As `tx`, but it leaves the tail where it is, for a `flush` that moves it behind several packets.
+    pub(crate) fn queue_packet<N: Nic>(
+        &mut self,
+        alloc: Global,
+        nic: &mut N,
+        packet: Packet,
+    ) -> Result<TxAnswer, TxFault>
+        ensures drives { DrivesRings (N.made nic.old) self.old (N.made nic.new) self.new }
+        ensures answer { MayAnswer self.old packet result }
+        ensures full { IsFullWhereTold self.old.transmit packet result }
+        ensures shut { IsKeptOut self.old packet → (N.made nic.new ≡ N.made nic.old) × (self.new ≡ self.old) }
+        ensures accepted { IfNone (returned result) (Accepts (packet ∷ []) self.old self.new) }
+        ensures kept { IfSome (returned result) (λ back. Accepts [] self.old self.new) }
+        ensures back { IfErr result (λ failed. IfSome failed.packet (λ back. IsBack failed.fault packet back)) }
+        ensures tail { self.new.transmit.posted ≡ self.old.transmit.posted }
+        ensures slots { IfNone (returned result)
+            (1 + vacant_in self.new.transmit ≤ vacant_in self.old.transmit) }
+        ensures blocks { KeepsUp self.old (numbers_of packet.bufs) self.new (numbers_in (returned result)) }
+        ensures amid { IfErr result (λ failed.
+            FailsAmid failed.fault (is_own self.old.arena) (N.made nic.old) (halves_of self.old) (N.made nic.new)) }
+        ensures began { BeganAs N.began nic.old nic.new }
+        ensures refuses { N.refuses nic.new ≡ N.refuses nic.old }
+        ensures refusal { IfErr result (λ failed. CanFail (N.refuses nic.new) failed.fault) }
+    {
+        let _whole = bytes_in(&packet.bufs);
+        let elsewhere = self.receives(&packet.bufs);
+        self.transmit
+            .queue(alloc, nic, &mut self.arena, elsewhere, packet)
+    }
+
+    /// Moves the tail behind the packets that were accepted, where it isn't there, and goes on with the last one before
+    /// that, where a part of it waits.
+    ///
+    /// `DeviceFault` where the device answers what it can't on a healthy queue, and `Call` where a call was refused:
+    /// the next call goes on.
+    pub(crate) fn flush<N: Nic>(&mut self, alloc: Global, nic: &mut N) -> Result<(), PmdFault>
+        ensures drives { DrivesRings (N.made nic.old) self.old (N.made nic.new) self.new }
+        ensures kept { Accepts [] self.old self.new }
+        ensures settled { OnOk result (self.new.transmit.posted ≡ length self.new.transmit.outstanding) }
+        ensures blocks { KeepsUp self.old [] self.new [] }
+        ensures late { IfErr result (λ f. IsLate f) }
+        ensures amid { IfErr result (λ f.
+            FailsAmid f (is_own self.old.arena) (N.made nic.old) (halves_of self.old) (N.made nic.new)) }
+        ensures began { BeganAs N.began nic.old nic.new }
+        ensures refuses { N.refuses nic.new ≡ N.refuses nic.old }
+        ensures refusal { IfErr result (λ f. CanFail (N.refuses nic.new) f) }
+    {
+        self.transmit.flush(alloc, nic)
+    }
+}
+
+impl Running {
+    /// A packet of `len` bytes in free blocks, all zero. None where too few blocks are free, or the length is above
+    /// 10,240: nothing is taken then.
+    pub fn packet(&mut self, len: u16) -> Option<Packet>
+        ensures none { IsNone result ↔ ((10240 < len) ⊎ (free_count self.old.arena < bufs_for len)) }
+        ensures made { IsFresh self.old.arena len result self.new.arena }
+        ensures rest { self.new ≡ record self.old { arena = self.new.arena } }
+        ensures owns { OwnsSame self.old.arena self.new.arena }
+        ensures blocks { KeepsUp self.old [] self.new (numbers_in result) }
+    {
+        fresh_packet(&mut self.arena, len)
+    }
+
+    /// Whether the receive ring has one of these blocks.
+    fn receives(&self, bufs: &Bufs) -> bool
+        ensures { result
+            ≡ list_any (λ n. nat_lt 0 (times_in_hand (blocks_out self.now.receive) n)) (numbers_of bufs.now) }
+    {
+        for number in 0..bufs.count() {
+            if self.receive.has(bufs.get(number).block()) {
+                return true;
+            }
+        }
+        false
+    }
+
+    /// Whether the blocks of a packet can go back to the arena.
+    fn goes_back(&self, packet: &Packet) -> bool
+        ensures { result ≡ goes_back self.now packet.now }
+    {
+        self.transmit.goes_home(&self.arena, packet) && !self.receives(&packet.bufs)
+    }
+
+    /// Gives a packet's blocks back to the arena. The packet comes back where one of them can't go home: its number is
+    /// none of the arena's, or is free there, or comes twice, or this driver has it lent.
+    pub fn release(&mut self, packet: Packet) -> Result<(), Packet>
+        ensures ok { IsOk result ↔ (goes_back self.old packet ≡ true) }
+        ensures released { OnOk result (IsReleased self.old packet self.new) }
+        ensures blocks { OnOk result (KeepsUp self.old (numbers_of packet.bufs) self.new []) }
+        ensures back { IfErr result (λ back. back ≡ packet) }
+        ensures kept { OnErr result (self.new ≡ self.old) }
+        ensures halves { (halves_of self.new ≡ halves_of self.old) × OwnsSame self.old.arena self.new.arena }
+    {
+        if self.goes_back(&packet) {
+            give_packet(&mut self.arena, packet);
+            return Ok(());
+        }
+        Err(packet)
+    }
+}

@@ -1,0 +1,277 @@
+//! How a driver starts.
+
+ghost use Rattle.std.specs.Prelude.{◌≡◌, ◌↔◌, ◌≤◌, ◌+◌, ◌-◌, ◌*◌, ◌++◌, [], true, None, Some, IsSome, IfSome, OnSome, IfOk, IfErr, OnOk};
+ghost use Rattle.nic_device.specs.DmaArena.Numbers.{free_count};
+ghost use Rattle.pmd_driver.specs.Halted.{Halted, with_receive_ring};
+ghost use Rattle.pmd_rx.specs.Keeping.{blocks_out};
+ghost use Rattle.pmd_driver.specs.Starting.{ComesLate};
+ghost use Rattle.pmd_driver.specs.Blocks.{HasAll, IsWhole};
+ghost use Rattle.pmd_driver.specs.Driver.{handed_of, halted_of};
+ghost use Rattle.pmd_driver.specs.Runs.{AreRuns};
+ghost use Rattle.pmd_driver.specs.Started.{is_size, has_room, start_gate, left_accepted, left_handed, IsHome, IsShut};
+ghost use Rattle.pmd_driver.specs.Started.{HasStarted, IsHalfStarted, IsLeftWith, StopsStarting};
+ghost use Rattle.pmd_rx.specs.PmdAccess.Begun.{BeganAs};
+ghost use Rattle.pmd_rx.specs.PmdAccess.Frames.{is_frame};
+ghost use Rattle.pmd_rx.specs.PmdAccess.Home.{AreOut};
+ghost use Rattle.pmd_rx.specs.PmdAccess.Slots.{blocks_for};
+ghost use Rattle.pmd_rx.specs.PmdAccess.Refusals.{Refusals, CanFail};
+
+use crate::driver::{Pmd, Rings};
+use crate::halted::Halted;
+use crate::home::Home;
+use crate::rings::{Unprepared, go_on, receive_ring, transmit_ring};
+use crate::running::Running;
+use nic_device::{Arena, Port};
+use pmd_rx::{Nic, PmdFault, Queue, ReceiveRing, blocks_for, is_frame};
+use std::alloc::Global;
+
+/// What a start leaves that is refused.
+pub enum Rest {
+    /// Nothing was lent.
+    Home(Home),
+    /// A driver that doesn't run, with what was lent. `stop` takes it home.
+    Running(Pmd),
+}
+
+/// A start that is refused.
+pub struct StartRefused {
+    /// Why.
+    pub fault: PmdFault,
+    /// What is left.
+    pub rest: Rest,
+}
+
+/// Whether a ring may have so many descriptors: a multiple of 8 from 8 to 1,024.
+fn is_size(size: u16) -> bool
+    ensures { result ≡ is_size size }
+{
+    8 <= size && size <= 1024 && size % 8 == 0
+}
+
+/// Where a start makes its rings: the first block of each.
+#[derive(Clone, Copy)]
+struct Places {
+    receive: u32,
+    transmit: u32,
+}
+
+/// The lowest two runs of as many free blocks as a ring has, one for each ring, where enough blocks are free.
+fn find_places(arena: &Arena, size: u16) -> Option<Places>
+    requires { (8 ≤ size) × (size ≤ 1024) }
+    ensures some { IsSome result ↔ (has_room arena.now size ≡ true) }
+    ensures runs { IfSome result (λ at. AreRuns arena.now (blocks_for size) at.receive at.transmit) }
+    ensures enough { OnSome result (size - 1 + 2 * blocks_for size ≤ free_count arena.now) }
+{
+    let count = blocks_for(size);
+    if arena.free_blocks() < u32::from(size) - 1 + 2 * count {
+        return None;
+    }
+    let receive = arena.find_run(arena.first(), count)?;
+    let transmit = arena.find_run(receive + count, count)?;
+    Some(Places { receive, transmit })
+}
+
+/// The queue and where its rings are made, where a start with it isn't refused before any event.
+fn named(
+    arena: &Arena,
+    port: Port,
+    queue: u16,
+    size: u16,
+    frame: u16,
+) -> Result<(Queue, Places), PmdFault>
+    ensures open { OnOk result (start_gate arena.now (record { port = port; queue = queue }) size frame ≡ None) }
+    ensures shut { IfErr result (λ f.
+        start_gate arena.now (record { port = port; queue = queue }) size frame ≡ Some f) }
+    ensures queue { IfOk result (λ n. n.0 ≡ record { port = port; queue = queue }) }
+    ensures size { OnOk result ((8 ≤ size) × (size ≤ 1024)) }
+    ensures sized { OnOk result (is_size size ≡ true) }
+    ensures frame { OnOk result (is_frame frame ≡ true) }
+    ensures runs { IfOk result (λ n. AreRuns arena.now (blocks_for size) n.1.receive n.1.transmit) }
+    ensures enough { OnOk result (size - 1 + 2 * blocks_for size ≤ free_count arena.now) }
+    ensures refusal { (way : Refusals) → IfErr result (λ f. CanFail way f) }
+{
+    if !is_size(size) || !is_frame(frame) {
+        return Err(PmdFault::BadSize);
+    }
+    let Some(places) = find_places(arena, size) else {
+        return Err(PmdFault::NoBuffer);
+    };
+    match Queue::new(port, queue) {
+        Some(queue) => Ok((queue, places)),
+        None => Err(PmdFault::DeviceFault),
+    }
+}
+
+/// A refusal by which nothing is lent.
+fn at_home(alloc: Global, fault: PmdFault, arena: Arena) -> StartRefused
+    ensures fault { result.fault ≡ fault }
+    ensures rest { IsHome arena result.rest }
+{
+    StartRefused {
+        fault,
+        rest: Rest::Home(Home {
+            arena,
+            lost: 0,
+            handed: Vec::new(alloc),
+            accepted: Vec::new(alloc),
+        }),
+    }
+}
+
+/// A refusal by which a driver is left with what was lent.
+fn half_started(fault: PmdFault, queue: Queue, halted: Halted) -> StartRefused
+    ensures fault { result.fault ≡ fault }
+    ensures rest { IsHalfStarted queue halted result.rest }
+{
+    StartRefused {
+        fault,
+        rest: Rest::Running(Pmd::of(queue, Rings::Down(halted))),
+    }
+}
+
+/// A refusal as the receive ring was to be prepared: those of its blocks that are lent are out of the arena.
+fn left_before_one(
+    alloc: Global,
+    queue: Queue,
+    arena: Arena,
+    unprepared: Unprepared,
+) -> StartRefused
+    requires { AreOut arena unprepared.lent.items }
+    ensures fault { result.fault ≡ unprepared.fault }
+    ensures rest { IsLeftWith queue arena unprepared.lent.items result.rest }
+{
+    let Unprepared { fault, lent } = unprepared;
+    if lent.is_empty() {
+        return at_home(alloc, fault, arena);
+    }
+    half_started(fault, queue, Halted::of_blocks(alloc, arena, lent))
+}
+
+/// A refusal as the transmit ring was to be prepared: the blocks of the receive ring, and those of this one that are
+/// lent, are out of the arena.
+fn left_after_one(
+    alloc: Global,
+    queue: Queue,
+    arena: Arena,
+    receive: ReceiveRing,
+    unprepared: Unprepared,
+) -> StartRefused
+    requires { AreOut arena (blocks_out receive ++ unprepared.lent.items) }
+    ensures fault { result.fault ≡ unprepared.fault }
+    ensures rest { IsHalfStarted queue (with_receive_ring arena receive unprepared.lent.items) result.rest }
+{
+    let Unprepared { fault, lent } = unprepared;
+    half_started(
+        fault,
+        queue,
+        Halted::of_receive(alloc, arena, receive, lent),
+    )
+}
+
+/// Brings the rings of a queue up, one after the other.
+fn bring_up<N: Nic>(
+    alloc: Global,
+    nic: &mut N,
+    queue: Queue,
+    size: u16,
+    frame: u16,
+    arena: Arena,
+    places: Places,
+) -> Result<Pmd, StartRefused>
+    requires some { 8 ≤ size }
+    requires few { size ≤ 1024 }
+    requires sized { is_size size ≡ true }
+    requires frame { is_frame frame ≡ true }
+    requires runs { AreRuns arena (blocks_for size) places.receive places.transmit }
+    requires enough { size - 1 + 2 * blocks_for size ≤ free_count arena }
+    ensures started { IfOk result (λ p. HasStarted queue size frame (N.made nic.old) arena (N.made nic.new) p) }
+    ensures stops { IfErr result (λ e. StopsStarting queue size frame (N.made nic.old) arena (N.made nic.new) e) }
+    ensures late { IfErr result (λ e. ComesLate e.fault) }
+    ensures none { IfOk result (λ p. handed_of p.rings ≡ []) }
+    ensures left { IfErr result (λ e. left_handed e.rest ≡ []) }
+    ensures blocks { IfOk result (λ p. HasAll arena (halted_of p.rings) []) }
+    ensures whole { IfErr result (λ e. IsWhole arena e.rest) }
+    ensures began { BeganAs N.began nic.old nic.new }
+    ensures refuses { N.refuses nic.new ≡ N.refuses nic.old }
+    ensures refusal { IfErr result (λ e. CanFail (N.refuses nic.new) e.fault) }
+{
+    let mut arena = arena;
+    let mut receive = match receive_ring(
+        alloc,
+        nic,
+        &queue,
+        &mut arena,
+        places.receive,
+        size,
+        frame,
+    ) {
+        Ok(receive) => receive,
+        Err(unprepared) => return Err(left_before_one(alloc, queue, arena, unprepared)),
+    };
+    let transmit = match transmit_ring(
+        alloc,
+        nic,
+        &queue,
+        &mut arena,
+        places.transmit,
+        size,
+        frame,
+    ) {
+        Ok(transmit) => transmit,
+        Err(unprepared) => return Err(left_after_one(alloc, queue, arena, receive, unprepared)),
+    };
+    match go_on(alloc, nic, &queue, &mut arena, &mut receive) {
+        Ok(()) => {
+            let running = Running::new(arena, receive, transmit);
+            Ok(Pmd::of(queue, Rings::Up(running)))
+        }
+        Err(fault) => {
+            let halted = Halted::of_rings(arena, receive, transmit);
+            Err(half_started(fault, queue, halted))
+        }
+    }
+}
+
+impl Pmd {
+    /// Starts a driver of a queue, which is off: `size` descriptors for each ring, a multiple of 8 from 8 to 1,024.
+    /// Each ring takes a run of blocks of the arena, one for every 128 descriptors, and `size` - 1 blocks are posted
+    /// for frames to come, of `frame` bytes at most, with their frame check sequence: 1,518 to 9,728.
+    ///
+    /// Before any event: `BadSize` where the size or that length is another, `NoBuffer` where fewer blocks are free
+    /// than that, or no two such runs, and `DeviceFault` where the port can't name the queue. Then `DeviceFault` where
+    /// a side of the queue is on or the device answers what it can't on a healthy queue, `StartTimeout` where 1,000
+    /// polls show a side off, and `Call` where a call was refused. Once a block was lent, the driver is left as it
+    /// came.
+    pub fn start<N: Nic>(
+        alloc: Global,
+        nic: &mut N,
+        port: Port,
+        queue: u16,
+        size: u16,
+        frame: u16,
+        arena: Arena,
+    ) -> Result<Pmd, StartRefused>
+        ensures shut { IsShut (start_gate arena (record { port = port; queue = queue }) size frame) arena
+            (N.made nic.old) (N.made nic.new) result }
+        ensures started { IfOk result (λ p. HasStarted (record { port = port; queue = queue }) size frame
+            (N.made nic.old) arena (N.made nic.new) p) }
+        ensures stops { IfErr result (λ e. start_gate arena (record { port = port; queue = queue }) size frame ≡ None
+            → StopsStarting (record { port = port; queue = queue }) size frame (N.made nic.old) arena
+            (N.made nic.new) e) }
+        ensures late { IfErr result (λ e. start_gate arena (record { port = port; queue = queue }) size frame ≡ None
+            → ComesLate e.fault) }
+        ensures none { IfOk result (λ p. handed_of p.rings ≡ []) }
+        ensures left { IfErr result (λ e. left_handed e.rest ≡ []) }
+        ensures accepted { IfErr result (λ e. left_accepted e.rest ≡ []) }
+        ensures blocks { IfOk result (λ p. HasAll arena (halted_of p.rings) []) }
+        ensures whole { IfErr result (λ e. IsWhole arena e.rest) }
+        ensures began { BeganAs N.began nic.old nic.new }
+        ensures refuses { N.refuses nic.new ≡ N.refuses nic.old }
+        ensures refusal { IfErr result (λ e. CanFail (N.refuses nic.new) e.fault) }
+    {
+        match named(&arena, port, queue, size, frame) {
+            Ok((queue, places)) => bring_up(alloc, nic, queue, size, frame, arena, places),
+            Err(fault) => Err(at_home(alloc, fault, arena)),
+        }
+    }
+}

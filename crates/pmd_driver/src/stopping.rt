@@ -1,0 +1,116 @@
+//! A driver whose rings are closed, on its way home.
+
+ghost use Rattle.std.specs.Prelude.{◌≡◌, ◌++◌, IfOk, IfErr, OnOk, OnErr};
+ghost use Rattle.pmd_rx.specs.PmdAccess.Begun.{BeganAs};
+ghost use Rattle.pmd_rx.specs.PmdAccess.Home.{AreOut, BringsAll, StopsBringing};
+ghost use Rattle.pmd_driver.specs.Halted.{IsHalted};
+ghost use Rattle.pmd_driver.specs.Leaving.{leaving_as, bringing_both};
+ghost use Rattle.pmd_driver.specs.Stopping.{ComesHome, GoesHome, IsLeft, IsLeftAmid};
+ghost use Rattle.pmd_rx.specs.PmdAccess.Refusals.{CanFail, CanRefuse};
+
+use crate::halted::Halted;
+use crate::home::{Home, StopFailed};
+use nic_device::Arena;
+use pmd_rx::{CallFault, Nic, PmdFault, Queue, Reclaim, Record};
+use std::alloc::Global;
+
+/// A driver whose rings are closed: their blocks are on their way home.
+pub(crate) struct Leaving {
+    pub(crate) arena: Arena,
+    pub(crate) receive: Reclaim,
+    pub(crate) transmit: Reclaim,
+    pub(crate) handed: Vec<Record>,
+    pub(crate) accepted: Vec<Record>,
+}
+
+impl Leaving {
+    /// Switches both sides of the queue off, and takes the blocks home.
+    pub(crate) fn go_home<N: Nic>(
+        self,
+        alloc: Global,
+        nic: &mut N,
+        queue: &Queue,
+    ) -> Result<Home, StopFailed>
+        requires { IsHalted (leaving_as self) }
+        ensures home { IfOk result (λ home.
+            GoesHome queue.now (N.made nic.old) (leaving_as self) (N.made nic.new) home) }
+        ensures failed { IfErr result (λ failed.
+            IsLeft failed.fault queue.now (N.made nic.old) (leaving_as self) (N.made nic.new) failed.halted) }
+        ensures began { BeganAs N.began nic.old nic.new }
+        ensures refuses { N.refuses nic.new ≡ N.refuses nic.old }
+        ensures refusal { IfErr result (λ failed. CanFail (N.refuses nic.new) failed.fault) }
+    {
+        match queue.switch_both(alloc, nic, false) {
+            Ok(()) => self.bring(alloc, nic),
+            Err(fault) => Err(StopFailed {
+                fault,
+                halted: Halted::of_leaving(self),
+            }),
+        }
+    }
+
+    /// Takes the blocks home.
+    fn bring<N: Nic>(self, alloc: Global, nic: &mut N) -> Result<Home, StopFailed>
+        requires { IsHalted (leaving_as self) }
+        ensures home { IfOk result (λ home. ComesHome (N.made nic.old) (leaving_as self) (N.made nic.new) home) }
+        ensures failed { IfErr result (λ failed.
+            IsLeftAmid failed.fault (N.made nic.old) (leaving_as self) (N.made nic.new) failed.halted) }
+        ensures began { BeganAs N.began nic.old nic.new }
+        ensures refuses { N.refuses nic.new ≡ N.refuses nic.old }
+        ensures refusal { IfErr result (λ failed. CanFail (N.refuses nic.new) failed.fault) }
+    {
+        let Leaving {
+            arena,
+            receive,
+            transmit,
+            handed,
+            accepted,
+        } = self;
+        let mut arena = arena;
+        let mut receive = receive;
+        let mut transmit = transmit;
+        match bring_both(alloc, nic, &mut arena, &mut receive, &mut transmit) {
+            Ok(()) => Ok(Home {
+                arena,
+                lost: receive.lost() + transmit.lost(),
+                handed,
+                accepted,
+            }),
+            Err(fault) => Err(StopFailed {
+                fault: PmdFault::Call(fault),
+                halted: Halted::of_leaving(Leaving {
+                    arena,
+                    receive,
+                    transmit,
+                    handed,
+                    accepted,
+                }),
+            }),
+        }
+    }
+}
+
+/// Takes the blocks of two ways home, those of the first before those of the second.
+fn bring_both<N: Nic>(
+    alloc: Global,
+    nic: &mut N,
+    arena: &mut Arena,
+    first: &mut Reclaim,
+    second: &mut Reclaim,
+) -> Result<(), CallFault<()>>
+    requires { AreOut arena.old (first.old.lent ++ second.old.lent) }
+    ensures all { OnOk result (BringsAll
+        (bringing_both (N.made nic.old) arena.old first.old second.old)
+        (bringing_both (N.made nic.new) arena.new first.new second.new)) }
+    ensures stopped { OnErr result (StopsBringing
+        (bringing_both (N.made nic.old) arena.old first.old second.old)
+        (bringing_both (N.made nic.new) arena.new first.new second.new)) }
+    ensures began { BeganAs N.began nic.old nic.new }
+    ensures refuses { N.refuses nic.new ≡ N.refuses nic.old }
+    ensures refusal { IfErr result (λ refusal. CanRefuse (N.refuses nic.new) refusal) }
+{
+    match first.bring(alloc, nic, arena) {
+        Ok(()) => second.bring(alloc, nic, arena),
+        Err(fault) => Err(fault),
+    }
+}

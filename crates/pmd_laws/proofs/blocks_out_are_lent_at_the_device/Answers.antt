@@ -1,4 +1,0 @@
-use Rattle.pmd_laws.proofs.Lent.{each_in_one_place, lent_is_out, out_is_lent}
-
-pub returns : Rattle.pmd_laws.proofs.blocks_out_are_lent_at_the_device.Goals.returns
-returns c = record { lent = out_is_lent; known = lent_is_out; once = each_in_one_place }

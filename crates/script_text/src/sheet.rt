@@ -1,0 +1,230 @@
+//! What lines have said, before labels and names of data are looked up.
+
+ghost use Rattle.std.specs.Prelude.{◌≡◌, ◌≤◌, ◌++◌, ◌∷◌, [], length, Ok, Err};
+ghost use Rattle.script_text.specs.Fault.{Gives, ◌then◌};
+ghost use Rattle.script_text.specs.Outline.{blank};
+ghost use Rattle.script_text.specs.Resolved.{label_named, data_named, fitting, resolved, with_resolved, IsReady};
+ghost use Rattle.script_text.specs.Script.{with_label, with_data, with_draft, with_statement, program_in};
+ghost use Rattle.program.specs.Listing.{string_at};
+
+use crate::faults::ScriptFault;
+use crate::names::Name;
+use crate::operations::Draft;
+use crate::places::Places;
+use crate::statements::Statement;
+use program::{DATA_BYTES, DATA_LIMIT, INSTRUCTION_LIMIT, Instruction, Octets, Program};
+use std::alloc::Global;
+use std::marker::Model;
+
+/// An instruction as its line writes it, with the number of the line.
+#[derive(Drop)]
+pub(crate) struct DraftLine<'a> {
+    line: usize,
+    draft: Draft<'a>,
+}
+
+/// Where the labels stand, the numbers of the data strings by their names, and the strings and the instructions in the
+/// order of their lines. Empty lines take no room.
+#[derive(Drop)]
+pub(crate) struct Sheet<'a> {
+    labels: Places<'a>,
+    data_numbers: Places<'a>,
+    strings: Vec<Octets>,
+    drafts: Vec<DraftLine<'a>>,
+}
+
+impl<'a> Model for Sheet<'a> {
+    ghost use Rattle.script_text.specs.Outline.{Outline, IsOutline};
+
+    ghost Value = { Outline };
+
+    ghost use Rattle.std.specs.Coded.{codes};
+    ghost use Rattle.script_text.specs.Places.{places_code};
+
+    ghost coded = { Prim.hlevel (codes, places_code) };
+
+    ghost view = { λ s. record {
+      labels = s.labels;
+      data_numbers = s.data_numbers;
+      strings = s.strings.items;
+      drafts = s.drafts.items;
+    } };
+
+    ghost invariant = { λ s. IsOutline (record {
+      labels = s.labels;
+      data_numbers = s.data_numbers;
+      strings = s.strings.items;
+      drafts = s.drafts.items;
+    }) };
+}
+
+impl<'a> Sheet<'a> {
+    /// Before the first line.
+    pub(crate) fn new(alloc: Global) -> Sheet<'a>
+        ensures { result ≡ blank }
+    {
+        Sheet {
+            labels: Places::new(alloc),
+            data_numbers: Places::new(alloc),
+            strings: Vec::new(alloc),
+            drafts: Vec::new(alloc),
+        }
+    }
+
+    /// Adds a label, which stands where the next instruction will.
+    fn add_label(&mut self, line: usize, name: Name<'a>) -> Result<(), ScriptFault>
+        ensures { Gives (λ _. self.new) result (with_label self.old line name.entry) }
+    {
+        if self.labels.place_of(&name).is_some() {
+            return Err(ScriptFault::TwoLabels(line));
+        }
+        self.labels.add(name, self.drafts.len() as u16)
+    }
+
+    /// Adds a data string.
+    fn add_data(&mut self, line: usize, name: Name<'a>, string: Octets) -> Result<(), ScriptFault>
+        ensures { Gives (λ _. self.new) result (with_data self.old line name.entry string) }
+    {
+        if self.data_numbers.place_of(&name).is_some() {
+            return Err(ScriptFault::TwoLabels(line));
+        }
+        if string.bytes().len() > DATA_BYTES || self.strings.len() >= DATA_LIMIT {
+            return Err(ScriptFault::TooLong);
+        }
+        self.data_numbers.add(name, self.strings.len() as u16)?;
+        self.strings.push(string)?;
+        Ok(())
+    }
+
+    /// Adds an instruction.
+    fn add_draft(&mut self, line: usize, draft: Draft<'a>) -> Result<(), ScriptFault>
+        ensures { Gives (λ _. self.new) result (with_draft self.old line draft.entry) }
+    {
+        if self.drafts.len() >= INSTRUCTION_LIMIT {
+            return Err(ScriptFault::TooLong);
+        }
+        self.drafts.push(DraftLine { line, draft })?;
+        Ok(())
+    }
+
+    /// Adds what the line of this number says.
+    pub(crate) fn add(&mut self, line: usize, statement: Statement<'a>) -> Result<(), ScriptFault>
+        ensures { Gives (λ _. self.new) result (with_statement self.old line statement.entry) }
+    {
+        match statement {
+            Statement::Empty => Ok(()),
+            Statement::Label(name) => self.add_label(line, name),
+            Statement::Data(name, string) => self.add_data(line, name, string),
+            Statement::Instruction(draft) => self.add_draft(line, draft),
+        }
+    }
+
+    /// Where the label stands that a line jumps to.
+    fn label_named(&self, line: usize, name: &Name<'_>) -> Result<u16, ScriptFault>
+        ensures { result ≡ label_named self.now line name.now }
+    {
+        self.labels
+            .place_of(name)
+            .ok_or(ScriptFault::UnknownLabel(line))
+    }
+
+    /// The number of the data string that a line names.
+    fn data_named(&self, line: usize, name: &Name<'_>) -> Result<u16, ScriptFault>
+        ensures { result ≡ data_named self.now line name.now }
+    {
+        self.data_numbers
+            .place_of(name)
+            .ok_or(ScriptFault::UnknownLabel(line))
+    }
+
+    /// How many bytes a data string has.
+    fn bytes_of(&self, number: u16) -> usize
+        ensures { result ≡ length (string_at self.now.strings number) }
+    {
+        match self.strings.get(usize::from(number)) {
+            Some(string) => string.bytes().len(),
+            None => 0,
+        }
+    }
+
+    /// An instruction, unless it pokes data of other than 16 bytes.
+    fn fitting(&self, line: usize, instruction: Instruction) -> Result<Instruction, ScriptFault>
+        ensures { result ≡ fitting self.now line instruction }
+    {
+        let Instruction::Poke(_, number) = instruction else {
+            return Ok(instruction);
+        };
+        if self.bytes_of(number) == 16 {
+            Ok(instruction)
+        } else {
+            Err(ScriptFault::Range(line))
+        }
+    }
+
+    /// An instruction with its label and its data by number.
+    fn resolved(&self, line: usize, draft: &Draft<'a>) -> Result<Instruction, ScriptFault>
+        ensures { result ≡ resolved self.now line draft.now }
+    {
+        let label = |name: &Name<'_>|
+            ensures { result ≡ label_named self.entry.now line name.now }
+        { self.label_named(line, name) };
+        let string = |name: &Name<'_>|
+            ensures { result ≡ data_named self.entry.now line name.now }
+        { self.data_named(line, name) };
+        let instruction = draft.try_map(label, string)?;
+        self.fitting(line, instruction)
+    }
+
+    /// Adds an instruction with its label and its data by number.
+    fn push_resolved(
+        &self,
+        instructions: &mut Vec<Instruction>,
+        draft: &DraftLine<'a>,
+    ) -> Result<(), ScriptFault>
+        ensures { Gives (λ _. instructions.new.items) result
+            (resolved self.now draft.now.line draft.now.draft
+            then λ instruction. Ok (instructions.old.items ++ instruction ∷ [])) }
+    {
+        let instruction = self.resolved(draft.line, &draft.draft)?;
+        instructions.push(instruction)?;
+        Ok(())
+    }
+
+    /// Instructions with their labels and data by number.
+    fn all_resolved(
+        &self,
+        alloc: Global,
+        drafts: &[DraftLine<'a>],
+    ) -> Result<Vec<Instruction>, ScriptFault>
+        ensures { Gives (λ instructions. instructions.items) result (with_resolved self.now [] drafts.now) }
+    {
+        let mut instructions = Vec::new(alloc);
+        for draft in drafts {
+            self.push_resolved(&mut instructions, draft)?;
+        }
+        Ok(instructions)
+    }
+
+    /// All instructions with their labels and data by number.
+    fn instructions(&self, alloc: Global) -> Result<Vec<Instruction>, ScriptFault>
+        ensures gives { Gives (λ instructions. instructions.items) result (with_resolved self.now [] self.now.drafts) }
+        ensures few { length self.now.drafts ≤ 4096 }
+    {
+        self.all_resolved(alloc, &self.drafts)
+    }
+
+    /// The program of what all lines say.
+    pub(crate) fn into_program(self, alloc: Global) -> Result<Program, ScriptFault>
+        requires { IsReady self }
+        ensures { Gives (λ program. program) result (program_in self.entry) }
+    {
+        let instructions = self.instructions(alloc)?;
+        let Sheet {
+            labels: _,
+            data_numbers: _,
+            strings,
+            drafts: _,
+        } = self;
+        Ok(Program::new(strings, instructions))
+    }
+}

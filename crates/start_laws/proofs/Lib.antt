@@ -1,0 +1,24 @@
+pub use Rattle.start_laws.proofs.Meeting as Beside
+pub use Rattle.start_laws.proofs.Ground as Words
+pub use Rattle.start_laws.proofs.TimedOut as Filling
+pub use Rattle.start_laws.proofs.Parts as Retold
+pub use Rattle.device_lock.proofs.Histories
+pub use Rattle.ring_laws.proofs as RingLaws
+pub use Rattle.ring_laws.proofs.HistoryLaws
+pub use Rattle.start_laws.proofs.Healthy as Fitting
+pub use Rattle.start_laws.proofs.Reached as Made
+pub mod Asked
+pub mod Ground
+pub mod Healthy
+pub mod InOrder
+pub mod Laid
+pub mod Meeting
+pub mod On
+pub mod Parts
+pub mod Points
+pub mod Prelude
+pub mod Reached
+pub mod Sending
+pub mod StopCalls
+pub mod SwitchedOff
+pub mod TimedOut

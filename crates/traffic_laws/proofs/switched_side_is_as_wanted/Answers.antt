@@ -1,5 +1,0 @@
-use Rattle.traffic_laws.proofs.Switched.{as_wanted}
-use Rattle.traffic_laws.proofs.switched_side_is_as_wanted.Goals as goal
-
-pub returns : goal.returns
-returns c = as_wanted

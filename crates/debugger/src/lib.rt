@@ -16,3 +16,4 @@ mod source;
 pub use breakpoints::BREAK_LIMIT;
 pub use command::{Command, DebugRefusal, View};
 pub use debugger::Debugger;
+pub use machine::{NewRefused, Status};

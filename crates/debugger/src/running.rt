@@ -10,9 +10,9 @@ ghost use Rattle.program.specs.Object.{read_of};
 use crate::breakpoints::{Breakpoints, has_break};
 use crate::snapshots::Snapshots;
 use crate::source::program_of;
-use machine::{Machine, OutOfMemory, StepAnswer};
+use machine::{Machine, StepAnswer};
 use nic_device::{Config, NewFault};
-use program::Program;
+use program::{OutOfMemory, Program};
 use std::alloc::Global;
 
 /// Makes a step, and tells whether the machine has stopped before.

@@ -3,8 +3,7 @@
 ghost use Rattle.std.specs.Prelude.{◌≡◌, IfOk, IsOk, Ok};
 ghost use Rattle.program.specs.Object.{read_of};
 
-use machine::OutOfMemory;
-use program::{ObjectFault, Program, read};
+use program::{ObjectFault, OutOfMemory, Program, read};
 use std::alloc::Global;
 
 /// The object of a program.

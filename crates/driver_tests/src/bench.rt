@@ -1,11 +1,10 @@
 //! A controller that is set up, a driver of its queue 0, and frames.
 
 use crate::outcome::{Hand, done, empty, fail, push, refused, same, same_bytes, same_pair, sees};
+use device_lock::Calls;
 use nic_device::{Arena, Buf, Config, Device, Event, LentMemory, Mode, Octets, Parts, Port, Reply};
+use pmd::{Direct, Home, Nic, Packet, Pmd, PmdFault, Setup, StopRefused, TxAnswer, pf_setup};
 use std::process::Abort;
-use workers::{
-    Calls, Direct, Home, Nic, Packet, Pmd, PmdFault, Setup, StopRefused, TxAnswer, pf_setup,
-};
 
 /// Promiscuous, with neither pools nor hashing.
 pub const PLAIN: Setup = Setup {

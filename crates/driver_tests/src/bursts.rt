@@ -5,9 +5,10 @@ use crate::bench::{
     stops,
 };
 use crate::outcome::{Hand, done, same};
+use device_lock::Calls;
 use nic_device::{Event, Octets, Port};
+use pmd::{Direct, Packet, Pmd};
 use std::collections::VecDeque;
-use workers::{Calls, Direct, Packet, Pmd};
 
 /// The registers of the tails of queue 0, by which descriptors are given to the device.
 const RDT: u32 = 0x1018;

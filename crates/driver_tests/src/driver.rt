@@ -9,7 +9,7 @@ use crate::interleaved::{unstepped, without_blocks};
 use crate::outcome::{Hand, done, fail, holds, none, refused, same, same_bytes, same_pair, some};
 use crate::rig::Rig;
 use nic_device::{Arena, Buf, Event, Mode, Octets, Port};
-use workers::{Bufs, Direct, Nic, Packet, Pmd, Rest, Setup, StartRefused, TxFault};
+use pmd::{Bufs, Direct, Nic, Packet, Pmd, Rest, Setup, StartRefused, TxFault};
 
 /// The frame of TCP arrives and is received.
 fn tcp_received(rt: &impl Hand, rig: &mut Rig) -> Packet {

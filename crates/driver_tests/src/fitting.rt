@@ -2,8 +2,9 @@
 
 use crate::bench::{PLAIN, end, word_in};
 use crate::outcome::{Hand, done, empty, fail, holds, push, sees, some};
+use device_lock::{Pass, Shared, Watched};
 use nic_device::{Event, Octets, Port, Reply};
-use workers::{Pass, Setup, Shared, ThroughLock, Watched, frames_fit, pf_setup};
+use pmd::{Setup, ThroughLock, frames_fit, pf_setup};
 
 /// A shared device without virtual functions.
 type Bench = Shared<0, 64>;

@@ -1,8 +1,9 @@
 //! The calls on a device in hand as a history: a driver of queue 0 made some of them, and others the rest.
 
 use crate::outcome::{Hand, done, push, some};
+use device_lock::{Call, Entry, Watched, left_alone};
 use nic_device::Device;
-use workers::{Call, Direct, Entry, Watched, left_alone};
+use pmd::Direct;
 
 /// The pass of the driver.
 pub const DRIVER: u8 = 0;

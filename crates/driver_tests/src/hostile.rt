@@ -11,8 +11,9 @@ use crate::history::{DRIVER, OTHERS, add_entries, finished, is_left_alone};
 use crate::interleaved::amid;
 use crate::outcome::{Hand, done, empty, holds, push, same, some};
 use crate::schedule::{Left, Schedule, all_home, finish, push_steps, take_all};
+use device_lock::Entry;
 use nic_device::{Arena, Buf, Device, Event, Mode, Octets, Port, Reply};
-use workers::{Direct, Entry, Home, Nic, Packet, Pmd, Setup, StopRefused, TxAnswer, TxFault};
+use pmd::{Direct, Home, Nic, Packet, Pmd, Setup, StopRefused, TxAnswer, TxFault};
 
 /// Foreign writes, by address and word, that reach queue 0 of a driver or the whole device, and whether the queue is
 /// left alone by each all the same.

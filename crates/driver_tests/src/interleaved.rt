@@ -8,7 +8,7 @@ use crate::outcome::{Hand, done, emptied, empty, fail, none, push, same, sees, s
 use crate::rig::Rig;
 use crate::schedule::{Left, Schedule, all_home, finish, push_switches, take_all};
 use nic_device::{Arena, Buf, Device, Dir, Event, Octets, Port, Reply};
-use workers::{Finished, Interleaved, Nic, Packet, Pmd, TxAnswer};
+use pmd::{Finished, Interleaved, Nic, Packet, Pmd, TxAnswer};
 
 /// A device among these foreign events.
 pub fn amid(rt: &impl Hand, device: Device, schedule: Schedule) -> Interleaved {

@@ -4,8 +4,8 @@ use crate::bench::{block_in, end};
 use crate::outcome::{Hand, done, fail, holds, some};
 use crate::stranger::reply;
 use crate::team::Bench;
+use device_lock::Pass;
 use nic_device::{Arena, Buf, Event, Port, Reply};
-use workers::Pass;
 
 /// The register by which the queues are parted among pools.
 const GCR_EXT: u32 = 0x11050;

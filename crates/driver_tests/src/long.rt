@@ -8,7 +8,7 @@ use crate::driver::{come_home, free_blocks, refused_start};
 use crate::outcome::{Hand, done, fail, push, refused, same, same_bytes, same_pair, sees, some};
 use crate::rig::Rig;
 use nic_device::{Arena, Event, Octets, Port, Reply};
-use workers::{Direct, Nic, Packet, Pmd, Setup, pf_setup};
+use pmd::{Direct, Nic, Packet, Pmd, Setup, pf_setup};
 
 /// A device and a driver of queue 0 for the longest frames.
 fn rig_for_long_frames(rt: &impl Hand) -> Rig {

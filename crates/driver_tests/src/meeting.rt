@@ -1,10 +1,10 @@
 //! Tasks that meet at a place of their own, and workers that meet point by point.
 
 use crate::outcome::{Hand, fail, same, sees};
+use pmd::{Gate, Lockstep, Seat, Start, Task, run};
 use std::sync::atomic::{AtomicU64, Ordering};
 use std::sync::{Mutex, Wait};
 use std::thread;
-use workers::{Gate, Lockstep, Seat, Start, Task, run};
 
 /// How often a task looks whether the others have come.
 const TURNS: u32 = 1_000_000;

@@ -3,7 +3,7 @@
 use crate::bench::{PLAIN, Why, end, in_hand, reason};
 use crate::outcome::{Hand, done, holds, refused, same, sees, some};
 use nic_device::{Config, Device, Dir, Mode, Port};
-use workers::{Direct, POLLS, Queue, Setup, pf_setup};
+use pmd::{Direct, POLLS, Queue, Setup, pf_setup};
 
 /// A device of two virtual functions with 64 pools, stepped on its queue 2.
 fn opened(rt: &impl Hand) -> Direct {

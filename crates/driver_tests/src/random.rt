@@ -8,9 +8,10 @@ use crate::interleaved::amid;
 use crate::others::{Others, Random};
 use crate::outcome::{Hand, done, empty, fail, push, same, sees, some};
 use crate::schedule::{Left, all_home, finish, take_all};
+use device_lock::Entry;
 use nic_device::{Buf, Device, Event, LentMemory, Octets, Reply};
+use pmd::{Direct, Home, Nic, Packet, Pmd, Record, TxAnswer};
 use std::collections::VecDeque;
-use workers::{Direct, Entry, Home, Nic, Packet, Pmd, Record, TxAnswer};
 
 /// A schedule is drawn from each.
 #[rattlefmt::skip]

@@ -5,7 +5,7 @@ use crate::bench::{
 };
 use crate::outcome::{Hand, some};
 use nic_device::Octets;
-use workers::{Direct, Packet, Pmd};
+use pmd::{Direct, Packet, Pmd};
 
 /// The device, and its driver, which has started.
 pub struct Rig {

@@ -4,9 +4,9 @@ use crate::meeting::meets;
 use crate::outcome::{Hand, holds, same, sees};
 use crate::stranger::{Beside, How, LEAST};
 use crate::team::{Came, Order, run_team};
+use pmd::{Gate, Lockstep};
 use std::sync::atomic::{AtomicU64, Ordering};
 use std::sync::{Mutex, Wait};
-use workers::{Gate, Lockstep};
 
 /// A gate whose first point opens to a worker only while both stand at it: each of the two looks there for a while
 /// whether the other has come. Its other points are open, and so is the first to anybody else.

@@ -2,8 +2,9 @@
 
 use crate::history::add_marked;
 use crate::outcome::{Hand, done, emptied, empty, none, push, put, some};
+use device_lock::Entry;
 use nic_device::{Arena, Buf, Device, Dir, Event, LentMemory, Reply};
-use workers::{Entry, Finished, Interleaved};
+use pmd::{Finished, Interleaved};
 
 /// Lists of foreign events, one for each of the next calls.
 pub type Schedule = Vec<Vec<Event>>;

@@ -2,11 +2,10 @@
 
 use crate::bench::{count_calls, end, is_done, word_in};
 use crate::outcome::{Hand, done, fail, push, refused, same, same_pair, sees, some};
+use device_lock::{CallFault, CloseFault, CloseRefused, Closed, Pass, Shared};
 use nic_device::{Dir, Event, Port, Reply};
+use pmd::{Nic, POLLS, Queue, ThroughLock};
 use std::thread::join_mut;
-use workers::{
-    CallFault, CloseFault, CloseRefused, Closed, Nic, POLLS, Pass, Queue, Shared, ThroughLock,
-};
 
 /// A shared device without virtual functions.
 type Bench = Shared<0, 64>;

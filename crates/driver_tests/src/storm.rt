@@ -9,8 +9,9 @@ use crate::random::SEEDS;
 use crate::schedule::let_reply_go;
 use crate::stranger::reply;
 use crate::team::{BLOCKS, Bench, apart, blocks_of, parting, sent_in, set_up};
+use device_lock::Pass;
 use nic_device::{Arena, Buf, Event, Mode, Octets, Port};
-use workers::{Home, Pass, Pmd, Rest, StartRefused, StopRefused, ThroughLock};
+use pmd::{Home, Pmd, Rest, StartRefused, StopRefused, ThroughLock};
 
 /// How many turns a run has, in each of which four frames arrive; there is a run for each of twenty seeds.
 const TURNS: u32 = 125;

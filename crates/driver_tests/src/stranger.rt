@@ -7,9 +7,10 @@ use crate::others::{Others, lend};
 use crate::outcome::{Hand, done, empty, fail, sees};
 use crate::schedule::let_reply_go;
 use crate::team::{BLOCKS, Bench};
+use device_lock::Pass;
 use nic_device::{Arena, Buf, Event, Port, Reply};
+use pmd::Gate;
 use std::sync::atomic::{AtomicU64, Ordering};
-use workers::{Gate, Pass};
 
 /// The neighbour's number at the gate, behind the workers and the host.
 const NEIGHBOUR: usize = 3;

@@ -6,14 +6,15 @@ use crate::hostile::stopped_again;
 use crate::outcome::{Hand, done, emptied, empty, none, push, put, same, sees, some};
 use crate::schedule::{all_home, take_all};
 use crate::stranger::Beside;
+use device_lock::{CallFault, Closed, Entry, Pass, Shared};
 use nic_device::{Arena, Buf, Device, Mode, Octets, Port, ReplyNote};
+use pmd::{
+    Direct, Gate, Home, Job, Pmd, PmdFault, Ran, Rest, Setup, ThroughLock, WorkerEnd, WorkerFault,
+    pf_setup, run_workers,
+};
 use std::collections::VecDeque;
 use std::sync::atomic::{AtomicU64, Ordering};
 use std::thread::join_mut;
-use workers::{
-    CallFault, Closed, Direct, Entry, Gate, Home, Job, Pass, Pmd, PmdFault, Ran, Rest, Setup,
-    Shared, ThroughLock, WorkerEnd, WorkerFault, pf_setup, run_workers,
-};
 
 /// A shared device of one virtual function.
 pub type Bench = Shared<1, 64>;

@@ -1,13 +1,14 @@
 //! A poll loop of a driver, on each of two threads that share a controller.
 
 use crate::outcome::{done, holds, same, some};
+use bench::{KEY, OVER_IPV4, OVER_IPV6};
+use device_lock::{Pass, Shared};
 use nic_device::{Arena, Event, Mode, Octets, Parts, Port, Reply};
+use pmd::{Home, Nic, Packet, Pmd, Setup, ThroughLock, TxAnswer, pf_setup};
 use std::alloc::Global;
 use std::process::Abort;
 use std::sync::Wait;
 use std::thread::join_mut;
-use threads_bench::{KEY, OVER_IPV4, OVER_IPV6};
-use workers::{Home, Nic, Packet, Pass, Pmd, Setup, Shared, ThroughLock, TxAnswer, pf_setup};
 
 type Bench = Shared<0, 64>;
 

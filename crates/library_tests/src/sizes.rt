@@ -2,7 +2,7 @@
 
 use crate::input::ran;
 use crate::outcome::{Hand, holds};
-use bench_commands::Outcome;
+use bench::Outcome;
 use std::alloc::{AllocError, Global};
 use std::fmt::Write;
 use std::test::Fail;

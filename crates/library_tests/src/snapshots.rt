@@ -4,9 +4,8 @@ use crate::device::{CONFIG, device, make, stepped, write};
 use crate::images::image;
 use crate::outcome::{Hand, done, holds, refused, same, some};
 use dma_arena::Arena;
-use machine::Machine;
 use nic_device::{Device, Event, Parts, Reply, RestoreRefused, Snapshot};
-use script_text::assemble;
+use script_asm::{Machine, assemble};
 
 /// An arena of so many blocks from block 0 on.
 fn arena(rt: &impl Hand, count: u32) -> Arena {

@@ -3,11 +3,10 @@
 use crate::fakes::FailingWriter;
 use crate::input::ran;
 use crate::outcome::{Hand, holds, same};
-use bench_commands::{Outcome, Output};
+use bench::{Outcome, Output, bench_threads};
 use std::io::ErrorKind;
 use std::sync::Wait;
 use std::thread::Threads;
-use threads_bench::bench_threads;
 
 /// A test's runtime that starts threads too.
 trait Team: Hand + Threads + Wait + Sync {}

@@ -11,5 +11,5 @@ mod machine;
 mod processor;
 mod snapshot;
 
-pub use machine::{BLOCKS, Machine, NewRefused, OutOfMemory, Status, StepAnswer};
+pub use machine::{BLOCKS, Machine, NewRefused, Status, StepAnswer};
 pub use snapshot::MachineSnapshot;

@@ -9,10 +9,9 @@ ghost use Rattle.machine.specs.Machine.{start_of, machine_step, machine_at, Step
 use crate::processor::Processor;
 use card::Card;
 use nic_device::{Config, Event, MAX_VFS, NewFault, Port, ReplyNote};
-use program::Program;
+use program::{OutOfMemory, Program};
 use std::alloc::Global;
 use std::marker::Model;
-use thiserror::Error;
 
 /// How many blocks of packet memory a machine has: those numbered from 0 on.
 pub const BLOCKS: u32 = 256;
@@ -47,11 +46,6 @@ pub enum StepAnswer {
     /// Nothing: the machine doesn't run, or has counted 2^64 - 1 steps.
     Stopped,
 }
-
-/// A step that found no memory. It wasn't made.
-#[derive(Clone, Copy, Debug, PartialEq, Eq, Error)]
-#[error("out of memory")]
-pub struct OutOfMemory;
 
 /// Why there is no machine, and the program that was passed.
 #[derive(Debug, Drop)]

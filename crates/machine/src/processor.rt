@@ -8,11 +8,11 @@ ghost use Rattle.machine.specs.Processor.{state_with, state_of};
 ghost use Rattle.program.specs.Listing.{IsSound};
 
 use crate::action::{Action, Kept, LocalAction, action_of};
-use crate::machine::{OutOfMemory, Status, StepAnswer};
+use crate::machine::{Status, StepAnswer};
 use byteorder::{ByteOrder, LittleEndian};
 use card::Card;
 use nic_device::{Event, Reply, ReplyNote};
-use program::{BLOCK_BYTES, Instruction, Octets, Program};
+use program::{BLOCK_BYTES, Instruction, Octets, OutOfMemory, Program};
 use std::alloc::Global;
 
 /// A machine but for its program.

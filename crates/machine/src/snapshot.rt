@@ -3,11 +3,11 @@
 ghost use Rattle.std.specs.Prelude.{◌≡◌, IfOk};
 ghost use Rattle.machine.specs.Machine.{machine_at};
 
-use crate::machine::{Machine, OutOfMemory, Status};
+use crate::machine::{Machine, Status};
 use crate::processor::Processor;
 use card::Kept;
 use nic_device::Config;
-use program::Program;
+use program::{OutOfMemory, Program};
 use std::alloc::Global;
 use std::marker::Model;
 

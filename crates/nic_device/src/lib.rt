@@ -49,8 +49,8 @@ pub use register_file::{
 };
 pub use runs::RunStop;
 pub use rx_ring::{
-    Arena, BLOCK_BYTES, BLOCK_NUMBERS, Buf, Dir, LentMemory, Octets, Run, data_descriptor_word,
-    first_half, hash_told, is_last, is_sent, is_written_back, length_told, of_halves, posted_word,
-    rss_told, second_half,
+    Arena, BLOCK_BYTES, BLOCK_NUMBERS, Buf, Dir, LentMemory, Octets, RingFault, Run,
+    data_descriptor_word, first_half, hash_told, is_last, is_sent, is_written_back, length_told,
+    of_halves, posted_word, rss_told, second_half,
 };
 pub use snapshot::{RestoreRefused, Snapshot};

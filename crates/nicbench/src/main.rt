@@ -1,14 +1,13 @@
 //! `nicbench`: the program over standard input and standard output.
 #![tactic(auto)]
 
-use bench_commands::{FAILED, Input, NO_MEMORY, Outcome, Output, REFUSED_WORDS, bench};
+use bench::{FAILED, Input, NO_MEMORY, Outcome, Output, REFUSED_WORDS, bench, bench_threads};
 use std::alloc::Global;
 use std::env;
 use std::io::{self, BufWriter, ErrorKind};
 use std::process::ExitCode;
 use std::sync::Wait;
 use std::thread::Threads;
-use threads_bench::bench_threads;
 
 fn main(rt: HostRuntime) -> ExitCode {
     let status = match run(&rt) {

@@ -6,13 +6,13 @@ use crate::sums::{START, end_device, with, with_arena, with_bytes};
 use crate::trial::{Trial, tried};
 use device_lock::CallFault;
 use nic_device::{Arena, Config, Device, Event, Mode, Port};
-use std::alloc::Global;
-use std::process::Abort;
-use std::sync::Wait;
-use workers::{
+use pmd::{
     Direct, Home, Nic, Packet, Pmd, PmdFault, Record, Rest, Setup, StartRefused, StopRefused,
     TxAnswer, TxFault, pf_setup,
 };
+use std::alloc::Global;
+use std::process::Abort;
+use std::sync::Wait;
 
 /// Promiscuous, with neither pools nor hashing.
 pub const PLAIN: Setup = Setup {

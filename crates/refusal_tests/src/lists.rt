@@ -6,10 +6,10 @@ use crate::sums::{START, end_device, with};
 use crate::trial::{Trial, tried};
 use device_lock::{Call, Calls, Entry};
 use nic_device::{Arena, Config, Device, Event, Port, Reply};
+use pmd::{history_of, marked_history};
 use std::alloc::Global;
 use std::process::Abort;
 use std::sync::Wait;
-use workers::{history_of, marked_history};
 
 /// The queue whose steps are made between the calls.
 const QUEUE: u16 = 5;

@@ -3,10 +3,8 @@
 use crate::outcome::{done, none, put, some};
 use crate::sums::{START, with};
 use crate::trial::{Trial, tried};
-use machine::{Machine, NewRefused, OutOfMemory, StepAnswer};
 use nic_device::{Config, NewFault};
-use program::Program;
-use script_text::assemble;
+use script_asm::{Machine, NewRefused, OutOfMemory, Program, StepAnswer, assemble};
 use std::alloc::Global;
 use std::process::Abort;
 use std::sync::Wait;

@@ -3,8 +3,7 @@
 use crate::outcome::done;
 use crate::sums::{START, with, with_bytes};
 use crate::trial::{Maker, makes};
-use program::{ObjectFault, Program, read};
-use script_text::{ScriptFault, assemble, disassemble};
+use script_asm::{ObjectFault, Program, ScriptFault, assemble, disassemble, read};
 use std::alloc::Global;
 use std::process::Abort;
 use std::sync::Wait;

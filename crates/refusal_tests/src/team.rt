@@ -4,15 +4,16 @@ use crate::devices::frame;
 use crate::drivers::{PLAIN, arena_of};
 use crate::locks::Bench;
 use crate::outcome::{done, some};
+use device_lock::{CallFault, Pass};
 use nic_device::{Arena, Parts, Port};
+use pmd::{
+    Job, Lockstep, PmdFault, Ran, Rest, RunFault, RunRefused, Setup, ThroughLock, WorkerEnd,
+    WorkerFault, pf_setup, run_workers,
+};
 use std::alloc::Global;
 use std::process::Abort;
 use std::sync::Wait;
 use std::thread::Threads;
-use workers::{
-    CallFault, Job, Lockstep, Pass, PmdFault, Ran, Rest, RunFault, RunRefused, Setup, ThroughLock,
-    WorkerEnd, WorkerFault, pf_setup, run_workers,
-};
 
 /// With hashing. Frames of no known kind go to queue 0.
 const SETUP: Setup = Setup { mrqc: 1, ..PLAIN };

@@ -7,10 +7,10 @@ use crate::sums::{START, end_device, with, with_event};
 use crate::trial::{Trial, tried};
 use device_lock::{CallFault, Pass};
 use nic_device::{Arena, Device, Event};
+use pmd::{Direct, Finished, Interleaved, Nic, ThroughLock};
 use std::alloc::Global;
 use std::process::Abort;
 use std::sync::Wait;
-use workers::{Direct, Finished, Interleaved, Nic, ThroughLock};
 
 /// Makes the event of a call over a way to a device, and adds the answer to a sum. False where it was refused for want
 /// of memory: then it is put back.

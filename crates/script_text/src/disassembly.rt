@@ -8,16 +8,10 @@ ghost use Rattle.script_text.specs.Disassembly.{code_lines, text_of};
 ghost use Rattle.script_text.specs.Script.{program_of};
 
 use crate::printing::InstructionText;
-use program::{Dir, Group, Instruction, Octets, Program};
+use program::{Dir, Group, Instruction, Octets, OutOfMemory, Program};
 use std::alloc::Global;
 use std::fmt::Write;
 use text_format::BytesText;
-use thiserror::Error;
-
-/// There was no memory for the text of a program.
-#[derive(Clone, Copy, Debug, PartialEq, Eq, Error)]
-#[error("out of memory")]
-pub struct OutOfMemory;
 
 /// Adds the line of a data string.
 fn push_data_line(text: &mut String, number: usize, bytes: &[u8]) -> Result<(), OutOfMemory>

@@ -17,7 +17,7 @@ mod statements;
 mod targets;
 
 pub use assembly::{assemble, assemble_before};
-pub use disassembly::{OutOfMemory, disassemble};
+pub use disassembly::disassemble;
 pub use faults::{LineFault, ScriptFault};
 pub use laws::{
     faults_come_in_order, first_fault_decides, names_have_their_places, program_is_what_lines_say,

@@ -1,0 +1,11 @@
+//! What the program `nicbench` does, whole: each of its commands, over any reader and writer.
+//!
+//! It declares nothing, and passes on two crates: `bench_commands` has what reads its input and writes its answer, and
+//! `threads_bench` has `threads`, which runs workers on threads.
+#![tactic(auto)]
+
+pub use bench_commands::{
+    BYTES, DONE, FAILED, Failure, Input, InputFault, NO_MEMORY, NOT_ENDED, Outcome, Output, READS,
+    REFUSED_WORDS, Refusal, answer, bench, read_input,
+};
+pub use threads_bench::{KEY, OVER_IPV4, OVER_IPV6, bench_threads};

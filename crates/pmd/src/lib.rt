@@ -1,0 +1,17 @@
+//! The poll-mode driver, whole: a driver of one queue, the ways to a device, and workers that drive queues of one
+//! device on threads of their own.
+//!
+//! It declares nothing, and passes on two crates: `pmd_driver` has the driver of one queue with what it stands on, and
+//! `workers` the workers.
+#![tactic(auto)]
+
+pub use pmd_driver::{
+    Bufs, Direct, Finished, Home, Interleaved, LONGEST_FRAME, Nic, POLLS, Packet, Pmd, PmdFault,
+    Queue, Reaped, Record, Rest, SHORTEST_FRAME, Setup, StartRefused, StopRefused, ThroughLock,
+    TxAnswer, TxFault, history_of, marked_history, pf_setup,
+};
+pub use workers::{
+    Collector, Fed, Gate, Given, Job, Lockstep, MAX_MEMBERS, Order, Ran, Report, RunFault,
+    RunRefused, Seat, Start, Task, WorkerEnd, WorkerFault, begins_well, feed, frames_fit,
+    never_asked_on, others_lend_none, overlap, run, run_worker, run_workers,
+};

@@ -187,7 +187,7 @@ impl Card {
     {
         match self.device.step(event) {
             Ok(reply) => return Ok(note_of(reply)),
-            Err(refused) => match refused.event.into_buf() {
+            Err(refused) => match refused.0.into_buf() {
                 None => return Err(AllocError),
                 Some(_buf) => unreachable!(),
             },
@@ -234,7 +234,7 @@ impl Card {
         };
         match self.device.step(Event::Lend(buf)) {
             Ok(reply) => Ok(is_lent_by(reply)),
-            Err(refused) => match refused.event.into_buf() {
+            Err(refused) => match refused.0.into_buf() {
                 Some(buf) => {
                     give_back(&mut self.arena, buf);
                     Err(AllocError)

@@ -104,7 +104,7 @@ impl Calls {
         ensures calls { OnOk result (self.new ≡ self.old ++ call_of event (step_of device.old event).reply ∷ []) }
         ensures reply { IfOk result (λ reply. reply ≡ (step_of device.old event).reply) }
         ensures fits { IfOk result (λ reply. may_answer event reply ≡ true) }
-        ensures back { IfErr result (λ refused. refused.event ≡ event) }
+        ensures back { IfErr result (λ refused. refused.0 ≡ event) }
         ensures unchanged { OnErr result ((device.new ≡ device.old) × (self.new ≡ self.old)) }
     {
         make_room(&mut self.made);
@@ -119,7 +119,7 @@ impl Calls {
             &mut self.notes,
             &event,
         ) else {
-            return Err(OutOfMemory { event });
+            return Err(OutOfMemory(event));
         };
         let reply = device.step(event)?;
         let told = note_of(alloc, &reply, &mut self.spare, &mut self.notes);
@@ -133,11 +133,11 @@ impl Calls {
         requires block { lent_block event ≡ None }
         ensures calls { OnOk result (self.new ≡ self.old ++ call_of event Idle ∷ []) }
         ensures reply { IfOk result (λ reply. reply ≡ Idle) }
-        ensures back { IfErr result (λ refused. refused.event ≡ event) }
+        ensures back { IfErr result (λ refused. refused.0 ≡ event) }
         ensures unchanged { OnErr result (self.new ≡ self.old) }
     {
         if self.made.reserve(1).is_err() {
-            return Err(OutOfMemory { event });
+            return Err(OutOfMemory(event));
         }
         end_event(event);
         put_call(&mut self.made, &mut self.rested, note, Reply::Idle);

@@ -202,7 +202,7 @@ impl<const VFS: u8, const FIFO: u16> Locked<VFS, FIFO> {
                 count_one(&mut self.counts, tag);
                 Ok(reply)
             }
-            Err(OutOfMemory { event }) => Err(CallFault::OutOfMemory(event)),
+            Err(OutOfMemory(event)) => Err(CallFault::OutOfMemory(event)),
         }
     }
 

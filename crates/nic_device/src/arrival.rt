@@ -20,7 +20,7 @@ impl Engine {
     pub(crate) fn arrive(&mut self, frame: Octets) -> Result<Reply, OutOfMemory<Event>>
         ensures reply { IfOk result (λ reply. reply ≡ (arrived self.old frame).reply) }
         ensures state { OnOk result (self.new ≡ (arrived self.old frame).state) }
-        ensures back { IfErr result (λ refused. refused.event ≡ Event.Arrive frame) }
+        ensures back { IfErr result (λ refused. refused.0 ≡ Event.Arrive frame) }
         ensures unchanged { OnErr result (self.new ≡ self.old) }
         ensures memory { OnErr result ((arrived self.old frame).reply ≡ Reply.Done) }
     {
@@ -50,7 +50,7 @@ impl Engine {
         requires { target.queue < 128 }
         ensures reply { IfOk result (λ reply. reply ≡ (joined self.old frame target).reply) }
         ensures state { OnOk result (self.new ≡ (joined self.old frame target).state) }
-        ensures back { IfErr result (λ refused. refused.event ≡ Event.Arrive frame) }
+        ensures back { IfErr result (λ refused. refused.0 ≡ Event.Arrive frame) }
         ensures unchanged { OnErr result (self.new ≡ self.old) }
         ensures memory { OnErr result ((joined self.old frame target).reply ≡ Reply.Done) }
     {
@@ -60,9 +60,7 @@ impl Engine {
             return Ok(Reply::Dropped(Why::Full));
         }
         if self.waiting.reserve(1).is_err() {
-            return Err(OutOfMemory {
-                event: Event::Arrive(frame),
-            });
+            return Err(OutOfMemory(Event::Arrive(frame)));
         }
         self.registers.count(RowId::Gprc, 0);
         self.waiting

@@ -79,7 +79,7 @@ impl Device {
     pub fn step(&mut self, event: Event) -> Result<Reply, OutOfMemory<Event>>
         ensures reply { IfOk result (λ reply. reply ≡ (step_of self.old event).reply) }
         ensures state { OnOk result (self.new ≡ (step_of self.old event).state) }
-        ensures back { IfErr result (λ refused. refused.event ≡ event) }
+        ensures back { IfErr result (λ refused. refused.0 ≡ event) }
         ensures unchanged { OnErr result (self.new ≡ self.old) }
         ensures memory { OnErr result (TakesMemory self.old event) }
         ensures fits { IfOk result (λ reply. may_answer event reply ≡ true) }

@@ -77,7 +77,7 @@ impl Engine {
     pub(crate) fn step(&mut self, event: Event) -> Result<Reply, OutOfMemory<Event>>
         ensures reply { IfOk result (λ reply. reply ≡ (step_of self.old event).reply) }
         ensures state { OnOk result (self.new ≡ (step_of self.old event).state) }
-        ensures back { IfErr result (λ refused. refused.event ≡ event) }
+        ensures back { IfErr result (λ refused. refused.0 ≡ event) }
         ensures unchanged { OnErr result (self.new ≡ self.old) }
         ensures memory { OnErr result (TakesMemory self.old event) }
     {
@@ -94,7 +94,7 @@ impl Engine {
     fn step_any(&mut self, event: Event) -> Result<Reply, OutOfMemory<Event>>
         ensures reply { IfOk result (λ reply. reply ≡ (step_of self.old event).reply) }
         ensures state { OnOk result (self.new ≡ (step_of self.old event).state) }
-        ensures back { IfErr result (λ refused. refused.event ≡ event) }
+        ensures back { IfErr result (λ refused. refused.0 ≡ event) }
         ensures unchanged { OnErr result (self.new ≡ self.old) }
         ensures memory { OnErr result (TakesMemory self.old event) }
     {

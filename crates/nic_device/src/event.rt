@@ -318,9 +318,6 @@ pub type EventNote = Event<Note>;
 /// A reply as a note tells it: the same, with what a packet buffer holds in its place.
 pub type ReplyNote = Reply<Note>;
 
-/// An event that found no memory. It wasn't made, and comes back.
+/// An event that found no memory. It wasn't made, and comes back as it was passed.
 #[derive(Debug, Drop)]
-pub struct OutOfMemory<E> {
-    /// The event, as it was passed.
-    pub event: E,
-}
+pub struct OutOfMemory<E>(pub E);

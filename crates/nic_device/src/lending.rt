@@ -16,16 +16,14 @@ impl Engine {
     pub(crate) fn lend(&mut self, buf: Buf) -> Result<Reply, OutOfMemory<Event>>
         ensures reply { IfOk result (λ reply. reply ≡ (lent self.old buf).reply) }
         ensures state { OnOk result (self.new ≡ (lent self.old buf).state) }
-        ensures back { IfErr result (λ refused. refused.event ≡ Event.Lend buf) }
+        ensures back { IfErr result (λ refused. refused.0 ≡ Event.Lend buf) }
         ensures unchanged { OnErr result (self.new ≡ self.old) }
         ensures memory { OnErr result ((lent self.old buf).reply ≡ Reply.Done) }
     {
         match self.memory.lend(buf) {
             Ok(()) => Ok(Reply::Done),
             Err(LendRefused::Twice(buf)) => Ok(Reply::Twice(buf)),
-            Err(LendRefused::OutOfMemory(buf)) => Err(OutOfMemory {
-                event: Event::Lend(buf),
-            }),
+            Err(LendRefused::OutOfMemory(buf)) => Err(OutOfMemory(Event::Lend(buf))),
         }
     }
 

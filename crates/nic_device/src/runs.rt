@@ -49,7 +49,7 @@ impl Device {
                         Err(_refused) => unreachable!(),
                     }
                 }
-                Err(OutOfMemory { event }) => {
+                Err(OutOfMemory(event)) => {
                     match events.push(event) {
                         Ok(()) => {}
                         Err(_refused) => unreachable!(),

@@ -21,7 +21,7 @@ impl Engine {
     pub(crate) fn transmit(&mut self, queue: u16) -> Result<Reply, OutOfMemory<Event>>
         ensures reply { IfOk result (λ reply. reply ≡ (transmitted self.old queue).reply) }
         ensures state { OnOk result (self.new ≡ (transmitted self.old queue).state) }
-        ensures back { IfErr result (λ refused. refused.event ≡ Event.TxStep queue) }
+        ensures back { IfErr result (λ refused. refused.0 ≡ Event.TxStep queue) }
         ensures unchanged { OnErr result (self.new ≡ self.old) }
         ensures not_without_queue { OnErr result ((transmitted self.old queue).reply ≢ Reply.NoQueue) }
         ensures not_idle { OnErr result ((transmitted self.old queue).reply ≢ Reply.Idle) }
@@ -68,13 +68,11 @@ impl Engine {
             ≡ (slot_fetched self.old queue (transmit_queue_of self.old.registers queue)).reply) }
         ensures state { OnOk result (self.new
             ≡ (slot_fetched self.old queue (transmit_queue_of self.old.registers queue)).state) }
-        ensures back { IfErr result (λ refused. refused.event ≡ Event.TxStep queue) }
+        ensures back { IfErr result (λ refused. refused.0 ≡ Event.TxStep queue) }
         ensures unchanged { OnErr result (self.new ≡ self.old) }
     {
         if self.out.reserve(1).is_err() {
-            return Err(OutOfMemory {
-                event: Event::TxStep(queue),
-            });
+            return Err(OutOfMemory(Event::TxStep(queue)));
         }
         let ring = self.registers.ring(Dir::Tx, queue);
         let sending = self.sending(queue);
@@ -89,9 +87,7 @@ impl Engine {
                 fail_side(&mut self.registers, Dir::Tx, queue);
                 Ok(Reply::Fault { queue, fault })
             }
-            Err(TxRefused::OutOfMemory) => Err(OutOfMemory {
-                event: Event::TxStep(queue),
-            }),
+            Err(TxRefused::OutOfMemory) => Err(OutOfMemory(Event::TxStep(queue))),
         }
     }
 }

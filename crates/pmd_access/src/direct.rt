@@ -72,7 +72,7 @@ impl Direct {
         ensures made { OnOk result (self.new ≡ after_event self.old event) }
         ensures reply { IfOk result (λ reply. reply ≡ (step_of self.old.device event).reply) }
         ensures fits { IfOk result (λ reply. may_answer event reply ≡ true) }
-        ensures back { IfErr result (λ refused. refused.event ≡ event) }
+        ensures back { IfErr result (λ refused. refused.0 ≡ event) }
         ensures unchanged { OnErr result (self.new ≡ self.old) }
     {
         self.calls.make(alloc, &mut self.device, event)
@@ -145,8 +145,8 @@ impl Direct {
                 None => Ok(()),
                 Some(_buf) => unreachable!(),
             },
-            Err(refused) => match refused.event.into_buf() {
-                None => Err(OutOfMemory { event: () }),
+            Err(refused) => match refused.0.into_buf() {
+                None => Err(OutOfMemory(())),
                 Some(_buf) => unreachable!(),
             },
         }

@@ -27,9 +27,9 @@ pub enum PmdFault {
 
 /// The event of a refusal of memory, as that of a call.
 pub(crate) fn no_memory(refused: OutOfMemory<Event>) -> CallFault
-    ensures { result ≡ CallFault.OutOfMemory refused.event }
+    ensures { result ≡ CallFault.OutOfMemory refused.0 }
 {
-    let OutOfMemory { event } = refused;
+    let OutOfMemory(event) = refused;
     CallFault::OutOfMemory(event)
 }
 

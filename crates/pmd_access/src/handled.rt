@@ -69,7 +69,7 @@ impl Handled {
                 self.own.push_reserved(true);
                 Ok(reply)
             }
-            Err(OutOfMemory { event }) => Err(CallFault::OutOfMemory(event)),
+            Err(OutOfMemory(event)) => Err(CallFault::OutOfMemory(event)),
         }
     }
 
@@ -77,13 +77,13 @@ impl Handled {
     fn make_foreign(&mut self, alloc: Global, event: Event) -> Result<(), OutOfMemory<Event>>
         ensures made { OnOk result (self.new ≡ after_foreign self.old event) }
         ensures none { OnOk result (made_of self.new ≡ made_of self.old) }
-        ensures back { IfErr result (λ refused. refused.event ≡ event) }
+        ensures back { IfErr result (λ refused. refused.0 ≡ event) }
         ensures unchanged { OnErr result (self.new ≡ self.old) }
         ensures began { BeganAs began_handled self.old self.new }
     {
         event.is_of_a_driver();
         if self.foreign.reserve(1).is_err() || self.own.reserve(1).is_err() {
-            return Err(OutOfMemory { event });
+            return Err(OutOfMemory(event));
         }
         let reply = self.calls.make(alloc, &mut self.device, event)?;
         self.foreign.push_reserved(reply);
@@ -105,9 +105,9 @@ impl Handled {
         ensures began { BeganAs began_handled self.old self.new }
     {
         while let Some(event) = list.pop_front() {
-            if let Err(OutOfMemory { event }) = self.make_foreign(alloc, event) {
+            if let Err(OutOfMemory(event)) = self.make_foreign(alloc, event) {
                 list.push_front_reserved(event);
-                return Err(OutOfMemory { event: () });
+                return Err(OutOfMemory(()));
             }
         }
         Ok(())

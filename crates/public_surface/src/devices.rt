@@ -22,7 +22,7 @@ pub fn new_fault(fault: NewFault) -> u8 {
 }
 
 pub fn out_of_memory(refused: OutOfMemory<Event>) -> Event {
-    let OutOfMemory { event } = refused;
+    let OutOfMemory(event) = refused;
     event
 }
 

@@ -122,7 +122,7 @@ impl Trial for Stepping {
                 self.sum = with(self.sum, number_of(rt, reply));
                 true
             }
-            Err(OutOfMemory { event }) => {
+            Err(OutOfMemory(event)) => {
                 put(rt, &mut self.event, event);
                 false
             }

@@ -102,9 +102,12 @@ pub fn give_bufs(arena: &mut Arena, bufs: Bufs)
 /// What is kept of a packet that was handed out or accepted.
 #[derive(Debug, Drop)]
 pub struct Record {
-    bytes: Octets,
-    rss: u8,
-    hash: u32,
+    /// The packet's bytes.
+    pub bytes: Octets,
+    /// The number of its RSS type.
+    pub rss: u8,
+    /// Its RSS hash.
+    pub hash: u32,
 }
 
 impl Model for Record {

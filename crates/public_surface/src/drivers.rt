@@ -2,7 +2,7 @@
 
 use crate::typed::is;
 use device_lock::{CallFault, Calls, Pass, Shared};
-use nic_device::{Arena, Device, Event, Mode, Port, Reply};
+use nic_device::{Arena, Device, Event, Mode, Octets, Port, Reply};
 use pmd::{
     Bufs, Direct, Finished, Home, Interleaved, Nic, Packet, Pmd, PmdFault, Reaped, Record, Rest,
     Setup, StartRefused, StopRefused, ThroughLock, TxAnswer, TxFault,
@@ -54,8 +54,11 @@ pub fn packet(packet: &Packet) {
     is::<u32>(hash);
 }
 
-pub fn record(record: &Record) -> (&[u8], u8, u32) {
-    (record.bytes(), record.rss(), record.hash())
+pub fn record(record: &Record) {
+    let Record { bytes, rss, hash } = record;
+    is::<Octets>(bytes);
+    is::<u8>(rss);
+    is::<u32>(hash);
 }
 
 pub fn home(home: &Home) {

@@ -6,7 +6,6 @@ use Rattle.reg_table.specs.declared.rows.RowId.TheVariants as row
 use Rattle.register_file.specs.Bits.{has_bit}
 use Rattle.register_file.specs.Registers.{Registers, word_of}
 use Rattle.rx_filter.specs.Address.{destination_low, destination_high, matches, is_broadcast, is_multicast, passes}
-use Rattle.rx_filter.specs.Laws.{vector_of}
 use Rattle.rx_filter.specs.Laws as law
 use Rattle.rx_filter.specs.Pools.{selects}
 use Rattle.rx_filter.proofs.Broadcast.{broadcast_ones, broadcast_in}
@@ -16,7 +15,7 @@ use Rattle.rx_filter.proofs.Queues.{pool_of_a_frame}
 use Rattle.rx_filter.proofs.Tests.{both_hold, both_right, both_true}
 use Rattle.rx_filter.proofs.Unicast.{unicast_in}
 use Rattle.datasheet_laws.specs.Accesses.{word, holds}
-use Rattle.datasheet_laws.specs.Filter.{IsAddress, IsAddressedBy, IsAddressed, IsListed, IsLetIn, FramesAreLetIn, ChoosesPools, PoolsAreChosen}
+use Rattle.datasheet_laws.specs.Filter.{vector_of, IsAddress, IsAddressedBy, IsAddressed, IsListed, IsLetIn, FramesAreLetIn, ChoosesPools, PoolsAreChosen}
 use Rattle.datasheet_laws.proofs.Accesses.{word-at}
 
 -- a frame is let in where it passes

@@ -1,7 +1,10 @@
 pub mod Accesses
+pub mod Addresses
 pub mod Choice
 pub mod Filter
+pub mod Holes
 pub mod Mail
 pub mod Mailbox
+pub mod MailReset
 pub mod Offsets
 pub mod Table

@@ -3,7 +3,7 @@ use Rattle.std.proofs.Common.{◌≡◌, ◌≢◌, ℕ, zero, suc, ◌+◌, ◌
 use Rattle.std.specs.Prelude.{not, bit_and, min}
 use Rattle.std.specs.Int.{bit_at, w32}
 use Rattle.std.proofs.Math.Nat.{div-one}
-use Rattle.std.proofs.lemmas.Bool.{cond_both, cases_eq, eq-eqb, ne_eqb, eqb-true}
+use Rattle.std.proofs.lemmas.Bool.{cond_both, cases_eq, eq-eqb, ne_eqb, eqb-true, agree_below_at}
 use Rattle.std.proofs.lemmas.Nat.{and_le_r}
 use Rattle.std.proofs.lemmas.Nat.Bits.{bit_at_and, bit_at_not, bit_at-lt}
 use Rattle.intr_unit.specs.BitSet.{contains, only, no_bits}
@@ -29,6 +29,12 @@ use Rattle.datasheet_laws.specs.Table.{whole}
 use Rattle.datasheet_laws.proofs.Accesses.{has_bit-shown, word-at, reads-at, left-at, wrote-at}
 use Rattle.datasheet_laws.proofs.Mail.{function_takes, function_waits, function_gives_up, function_leaves, physical_frees, physical_leaves, physical_takes, physical_waits, physical_gives_up, physical_status, physical_acknowledged, told}
 use Rattle.datasheet_laws.proofs.Table.{at}
+
+-- a digit that a mask hasn't
+unmasked : (a b : ℕ) → b < 2 → (b == 1) ≡ false → (min a b == 1) ≡ false
+unmasked a zero small off = let none : min a 0 ≡ 0 = omega arith in ap (λ n. n == 1) none
+unmasked a (suc zero) small off = cc
+unmasked a (suc (suc b)) small off = absurd (omega arith)
 
 -- a word that is put stands, and another row's words stay
 put_here : (r : Registers) → HasShape r → (x : RowId) (i w : ℕ) → i < (row_of x).count
@@ -134,10 +140,17 @@ module _ (around : Surroundings) (r : Registers) (h : HasShape r) (v w : ℕ) (t
       ap (λ n. n == 1) (bit_at_and (mail_of r v) 0xC bit ∙ ap (λ n. min (bit_at (mail_of r v) bit) n) shows
       ∙ least (bit_at (mail_of r v) bit) (bit_at-lt (mail_of r v) bit))
 
+  hidden : (bit : ℕ) → bit < 32 → (bit == 2 || bit == 3) ≡ false → has_bit bit (bit_and (mail_of r v) 0xC) ≡ false
+  hidden bit low apart =
+      ap (λ n. n == 1) (bit_at_and (mail_of r v) 0xC bit)
+      ∙ unmasked (bit_at (mail_of r v) bit) (bit_at 0xC bit) (bit_at-lt 0xC bit)
+      (agree_below_at (λ n. has_bit n 0xC) (λ n. n == 2 || n == 3) 32 bit refl low ∙ apart)
+
   alike : ReadAlike around r v
   alike = record {
     function = other_reads 2 (lit< tt) ∙ cut 2 (lit< tt) refl ∙ sym (here 2 (lit< tt));
     physical = other_reads 3 (lit< tt) ∙ cut 3 (lit< tt) refl ∙ sym (here 3 (lit< tt));
+    no_more = λ bit low apart. other_reads bit low ∙ hidden bit low apart;
   }
 
   once : IsToldOnce around r v w
@@ -179,7 +192,7 @@ cleared old w bit low =
     ∙ cleared_digit (bit_at old bit) (bit_at m bit) (bit_at-lt old bit) (bit_at-lt m bit)
     ∙ ap (λ b. has_bit bit old && not b) (has_bit-shown w bit low)
 
-keep : (b c : Bool) → c ≡ false → b ≡ (b && not c)
+pub keep : (b c : Bool) → c ≡ false → b ≡ (b && not c)
 keep true false e = refl
 keep false false e = refl
 keep b true e = cc

@@ -23,10 +23,10 @@ use Rattle.datasheet_laws.specs.Table.{line_of}
 use Rattle.datasheet_laws.proofs.Table.{at, first}
 
 -- the mode by GCR_EXT bits 1 to 0
-abbrev mode_by : ℕ → Mode
+abbrev pub mode_by : ℕ → Mode
 mode_by n = if n == 0 then Off else (if n == 1 then Pools16 else (if n == 2 then Pools32 else Pools64))
 
-parted : (n v : ℕ) → n < 4 → v < pools_by n → queues_of (mode_by n) v ≡ Some (v * queues_by n, queues_by n)
+pub parted : (n v : ℕ) → n < 4 → v < pools_by n → queues_of (mode_by n) v ≡ Some (v * queues_by n, queues_by n)
 parted zero v small h = absurd (omega arith)
 parted (suc zero) v small h = cond-true (nat_lt v 16) _ _ (lt-ltb v 16 h)
 parted (suc (suc zero)) v small h = cond-true (nat_lt v 32) _ _ (lt-ltb v 32 h)

@@ -1,8 +1,7 @@
 -- Which frames are let in, and for which pool, by the addresses and bits that a driver writes.
-use Rattle.std.specs.Prelude.{ℕ, ◌≡◌, ◌≢◌, ◌<◌, ◌+◌, ◌*◌, ◌/◌, ◌%◌, ◌⊎◌, ◌↔◌, true, false, List, slice_index, Some, None, Err}
+use Rattle.std.specs.Prelude.{ℕ, ◌≡◌, ◌≢◌, ◌<◌, ◌+◌, ◌*◌, ◌/◌, ◌%◌, ◌==◌, ◌⊎◌, ◌↔◌, true, false, List, slice_index, Some, None, Err, if◌then◌else◌}
 use Rattle.register_file.specs.Bits.{has_bit}
 use Rattle.register_file.specs.Registers.{Registers}
-use Rattle.rx_filter.specs.Laws.{vector_of}
 use Rattle.rx_filter.specs.Pools.{uses_pools, takes_frames, pool_of}
 use Rattle.rx_filter.specs.Sorting.{sorted}
 use Rattle.rx_filter.specs.declared.unwanted.Unwanted.TheVariants.{Filter}
@@ -25,6 +24,15 @@ IsAddressedBy r frame i = IsAddress (word r (0x0A200 + 8 * i)) (word r (0x0A204 
 
 abbrev pub IsAddressed : Registers → List ℕ → Type 0
 IsAddressed r frame = (i : ℕ) × (i < 128 × IsAddressedBy r frame i)
+
+-- a destination's number in MTA, by MCSTCTRL bits 1 to 0: with 0 bits 47 to 36 of the address, with 1 bits 46 to 35,
+-- with 2 bits 45 to 34, and with 3 bits 43 to 32
+abbrev pub vector_of : (choice : ℕ) → List ℕ → ℕ
+vector_of choice frame =
+    if choice == 0 then (slice_index frame 4 / 16 + 16 * slice_index frame 5) % 4096
+    else (if choice == 1 then (slice_index frame 4 / 8 + 32 * slice_index frame 5) % 4096
+    else (if choice == 2 then (slice_index frame 4 / 4 + 64 * slice_index frame 5) % 4096
+    else (slice_index frame 4 + 256 * slice_index frame 5) % 4096))
 
 -- MCSTCTRL has bit 2, and MTA the bit of the destination
 pub record IsListed (r : Registers) (frame : List ℕ) (vector : ℕ) : Type 0 where

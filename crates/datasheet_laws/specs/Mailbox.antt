@@ -1,6 +1,8 @@
 -- The hand-shake of the mailboxes, in the addresses and bits that drivers of both sides use.
 use Rattle.std.specs.Prelude.{ℕ, ◌≡◌, ◌<◌, ◌+◌, ◌*◌, ◌/◌, ◌%◌, ◌==◌, ◌⊎◌, Bool, not, true, false, ◌&&◌, ◌||◌, nat_le}
+use Rattle.vf_map.specs.declared.mode.Mode.{Mode}
 use Rattle.register_file.specs.Bits.{has_bit}
+use Rattle.register_file.specs.PoolReset.{pool_reset}
 use Rattle.register_file.specs.Registers.{Registers}
 use Rattle.register_file.specs.declared.surroundings.Surroundings.{Surroundings}
 use Rattle.register_laws.specs.Sound.{HasShape}
@@ -36,10 +38,11 @@ pub record PhysicalShakes (around : Surroundings) (r : Registers) (v w : ℕ) : 
       reads around (write_at r (other v) w) (own v) 3 ≡ reads around r (own v) 3
   pub gives_up : has_bit 3 w ≡ false → reads around (write_at r (other v) w) (own v) 3 ≡ false
 
--- both sides read alike who holds the mailbox
+-- both sides read alike who holds the mailbox, and that is all that the physical function reads
 pub record ReadAlike (around : Surroundings) (r : Registers) (v : ℕ) : Type 0 where
   pub function : reads around r (other v) 2 ≡ reads around r (own v) 2
   pub physical : reads around r (other v) 3 ≡ reads around r (own v) 3
+  pub no_more : (bit : ℕ) → bit < 32 → (bit == 2 || bit == 3) ≡ false → reads around r (other v) bit ≡ false
 
 -- the physical function's bit 0, a status, is read as bit 4 by the function, and bit 1, an acknowledgement, as bit 5:
 -- until one read, which also tells once that a reset is done, bit 7, and leaves all other bits
@@ -89,3 +92,11 @@ PhysicalRaises =
     (around : Surroundings) (r : Registers) → HasShape r → (v w bit : ℕ) → v < 64 → bit < 32 →
     reads around (write_at r (other v) w) (0x00B00 + 4 * v) bit
     ≡ (reads around r (0x00B00 + 4 * v) bit || (sends w && names (word r (0x04E00 + 4 * v)) bit))
+
+-- the reset of function v's pool takes of its mailbox that the function holds it, bit 2, and what was sent to it, bits
+-- 4 and 5, and leaves all other bits
+abbrev pub PoolResetsLeave : Type 0
+PoolResetsLeave =
+    (around : Surroundings) (r : Registers) → HasShape r → (mode : Mode) (v bit : ℕ) → v < 64 → bit < 32 →
+    reads around (pool_reset mode v r) (own v) bit
+    ≡ (reads around r (own v) bit && not (bit == 2 || bit == 4 || bit == 5))

@@ -1,9 +1,10 @@
 -- What each offset of a virtual function is, by the address of the physical function that an access of it reaches.
-use Rattle.std.specs.Prelude.{ℕ, ◌≡◌, ◌<◌, ◌+◌, ◌*◌, ◌/◌, ◌%◌, ◌==◌, if◌then◌else◌}
+use Rattle.std.specs.Prelude.{ℕ, ◌≡◌, ◌<◌, ◌≤◌, ◌+◌, ◌*◌, ◌/◌, ◌%◌, ◌==◌, false, List, [], ◌∷◌, ◌++◌, map, if◌then◌else◌}
+use Rattle.std.specs.List.{flat_map, list_any, range_with_len}
 use Rattle.vf_map.specs.Map.{mapped}
 use Rattle.vf_map.specs.Pools.{mode_of}
 use Rattle.vf_map.specs.declared.mode.Mode.{Mode}
-use Rattle.vf_map.specs.declared.mapped.Mapped.TheVariants.{Pf}
+use Rattle.vf_map.specs.declared.mapped.Mapped.TheVariants.{Absent, Hole, Pf}
 use Rattle.datasheet_laws.specs.Table.{halves}
 
 -- how many pools GCR_EXT bits 1 to 0 make, and how many queues each of them has
@@ -66,3 +67,30 @@ abbrev pub OffsetsAreListed : Type 0
 OffsetsAreListed =
     (gcr_ext vfs v : ℕ) → v < vfs → v < pools_by (gcr_ext % 4) →
     HasOffsets (mode_of gcr_ext) vfs v (queues_by (gcr_ext % 4))
+
+-- the offsets of queue x of a function
+abbrev pub queue_offsets : (x : ℕ) → List ℕ
+queue_offsets x =
+    map (λ behind. 0x1000 + 0x40 * x + behind) (0x00 ∷ 0x04 ∷ 0x08 ∷ 0x10 ∷ 0x14 ∷ 0x18 ∷ 0x28 ∷ [])
+    ++ map (λ behind. 0x2000 + 0x40 * x + behind)
+    (0x00 ∷ 0x04 ∷ 0x08 ∷ 0x10 ∷ 0x18 ∷ 0x28 ∷ 0x38 ∷ 0x3C ∷ [])
+
+-- all offsets of a function with k queues: of the registers that it has once, of its mailbox memory, of its vectors,
+-- and of its queues
+abbrev pub offsets_of : (k : ℕ) → List ℕ
+offsets_of k =
+    (0x0000 ∷ 0x0008 ∷ 0x0010 ∷ 0x0100 ∷ 0x0104 ∷ 0x0108 ∷ 0x010C ∷ 0x0110 ∷ 0x0114 ∷ 0x0140 ∷ 0x02FC ∷ 0x0300
+    ∷ 0x101C ∷ 0x201C ∷ [])
+    ++ map (λ x. 0x0200 + 4 * x) (range_with_len 0 16) ++ map (λ x. 0x0120 + 4 * x) (range_with_len 0 (k / 2))
+    ++ flat_map queue_offsets (range_with_len 0 k)
+
+-- of a function that isn't there, or has no pool, each offset is absent; of any other one that isn't listed is a hole
+pub record HasNoOther (gcr_ext vfs v offset : ℕ) : Type 0 where
+  pub absent : vfs ≤ v → mapped (mode_of gcr_ext) vfs v offset ≡ Absent
+  pub no_pool : pools_by (gcr_ext % 4) ≤ v → mapped (mode_of gcr_ext) vfs v offset ≡ Absent
+  pub hole : v < vfs → v < pools_by (gcr_ext % 4) →
+      list_any (λ o. o == offset) (offsets_of (queues_by (gcr_ext % 4))) ≡ false →
+      mapped (mode_of gcr_ext) vfs v offset ≡ Hole
+
+abbrev pub OtherOffsetsAreHoles : Type 0
+OtherOffsetsAreHoles = (gcr_ext vfs v offset : ℕ) → HasNoOther gcr_ext vfs v offset

@@ -1,12 +1,14 @@
 -- The registers as a driver's author finds them listed, a second time and by hand: no generator writes this file, and
 -- no line of it is taken from the table that the code searches.
-use Rattle.std.specs.Prelude.{ℕ, ◌≡◌, ◌<◌, ◌+◌, ◌-◌, ◌*◌, List, codes, nat_lt, Some, if◌then◌else◌}
+use Rattle.std.specs.Prelude.{ℕ, ◌≡◌, ◌<◌, ◌+◌, ◌-◌, ◌*◌, ◌⊎◌, List, [], ◌∷◌, codes, nat_lt, Some, if◌then◌else◌}
 use Rattle.reg_table.specs.Access.{access, access_at}
 use Rattle.reg_table.specs.Place.{address_among}
 use Rattle.reg_table.specs.Rows.{row_of}
 use Rattle.reg_table.specs.Runs.{runs}
+use Rattle.reg_table.specs.declared.access.Access.{Access}
 use Rattle.reg_table.specs.declared.kind.Kind.{Kind}
 use Rattle.reg_table.specs.declared.kind.Kind.TheVariants as kind
+use Rattle.reg_table.specs.declared.place.Place.{Place}
 use Rattle.reg_table.specs.declared.rows.RowId.{RowId}
 use Rattle.reg_table.specs.declared.rows.RowId.TheVariants.{Ctrl, Status, CtrlExt, Ledctl, Pvfctrl, Pfmbicr, Pfmbimr, Eicr, Eics, Eiac, Eitr, Eims, Eimc, Eiam, Gpie, Ivar, IvarMisc, Pvteicr, Pvteics, Pvteims, Pvteimc, Pvteiac, Pvteiam, Rdbal, Rdbah, Rdlen, Rdh, Srrctl, Rdt, Rxdctl, Vfgprc, Qprc, Qprdc, Rqsmr, Rdrxctl, Rxctrl, Mpc, Gprc, Gptc, Ruc, Roc, Hlreg0, Maxfrs, Autoc, Links, Dmatxctl, Pfmailbox, Pvfmailbox, PvtivarMisc, Rxcsum, Fctrl, Mcstctrl, VtCtl, Vfre, Vfte, Mta, Ral, Rah, Mrqc, Reta, Rssrk, Tdbal, Tdbah, Tdlen, Tdh, Tdt, Txdctl, Tdwbal, Tdwbah, Qptc, Mtqc, Vfgptc, Tqsm, Mpsar, Psrtype, Eec, Eerd, GcrExt, Pvtivar, Pfmbmem}
 
@@ -148,3 +150,33 @@ pub record HasLowViews : Type 0 where
   pub masks : access_at 0x00AA0 ≡ Some (access Eims 0 0xFFFF)
   pub masks_cleared : access_at 0x00AB0 ≡ Some (access Eimc 0 0xFFFF)
   pub auto_mask : access_at 0x00AD0 ≡ Some (access Eiam 0 0xFFFF)
+
+-- so many addresses at equal steps
+pub record Series : Type 0 where
+  pub first : ℕ
+  pub step : ℕ
+  pub count : ℕ
+
+abbrev pub stepping : (first step count : ℕ) → Series
+stepping first step count = record { first = first; step = step; count = count }
+
+abbrev pub IsAmong : List Series → (address : ℕ) → Type 0
+IsAmong [] address = ⊥
+IsAmong (s ∷ more) address = ((i : ℕ) × (i < s.count × (address ≡ s.first + s.step * i))) ⊎ IsAmong more address
+
+-- all further addresses, and those that show bits 15 to 0 alone
+abbrev pub further_addresses : List Series
+further_addresses =
+    stepping 0x00004 4 1 ∷ stepping 0x02100 4 16 ∷ stepping 0x05400 8 16 ∷ stepping 0x05404 8 16
+    ∷ stepping 0x05480 4 16 ∷ stepping 0x0EB00 4 32 ∷ stepping 0x0EB80 4 10 ∷ stepping 0x0EC80 4 1
+    ∷ stepping 0x00A90 4 1 ∷ stepping 0x00AA0 4 1 ∷ stepping 0x00AB0 4 1 ∷ stepping 0x00AD0 4 1 ∷ []
+
+-- an address is the first of a register, by its line
+abbrev pub IsFirst : (address : ℕ) → Place → Type 0
+IsFirst address p = p.index < (line_of p.row).count × (address ≡ (line_of p.row).address p.index)
+
+-- no other address meets a register
+abbrev pub OtherAddressesMeetNone : Type 0
+OtherAddressesMeetNone =
+    (address : ℕ) (a : Access) → access_at address ≡ Some a →
+    IsFirst address a.place ⊎ IsAmong further_addresses address

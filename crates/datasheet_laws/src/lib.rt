@@ -8,8 +8,9 @@
 ghost use Rattle.datasheet_laws.specs.Choice.{TypesAreChosen, QueuesAreChosen, ResetsAreAsked};
 ghost use Rattle.datasheet_laws.specs.Filter.{FramesAreLetIn, PoolsAreChosen};
 ghost use Rattle.datasheet_laws.specs.Mailbox.{MailboxesShake, OnesAreCleared, FunctionsRaise, PhysicalRaises};
-ghost use Rattle.datasheet_laws.specs.Offsets.{OffsetsAreListed};
-ghost use Rattle.datasheet_laws.specs.Table.{RegistersAreListed, HasAliases, HasLowViews};
+ghost use Rattle.datasheet_laws.specs.Mailbox.{PoolResetsLeave};
+ghost use Rattle.datasheet_laws.specs.Offsets.{OffsetsAreListed, OtherOffsetsAreHoles};
+ghost use Rattle.datasheet_laws.specs.Table.{RegistersAreListed, HasAliases, HasLowViews, OtherAddressesMeetNone};
 
 /// Each register has the name, number of indices, kind, mask and reset value that are listed by hand, and lies at the
 /// addresses that are: the first ones, further ones, and those that show bits 15 to 0 alone.
@@ -19,16 +20,27 @@ pub fn registers_are_listed()
     ensures low { HasLowViews }
 {}
 
+/// No other address meets a register: one that does is listed by hand.
+pub fn other_addresses_meet_none()
+    ensures { OtherAddressesMeetNone }
+{}
+
 /// Each offset of a virtual function reaches the physical function's address that is listed by hand: of the registers
 /// that it has once, of its mailbox memory, of its vectors, and of each of its queues, in 16, 32 and 64 pools.
 pub fn offsets_are_listed()
     ensures { OffsetsAreListed }
 {}
 
+/// An offset that isn't listed is a hole. Of a function from the number of those that there are on, and of one whose
+/// pool GCR_EXT bits 1 to 0 don't make, each offset is absent.
+pub fn other_offsets_are_holes()
+    ensures { OtherOffsetsAreHoles }
+{}
+
 /// A write of 0x04C00 + 4v, PVFMAILBOX[v], with bit 2 takes the mailbox for the function where bit 3 reads 0, and
 /// without gives it up; one of 0x04B00 + 4v, PFMAILBOX[v], frees it with bit 4, takes it for the physical function with
-/// bit 3 where bit 2 reads 0, or no longer 1, and without gives it up. Both sides read who holds it. Bits 0 and 1 of
-/// the latter are read as bits 4 and 5 of the former, until one read.
+/// bit 3 where bit 2 reads 0, or no longer 1, and without gives it up. Both sides read who holds it, and the physical
+/// function reads no more. Bits 0 and 1 of the latter are read as bits 4 and 5 of the former, until one read.
 pub fn mailboxes_shake()
     ensures { MailboxesShake }
 {}
@@ -45,6 +57,11 @@ pub fn ones_are_cleared()
 pub fn mailboxes_raise_causes()
     ensures physical { FunctionsRaise }
     ensures function { PhysicalRaises }
+{}
+
+/// The reset of function v's pool clears bits 2, 4 and 5 of PVFMAILBOX[v], and no other bit there.
+pub fn pool_resets_leave_mailboxes()
+    ensures { PoolResetsLeave }
 {}
 
 /// A frame to one station is let in exactly where bit 9 of FCTRL, at 0x05080, is 1 or one of the 128 addresses is its

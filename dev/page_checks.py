@@ -21,7 +21,7 @@ def words(selector: str) -> str:
 class Look:
     """A page in the browser, with its data and what is told of a fault."""
 
-    def __init__(self, browser: Browser, file: Path, name: str, data: dict[str, Any], expect: Expect):
+    def __init__(self, browser: Browser, file: Path, name: str, data: dict[str, Any], expect: Expect) -> None:
         self.browser, self.file, self.name, self.data, self.told = browser, file, name, data, expect
         self.count = len(data["steps"])
 
@@ -76,7 +76,7 @@ def check_opening(look: Look) -> None:
 
 
 def check_finding(look: Look) -> None:
-    """That an explorer's script opens at the step of its finding, whose words stand on top, and that it says who acts."""
+    """That an explorer's script opens at the step of its finding, whose words stand on top, and says who acts."""
     found = look.data["finding"]
     look.browser.size(1_280, 800, False)
     look.browser.load(look.file)

@@ -83,7 +83,7 @@ USES = [
     (["nicview", "-", "--text"], "w RDLEN[0] 128\nw RDH[0] 9\n", 0, "????????  H 9 (no slot of the ring)\n"),
     (["nicview", "-", "--svg", "1"], "w RDLEN[0] 128\nw RDT[0] 8\n", 0, "tail 8: no slot"),
     (["nicview", "dev/views/found.nic", "--text"], "", 0, "FAILED end, after step 16: a frame lies in the ring"),
-    (["nicview", "-", "--text"], "# CUT: it is long\n# FAILED fault: x\n", 0, "  the script ends before that: it is long\n"),
+    (["nicview", "-", "--text"], "# CUT: long\n# FAILED fault: x\n", 0, "  the script ends before that: long\n"),
     (["nicview", "dev/views/loop.nic", "--text"], "", 1, "* acc is 0x00000003 since step 35, `r GPRC`; 0x00000004 is"),
     (["niclint", "examples/fault.nic"], "", 2, "no register NOSUCH"),
     (["niclint", "-"], "w RDTX[1] 1\n", 2, "near: RDT"),

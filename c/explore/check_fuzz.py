@@ -1,5 +1,5 @@
-"""Checks the harness for fuzzers: a schedule by an input is replayed by the scenario's own program, and libFuzzer, where
-clang has it, finds the example's race. `c/test` calls it."""
+"""Checks the harness for fuzzers: a schedule by an input is replayed by the scenario's own program, and libFuzzer,
+where clang has it, finds the example's race. `c/test` calls it."""
 
 from __future__ import annotations
 

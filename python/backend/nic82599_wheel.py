@@ -16,12 +16,15 @@ import time
 import tomllib
 import zipfile
 from pathlib import Path
+from typing import NoReturn
 
 HERE = Path(__file__).resolve().parents[1]
 ROOT = HERE.parent
 SUFFIXES = (".py", ".html", ".js", ".css", ".typed")
 SONAME = "libnic82599.so.0"
 EARLIEST = 315_532_800
+# What pip was told by --config-settings: nothing here asks for it.
+Settings = dict[str, str | list[str]]
 
 
 class UnsupportedOperation(Exception):
@@ -123,7 +126,9 @@ def built_program() -> Path | None:
 # --- what pip calls ---
 
 
-def build_wheel(wheel_directory, config_settings=None, metadata_directory=None):
+def build_wheel(
+    wheel_directory: str, config_settings: Settings | None = None, metadata_directory: str | None = None
+) -> str:
     make_library()
     binaries = {f"nic82599/{SONAME}": (ROOT / "c/out/libnic82599.so").read_bytes()}
     program = built_program()
@@ -132,9 +137,11 @@ def build_wheel(wheel_directory, config_settings=None, metadata_directory=None):
     return write_wheel(Path(wheel_directory), version(), modules(), binaries)
 
 
-def build_editable(wheel_directory, config_settings=None, metadata_directory=None):
+def build_editable(
+    wheel_directory: str, config_settings: Settings | None = None, metadata_directory: str | None = None
+) -> str:
     return write_wheel(Path(wheel_directory), version(), {"nic82599.pth": f"{HERE}\n".encode()}, {})
 
 
-def build_sdist(sdist_directory, config_settings=None):
+def build_sdist(sdist_directory: str, config_settings: Settings | None = None) -> NoReturn:
     raise UnsupportedOperation("the package is made of a clone, whose C library it holds: there is no sdist")

@@ -12,9 +12,15 @@ NAME.nic, the device's side of it, which nicview draws. --nic-jobs N has N proce
 
 from __future__ import annotations
 
+from collections.abc import Generator
+from typing import TYPE_CHECKING
+
 import pytest
 
 from .explore import BadSchedule, Failure, Scenario, replay, search
+
+if TYPE_CHECKING:
+    from pluggy import Result
 
 WORDS = ("runs", "seed", "strategy", "depth", "preemptions", "hang", "shrink", "jobs")
 
@@ -82,7 +88,9 @@ def pytest_pyfunc_call(pyfuncitem: pytest.Function) -> bool | None:
 
 
 @pytest.hookimpl(hookwrapper=True)
-def pytest_runtest_makereport(item: pytest.Item, call: pytest.CallInfo[None]):
+def pytest_runtest_makereport(
+    item: pytest.Item, call: pytest.CallInfo[None]
+) -> Generator[None, Result[pytest.TestReport], None]:
     """A failure of a schedule is told by itself: where the search raised it says nothing."""
     outcome = yield
     if call.excinfo is not None and isinstance(call.excinfo.value, (Failure, BadSchedule)):

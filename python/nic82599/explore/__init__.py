@@ -340,7 +340,7 @@ class Scenario:
 class Failure(AssertionError):
     """A schedule that fails, and where its file is, if it has one."""
 
-    def __init__(self, result: Result, told: str, path: Path | None):
+    def __init__(self, result: Result, told: str, path: Path | None) -> None:
         shown = "".join(f"    {name:<24} # {words}\n" for name, words in result.points)
         where = f"the schedule, also in {path}" if path else "the schedule"
         super().__init__(f"{result.outcome}: {result.words}\n{told}; {where}:\n{shown}")
@@ -386,7 +386,7 @@ def read_schedule(path: str | Path, scenario: Scenario) -> tuple[list[str], list
 class Search:
     """A scenario whose device is up, to make schedules with. It ends by `close`, or at the end of a `with`."""
 
-    def __init__(self, scenario: Scenario, hang: float = 10, script: Script | None = None):
+    def __init__(self, scenario: Scenario, hang: float = 10, script: Script | None = None) -> None:
         self.scenario, self.hang, self.is_cut = scenario, hang, False
         scenario._run, scenario._script = None, script
         if not NAME.fullmatch(scenario.name):
@@ -458,7 +458,8 @@ class _Plan:
             mixed = "priorities" if number >= FIRST and number % 2 else "random"
             way = mixed if self.strategy == "mixed" else self.strategy
             is_random, seed = way == "random", self.seed
-            result = searching.run(by_chance(seed, number) if is_random else by_priority(seed, number, self.depth, length))
+            choose = by_chance(seed, number) if is_random else by_priority(seed, number, self.depth, length)
+            result = searching.run(choose)
             length = max(length, len(result.points)) if number < FIRST else length
             if result.outcome != "fine":
                 return Found(number, result, f"found by {way} in run {number} of seed {self.seed}")

@@ -108,7 +108,7 @@ def reply(event: Event | None) -> str:
 class Run:
     """A schedule of a scenario, whose controller is as its bring-up left it."""
 
-    def __init__(self, scenario: Scenario, nic: Nic, choose: Choose, hang: float):
+    def __init__(self, scenario: Scenario, nic: Nic, choose: Choose, hang: float) -> None:
         self.scenario, self.nic, self.choose, self.hang = scenario, nic, choose, hang
         self.result = Result()
         self.threads: list[Thread] = []

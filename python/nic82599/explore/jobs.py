@@ -32,7 +32,7 @@ Work = Callable[[int, Over], Found | None]
 class _Shared:
     """What the processes see of each other: the lowest rank that failed, and where each is."""
 
-    def __init__(self, jobs: int):
+    def __init__(self, jobs: int) -> None:
         self.memory = mmap.mmap(-1, 8 * (jobs + 1))
         self.put(0, NONE)
 

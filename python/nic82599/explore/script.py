@@ -63,7 +63,7 @@ def number(word: int) -> str:
 class Script:
     """A script that grows step by step, up to a script's limits."""
 
-    def __init__(self, scenario: Scenario, result: Result):
+    def __init__(self, scenario: Scenario, result: Result) -> None:
         self.result = result
         self.instructions = self.strings = 0
         self.cut = ""

@@ -75,7 +75,7 @@ class Exhaustive:
     """All schedules with at most so many preemptions: that another acts while the one that acted last could go on. Of
     several searches each takes its share: at a point of the first schedule each choice is of one of them."""
 
-    def __init__(self, preemptions: int, mine: int = 0, jobs: int = 1):
+    def __init__(self, preemptions: int, mine: int = 0, jobs: int = 1) -> None:
         self.preemptions, self.mine, self.jobs = preemptions, mine, jobs
         self.stack: list[_Node] = []
         self.at = self.rank = 0

@@ -35,7 +35,7 @@ class Access:
 class Advice:
     """The warnings for a script."""
 
-    def __init__(self, script: Script):
+    def __init__(self, script: Script) -> None:
         self.script = script
         self.writes: list[Access] = []
         self.strays: list[int] = []

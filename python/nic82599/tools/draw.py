@@ -21,7 +21,7 @@ UNKNOWN = ("not read", "not lent")
 class State:
     """The machine while a run is told step by step."""
 
-    def __init__(self, run: Run):
+    def __init__(self, run: Run) -> None:
         self.run = run
         self.words = dict(run.start)
         self.memory: dict[int, bytes | None] = {}

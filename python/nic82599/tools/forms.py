@@ -79,7 +79,7 @@ def words_of(line: str) -> list[tuple[int, str]]:
 class Looker:
     """Looks at the line that was refused."""
 
-    def __init__(self, text: str, refused: Refused):
+    def __init__(self, text: str, refused: Refused) -> None:
         self.lines, self.refused = text.split("\n"), refused
         at = refused.line - 1
         self.line = self.lines[at] if 0 <= at < len(self.lines) else ""

@@ -118,7 +118,7 @@ def _leaves_memory(one: Instruction, step: Step) -> bool:
 class Replay:
     """Runs of the steps of a trace in their order, with further lines between and behind them."""
 
-    def __init__(self, trace: Trace):
+    def __init__(self, trace: Trace) -> None:
         self.trace = trace
         self.steps = [step for step in trace.steps if is_event(trace.instruction(step))]
         self.short = [step for step in self.steps if not _leaves_memory(trace.instruction(step), step)]
@@ -182,7 +182,7 @@ class Replay:
 class Watch:
     """Which 16 bytes of lent memory to ask for after each step: those of the rings in use that may have changed."""
 
-    def __init__(self, trace: Trace, sides: list[tuple[str, int]]):
+    def __init__(self, trace: Trace, sides: list[tuple[str, int]]) -> None:
         self.trace, self.sides = trace, sides
         self.words = dict(trace.start)
         self.lent = set(trace.lent)

@@ -8,9 +8,12 @@ one queue are taken. Other lines are passed by; standard error tells how many fr
 frame isn't one, or the file can't be written.
 """
 
+from __future__ import annotations
+
 import argparse
 import re
 import sys
+from collections.abc import Iterable, Iterator
 
 from ..pcap import HEADER, record_of
 from .tool import called
@@ -22,7 +25,7 @@ class NoFrame(Exception):
     """A line that begins as that of a frame, and isn't one."""
 
 
-def frames_in(lines):
+def frames_in(lines: Iterable[str]) -> Iterator[tuple[int, int, bytes]]:
     """The instruction's number, the queue and the bytes of each frame."""
     for line in lines:
         line = line.rstrip("\r\n")
@@ -33,7 +36,7 @@ def frames_in(lines):
             yield int(found[1]), int(found[2]), bytes.fromhex(found[3])
 
 
-def command():
+def command() -> int:
     how = {"description": called(__doc__ or ""), "formatter_class": argparse.RawDescriptionHelpFormatter}
     parser = argparse.ArgumentParser(prog=called("tools/nic2pcap"), **how)
     parser.add_argument("out", metavar="OUT.pcap")

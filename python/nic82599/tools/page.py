@@ -123,7 +123,7 @@ def _descriptors(run: Run) -> dict[str, list[Any]]:
 class Data:
     """The data of a page, step by step."""
 
-    def __init__(self, run: Run):
+    def __init__(self, run: Run) -> None:
         self.run = run
         self.texts, self.packets = Table(), Table()
         self.told: dict[str, list[tuple[str, str]]] = {}

@@ -14,8 +14,11 @@ with status 1; so does a capture of another link than Ethernet, and a file that 
     cat setup.nic arrivals.nic | ./nicbench run
 """
 
+from __future__ import annotations
+
 import argparse
 import sys
+from collections.abc import Iterable, Iterator
 
 from ..pcap import NoCapture, frames_of
 from .tool import called
@@ -23,7 +26,7 @@ from .tool import called
 LONGEST, MOST = 16384, 1024
 
 
-def chosen(frames, first, count):
+def chosen(frames: Iterable[bytes], first: int, count: int | None) -> Iterator[tuple[int, bytes]]:
     """The frames with these numbers, each with its own."""
     for number, frame in enumerate(frames, 1):
         if count is not None and number >= first + count:
@@ -34,7 +37,7 @@ def chosen(frames, first, count):
             yield number, frame
 
 
-def arguments():
+def arguments() -> argparse.Namespace:
     how = {"description": called(__doc__ or ""), "formatter_class": argparse.RawDescriptionHelpFormatter}
     parser = argparse.ArgumentParser(prog=called("tools/pcap2nic"), **how)
     parser.add_argument("file", metavar="FILE")
@@ -45,7 +48,7 @@ def arguments():
     return parser.parse_args()
 
 
-def command():
+def command() -> int:
     given = arguments()
     try:
         source = sys.stdin.buffer if given.file == "-" else open(given.file, "rb")

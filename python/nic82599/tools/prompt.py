@@ -55,7 +55,7 @@ class Wrong(Exception):
 class Session:
     """The commands taken so far, and the place to which they lead."""
 
-    def __init__(self, bench: Bench, script: Script, text: str, limit: int):
+    def __init__(self, bench: Bench, script: Script, text: str, limit: int) -> None:
         self.bench, self.script, self.text, self.limit = bench, script, text, limit
         self.steps, self.last = made(bench, script, bench.run(text, limit), limit)
         self.numbers = script.text()

@@ -49,7 +49,7 @@ def _wait(count: int) -> str:
 class Reasons:
     """The reasons of the steps of a run, made in their order."""
 
-    def __init__(self, trace: Trace, seen: Seen):
+    def __init__(self, trace: Trace, seen: Seen) -> None:
         self.trace, self.seen = trace, seen
         self.words: Words = dict(trace.start)
         self.waiting: list[int] = []

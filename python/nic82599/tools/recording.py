@@ -160,7 +160,7 @@ class Library(Bench):
 
     most = 1 << 40
 
-    def __init__(self, nic: Nic, kept: Snapshot):
+    def __init__(self, nic: Nic, kept: Snapshot) -> None:
         super().__init__(nic.vfs, nic.fifo)
         self.nic, self.kept = nic, kept
 
@@ -235,7 +235,7 @@ def read(path: str, limit: int) -> Recording:
 class Player:
     """Makes a recording again, line by line, up to what is shown."""
 
-    def __init__(self, recording: Recording):
+    def __init__(self, recording: Recording) -> None:
         self.recording = recording
         nic82599.record(None)  # (else the environment may name the very file)
         self.nic = Nic(recording.vfs, recording.fifo, recording.blocks)

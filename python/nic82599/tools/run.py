@@ -116,7 +116,7 @@ def of_trace(run: Trace) -> Run:
 
 
 def of_script(bench: Bench, path: str, limit: int = 4_096) -> Run:
-    """The run of the script in a file, of at most so many steps. An explorer's script brings the sizes of its device."""
+    """The run of the script in a file, of at most so many steps. An explorer's script brings its device's sizes."""
     text = read_text(path)
     sizes = None if bench.options else sizes_of(text.split("\n", 2))
     return of_trace(trace(Bench(*sizes) if sizes else bench, path, text, limit))

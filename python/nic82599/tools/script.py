@@ -19,7 +19,7 @@ LIMIT = 8_388_608
 class Fault(Exception):
     """Something that the user can mend: one line that says what to do. Of the program where it gave no answer."""
 
-    def __init__(self, line: str, is_of_program: bool = False):
+    def __init__(self, line: str, is_of_program: bool = False) -> None:
         super().__init__(line)
         self.is_of_program = is_of_program
 
@@ -27,7 +27,7 @@ class Fault(Exception):
 class Refused(Exception):
     """The bench refuses the input: by this name, at this line, or 0."""
 
-    def __init__(self, name: str, line: int):
+    def __init__(self, name: str, line: int) -> None:
         super().__init__(f"refused {name}" + (f" {line}" if line else ""))
         self.name, self.line = name, line
 
@@ -118,7 +118,7 @@ class Bench:
     is_made = False
     most = 4_096
 
-    def __init__(self, vfs: int | None = None, fifo: int | None = None):
+    def __init__(self, vfs: int | None = None, fifo: int | None = None) -> None:
         self.vfs, self.fifo = vfs or 0, 64 if fifo is None else fifo
         self.options: list[str] = []
         for name, value in (("--vfs", vfs), ("--fifo", fifo)):

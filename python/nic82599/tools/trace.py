@@ -115,7 +115,7 @@ def not_as_reset(start: dict[int, int]) -> set[int]:
 class Plan:
     """Which registers to ask for after a step. `start` has the registers before the first one, if they are known."""
 
-    def __init__(self, bench: Bench, script: Script, start: dict[int, int]):
+    def __init__(self, bench: Bench, script: Script, start: dict[int, int]) -> None:
         self.vfs = bench.vfs
         changed = not_as_reset(start)
         self.seen: set[int] = {first("STATUS"), first("LINKS"), first("EEC")} | changed

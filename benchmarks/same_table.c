@@ -29,19 +29,16 @@ __attribute__((noinline)) static uint32_t read_register(uint32_t address)
     if (!e)
         return 0;
     switch (e->kind) {
-    case CALC:
-        return e->address == 8 ? (cells[0] & 4 ? 0 : 0x00080000) : e->address == 0x10010 ? 0x300 : 0x70000000;
+    case CALC: return e->address == 8 ? (cells[0] & 4 ? 0 : 0x00080000) : e->address == 0x10010 ? 0x300 : 0x70000000;
     case SET:
     case CLEAR:
-    case VRESET:
-        return 0;
+    case VRESET: return 0;
     case RC:
     case CAUSE:
         word = cells[e->cell];
         cells[e->cell] = 0;
         return word & e->view;
-    default:
-        return cells[e->cell] & e->view;
+    default: return cells[e->cell] & e->view;
     }
 }
 
@@ -59,27 +56,16 @@ __attribute__((noinline)) static int write_register(uint32_t address, uint32_t w
     switch (e->kind) {
     case RO:
     case CALC:
-    case RC:
-        break;
+    case RC: break;
     case VRESET:
         if (word & 0x04000000)
             memset(cells, 0, sizeof cells / 64);
         break;
-    case EERD:
-        cells[e->cell] = word & 0xfffd;
-        break;
-    case CAUSE:
-        cells[e->cell] &= ~(word & e->view);
-        break;
-    case ONES:
-        cells[e->cell] |= word & e->mask & e->view;
-        break;
-    case SET:
-        cells[e->target] |= word & 0x7fffffff & e->view;
-        break;
-    case CLEAR:
-        cells[e->target] &= ~(word & e->view);
-        break;
+    case EERD: cells[e->cell] = word & 0xfffd; break;
+    case CAUSE: cells[e->cell] &= ~(word & e->view); break;
+    case ONES: cells[e->cell] |= word & e->mask & e->view; break;
+    case SET: cells[e->target] |= word & 0x7fffffff & e->view; break;
+    case CLEAR: cells[e->target] &= ~(word & e->view); break;
     case HELD:
         if (!(cells[e->enable] & 0x02000000))
             store(e, word);
@@ -94,8 +80,7 @@ __attribute__((noinline)) static int write_register(uint32_t address, uint32_t w
         else
             store(e, word);
         break;
-    default:
-        store(e, word);
+    default: store(e, word);
     }
     return 1;
 }

@@ -2,10 +2,12 @@
 #include "nic82599.h"
 #include "proved.h"
 
-const char *nic_version(void) {
+const char *nic_version(void)
+{
     return NIC82599_VERSION;
 }
 
-bool nic_is_proved(void) {
+bool nic_is_proved(void)
+{
     return NIC_PROVED;
 }

@@ -26,12 +26,14 @@ static long refuse_growth, refuse_thread, fail_io, short_io;
 static int within, tell = -1, ready;
 static atomic_int counting;
 
-static long number(const char *name) {
+static long number(const char *name)
+{
     const char *text = getenv(name);
     return text ? atol(text) : 0;
 }
 
-__attribute__((constructor)) static void begin(void) {
+__attribute__((constructor)) static void begin(void)
+{
     refuse_growth = number("REFUSE_GROWTH");
     refuse_thread = number("REFUSE_THREAD");
     fail_io = number("FAIL_IO");
@@ -42,11 +44,12 @@ __attribute__((constructor)) static void begin(void) {
     ready = 1;
 }
 
-__attribute__((destructor)) static void finish(void) {
+__attribute__((destructor)) static void finish(void)
+{
     char line[200];
-    int length = snprintf(line, sizeof line,
-                          "growths %ld threads %ld transfers %ld refused %ld held %ld of_thread %ld\n", growths,
-                          threads, transfers, refused, held, of_thread);
+    int length =
+        snprintf(line, sizeof line, "growths %ld threads %ld transfers %ld refused %ld held %ld of_thread %ld\n",
+                 growths, threads, transfers, refused, held, of_thread);
     counting = 0;
     if (tell >= 0)
         syscall(SYS_write, tell, line, length);
@@ -54,14 +57,16 @@ __attribute__((destructor)) static void finish(void) {
 }
 
 /* A program with threads ends by this, and nothing that is registered for its end is called. */
-__attribute__((noreturn)) void _exit(int status) {
+__attribute__((noreturn)) void _exit(int status)
+{
     finish();
     syscall(SYS_exit_group, status);
     __builtin_unreachable();
 }
 
 /* Whether this growth is the one that is refused. */
-static int is_refused(void) {
+static int is_refused(void)
+{
     if (!ready || !counting || ++growths != refuse_growth)
         return 0;
     refused++;
@@ -69,7 +74,8 @@ static int is_refused(void) {
     return 1;
 }
 
-void *malloc(size_t size) {
+void *malloc(size_t size)
+{
     if (is_refused())
         return NULL;
     void *block = __libc_malloc(size);
@@ -77,13 +83,15 @@ void *malloc(size_t size) {
     return block;
 }
 
-void *calloc(size_t count, size_t size) {
+void *calloc(size_t count, size_t size)
+{
     void *block = __libc_calloc(count, size);
     held += block != NULL;
     return block;
 }
 
-void *realloc(void *former, size_t size) {
+void *realloc(void *former, size_t size)
+{
     if (is_refused())
         return NULL;
     void *block = __libc_realloc(former, size);
@@ -91,12 +99,14 @@ void *realloc(void *former, size_t size) {
     return block;
 }
 
-void free(void *block) {
+void free(void *block)
+{
     held -= block != NULL;
     __libc_free(block);
 }
 
-int pthread_create(pthread_t *thread, const pthread_attr_t *how, void *(*start)(void *), void *of) {
+int pthread_create(pthread_t *thread, const pthread_attr_t *how, void *(*start)(void *), void *of)
+{
     static int (*real)(pthread_t *, const pthread_attr_t *, void *(*)(void *), void *);
     if (!real)
         *(void **)&real = dlsym(RTLD_NEXT, "pthread_create");
@@ -110,7 +120,8 @@ int pthread_create(pthread_t *thread, const pthread_attr_t *how, void *(*start)(
 }
 
 /* What becomes of a transfer of so many bytes: -1 where it fails, else how many of them are asked for. */
-static ssize_t asked(size_t count) {
+static ssize_t asked(size_t count)
+{
     long this = ++transfers;
     if (this == fail_io) {
         refused++;
@@ -124,7 +135,8 @@ static ssize_t asked(size_t count) {
     return (ssize_t)count;
 }
 
-ssize_t read(int file, void *bytes, size_t count) {
+ssize_t read(int file, void *bytes, size_t count)
+{
     static ssize_t (*real)(int, void *, size_t);
     if (!real)
         *(void **)&real = dlsym(RTLD_NEXT, "read");
@@ -133,7 +145,8 @@ ssize_t read(int file, void *bytes, size_t count) {
 }
 
 /* Growths count behind a line `call` and before the next line. */
-static void look(const char *bytes, size_t count) {
+static void look(const char *bytes, size_t count)
+{
     static char line[8];
     static size_t length;
     for (size_t at = 0; at < count; at++) {
@@ -148,7 +161,8 @@ static void look(const char *bytes, size_t count) {
     }
 }
 
-ssize_t write(int file, const void *bytes, size_t count) {
+ssize_t write(int file, const void *bytes, size_t count)
+{
     static ssize_t (*real)(int, const void *, size_t);
     if (!real)
         *(void **)&real = dlsym(RTLD_NEXT, "write");

@@ -45,21 +45,22 @@ typedef struct nic_kept {
 /* What a call returns, as uint8_t. */
 enum nic_status {
     /* the device's replies; NOT_LENT, NO_QUEUE and NO_GROUP refuse the call, and nothing changed */
-    NIC_DONE = 0,     /* it is done; a read: the register's word */
-    NIC_STRAY = 1,    /* no register is there; a read gives what a driver would see, a write changed nothing */
-    NIC_IDLE = 2,     /* there was nothing to do */
-    NIC_DROPPED = 3,  /* a frame was dropped: why */
-    NIC_WROTE = 4,    /* one buffer's worth of a frame was written: queue, slot, end, desc, at, len */
-    NIC_ADVANCED = 5, /* a transmit slot was fetched, and no frame went out: queue, slot, back, at */
-    NIC_SENT = 6,     /* a frame went out: queue, len, back, at */
-    NIC_FAULT = 7,    /* a slot can't be processed, and its side of the queue is off now: queue, why, bus */
-    NIC_MESSAGE = 8,  /* an interrupt message was sent: group, vector */
-    NIC_FRAME = 9,    /* a frame that went out was collected: queue, len */
+    NIC_DONE = 0,      /* it is done; a read: the register's word */
+    NIC_STRAY = 1,     /* no register is there; a read gives what a driver would see, a write changed nothing */
+    NIC_IDLE = 2,      /* there was nothing to do */
+    NIC_DROPPED = 3,   /* a frame was dropped: why */
+    NIC_WROTE = 4,     /* one buffer's worth of a frame was written: queue, slot, end, desc, at, len */
+    NIC_ADVANCED = 5,  /* a transmit slot was fetched, and no frame went out: queue, slot, back, at */
+    NIC_SENT = 6,      /* a frame went out: queue, len, back, at */
+    NIC_FAULT = 7,     /* a slot can't be processed, and its side of the queue is off now: queue, why, bus */
+    NIC_MESSAGE = 8,   /* an interrupt message was sent: group, vector */
+    NIC_FRAME = 9,     /* a frame that went out was collected: queue, len */
     NIC_NOT_LENT = 16, /* a block of this number, or of one of these bus addresses, isn't lent */
     NIC_NO_QUEUE = 18, /* there are 128 queues */
     NIC_NO_GROUP = 19, /* there is no such virtual function, or the mode has no pool for it */
-    /* refusals: nothing changed, not even what the pointers point to, except that *count and *line are 0. Two calls stop
-       in the middle and keep what they did: nic_settle with MORE and OUT_OF_MEMORY, and nic_lend_all with OUT_OF_MEMORY */
+    /* refusals: nothing changed, not even what the pointers point to, except that *count and *line are 0. Two calls
+       stop in the middle and keep what they did: nic_settle with MORE and OUT_OF_MEMORY, and nic_lend_all with
+       OUT_OF_MEMORY */
     NIC_OUT_OF_MEMORY = 32,
     NIC_NO_ROOM = 33,      /* nic_collect: the buffer is too small, and the frame stays; nic_hash: a long input */
     NIC_TOO_MANY_VFS = 34, /* nic_new: above 63 */
@@ -74,7 +75,7 @@ enum nic_status {
     NIC_IMAGE_SECTION_OUTSIDE = 67, /* a pointer's section isn't inside the image */
     NIC_IMAGE_BAD_CHECKSUM = 68,
     NIC_IMAGE_NOT_TRIPLES = 69,     /* the CSR section isn't a multiple of three words */
-    NIC_TEXT = 96, /* base of the following */
+    NIC_TEXT = 96,                  /* base of the following */
     NIC_TEXT_SYNTAX = 97,           /* at this line, counted from 1 */
     NIC_TEXT_TWO_VALUES = 98,       /* two lines give the word with this index */
     NIC_TEXT_RESERVED = 99,         /* the text can't give the word with this index */
@@ -86,15 +87,15 @@ enum nic_status {
 /* Why a frame is dropped (nic_told.why with NIC_DROPPED). */
 enum nic_why {
     NIC_WHY_LINK_DOWN = 1,
-    NIC_WHY_OFF = 2,        /* RXCTRL bit 0 is 0 */
-    NIC_WHY_SHORT = 3,      /* fewer than 60 bytes */
-    NIC_WHY_LONG = 4,       /* more than the frame limit */
-    NIC_WHY_FILTER = 5,     /* no filter accepts the destination */
+    NIC_WHY_OFF = 2,    /* RXCTRL bit 0 is 0 */
+    NIC_WHY_SHORT = 3,  /* fewer than 60 bytes */
+    NIC_WHY_LONG = 4,   /* more than the frame limit */
+    NIC_WHY_FILTER = 5, /* no filter accepts the destination */
     NIC_WHY_NO_POOL = 6,
-    NIC_WHY_POOL_OFF = 7,   /* VFRE has the frame's pool off */
-    NIC_WHY_FULL = 8,       /* as many frames wait as `fifo` allows */
-    NIC_WHY_QUEUE_OFF = 9,  /* a receive step: the queue is off */
-    NIC_WHY_NO_SLOT = 10    /* a receive step: no slot is the device's, and SRRCTL has DROP_EN */
+    NIC_WHY_POOL_OFF = 7,  /* VFRE has the frame's pool off */
+    NIC_WHY_FULL = 8,      /* as many frames wait as `fifo` allows */
+    NIC_WHY_QUEUE_OFF = 9, /* a receive step: the queue is off */
+    NIC_WHY_NO_SLOT = 10   /* a receive step: no slot is the device's, and SRRCTL has DROP_EN */
 };
 
 /* Why a slot can't be processed (nic_told.why with NIC_FAULT). */
@@ -121,21 +122,21 @@ enum nic_step {
 
 /* What an event reports; all other fields are 0. */
 typedef struct nic_told {
-    uint64_t desc;   /* WROTE: the bus address of the descriptor that was written back */
-    uint64_t at;     /* WROTE: the bus address of the first byte written; ADVANCED, SENT: if `back` is 1, that of
-                        what was written back, a descriptor or the head */
-    uint64_t len;    /* WROTE, SENT, FRAME: bytes, padding included */
-    uint64_t bus;    /* FAULT of memory that isn't lent: its bus address */
-    uint16_t queue;  /* WROTE, ADVANCED, SENT, FAULT, FRAME: below 128 */
-    uint16_t slot;   /* WROTE, ADVANCED: the slot of the ring */
-    uint16_t group;  /* MESSAGE: 0 the physical function, v + 1 virtual function v */
-    uint16_t of;     /* in nic_settle's array: the queue or the group of the step, else 0 */
-    uint8_t status;  /* enum nic_status, as the call returns it */
-    uint8_t step;    /* in nic_settle's array: enum nic_step */
-    uint8_t end;     /* WROTE: 1 if the frame ends in this buffer */
-    uint8_t back;    /* ADVANCED, SENT: 1 if something was written back */
-    uint8_t why;     /* DROPPED: enum nic_why; FAULT: enum nic_fault */
-    uint8_t vector;  /* MESSAGE: below 16 */
+    uint64_t desc;  /* WROTE: the bus address of the descriptor that was written back */
+    uint64_t at;    /* WROTE: the bus address of the first byte written; ADVANCED, SENT: if `back` is 1, that of
+                       what was written back, a descriptor or the head */
+    uint64_t len;   /* WROTE, SENT, FRAME: bytes, padding included */
+    uint64_t bus;   /* FAULT of memory that isn't lent: its bus address */
+    uint16_t queue; /* WROTE, ADVANCED, SENT, FAULT, FRAME: below 128 */
+    uint16_t slot;  /* WROTE, ADVANCED: the slot of the ring */
+    uint16_t group; /* MESSAGE: 0 the physical function, v + 1 virtual function v */
+    uint16_t of;    /* in nic_settle's array: the queue or the group of the step, else 0 */
+    uint8_t status; /* enum nic_status, as the call returns it */
+    uint8_t step;   /* in nic_settle's array: enum nic_step */
+    uint8_t end;    /* WROTE: 1 if the frame ends in this buffer */
+    uint8_t back;   /* ADVANCED, SENT: 1 if something was written back */
+    uint8_t why;    /* DROPPED: enum nic_why; FAULT: enum nic_fault */
+    uint8_t vector; /* MESSAGE: below 16 */
 } nic_told;
 
 /* --- which library this is --- */
@@ -383,15 +384,15 @@ static inline const char *nic_status_name(uint8_t status)
 /* Why a frame is dropped, and what a fault is, as `nicbench run` prints it. */
 static inline const char *nic_why_name(uint8_t why)
 {
-    static const char *const names[] = {"", "link down", "off", "short", "long", "filter", "no pool", "pool off",
-                                        "full", "queue off", "no slot"};
+    static const char *const names[] = {"",        "link down", "off",  "short",     "long",   "filter",
+                                        "no pool", "pool off",  "full", "queue off", "no slot"};
     return why < sizeof names / sizeof *names ? names[why] : "unknown";
 }
 
 static inline const char *nic_fault_name(uint8_t fault)
 {
-    static const char *const names[] = {"", "outside", "not lent", "type", "no buffer size", "offload", "legacy",
-                                        "too long", "unknown type"};
+    static const char *const names[] = {"",        "outside", "not lent", "type",        "no buffer size",
+                                        "offload", "legacy",  "too long", "unknown type"};
     return fault < sizeof names / sizeof *names ? names[fault] : "unknown";
 }
 

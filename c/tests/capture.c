@@ -2,8 +2,8 @@
    were written, and writes a capture of what went out. */
 #include <string.h>
 
-#include "nic82599_pcap.h"
 #include "check.h"
+#include "nic82599_pcap.h"
 
 enum { BUFFER = 0x800, TX_RING = 0x1800 };
 

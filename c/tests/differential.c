@@ -118,9 +118,9 @@ static void access_by_chance(void)
 
 static void access_of_a_function(void)
 {
-    static const uint32_t at[] = {0, 8, 0x10, 0x100, 0x104, 0x108, 0x10C, 0x110, 0x114, 0x120, 0x124, 0x140, 0x200,
-                                  0x23C, 0x2FC, 0x300, 0x101C, 0x201C, 0x1000, 0x1008, 0x1010, 0x1014, 0x1018, 0x1028,
-                                  0x2008, 0x2018, 0x2028};
+    static const uint32_t at[] = {0,      8,      0x10,   0x100,  0x104,  0x108,  0x10C,  0x110,  0x114,
+                                  0x120,  0x124,  0x140,  0x200,  0x23C,  0x2FC,  0x300,  0x101C, 0x201C,
+                                  0x1000, 0x1008, 0x1010, 0x1014, 0x1018, 0x1028, 0x2008, 0x2018, 0x2028};
     uint8_t vf = (uint8_t)below(below(4) ? 4 : 63);
     uint32_t offset = (uint32_t)chance() % 0x3000;
     if (below(6)) {
@@ -216,7 +216,10 @@ static void memory_by_chance(void)
     size_t length = below(200);
     switch (below(6)) {
     case 0: lend(below(8) ? below(USED) : below(65536)); break;
-    case 1: if (!below(12)) take(below(8) ? below(USED) : below(65536)); break;
+    case 1:
+        if (!below(12))
+            take(below(8) ? below(USED) : below(65536));
+        break;
     case 2:
     case 3: read_range(bus, length); break;
     default:
@@ -365,7 +368,10 @@ static void step_by_chance(void)
     case 2: fprintf(script, "rx\n"), tell(nic_rx_step(&n, &told), &told); break;
     case 3: fprintf(script, "tx %u\n", queue), tell(nic_tx_step(&n, queue, &told), &told); break;
     case 4: group_line(group), tell(nic_int_step(&n, group, &told), &told); break;
-    case 5: if (below(2)) queue_step(below(2), queue); break;
+    case 5:
+        if (below(2))
+            queue_step(below(2), queue);
+        break;
     case 6: fprintf(script, "tx %u\n", queue), tell(nic_tx_step(&n, queue, &told), &told); break;
     default: fprintf(script, "eestep\n"), tell(nic_eeprom_step(&n, &told), &told); break;
     }
@@ -533,7 +539,10 @@ static void link_by_chance(void)
 static void call_by_chance(void)
 {
     switch (below(24)) {
-    case 0: if (!below(4)) set_up(); break;
+    case 0:
+        if (!below(4))
+            set_up();
+        break;
     case 1: repair(); break;
     case 2:
     case 3:
@@ -542,14 +551,23 @@ static void call_by_chance(void)
     case 6:
     case 7:
     case 8: arrive(); break;
-    case 9: if (vfs || !below(4)) access_of_a_function(); break;
+    case 9:
+        if (vfs || !below(4))
+            access_of_a_function();
+        break;
     case 10: memory_by_chance(); break;
     case 11:
     case 12: collect(); break;
-    case 13: if (!below(3)) settle(); break;
+    case 13:
+        if (!below(3))
+            settle();
+        break;
     case 14: link_by_chance(); break;
     case 15: access_by_chance(); break;
-    case 16: if (!below(4)) write_register(NIC_EERD, below(70) << 2 | 1); break;
+    case 16:
+        if (!below(4))
+            write_register(NIC_EERD, below(70) << 2 | 1);
+        break;
     default: step_by_chance(); break;
     }
 }

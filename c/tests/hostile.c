@@ -213,7 +213,10 @@ static void one_call(nic *n)
     case 5: MAY(nic_vf_peek32(n, (uint8_t)below(70), some32(), &word), NIC_DONE, NIC_STRAY); break;
     case 6: MAY(nic_lend(n, below(3) ? below(20) : some32()), NIC_DONE, NIC_NO_BLOCK); break;
     case 7: MAY(nic_take(n, below(3) ? below(20) : some32()), NIC_DONE, NIC_NOT_LENT); break;
-    case 8: if (!below(50)) MAY(nic_lend_all(n), NIC_DONE); break;
+    case 8:
+        if (!below(50))
+            MAY(nic_lend_all(n), NIC_DONE);
+        break;
     case 9: MAY(nic_dma_read(n, some64(), bytes, length), NIC_DONE, NIC_NOT_LENT); break;
     case 10: MAY(nic_dma_write(n, some64(), bytes, length), NIC_DONE, NIC_NOT_LENT); break;
     case 11: MAY(nic_arrive(n, bytes, length, told), NIC_DONE, NIC_DROPPED); break;
@@ -242,7 +245,10 @@ static void one_call(nic *n)
             MAY(nic_snapshot(n, &kept), NIC_DONE);
         }
         break;
-    case 24: if (kept.kept && !below(200)) MAY(nic_restore(n, &kept), NIC_DONE); break;
+    case 24:
+        if (kept.kept && !below(200))
+            MAY(nic_restore(n, &kept), NIC_DONE);
+        break;
     default: MAY(nic_hash(key, bytes, below(2) ? length : below(37), &word), NIC_DONE, NIC_NO_ROOM);
     }
     for (size_t k = length; k < length + GUARD; k++)

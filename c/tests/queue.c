@@ -9,9 +9,9 @@ enum { RX = 3, TX = 1, RING = 0, BUFFER = 0x800, TX_RING = 0x1000, TX_BUFFER = 0
 static const uint8_t key[40] = {0x6d, 0x5a, 0x56, 0xda, 0x25, 0x5b, 0x0e, 0xc2, 0x41, 0x67, 0x25, 0x3d, 0x43, 0xa3,
                                 0x8f, 0xb0, 0xd0, 0xca, 0x2b, 0xcb, 0xae, 0x7b, 0x30, 0xb4, 0x77, 0xcb, 0x2d, 0xa3,
                                 0x80, 0x30, 0xf2, 0x0c, 0x6a, 0x42, 0xb7, 0x3b, 0xbe, 0xac, 0x01, 0xfa};
-static const uint8_t frame[60] = {2,  0,   0, 0,   0, 1, 2, 0, 0,  0, 0, 2, 8,  0, 0x45, 0,   0,   40,  0,   0,
-                                  0,  0,   64, 6,  0, 0, 66, 9, 149, 187, 161, 142, 100, 80, 10, 234, 6, 230, 0, 0,
-                                  0,  0,   0, 0,   0, 0, 0x50, 16};
+static const uint8_t frame[60] = {2,   0,  0,  0,   0, 1,   2,  0, 0, 0, 0,  2, 8,   0,   0x45, 0,
+                                  0,   40, 0,  0,   0, 0,   64, 6, 0, 0, 66, 9, 149, 187, 161,  142,
+                                  100, 80, 10, 234, 6, 230, 0,  0, 0, 0, 0,  0, 0,   0,   0x50, 16};
 
 static void set_up_rss(nic *n)
 {

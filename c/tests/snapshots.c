@@ -30,8 +30,8 @@ static uint64_t mixed_bytes(uint64_t sum, const uint8_t *bytes, size_t length)
 
 static uint64_t mixed_told(uint64_t sum, const nic_told *t)
 {
-    const uint64_t fields[] = {t->desc, t->at, t->len, t->bus, t->queue, t->slot, t->group, t->of,
-                               t->status, t->step, t->end, t->back, t->why, t->vector};
+    const uint64_t fields[] = {t->desc, t->at,     t->len,  t->bus, t->queue, t->slot, t->group,
+                               t->of,   t->status, t->step, t->end, t->back,  t->why,  t->vector};
     for (size_t k = 0; k < sizeof fields / sizeof *fields; k++)
         sum = mixed(sum, fields[k]);
     return sum;

@@ -75,8 +75,8 @@ void mailbox_written(unsigned int function, uint32_t offset, uint32_t word)
 {
     if (function != BUS_PHYSICAL && offset == NIC_VFMAILBOX && word & ASKS && bus_pool_queues())
         asked(function);
-    if (function == BUS_PHYSICAL && offset >= NIC_PFMAILBOX(0) && offset < NIC_PFMAILBOX(BUS_FUNCTIONS - 1)
-        && word & TELLS)
+    if (function == BUS_PHYSICAL && offset >= NIC_PFMAILBOX(0) && offset < NIC_PFMAILBOX(BUS_FUNCTIONS - 1) &&
+        word & TELLS)
         told((offset - NIC_PFMAILBOX(0)) / 4 + 1);
 }
 

@@ -141,8 +141,8 @@ void ask_for_rss(struct rte_eth_conf *configuration)
     configuration->rx_adv_conf.rss_conf = (struct rte_eth_rss_conf){
         .rss_key = (uint8_t *)(uintptr_t)rss_key,
         .rss_key_len = RSS_KEY_BYTES,
-        .rss_hf = RTE_ETH_RSS_IPV4 | RTE_ETH_RSS_NONFRAG_IPV4_TCP | RTE_ETH_RSS_NONFRAG_IPV4_UDP | RTE_ETH_RSS_IPV6
-                  | RTE_ETH_RSS_NONFRAG_IPV6_TCP | RTE_ETH_RSS_NONFRAG_IPV6_UDP,
+        .rss_hf = RTE_ETH_RSS_IPV4 | RTE_ETH_RSS_NONFRAG_IPV4_TCP | RTE_ETH_RSS_NONFRAG_IPV4_UDP | RTE_ETH_RSS_IPV6 |
+                  RTE_ETH_RSS_NONFRAG_IPV6_TCP | RTE_ETH_RSS_NONFRAG_IPV6_UDP,
     };
 }
 

@@ -8,10 +8,10 @@
 #include "dpdk.h"
 
 #define QUEUES 4
-#define SMALL_BUFFER 1024    /* bytes of a receive buffer, where frames go in segments */
+#define SMALL_BUFFER 1024 /* bytes of a receive buffer, where frames go in segments */
 
-extern unsigned int frames_of_pass;   /* each way */
-extern bool in_segments;  /* frames come in and go out in several buffers */
+extern unsigned int frames_of_pass; /* each way */
+extern bool in_segments;            /* frames come in and go out in several buffers */
 
 /* The passes of the run: each frame in, each frame out; what the counters say; which frames come in. */
 void traffic(uint16_t port);

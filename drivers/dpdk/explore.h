@@ -10,8 +10,8 @@
 
 #include "nic82599_explore.h"
 
-/* What is planted into a run, so that it can be seen to fail: a byte that goes to the driver or comes from it is turned;
-   the last store in front of a tail is seen behind it. */
+/* What is planted into a run, so that it can be seen to fail: a byte that goes to the driver or comes from it is
+   turned; the last store in front of a tail is seen behind it. */
 enum plant { NOTHING_PLANTED, TURN, ORDER };
 extern enum plant planted;
 

@@ -1,5 +1,5 @@
-/* DPDK's mailbox: its host (ixgbe_pf.c over base/ixgbe_mbx.c) beside its functions (base/ixgbe_vf.c over the same), each
-   function a task, and the host a handler of the mailbox's interrupt. */
+/* DPDK's mailbox: its host (ixgbe_pf.c over base/ixgbe_mbx.c) beside its functions (base/ixgbe_vf.c over the same),
+   each function a task, and the host a handler of the mailbox's interrupt. */
 #include <rte_ether.h>
 #include <string.h>
 

@@ -263,7 +263,8 @@ static bool is_this_way(void)
         {"ixgbe_xmit_pkts_simple", NULL, ixgbe_xmit_pkts_simple},
     };
     for (size_t k = 0; k < RTE_DIM(functions); k++) {
-        bool is_it = way->sends ? functions[k].sends == port->tx_pkt_burst : functions[k].receives == port->rx_pkt_burst;
+        bool is_it =
+            way->sends ? functions[k].sends == port->tx_pkt_burst : functions[k].receives == port->rx_pkt_burst;
         if (is_it)
             return !strcmp(functions[k].name, way->function);
     }

@@ -27,9 +27,11 @@ static bool comes_in(uint16_t port, const struct rte_ether_addr *to)
     return alike;
 }
 
-static struct rte_ether_addr own, other = {{0x02, 0, 0, 0, 0, 0x77}}, group = {{0x01, 0, 0x5e, 0, 0, 0x05}},
-                             second = {{0x01, 0, 0x5e, 0x01, 0x02, 0x03}},
-                             everyone = {{0xff, 0xff, 0xff, 0xff, 0xff, 0xff}};
+static struct rte_ether_addr own;
+static struct rte_ether_addr other = {{0x02, 0, 0, 0, 0, 0x77}};
+static struct rte_ether_addr group = {{0x01, 0, 0x5e, 0, 0, 0x05}};
+static struct rte_ether_addr second = {{0x01, 0, 0x5e, 0x01, 0x02, 0x03}};
+static struct rte_ether_addr everyone = {{0xff, 0xff, 0xff, 0xff, 0xff, 0xff}};
 
 static int nothing(uint16_t port)
 {

@@ -1,5 +1,5 @@
-/* DPDK as far as the explorer's runs need it: its memory, a pool of packets, and a port that no bus knows. The driver is
-   brought up by its own functions, register by register, and its accesses come to the explorer. */
+/* DPDK as far as the explorer's runs need it: its memory, a pool of packets, and a port that no bus knows. The driver
+   is brought up by its own functions, register by register, and its accesses come to the explorer. */
 #include <bus_pci_driver.h>
 #include <rte_cycles.h>
 #include <rte_eal.h>
@@ -155,7 +155,7 @@ const char *layer_start(void)
     static bool is_up;
     char mebibytes[16];
     snprintf(mebibytes, sizeof mebibytes, "%d", MEBIBYTES);
-    char *arguments[] = {"explore", "--no-huge", "--iova-mode=va", "-m",      mebibytes,
+    char *arguments[] = {"explore",  "--no-huge",   "--iova-mode=va", "-m",  mebibytes,
                          "--no-pci", "--no-shconf", "--no-telemetry", "-l0", "--log-level=*:critical"};
     if (is_up)
         return NULL;

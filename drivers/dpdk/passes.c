@@ -127,8 +127,8 @@ static void compare_out(uint16_t device, const uint8_t *bytes, size_t length)
     struct frame frame;
     unsigned int which;
     uint16_t queue;
-    if (!find_queue(device, &which, &queue)
-        || !make_next(&out[which][queue], &frame, peer_mac, ports[which].mac.addr_bytes)) {
+    if (!find_queue(device, &which, &queue) ||
+        !make_next(&out[which][queue], &frame, peer_mac, ports[which].mac.addr_bytes)) {
         problem("queue %u of the device: a frame of %zu bytes goes out that isn't expected", device, length);
         return;
     }
@@ -355,9 +355,8 @@ static unsigned int take_any(unsigned int which, const struct frame *frames, uns
         while ((count = rte_eth_rx_burst(ports[which].number, queue, packets, BURST)) > 0) {
             for (uint16_t i = 0; i < count; i++) {
                 unsigned int at = 0;
-                while (at < many
-                       && !frame_is(&frames[at], rte_pktmbuf_mtod(packets[i], const void *),
-                                    rte_pktmbuf_pkt_len(packets[i])))
+                while (at < many && !frame_is(&frames[at], rte_pktmbuf_mtod(packets[i], const void *),
+                                              rte_pktmbuf_pkt_len(packets[i])))
                     at++;
                 if (at == many)
                     problem("%s gets a frame of %u bytes that nobody sent", port_name(which),

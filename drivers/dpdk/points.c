@@ -1,6 +1,6 @@
-/* Each access of the driver to a ring of descriptors is a point of the explorer. Its files that touch rings are compiled
-   with -fsanitize=thread: the compiler then calls the functions below before each access of memory. The sanitizer's own
-   library isn't linked, so these are all there is. What lies in no ring is none of ours.
+/* Each access of the driver to a ring of descriptors is a point of the explorer. Its files that touch rings are
+   compiled with -fsanitize=thread: the compiler then calls the functions below before each access of memory. The
+   sanitizer's own library isn't linked, so these are all there is. What lies in no ring is none of ours.
 
    A ring has two copies: the process's, which the driver accesses, and the bench's. Before a load the bytes come from
    the bench. A store is seen by the bench at the next access, of whatever: nobody else acts between. */
@@ -76,20 +76,20 @@ static void store(volatile uint8_t *at, size_t length)
 
 /* ---- what the compiler calls ---- */
 
-#define ACCESS(name, what, size)                                                                                        \
+#define ACCESS(name, what, size)                                                                                       \
     void name(void *at);                                                                                               \
     void name(void *at)                                                                                                \
     {                                                                                                                  \
         what(at, size);                                                                                                \
     }
 
-#define ACCESSES(size)                                                                                                  \
+#define ACCESSES(size)                                                                                                 \
     ACCESS(__tsan_read##size, load, size)                                                                              \
     ACCESS(__tsan_write##size, store, size)                                                                            \
     ACCESS(__tsan_volatile_read##size, load, size)                                                                     \
     ACCESS(__tsan_volatile_write##size, store, size)
 
-#define UNALIGNED(size)                                                                                                 \
+#define UNALIGNED(size)                                                                                                \
     ACCESS(__tsan_unaligned_read##size, load, size)                                                                    \
     ACCESS(__tsan_unaligned_write##size, store, size)                                                                  \
     ACCESS(__tsan_unaligned_volatile_read##size, load, size)                                                           \
@@ -130,7 +130,7 @@ void __tsan_init(void)
 }
 
 /* Atomic operations, of counters of references alone: they are made as they are. */
-#define ATOMIC(bits, type)                                                                                              \
+#define ATOMIC(bits, type)                                                                                             \
     type __tsan_atomic##bits##_load(const volatile type *at, int order);                                               \
     type __tsan_atomic##bits##_load(const volatile type *at, int order)                                                \
     {                                                                                                                  \

@@ -63,8 +63,9 @@ static bool greet(unsigned int which)
     struct port *port = &ports[which];
     struct rte_eth_dev_info info;
     *port = (struct port){.number = card_port(which)};
-    if (port->number == RTE_MAX_ETHPORTS || failed("rte_eth_macaddr_get", rte_eth_macaddr_get(port->number, &port->mac))
-        || failed("rte_eth_dev_info_get", rte_eth_dev_info_get(port->number, &info)))
+    if (port->number == RTE_MAX_ETHPORTS ||
+        failed("rte_eth_macaddr_get", rte_eth_macaddr_get(port->number, &port->mac)) ||
+        failed("rte_eth_dev_info_get", rte_eth_dev_info_get(port->number, &info)))
         return false;
     port->is_there = true;
     printf("  %s, address " RTE_ETHER_ADDR_PRT_FMT ", at most %u queues\n", card_driver(which),
@@ -137,8 +138,8 @@ bool port_start(unsigned int which)
     if (failed("rte_eth_dev_start", rte_eth_dev_start(port->number)))
         return false;
     port->is_started = true;
-    if (which == HOST && setting.has_rss
-        && failed("the redirection table", choose_queues(port->number, setting.queues, &rss)))
+    if (which == HOST && setting.has_rss &&
+        failed("the redirection table", choose_queues(port->number, setting.queues, &rss)))
         return false;
     rte_eth_link_get_nowait(port->number, &link);
     if (!link.link_status)

@@ -11,8 +11,8 @@
 
 #define ROUNDS 5
 #define SECONDS 1.0
-#define TURNS 64             /* bursts between looks at the clock */
-#define ALL_KINDS 64             /* frames that differ in their addresses, so that all queues get some */
+#define TURNS 64     /* bursts between looks at the clock */
+#define ALL_KINDS 64 /* frames that differ in their addresses, so that all queues get some */
 
 static uint8_t frames[ALL_KINDS][FRAME_MIN];
 static uint64_t gone;
@@ -27,7 +27,7 @@ static void make_frames(void)
 {
     static struct frame frame;
     for (unsigned int kind = 0; kind < ALL_KINDS; kind++) {
-        frame_make(&frame, 7 * 1455 * kind, FRAME_MAX, card_mac, peer_mac);   /* TCP over IPv4, 60 bytes */
+        frame_make(&frame, 7 * 1455 * kind, FRAME_MAX, card_mac, peer_mac); /* TCP over IPv4, 60 bytes */
         memcpy(frames[kind], frame.bytes, FRAME_MIN);
     }
 }

@@ -11,7 +11,7 @@
 #define SEGMENTS 3
 
 static struct rss rss;
-static struct line_up in[QUEUES], out[QUEUES];   /* the frames that a queue is to give */
+static struct line_up in[QUEUES], out[QUEUES]; /* the frames that a queue is to give */
 static uint64_t received[QUEUES], sent[QUEUES];
 static unsigned int alike, hashes, unhashed;
 
@@ -61,14 +61,9 @@ static void arrive(unsigned int number)
 static void compare_hash(const struct rte_mbuf *packet, const struct frame *frame, uint16_t queue)
 {
     switch (hash_compare(packet, frame, &rss)) {
-    case HASH_RIGHT:
-        hashes++;
-        break;
-    case HASH_NONE:
-        unhashed++;
-        break;
-    default:
-        problem("queue %u: the hash of a frame of %u bytes", queue, frame->length);
+    case HASH_RIGHT: hashes++; break;
+    case HASH_NONE: unhashed++; break;
+    default: problem("queue %u: the hash of a frame of %u bytes", queue, frame->length);
     }
 }
 
@@ -232,8 +227,9 @@ void counters(uint16_t port)
     same("frames in", stats.ipackets, all_in);
     same("frames out", stats.opackets, all_out);
     same("missed and bad frames", stats.imissed + stats.ierrors + stats.oerrors, 0);
-    printf("  frames in %" PRIu64 ", out %" PRIu64 ", queue by queue as the run counts them; missed and bad %" PRIu64
-           "\n", stats.ipackets, stats.opackets, stats.imissed + stats.ierrors + stats.oerrors);
+    printf("  frames in %" PRIu64 ", out %" PRIu64 ", queue by queue as the run counts them; ", stats.ipackets,
+           stats.opackets);
+    printf("missed and bad %" PRIu64 "\n", stats.imissed + stats.ierrors + stats.oerrors);
     printf("  bytes in %" PRId64 ", out %" PRId64 ": their registers aren't there; the driver takes off 4 a frame\n",
            (int64_t)stats.ibytes, (int64_t)stats.obytes);
 }

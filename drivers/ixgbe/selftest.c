@@ -28,10 +28,10 @@ struct test {
 
 /* what a row of the table came to */
 struct result {
-    unsigned int passed, failed, absent;   /* absent: those of the failed whose address names nothing */
-    uint32_t address, got, wanted;         /* of the first that failed */
-    uint32_t more, fewer;                  /* bits that read 1, and 0, where another is expected */
-    bool without;                          /* no address of it names anything */
+    unsigned int passed, failed, absent; /* absent: those of the failed whose address names nothing */
+    uint32_t address, got, wanted;       /* of the first that failed */
+    uint32_t more, fewer;                /* bits that read 1, and 0, where another is expected */
+    bool without;                        /* no address of it names anything */
 };
 
 /* the rows that fail: flow control, which isn't modelled, and RAH, whose reserved bits are kept; by their addresses */
@@ -113,14 +113,10 @@ static bool passes(const struct test *test, uint32_t address, struct result *res
 static uint32_t address_of(const struct test *test, unsigned int index)
 {
     switch (test->test_type) {
-    case TABLE32_TEST:
-        return test->reg + 4 * index;
-    case TABLE64_TEST_LO:
-        return test->reg + 8 * index;
-    case TABLE64_TEST_HI:
-        return test->reg + 8 * index + 4;
-    default:
-        return test->reg + ARRAY_STEP * index;
+    case TABLE32_TEST: return test->reg + 4 * index;
+    case TABLE64_TEST_LO: return test->reg + 8 * index;
+    case TABLE64_TEST_HI: return test->reg + 8 * index + 4;
+    default: return test->reg + ARRAY_STEP * index;
     }
 }
 
@@ -163,12 +159,9 @@ static void compare_with_known(const struct test *test, const char *name, const 
 static const char *kind_of(const struct test *test)
 {
     switch (test->test_type) {
-    case WRITE_NO_TEST:
-        return "written";
-    case SET_READ_TEST:
-        return "set";
-    default:
-        return "patterns";
+    case WRITE_NO_TEST: return "written";
+    case SET_READ_TEST: return "set";
+    default: return "patterns";
     }
 }
 

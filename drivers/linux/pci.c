@@ -287,20 +287,11 @@ static bool answer(struct function *it, const struct vhost_chain *chain)
         return chain->in != NULL;
     }
     switch (header.operation) {
-    case CONFIG_READ:
-        read_config(it, header.address, chain->in, header.size);
-        break;
-    case CONFIG_WRITE:
-        write_config(it, header.address, data, header.size);
-        break;
-    case MEMORY_READ:
-        access_memory(it, &header, data, chain->in);
-        break;
-    case MEMORY_WRITE:
-        access_memory(it, &header, data, NULL);
-        break;
-    default:
-        problem("operation %u of the guest's bus isn't known", header.operation);
+    case CONFIG_READ: read_config(it, header.address, chain->in, header.size); break;
+    case CONFIG_WRITE: write_config(it, header.address, data, header.size); break;
+    case MEMORY_READ: access_memory(it, &header, data, chain->in); break;
+    case MEMORY_WRITE: access_memory(it, &header, data, NULL); break;
+    default: problem("operation %u of the guest's bus isn't known", header.operation);
     }
     return is_read;
 }

@@ -54,17 +54,12 @@ static uint16_t queue_of(const struct frame *frame, unsigned int function)
         function == BUS_PHYSICAL ? (bus_peek(NIC_VT_CTL) & NIC_VT_CTL_DEF_PL) >> DEFAULT_POOL_AT : function - 1;
     rss_of_registers(&rss);
     switch (rss.mrqc & MRQC_MODE) {
-    case MODE_ONE:
-        return each ? ANY_QUEUE : 0;
-    case MODE_RSS:
-        return rss_queue(&rss, frame, QUEUES_RSS);
-    case MODE_POOLS:
-        return (uint16_t)(pool * each);
+    case MODE_ONE: return each ? ANY_QUEUE : 0;
+    case MODE_RSS: return rss_queue(&rss, frame, QUEUES_RSS);
+    case MODE_POOLS: return (uint16_t)(pool * each);
     case MODE_POOLS_RSS_32:
-    case MODE_POOLS_RSS_64:
-        return (uint16_t)(pool * each + rss_queue(&rss, frame, each));
-    default:
-        return ANY_QUEUE;
+    case MODE_POOLS_RSS_64: return (uint16_t)(pool * each + rss_queue(&rss, frame, each));
+    default: return ANY_QUEUE;
     }
 }
 
@@ -212,15 +207,9 @@ void peer_orders(uint32_t what, struct order_words *words)
         return;
     }
     switch (what) {
-    case ORDER_PHASE:
-        bus_enter(words->count < PHASE_END ? words->count : PHASE_END);
-        break;
-    case ORDER_LINK:
-        nic_link(bus_device(), words->count != 0);
-        break;
-    case ORDER_EXPECT:
-        expect(words);
-        break;
+    case ORDER_PHASE: bus_enter(words->count < PHASE_END ? words->count : PHASE_END); break;
+    case ORDER_LINK: nic_link(bus_device(), words->count != 0); break;
+    case ORDER_EXPECT: expect(words); break;
     case ORDER_SENT:
         words->result = now.alike;
         words->result_2 = now.came;
@@ -230,24 +219,15 @@ void peer_orders(uint32_t what, struct order_words *words)
         begin_sending(words, words->count);
         peer_goes_on(false, 0);
         break;
-    case ORDER_ONE:
-        send_anyhow(words);
-        break;
-    case ORDER_MESSAGES:
-        words->result = (uint32_t)pci_messages(words->function);
-        break;
-    case ORDER_ECHOES:
-        words->result = (uint32_t)all.echoes;
-        break;
+    case ORDER_ONE: send_anyhow(words); break;
+    case ORDER_MESSAGES: words->result = (uint32_t)pci_messages(words->function); break;
+    case ORDER_ECHOES: words->result = (uint32_t)all.echoes; break;
     case ORDER_FAULTS:
         all.faults = words->count;
         words->result = (uint32_t)bus_counts()->faults;
         break;
-    case ORDER_VERDICT:
-        end(words);
-        break;
-    default:
-        problem("order %" PRIu32 " isn't known", what);
+    case ORDER_VERDICT: end(words); break;
+    default: problem("order %" PRIu32 " isn't known", what);
     }
 }
 

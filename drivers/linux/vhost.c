@@ -252,9 +252,7 @@ static void set_ring(struct vhost *vhost, const struct request_message *message)
     }
     struct vhost_ring *ring = &vhost->rings[message->body.ring.index];
     switch (message->header.request) {
-    case SET_VRING_NUM:
-        ring->slots = value;
-        break;
+    case SET_VRING_NUM: ring->slots = value; break;
     case SET_VRING_BASE:
         ring->taken = (uint16_t)value;
         ring->given = 0;
@@ -264,12 +262,8 @@ static void set_ring(struct vhost *vhost, const struct request_message *message)
         ring->available = message->body.addresses.available;
         ring->used = message->body.addresses.used;
         break;
-    case SET_VRING_ENABLE:
-        ring->is_on = value != 0;
-        break;
-    default:
-        vhost->kicked(vhost->owner, message->body.ring.index);
-        break;
+    case SET_VRING_ENABLE: ring->is_on = value != 0; break;
+    default: vhost->kicked(vhost->owner, message->body.ring.index); break;
     }
 }
 
@@ -277,15 +271,9 @@ static void set_ring(struct vhost *vhost, const struct request_message *message)
 static bool serve(struct vhost *vhost, struct request_message *message)
 {
     switch (message->header.request) {
-    case GET_FEATURES:
-        reply(vhost, GET_FEATURES, FEATURES);
-        return true;
-    case GET_PROTOCOL_FEATURES:
-        reply(vhost, GET_PROTOCOL_FEATURES, PROTOCOL_FEATURES);
-        return true;
-    case SET_MEM_TABLE:
-        set_memory(message);
-        return false;
+    case GET_FEATURES: reply(vhost, GET_FEATURES, FEATURES); return true;
+    case GET_PROTOCOL_FEATURES: reply(vhost, GET_PROTOCOL_FEATURES, PROTOCOL_FEATURES); return true;
+    case SET_MEM_TABLE: set_memory(message); return false;
     case SET_SLAVE_REQ_FD:
         close_file(&vhost->calls);
         if (message->file_count)
@@ -295,19 +283,14 @@ static bool serve(struct vhost *vhost, struct request_message *message)
     case SET_VRING_BASE:
     case SET_VRING_ADDR:
     case SET_VRING_ENABLE:
-    case VRING_KICK:
-        set_ring(vhost, message);
-        return false;
+    case VRING_KICK: set_ring(vhost, message); return false;
     case SET_FEATURES:
     case SET_PROTOCOL_FEATURES:
     case SET_OWNER:
     case SET_VRING_KICK:
     case SET_VRING_CALL:
-    case SET_VRING_ERR:
-        return false;
-    default:
-        problem("request %u of vhost-user isn't known", message->header.request);
-        return false;
+    case SET_VRING_ERR: return false;
+    default: problem("request %u of vhost-user isn't known", message->header.request); return false;
     }
 }
 

@@ -46,12 +46,12 @@ struct step {
     uint8_t kind;
     uint8_t vf;
     uint8_t status;
-    bool waits;       /* before or behind it the thread waits until another acts */
-    uint16_t of;      /* a queue, a group, a frame, a change of the link */
-    uint32_t address; /* of a register, among a function's own its offset; a block that is lent or taken */
+    bool waits;        /* before or behind it the thread waits until another acts */
+    uint16_t of;       /* a queue, a group, a frame, a change of the link */
+    uint32_t address;  /* of a register, among a function's own its offset; a block that is lent or taken */
     uint32_t physical; /* of a function's access: the physical function's address, or NO_ADDRESS */
-    uint32_t word;    /* read or written; of a wait, a lock, a start: enum local */
-    uint32_t length;  /* of a memory access */
+    uint32_t word;     /* read or written; of a wait, a lock, a start: enum local */
+    uint32_t length;   /* of a memory access */
     uint64_t bus;
     nic_told told;
 };

@@ -52,9 +52,7 @@ static const char *access_words(const struct step *step, const char *stray, char
     case STEP_VF_READ:
         snprintf(room, MOST_WORDS, "vr %u %s = 0x%08x%s", vf, nicxi_offset(step->address, name), word, stray);
         break;
-    default:
-        snprintf(room, MOST_WORDS, "vw %u %s 0x%08x%s", vf, nicxi_offset(step->address, name), word, stray);
-        break;
+    default: snprintf(room, MOST_WORDS, "vw %u %s 0x%08x%s", vf, nicxi_offset(step->address, name), word, stray); break;
     }
     return room;
 }

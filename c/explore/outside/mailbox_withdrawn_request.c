@@ -54,12 +54,9 @@ static bool host_reads(uint32_t *request)
 static uint32_t host_finds(uint32_t request)
 {
     switch (request) {
-    case GET_QUEUES:
-        return (nicx_read32(NIC_GCR_EXT) & NIC_GCR_EXT_VT_MODE) == 3 ? queues_of_pool : 4;
-    case GET_ADDRESS:
-        return nicx_read32(NIC_RAL(1));
-    default:
-        return NOT_KNOWN;
+    case GET_QUEUES: return (nicx_read32(NIC_GCR_EXT) & NIC_GCR_EXT_VT_MODE) == 3 ? queues_of_pool : 4;
+    case GET_ADDRESS: return nicx_read32(NIC_RAL(1));
+    default: return NOT_KNOWN;
     }
 }
 

@@ -1,5 +1,5 @@
-/* Whether each register's address is told by its name and index, those of macros.inc (a list that c/test writes from the
-   register table), and what is none by its number. */
+/* Whether each register's address is told by its name and index, those of macros.inc (a list that c/test writes from
+   the register table), and what is none by its number. */
 #include <stdio.h>
 #include <stdlib.h>
 #include <string.h>

@@ -381,7 +381,8 @@ static void try_pair(const struct pick *left, const struct pick *right, void *ro
 /* Each kind of a driver's step beside each of the device's, and each two of the device's. */
 static void try_all(void *room)
 {
-    static const uint8_t kinds[] = {STEP_LOCAL, STEP_READ, STEP_WRITE, STEP_VF_READ, STEP_VF_WRITE, STEP_PEEK, STEP_POKE};
+    static const uint8_t kinds[] = {STEP_LOCAL,    STEP_READ, STEP_WRITE, STEP_VF_READ,
+                                    STEP_VF_WRITE, STEP_PEEK, STEP_POKE};
     struct pick a, b;
     for (uint8_t right = STEP_RX; right <= STEP_LINK; right++) {
         for (size_t k = 0; k < sizeof kinds; k++) {

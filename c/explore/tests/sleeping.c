@@ -104,9 +104,8 @@ static void begin(void)
 
 static const char *end(void)
 {
-    const uint32_t looked[] = {NIC_RDH(0),    NIC_TDH(0), NIC_EIMS,   NIC_EERD,
-                               NIC_RXDCTL(0), NIC_RDT(0), NIC_TDT(0), NIC_PVTEICR(0),
-                               NIC_PVTEIMS(0), NIC_PVFMAILBOX(0), NIC_PFMBMEM(0)};
+    const uint32_t looked[] = {NIC_RDH(0), NIC_TDH(0),     NIC_EIMS,       NIC_EERD,          NIC_RXDCTL(0), NIC_RDT(0),
+                               NIC_TDT(0), NIC_PVTEICR(0), NIC_PVTEIMS(0), NIC_PVFMAILBOX(0), NIC_PFMBMEM(0)};
     uint64_t sum = 1, half = 0;
     uint32_t word;
     for (unsigned k = 0; k <= TWO; k++)

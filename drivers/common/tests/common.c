@@ -75,8 +75,8 @@ static void numbers_are_read_whole(void)
     unsigned int number = 9;
     CHECK(read_number("12", 1, 12, &number) && number == 12);
     CHECK(!read_number("13", 1, 12, &number) && !read_number("0", 1, 12, &number) && !read_number("", 0, 12, &number));
-    CHECK(!read_number("1x", 0, 12, &number) && !read_number("-1", 0, 12, &number)
-          && !read_number(" 1", 0, 12, &number));
+    CHECK(!read_number("1x", 0, 12, &number) && !read_number("-1", 0, 12, &number) &&
+          !read_number(" 1", 0, 12, &number));
     CHECK(!read_number("99999999999999999999999", 0, ~0ul, &number) && number == 12);
 }
 
@@ -243,8 +243,8 @@ static void frames_come_in(uint64_t turned)
     CHECK(frame_is(&frame, host_memory + BUFFER, frame.length) == (turned == 0));
     CHECK((get64(RING + 8) & 3) == 3 && (get64(RING + 8) >> 32 & 0xFFFF) == frame.length);
     CHECK(memory_unlike(bus_of(RING), SLOTS - 1) == 0 && bus_is_settled(BUS_QUEUES));
-    CHECK(!bus_arrive(frame.bytes, 59) && bus_counts()->arrive_whys[NIC_WHY_SHORT] == 1
-          && bus_counts()->not_let_in == 1);
+    CHECK(!bus_arrive(frame.bytes, 59) && bus_counts()->arrive_whys[NIC_WHY_SHORT] == 1 &&
+          bus_counts()->not_let_in == 1);
     bus_close();
 }
 

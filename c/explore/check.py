@@ -100,7 +100,7 @@ def check_pair(kit: Kit, source: Path, runs: int) -> tuple[str, Path, Path]:
     """A bug is found, and its twin passes so many schedules: what was told, the twin, and where files went."""
     out = kit.folder / "found"
     out.mkdir(exist_ok=True)
-    wrong, right = kit.build(source, "WRONG"), kit.build(source)
+    wrong, right = kit.build(source), kit.build(source, "FIXED")
     found = ran([wrong, "--quiet", "--jobs", 2, "--out", out], 1)
     check_files(kit, source, wrong, out)
     ran([right, "--quiet", "--jobs", 2, "--runs", runs, "--out", out])
@@ -139,7 +139,7 @@ def check_outside(kit: Kit, runs: int, each: int = 1) -> str:
 
 # --- the examples ---
 
-WRONG_PMDS = {
+PMD_BUGS = {
     1: "check: a packet was handed out that isn't one",
     2: "end: a frame went out with the bytes of another",
     3: "end: a frame didn't go out",
@@ -148,19 +148,19 @@ WRONG_PMDS = {
 
 
 def check_examples(kit: Kit, runs: int) -> str:
-    """The guide's example fails and its mended form passes; `pmd` retold passes, and each wrong one is found."""
+    """The guide's example fails and its fixed twin passes; `pmd` retold passes, and each wrong one is found."""
     out = kit.folder / "examples"
     out.mkdir(exist_ok=True)
     words = ["--quiet", "--jobs", 2, "--out", out]
     race, pmd = HERE / "examples/race.c", HERE / "examples/pmd.c"
     told(ran([kit.build(race), *words], 1), "FAILED end: a frame lies in the ring", "race")
     told(ran([kit.build(race, "FIXED"), *words, "--strategy", "exhaustive"]), "these are all schedules", "race, fixed")
-    for wrong, wanted in WRONG_PMDS.items():
-        told(ran([kit.build(pmd, f"WRONG={wrong}"), *words], 1), f"FAILED {wanted}", f"pmd {wrong}")
+    for bug, wanted in PMD_BUGS.items():
+        told(ran([kit.build(pmd, f"BUG={bug}"), *words], 1), f"FAILED {wanted}", f"pmd, bug {bug}")
     right = kit.build(pmd)
     ran([right, *words, "--runs", runs])
     ran([right, *words, "--strategy", "exhaustive", "--preemptions", 1])
-    return f"race, pmd and {len(WRONG_PMDS)} wrong ones"
+    return f"race, pmd and {len(PMD_BUGS)} wrong ones"
 
 
 # --- how faults are told ---

@@ -14,7 +14,7 @@ static void send(void *unused)
 {
     (void)unused;
     for (unsigned k = 0; k < FRAMES; k++) {
-#ifndef WRONG
+#ifdef FIXED
         while (k && !is_done(TX_RING, k - 1, TX_DONE))
             nicx_wait();
 #endif

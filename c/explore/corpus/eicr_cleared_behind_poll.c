@@ -41,7 +41,7 @@ static void poll(void *unused)
             driver.next++;
             driver.got++;
         }
-#ifdef WRONG
+#ifndef FIXED
         nicx_read32(NIC_EICR);
 #endif
         nicx_write32(NIC_EIMS, CAUSE);

@@ -19,7 +19,7 @@ static void move_ring(void *unused)
 {
     (void)unused;
     nicx_write32(NIC_RXDCTL(0), 0);
-#ifndef WRONG
+#ifdef FIXED
     wait_for_enable(0);
 #endif
     nicx_write32(NIC_RDBAL(0), NEW_RING);

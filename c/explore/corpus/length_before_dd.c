@@ -25,7 +25,7 @@ static uint32_t get32(uint64_t bus)
 static unsigned take(unsigned slot)
 {
     uint64_t second = RX_RING + 16 * slot + 8;
-#ifdef WRONG
+#ifndef FIXED
     unsigned length = get32(second + 4) & 0xFFFF;
     return get32(second) & DD ? length + 1 : 0;
 #else

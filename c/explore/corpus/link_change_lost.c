@@ -36,12 +36,12 @@ static void reset(void *unused)
 {
     (void)unused;
     nicx_write32(NIC_EIMC, LSC);
-#ifdef WRONG
+#ifndef FIXED
     look_at_link();
 #endif
     nicx_write32(NIC_CTRL, NIC_CTRL_RST);
     set_up_interrupt();
-#ifndef WRONG
+#ifdef FIXED
     look_at_link();
 #endif
 }

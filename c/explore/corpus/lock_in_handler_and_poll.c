@@ -29,14 +29,14 @@ static void poll(void *unused)
 {
     (void)unused;
     while (driver.next < FRAMES) {
-#ifndef WRONG
+#ifdef FIXED
         nicx_interrupts_off();
 #endif
         nicx_lock(&driver.lock);
         bool done = is_done(RX_RING, driver.next, RX_DONE);
         driver.next += done;
         nicx_unlock(&driver.lock);
-#ifndef WRONG
+#ifdef FIXED
         nicx_interrupts_on();
 #endif
         if (!done)

@@ -19,7 +19,7 @@ static const char *bring_up(void)
 static void function(void *unused)
 {
     (void)unused;
-#ifdef WRONG
+#ifndef FIXED
     nicx_vf_write32(0, VFMBMEM, 0x11);
     nicx_vf_write32(0, VFMBMEM + 4, 0x12);
     nicx_vf_write32(0, VFMAILBOX, REQ);

@@ -29,11 +29,11 @@ static void function(void *unused)
         take_mailbox();
         nicx_vf_write32(0, VFMBMEM, k + 1);
         nicx_vf_write32(0, VFMAILBOX, VFU | REQ);
-#ifndef WRONG
+#ifdef FIXED
         wait_for_ack();
 #endif
     }
-#ifdef WRONG
+#ifndef FIXED
     wait_for_ack();
 #endif
 }

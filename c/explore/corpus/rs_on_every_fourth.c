@@ -15,7 +15,7 @@ static void wait_for_the_four_before(unsigned first)
 {
     if (!first)
         return;
-#ifdef WRONG
+#ifndef FIXED
     unsigned slot = FOUR - 1;
 #else
     unsigned slot = (first - 1) % SLOTS;

@@ -22,7 +22,7 @@ static void host(void *unused)
 static uint32_t read_mailbox(void)
 {
     uint32_t word = nicx_vf_read32(0, VFMAILBOX);
-#ifdef WRONG
+#ifndef FIXED
     return word;
 #else
     driver.seen |= word & (PFSTS | PFACK | RSTD);

@@ -15,7 +15,7 @@ static void stop(void *unused)
 {
     (void)unused;
     nicx_write32(NIC_RXDCTL(0), 0);
-#ifndef WRONG
+#ifdef FIXED
     while (nicx_read32(NIC_RXDCTL(0)) & ENABLE)
         nicx_wait();
 #endif

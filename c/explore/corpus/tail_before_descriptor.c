@@ -16,7 +16,7 @@ static const char *bring_up(void)
 
 static void repost(unsigned slot)
 {
-#ifdef WRONG
+#ifndef FIXED
     nicx_write32(NIC_RDT(0), (slot + 1) % SLOTS);
     nicx_put64(RX_RING + 16 * slot, buffer(slot));
     nicx_put64(RX_RING + 16 * slot + 8, 0);

@@ -16,7 +16,7 @@ static const char *bring_up(void)
 
 static void refill(void)
 {
-#ifdef WRONG
+#ifndef FIXED
     unsigned most = SLOTS;
 #else
     unsigned most = SLOTS - 1;

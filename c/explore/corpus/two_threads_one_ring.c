@@ -21,14 +21,14 @@ static void send(void *argument)
 {
     unsigned number = *(const unsigned *)argument;
     fill_buffer(number, number);
-#ifndef WRONG
+#ifdef FIXED
     nicx_lock(&driver.lock);
 #endif
     unsigned slot = driver.tail;
     put_transmit(slot, number, EOP_RS);
     driver.tail = slot + 1;
     nicx_write32(NIC_TDT(0), driver.tail);
-#ifndef WRONG
+#ifdef FIXED
     nicx_unlock(&driver.lock);
 #endif
 }

@@ -45,7 +45,7 @@ static void poll(void *unused)
     for (;;) {
         nicx_wait_until(is_scheduled, NULL);
         driver.scheduled = false;
-#ifdef WRONG
+#ifndef FIXED
         nicx_write32(NIC_EIMS, CAUSE);
         take_all();
 #else

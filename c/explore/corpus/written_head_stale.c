@@ -21,7 +21,7 @@ static unsigned written_head(void)
 static void send(void *unused)
 {
     (void)unused;
-#ifndef WRONG
+#ifdef FIXED
     nicx_put64(WRITTEN_HEAD, 0);
 #endif
     for (unsigned k = 0; k < FRAMES; k++) {

@@ -1,11 +1,11 @@
 /* The poll-mode driver of this repository (crates/pmd_driver) retold in C, without its moving of blocks: packets are
-   copied. A worker receives, sends back what came, and reaps until all is idle. With -DWRONG=1 to 4 it is one of the
+   copied. A worker receives, sends back what came, and reaps until all is idle. With -DBUG=1 to 4 it is one of the
    wrong drivers that its proof rules out: a slot is taken without DD; a slot is taken twice; a packet is accepted and
    dropped; idle is told early. */
 #include "card.h"
 
-#ifndef WRONG
-#define WRONG 0
+#ifndef BUG
+#define BUG 0 /* none */
 #endif
 
 enum { FRAMES = 3, POSTED = 4, MOST_OUT = 2, TX_BUFFERS = POSTED };
@@ -34,12 +34,12 @@ static void post(unsigned slot)
 static bool rx(struct packet *packet)
 {
     uint64_t second = nicx_get64(RX_RING + 16 * pmd.next + 8);
-    if (WRONG != 1 && !(second & DD))
+    if (BUG != 1 && !(second & DD))
         return false;
     packet->len = second >> 32 & 0xFFFF;
     nicx_dma_read(buffer(pmd.next % POSTED), packet->bytes, FRAME);
     pmd.handed++;
-    if (WRONG == 2 && pmd.handed == 1)
+    if (BUG == 2 && pmd.handed == 1)
         return true;
     post(pmd.tail);
     pmd.next = (pmd.next + 1) % SLOTS;
@@ -52,8 +52,8 @@ static bool rx(struct packet *packet)
 static bool tx(const struct packet *packet)
 {
     if (pmd.outstanding == MOST_OUT) {
-        pmd.accepted += WRONG == 3;
-        return WRONG == 3;
+        pmd.accepted += BUG == 3;
+        return BUG == 3;
     }
     unsigned number = TX_BUFFERS + pmd.free % MOST_OUT;
     nicx_dma_write(buffer(number), packet->bytes, FRAME);
@@ -71,7 +71,7 @@ static bool reap(void)
     while (pmd.outstanding && is_done(TX_RING, pmd.oldest, TX_DONE)) {
         pmd.oldest = (pmd.oldest + 1) % SLOTS;
         pmd.outstanding--;
-        if (WRONG == 4)
+        if (BUG == 4)
             return true;
     }
     return !pmd.outstanding;

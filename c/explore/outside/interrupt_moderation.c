@@ -2,8 +2,8 @@
    takes what came and unmasks. A moderator looks at the number of interrupts: where there are many it keeps the
    vector masked for an interval.
 
-   With WRONG the poll clears `scheduled` after its last look, though the moderator may have unmasked before it: a
-   message in between is forgotten. */
+   The poll clears `scheduled` after its last look, though the moderator may have unmasked before it: a message in
+   between is forgotten. With -DFIXED it clears it before its first look. */
 #include <string.h>
 
 #include "nic82599_explore.h"
@@ -71,13 +71,13 @@ static void poll(void *unused)
     (void)unused;
     for (;;) {
         nicx_wait_until(is_set, &driver.scheduled);
-#ifndef WRONG
+#ifdef FIXED
         driver.scheduled = false;
 #endif
         while (take())
             ;
         nicx_write32(NIC_RDT(0), (driver.next + SLOTS - 1) % SLOTS);
-#ifdef WRONG
+#ifndef FIXED
         driver.scheduled = false;
 #endif
         nicx_write32(NIC_EIMS, CAUSE);

@@ -1,7 +1,8 @@
 /* A host and a virtual function. The function asks for the number of its queues and for its address, by the mailbox.
    If the host is slow with the first answer the function has one queue. It resets itself then, and goes on.
 
-   With WRONG the host's answer to the request that was withdrawn overwrites the next one. */
+   The host's answer to the request that was withdrawn overwrites the next one. With -DFIXED the host drops its answer
+   if there is another request. */
 #include <string.h>
 
 #include "nic82599_explore.h"
@@ -72,7 +73,7 @@ static void host(void *unused)
             nicx_write32(NIC_PFMAILBOX(VF), NIC_PFMAILBOX_ACK);
             uint32_t answer = host_finds(request);
             host_takes();
-#ifndef WRONG
+#ifdef FIXED
             if (nicx_read32(NIC_PFMBICR(0)) & NIC_PFMBICR_VFREQ_IS(1 << VF))
                 continue;
 #endif

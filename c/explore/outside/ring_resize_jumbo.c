@@ -2,8 +2,8 @@
    stops the queue, takes what is there, and starts it with a ring twice as long. Frames that come while the queue
    is off are lost; all others are delivered.
 
-   With WRONG what is there of a frame whose end was lost with the old ring stays, and the next frame is appended to
-   it. */
+   What is there of a frame whose end was lost with the old ring stays, and the next frame is appended to it. With
+   -DFIXED it is dropped. */
 #include <string.h>
 
 #include "nic82599_explore.h"
@@ -102,7 +102,7 @@ static void start(uint64_t ring, unsigned slots)
     driver.ring = ring;
     driver.slots = slots;
     driver.next = 0;
-#ifndef WRONG
+#ifdef FIXED
     driver.length = 0;
 #endif
     for (unsigned slot = 0; slot < slots; slot++) {

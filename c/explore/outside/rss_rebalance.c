@@ -1,8 +1,9 @@
 /* Receive side scaling with two queues. Each queue has a worker, which hands the frames of a flow to the stack in the
    order in which they came. A balancer moves a flow from the worker that has too much to do to the other one.
 
-   With WRONG the flow is given to the new worker once the old one found its ring empty; a frame that came before
-   RETA was written may still be in the device, and comes into the old ring afterwards. */
+   The flow is given to the new worker once the old one found its ring empty; a frame that came before RETA was written
+   may still be in the device, and comes into the old ring afterwards. With -DFIXED the old ring is looked at once more
+   after the new worker has a frame of the flow. */
 #include <string.h>
 
 #include "nic82599_explore.h"
@@ -18,7 +19,7 @@ static struct {
     unsigned next[QUEUES];
     bool flushed; /* the old worker has done what it was asked for */
     bool moved;   /* the flow is the new worker's */
-#ifndef WRONG
+#ifdef FIXED
     bool waits; /* the new worker has a frame of the flow in hand */
 #endif
     unsigned count[FLOWS];
@@ -58,7 +59,7 @@ static void deliver(unsigned queue, const uint8_t *frame)
     uint8_t whole[FRAME];
     unsigned flow = frame[PORT_AT] % FLOWS;
     if (flow == BULK && queue == TO && !driver.moved) {
-#ifndef WRONG
+#ifdef FIXED
         driver.waits = true;
 #endif
         nicx_wait_until(is_set, &driver.moved);
@@ -124,7 +125,7 @@ static void balance(void *unused)
     (void)unused;
     nicx_wait_until(is_busy, NULL);
     nicx_write32(NIC_RETA(0), NIC_RETA_ENTRY_0_IS(TO) | NIC_RETA_ENTRY_1_IS(TO));
-#ifndef WRONG
+#ifdef FIXED
     nicx_wait_until(is_set, &driver.waits);
 #endif
     driver.flush[FROM] = true;

@@ -1,7 +1,8 @@
 /* A transmit queue. A thread sends, a cleaner takes back the buffers of what went out, and a watchdog resets the
    queue if its head doesn't move for a while: it stops the queue, and gives it anew what is outstanding.
 
-   With WRONG it takes back what went out before the queue is off, and what goes out meanwhile goes out twice. */
+   It takes back what went out before the queue is off, and what goes out meanwhile goes out twice. With -DFIXED it
+   waits until the queue is off. */
 #include <string.h>
 
 #include "nic82599_explore.h"
@@ -104,7 +105,7 @@ static void reset_queue(void)
 {
     uint8_t again[SLOTS];
     unsigned count = 0;
-#ifndef WRONG
+#ifdef FIXED
     set_enable(0);
     reclaim();
 #else

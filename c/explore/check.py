@@ -220,13 +220,21 @@ REFUSALS = {
 }
 
 WORDS = {
-    "--runs": "--runs: it wants|is no number",
+    "--runs": "--runs: it wants a word behind it",
     "--runs 0": '"0" is no number of 1 to',
     "--runs 12x": '"12x" is no number of 1 to',
-    "--seconds -1": "--seconds: it wants seconds above 0",
+    "--seconds -1": '--seconds: "-1" is no number of seconds above 0 and up to 1000000000',
+    "--seconds 0x10": '"0x10" is no number of seconds',
+    "--seconds nan": '"nan" is no number of seconds',
+    "--seconds 1e10": '"1e10" is no number of seconds',
+    "--seconds": "--seconds: it wants a word behind it",
+    "--strategy": "--strategy: it wants a word behind it",
     "--strategy best": "--strategy: it is random, priorities, exhaustive or mixed",
     "--depth 17": '"17" is no number of 1 to 16',
     "--jobs 257": '"257" is no number of 1 to 256',
+    "--jobs 1.5": '"1.5" is no number of 1 to 256',
+    "--jobs +4": '"\\+4" is no number of 1 to 256',
+    "--frames 3": "--frames: there is no such option",
     "--nonsense 1": "--nonsense: there is no such option",
     "words": "words: there is no such option",
     "--seed 18446744073709551616": "is no number of 0 to",
@@ -234,6 +242,10 @@ WORDS = {
     "--hang 0": '"0" is no number of 1 to 86400',
     "--out /nowhere": "there is no such folder",
     "--out /dev/null": "there is no such folder",
+    "--out": "--out: it wants a word behind it",
+    "--junit /nowhere/result.xml": "--junit: /nowhere/result.xml can't be written",
+    "--junit /tmp": "--junit: /tmp can't be written",
+    "--junit": "--junit: it wants a word behind it",
     "--replay /tmp": "/tmp: it can't be read",
     "--replay /nowhere": "/nowhere: it can't be read",
 }
@@ -280,7 +292,7 @@ def check_refusals(kit: Kit) -> str:
     for words, wanted in WORDS.items():
         said = ran([program, "fine", *words.split()], 2)
         told(said, wanted, words)
-        if not words.startswith(("--out", "--replay")):
+        if not words.startswith(("--out ", "--junit ", "--replay ")):
             told(said, "usage: .*options", words)
     schedule = out / "bad.schedule"
     fine = "scenario faulty\ntask faulty\n"

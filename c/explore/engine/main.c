@@ -229,6 +229,32 @@ static bool is_folder(const char *path)
     return stat(path, &about) == 0 && S_ISDIR(about.st_mode) && access(path, W_OK) == 0;
 }
 
+/* Whether a file is there that can be written to, or could be made. */
+static bool is_writable(const char *path)
+{
+    struct stat about;
+    char folder[MOST_PATH];
+    const char *slash = strrchr(path, '/');
+    if (stat(path, &about) == 0)
+        return !S_ISDIR(about.st_mode) && access(path, W_OK) == 0;
+    int length = snprintf(folder, sizeof folder, "%.*s", slash ? (int)(slash - path) + 1 : 1, slash ? path : ".");
+    return length < MOST_PATH && is_folder(folder);
+}
+
+/* Null, or why the files of a search couldn't be written. */
+static const char *look_at_files(const struct options *options, const char *name)
+{
+    static char why[100];
+    if (!is_folder(options->out))
+        return "--out: there is no such folder that can be written to";
+    if (strlen(options->out) + strlen(name) + sizeof "/.schedule" > MOST_PATH)
+        return "--out: the path of the folder is too long";
+    if (!options->junit || is_writable(options->junit))
+        return NULL;
+    snprintf(why, sizeof why, "--junit: %.60s can't be written", options->junit);
+    return why;
+}
+
 int nicx_main(int argc, char **argv, const nicx_scenario *scenario)
 {
     struct options options;
@@ -243,8 +269,9 @@ int nicx_main(int argc, char **argv, const nicx_scenario *scenario)
         printf(nicxi_usage, argv[0], name);
         return NOTHING;
     }
-    if (!options.replay && !is_folder(options.out))
-        return refuse(scenario, "--out: there is no such folder that can be written to");
+    fault = options.replay ? NULL : look_at_files(&options, name);
+    if (fault)
+        return refuse(scenario, fault);
     fault = nicx_open(scenario);
     if (fault)
         return refuse(scenario, fault);

@@ -40,8 +40,13 @@ static char why[200];
 
 static const char *refused(const char *word, const char *what)
 {
-    snprintf(why, sizeof why, "%.60s: %s", word, what);
+    snprintf(why, sizeof why, "%.60s: %s", *word ? word : "\"\"", what);
     return why;
+}
+
+static const char *without_word(const char *word)
+{
+    return refused(word, "it wants a word behind it");
 }
 
 /* --- one option --- */
@@ -49,6 +54,8 @@ static const char *refused(const char *word, const char *what)
 static const char *take_number(const char *word, const char *text, uint64_t least, uint64_t most, uint64_t *number)
 {
     char *end, range[80];
+    if (!*text)
+        return without_word(word);
     errno = 0;
     unsigned long long value = strtoull(text, &end, 10);
     if (*text >= '0' && *text <= '9' && !*end && !errno && value >= least && value <= most) {
@@ -71,17 +78,22 @@ static const char *take_small(const char *word, const char *text, uint32_t least
 
 static const char *take_seconds(const char *word, const char *text, double *seconds)
 {
-    char *end;
+    char *end, range[80];
+    if (!*text)
+        return without_word(word);
     double value = strtod(text, &end);
-    if (*text >= '0' && *text <= '9' && !*end && value > 0 && value <= 1e9) {
+    if (strspn(text, "0123456789.e-+") == strlen(text) && !*end && value > 0 && value <= 1e9) {
         *seconds = value;
         return NULL;
     }
-    return refused(word, "it wants seconds above 0");
+    snprintf(range, sizeof range, "\"%.20s\" is no number of seconds above 0 and up to 1000000000", text);
+    return refused(word, range);
 }
 
 static const char *take_strategy(const char *text, struct options *options)
 {
+    if (!*text)
+        return without_word("--strategy");
     for (int k = MIXED; k <= EXHAUSTIVE; k++)
         if (!strcmp(text, nicxi_strategy_name((enum strategy)k))) {
             options->strategy = (enum strategy)k;
@@ -99,7 +111,13 @@ static const char *take_preemptions(const char *word, const char *text, struct o
     return take_small(word, text, 0, 1000, &options->preemptions);
 }
 
-static const char *take_value(const char *word, char *text, struct options *options)
+static const char *take_name(const char *word, const char *text, const char **name)
+{
+    *name = text;
+    return *text ? NULL : without_word(word);
+}
+
+static const char *take_value(const char *word, const char *text, struct options *options)
 {
     if (!strcmp(word, "--strategy"))
         return take_strategy(text, options);
@@ -120,14 +138,12 @@ static const char *take_value(const char *word, char *text, struct options *opti
     if (!strcmp(word, "--hang"))
         return take_small(word, text, 1, 86400, &options->hang);
     if (!strcmp(word, "--out"))
-        options->out = text;
-    else if (!strcmp(word, "--junit"))
-        options->junit = text;
-    else if (!strcmp(word, "--replay"))
-        options->replay = text;
-    else
-        return refused(word, "there is no such option");
-    return NULL;
+        return take_name(word, text, &options->out);
+    if (!strcmp(word, "--junit"))
+        return take_name(word, text, &options->junit);
+    if (!strcmp(word, "--replay"))
+        return take_name(word, text, &options->replay);
+    return refused(word, "there is no such option");
 }
 
 static bool take_flag(const char *word, struct options *options)
@@ -165,12 +181,10 @@ const char *nicxi_options(int argc, char **argv, struct options *options)
             continue;
         if (strncmp(argv[k], "--", 2) != 0)
             return refused(argv[k], "there is no such option");
-        char empty[] = "";
-        const char *fault = take_value(argv[k], k + 1 < argc ? argv[k + 1] : empty, options);
+        const char *fault = take_value(argv[k], k + 1 < argc ? argv[k + 1] : "", options);
         if (fault)
             return fault;
-        if (++k == argc)
-            return refused(argv[k - 1], "it wants a word behind it");
+        k++;
     }
     if (!options->runs && !options->seconds && options->strategy != EXHAUSTIVE)
         options->runs = 10000;

@@ -7,7 +7,8 @@
 The words of the marker are those of `nic82599.explore.search`: runs, seed, strategy, depth, preemptions, hang, shrink,
 jobs. A failure is told with its schedule. With --nic-out FOLDER the schedule goes into a file there, NAME.schedule,
 which --nic-replay FILE makes once in place of the search; tests of other scenarios are skipped then. Beside it is
-NAME.nic, the device's side of it, which nicview draws. --nic-jobs N has N processes search each scenario.
+NAME.nic, the device's side of it, which nicview draws. --nic-jobs N has N processes search each scenario. A word of the
+marker that can't be taken fails its test; one of the options ends pytest, with status 4.
 """
 
 from __future__ import annotations
@@ -17,7 +18,7 @@ from typing import TYPE_CHECKING
 
 import pytest
 
-from .explore import BadSchedule, Failure, Scenario, replay, search
+from .explore import BadSchedule, BadWord, Failure, Scenario, check_number, check_out, replay, search
 
 if TYPE_CHECKING:
     from pluggy import Result
@@ -36,6 +37,14 @@ def pytest_configure(config: pytest.Config) -> None:
     config.addinivalue_line(
         "markers", "nic_schedules(runs, ...): searches the scenario that the test gives, as nic82599.explore.search"
     )
+    jobs, out = config.getoption("--nic-jobs"), config.getoption("--nic-out")
+    try:
+        if jobs is not None:
+            check_number("jobs", jobs)
+        if out is not None:
+            check_out(out)
+    except BadWord as fault:
+        raise pytest.UsageError(f"--nic-{fault}") from None
 
 
 def words_of(marker: pytest.Mark) -> dict[str, object]:
@@ -81,9 +90,12 @@ def pytest_pyfunc_call(pyfuncitem: pytest.Function) -> bool | None:
         replayed(scenario, path)
     else:
         words = words_of(marker)
-        if config.getoption("--nic-jobs"):
+        if config.getoption("--nic-jobs") is not None:
             words["jobs"] = config.getoption("--nic-jobs")
-        search(scenario, **words, out=config.getoption("--nic-out"))
+        try:
+            search(scenario, **words, out=config.getoption("--nic-out"))
+        except BadWord as fault:
+            pytest.fail(f"nic_schedules: {fault}", pytrace=False)
     return True
 
 

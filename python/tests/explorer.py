@@ -18,6 +18,7 @@ from nic82599 import places  # noqa: E402
 from nic82599.explore import (  # noqa: E402
     BESIDE,
     BadSchedule,
+    BadWord,
     Failure,
     Mutex,
     Scenario,
@@ -238,8 +239,20 @@ class Found(unittest.TestCase):
         self.assertTrue(all(len(share) > 2 for share in shares), [len(share) for share in shares])
 
     def test_words(self) -> None:
-        for words in ({"strategy": "best"}, {"runs": 0}, {"runs": None}, {"jobs": 0}, {"jobs": 257}):
-            self.assertRaises(ValueError, search, Race(), **words)
+        for name, values in {
+            "strategy": ("best", None, ""),
+            "runs": (0, None, "ten", 1.5, True),
+            "seed": (-1, "abc", 1 << 64),
+            "depth": (0, 17, "3"),
+            "preemptions": (-1, 1_001, "any", None),
+            "jobs": (0, 257, "4", 2.0),
+            "hang": (0, -1, "x", float("nan"), None),
+            "out": ("/nowhere", "/dev/null", 5),
+        }.items():
+            for value in values:
+                with self.assertRaisesRegex(BadWord, f"^{name}: .*{re.escape(repr(value))}"):
+                    search(Race(), **{name: value})
+        self.assertRaises(BadWord, replay, Race(), HERE / "race.schedule", 0)
         wrong = Interrupted()
         wrong.where = "nobody"
         for scenario, told in ((Faulty(), "begin names no task"), (wrong, "handler isr is on a task that there isn't")):
@@ -363,6 +376,10 @@ def test_nothing():
 def test_words():
     return Race()
 
+@pytest.mark.nic_schedules(depth=17)
+def test_depth():
+    return Race()
+
 def test_unmarked():
     pass
 """
@@ -382,17 +399,21 @@ class Plugin(unittest.TestCase):
     def pytest(self, folder: str, *words: str) -> str:
         how = {**os.environ, "PYTHONPATH": f"{HERE.parent}:{HERE.parent / 'examples'}", "PYTHONDONTWRITEBYTECODE": "1"}
         line = [with_pytest(), "-m", "pytest", "-p", "nic82599.pytest_plugin", "-p", "no:cacheprovider", "-W", "error"]
-        return subprocess.run([*line, *words], cwd=folder, env=how, capture_output=True, text=True, check=False).stdout
+        made = subprocess.run([*line, *words], cwd=folder, env=how, capture_output=True, text=True, check=False)
+        return made.stdout + made.stderr
 
     def test_all(self) -> None:
         with tempfile.TemporaryDirectory() as folder:
             (Path(folder) / "test_it.py").write_text(TESTS)
             told = self.pytest(folder, "--nic-out", folder, "--strict-markers", "--nic-jobs", "2")
             self.assertTrue((Path(folder) / "race.nic").exists())
-            self.assertIn("3 failed, 2 passed", told)
+            self.assertIn("4 failed, 2 passed", told)
             self.assertIn("end: a frame lies in the ring", told)
             self.assertIn("test_nothing gives no Scenario", told)
             self.assertIn("nic_schedules: walks is none of runs, seed", told)
+            self.assertIn("nic_schedules: depth: 17 is no whole number of 1 to 16", told)
+            self.assertIn("--nic-jobs: 0 is no whole number", self.pytest(folder, "--nic-jobs", "0"))
+            self.assertIn("--nic-out: there is no such folder", self.pytest(folder, "--nic-out", "/nowhere"))
             told = self.pytest(folder, "--nic-replay", "race.schedule", "-k", "race or fixed")
             self.assertIn("1 failed, 1 skipped", told)
             self.assertIn("replayed", told)

@@ -11,6 +11,7 @@ the driver's memory, and code between two points isn't interrupted.
 
 from __future__ import annotations
 
+import os
 import re
 from collections.abc import Callable, Iterator
 from contextlib import contextmanager
@@ -23,7 +24,7 @@ from .jobs import Found, Over, searched
 from .script import Script, name_of, number, offset_name_of
 from .strategy import Exhaustive, by_chance, by_list, by_priority
 
-__all__ = ["BESIDE", "BadSchedule", "Failure", "Mutex", "Result", "Scenario", "Search", "replay", "search"]
+__all__ = ["BESIDE", "BadSchedule", "BadWord", "Failure", "Mutex", "Result", "Scenario", "Search", "replay", "search"]
 
 BESIDE = ""
 NAME = re.compile(r"[A-Za-z0-9_-]{1,63}")
@@ -32,6 +33,10 @@ STRATEGIES = ("random", "priorities", "mixed", "exhaustive")
 
 class BadSchedule(ValueError):
     """A schedule's file can't be taken: where, and why."""
+
+
+class BadWord(ValueError):
+    """What `search` can't take: which of its words, and why."""
 
 
 class Mutex:
@@ -489,13 +494,41 @@ class _Plan:
 FIRST = 16
 
 
+# The words of `search` that are numbers, and their ranges.
+RANGES = {
+    "runs": (1, 1 << 62),
+    "seed": (0, (1 << 64) - 1),
+    "depth": (1, 16),
+    "preemptions": (0, 1_000),
+    "jobs": (1, 256),
+}
+
+
+def check_number(name: str, value: object) -> None:
+    """BadWord where a word of `search` isn't in its range."""
+    least, most = RANGES[name]
+    if not isinstance(value, int) or isinstance(value, bool) or not least <= value <= most:
+        raise BadWord(f"{name}: {value!r} is no whole number of {least:,} to {most:,}")
+
+
+def check_hang(hang: object) -> None:
+    if not isinstance(hang, (int, float)) or isinstance(hang, bool) or not 0 < hang <= 86_400:
+        raise BadWord(f"hang: {hang!r} is no number of seconds above 0 and up to 86,400")
+
+
+def check_out(out: object) -> None:
+    """BadWord where the files of a failure couldn't be written, which would be lost."""
+    is_path = isinstance(out, (str, os.PathLike))
+    if not is_path or not Path(out).is_dir() or not os.access(Path(out), os.W_OK):
+        raise BadWord(f"out: there is no such folder that can be written to: {out!r}")
+
+
 def _checked(plan: _Plan) -> _Plan:
     if plan.strategy not in STRATEGIES:
-        raise ValueError(f"{plan.strategy!r}: a strategy is one of {', '.join(STRATEGIES)}")
-    if plan.strategy != "exhaustive" and plan.runs is None or plan.runs is not None and plan.runs < 1:
-        raise ValueError("runs: at least 1")
-    if not 1 <= plan.jobs <= 256:
-        raise ValueError("jobs: 1 to 256")
+        raise BadWord(f"strategy: {plan.strategy!r} is none of {', '.join(STRATEGIES)}")
+    for name in RANGES:
+        if name != "runs" or plan.runs is not None or plan.strategy != "exhaustive":
+            check_number(name, getattr(plan, name))
     return plan
 
 
@@ -518,8 +551,12 @@ def search(
 ) -> None:  # fmt: skip
     """Makes so many schedules; Failure at the first that fails, shrunk, and in the folder `out` as NAME.schedule, with
     the device's side of it as NAME.nic. The exhaustive search makes all schedules with at most so many preemptions
-    where `runs` is None. So many processes share the work, and the failure is the same however many they are."""
+    where `runs` is None. So many processes share the work, and the failure is the same however many they are. BadWord
+    where a word can't be taken."""
     plan = _checked(_Plan(runs, seed, strategy, depth, preemptions, jobs))
+    check_hang(hang)
+    if out is not None:
+        check_out(out)
     with Search(scenario, hang) as searching:
         found = plan.search(searching)
         if found is None:
@@ -533,6 +570,7 @@ def search(
 
 def replay(scenario: Scenario, path: str | Path, hang: float = 10) -> Result:
     """Makes the schedule of a file, to the letter. BadSchedule where it doesn't fit the scenario."""
+    check_hang(hang)
     names, numbers = read_schedule(path, scenario)
     with Search(scenario, hang) as searching:
         result, is_cut = searching.run(by_list(names, True)), searching.is_cut

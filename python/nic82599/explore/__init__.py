@@ -21,7 +21,7 @@ from pathlib import Path
 from .. import Nic, NotLent, address_of, offset_of
 from .engine import POLLS, Choose, Result, Run, Thread
 from .jobs import Found, Over, searched
-from .script import Script, name_of, number, offset_name_of
+from .script import Script, name_of, number_of, offset_name_of
 from .strategy import Exhaustive, by_chance, by_list, by_priority
 
 __all__ = ["BESIDE", "BadSchedule", "BadWord", "Failure", "Mutex", "Result", "Scenario", "Search", "replay", "search"]
@@ -177,7 +177,7 @@ class Scenario:
         is_there = self._nic.write32(address, word)
         self._did(run, f"w {name_of(address)} 0x{word:08x}{'' if is_there else ' (stray)'}")
         if self._script:
-            self._script.line(f"w {name_of(address)} {number(word)}", self._who(run))
+            self._script.line(f"w {name_of(address)} {number_of(word)}", self._who(run))
         return is_there
 
     def vf_read32(self, vf: int, at: int | str) -> int:
@@ -200,7 +200,7 @@ class Scenario:
         self._did(run, f"vw {vf} {offset_name_of(offset)} 0x{word:08x}{'' if is_there else ' (stray)'}")
         if self._script:
             said = f"{self._who(run)}: {offset_name_of(offset)}"
-            self._script.line(f"vw {vf} 0x{offset:x} {number(word)}", said)
+            self._script.line(f"vw {vf} 0x{offset:x} {number_of(word)}", said)
         return is_there
 
     def _refused(self, run: Run | None, what: str, bus: int) -> None:

@@ -56,7 +56,7 @@ def plain(words: str) -> str:
     return "".join(one if " " <= one <= "~" else "?" for one in words)
 
 
-def number(word: int) -> str:
+def number_of(word: int) -> str:
     return str(word) if word < 10 else f"0x{word:x}"
 
 

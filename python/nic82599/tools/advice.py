@@ -162,18 +162,12 @@ class Advice:
         ]
         for access in self.writes:
             row = access.register.row
-            if (
-                row.kind == "Held"
-                and row.bank == bank
-                and access.register.index == queue
-                and on is not None
-                and access.pc > on
-            ):
-                if not [pc for pc in off if on < pc < access.pc]:
-                    yield self._at(
-                        access.pc,
-                        f"{access.register.name} is held while the queue is on: the write changes nothing",
-                    )
+            is_of_it = row.kind == "Held" and row.bank == bank and access.register.index == queue
+            if is_of_it and on is not None and on < access.pc and not any(on < pc < access.pc for pc in off):
+                yield self._at(
+                    access.pc,
+                    f"{access.register.name} is held while the queue is on: the write changes nothing",
+                )
 
     def _buffers(self, queue: int, enable: Access) -> Iterator[Warning]:
         """The form of a receive queue's descriptors."""

@@ -8,6 +8,7 @@ something came before, the first step is a read of STATUS, which changes nothing
 
 from __future__ import annotations
 
+import contextlib
 import re
 from dataclasses import dataclass, field
 from pathlib import Path
@@ -332,10 +333,8 @@ def _lent(nic: Nic) -> dict[int, bytes]:
     """The bytes of each block that is lent."""
     found = {}
     for block in range(nic.blocks):
-        try:
+        with contextlib.suppress(nic82599.NotLent):
             found[block] = nic.memory.read(block * nic82599.BLOCK_BYTES, nic82599.BLOCK_BYTES)
-        except nic82599.NotLent:
-            pass
     return found
 
 

@@ -2,6 +2,7 @@
 
 from __future__ import annotations
 
+import contextlib
 import re
 import subprocess
 import sys
@@ -173,11 +174,9 @@ def _talk(ran: subprocess.Popen[bytes], text: bytes) -> tuple[bytes, bytes]:
     assert ran.stdin and ran.stdout
     with ThreadPoolExecutor(1) as pool:
         out = pool.submit(ran.stdout.read)
-        try:
+        with contextlib.suppress(BrokenPipeError):
             ran.stdin.write(text)
             ran.stdin.close()
-        except BrokenPipeError:
-            pass
         result = out.result()
     ran.wait()
     return result, b""

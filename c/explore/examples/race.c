@@ -20,17 +20,11 @@ static void isr(void *unused)
     driver.scheduled = true;
 }
 
-static bool is_scheduled(void *unused)
-{
-    (void)unused;
-    return driver.scheduled;
-}
-
 static void poll(void *unused)
 {
     (void)unused;
     for (;;) {
-        nicx_wait_until(is_scheduled, NULL);
+        nicx_wait_until(nicx_is_set, &driver.scheduled);
         driver.scheduled = false;
         nicx_read32(NIC_EICR);
         while (nicx_get64(16 * driver.next + 8) & 1) {

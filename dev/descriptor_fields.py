@@ -18,12 +18,11 @@ from typing import NamedTuple
 
 sys.dont_write_bytecode = True
 from descriptor_tables import FRAMES, receive_fields, rss_types, transmit_fields  # noqa: E402
-from generated import keep  # noqa: E402
-from register_table import ROOT  # noqa: E402
+from generated import ROOT, keep, text_of, with_each_macro_once  # noqa: E402
 
 HEADER, MODULE = ROOT / "c/include/nic82599_desc.h", ROOT / "python/nic82599/descriptor_fields.py"
 RUST = ROOT / "rust/nic82599/src/desc/fields.rs"
-FUNCTIONS, MARK = ROOT / "dev/descriptor_functions.h", "/* THE FIELDS */\n"
+FUNCTIONS, MARK = "dev/descriptor_functions.h", "/* THE FIELDS */\n"
 # These are addresses in place, which aren't shifted.
 ADDRESSES = ("BUFFER", "HEADER")
 HEAD_PYTHON = '''\
@@ -134,11 +133,8 @@ def rss_enum() -> str:
 
 def header() -> str:
     """c/include/nic82599_desc.h."""
-    before, after = FUNCTIONS.read_text().split(MARK)
-    text = before + "".join(macros(form) for form in forms()) + rss_enum() + after
-    names = re.findall(r"#define (\w+)", text)
-    assert len(names) == len(set(names)), sorted(name for name in names if names.count(name) > 1)
-    return text
+    before, after = text_of(FUNCTIONS).split(MARK)
+    return with_each_macro_once(before + "".join(macros(form) for form in forms()) + rss_enum() + after)
 
 
 def module() -> str:

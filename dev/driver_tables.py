@@ -21,9 +21,9 @@ from typing import NamedTuple
 sys.dont_write_bytecode = True
 sys.path.append(str(Path(__file__).resolve().parents[1] / "python"))
 from descriptor_tables import name_in_a_function  # noqa: E402
-from generated import keep  # noqa: E402
+from generated import ROOT, keep, with_each_macro_once  # noqa: E402
 from nic82599.tools.regs import FIELDS, Field  # noqa: E402
-from register_table import ROOT, TABLE, Row, first_runs  # noqa: E402
+from register_table import TABLE, Row, first_runs  # noqa: E402
 from vf_map_table import rows_of_offsets  # noqa: E402
 
 HEADER, MODULE = ROOT / "c/include/nic82599_regs.h", ROOT / "python/nic82599/registers.py"
@@ -132,13 +132,6 @@ def offset_macros() -> str:
     return lines
 
 
-def check_macros(text: str) -> str:
-    """The text, where no macro stands twice in it."""
-    names = re.findall(r"#define (\w+)", text)
-    assert len(names) == len(set(names)), sorted(name for name in names if names.count(name) > 1)
-    return text
-
-
 def c_header() -> str:
     """c/include/nic82599_regs.h."""
     helper = """/* index i at first + stride * i below count, and at further + stride * (i - count) from there on */
@@ -150,7 +143,7 @@ static inline uint32_t nic_in_runs(uint32_t first, uint32_t stride, uint32_t cou
 """
     rows = "".join(f"/* {row.meaning} */\n" + address_macro(row) + field_macros(row) + "\n" for row in TABLE)
     tail = f"/* offsets of a virtual function, for nic_vf_read32 and nic_vf_write32 */\n{offset_macros()}\n#endif\n"
-    return check_macros(HEAD_C + helper + rows + tail)
+    return with_each_macro_once(HEAD_C + helper + rows + tail)
 
 
 def c_names() -> str:

@@ -19,7 +19,9 @@ import re
 import sys
 from pathlib import Path
 
-ROOT = Path(__file__).resolve().parent.parent
+sys.dont_write_bytecode = True
+from generated import ROOT, keep, text_of  # noqa: E402
+
 PAGES = [ROOT / "README.md", ROOT / "c/README.md", *sorted((ROOT / "docs").glob("*.md"))]
 PIECE = re.compile(r"<!-- ([\w./]+): (\S.*) -->\n\n((?:    .*\n|\n(?=    ))*)")
 
@@ -53,7 +55,7 @@ def item_of(text: str, item: str) -> list[str]:
 def shown(piece: re.Match[str]) -> str:
     """A piece as the page is to show it; parts of a file by lines stand without their common indent."""
     file, items, _ = piece.groups()
-    text = (ROOT / file).read_text()
+    text = text_of(file)
     parts = []
     for item in items.split():
         lines = item_of(text, item)
@@ -63,21 +65,10 @@ def shown(piece: re.Match[str]) -> str:
     return f"<!-- {file}: {items} -->\n\n{between.join(parts)}"
 
 
-def main() -> None:
-    only_check = "--check" in sys.argv
-    stale = False
-    for page in PAGES:
-        old = page.read_text()
-        new = PIECE.sub(shown, old)
-        if new == old:
-            continue
-        stale = True
-        print("stale:" if only_check else "written:", page.relative_to(ROOT))
-        if not only_check:
-            page.write_text(new)
-    if only_check and stale:
-        sys.exit(1)
+def texts() -> dict[Path, str]:
+    """The pages, with the pieces that they are to show."""
+    return {page: PIECE.sub(shown, page.read_text()) for page in PAGES}
 
 
 if __name__ == "__main__":
-    main()
+    keep(__doc__, texts)

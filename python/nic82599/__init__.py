@@ -28,7 +28,7 @@ from difflib import get_close_matches
 from functools import cache
 from typing import NamedTuple
 
-from . import places
+from . import places, statuses
 from .pcap import NoCapture, read_pcap, write_pcap
 from .registers import FIELDS, OFFSETS, REGISTERS
 from .version import VERSION as __version__
@@ -242,17 +242,32 @@ class _Told(ctypes.Structure):
     ]
 
 
-_DONE, _STRAY, _IDLE, _DROPPED, _WROTE, _ADVANCED, _SENT, _FAULT, _MESSAGE, _FRAME = range(10)
-_MORE = 38
 _REFUSALS: dict[int, type[NicError]] = {
-    16: NotLent, 18: NoQueue, 19: NoGroup, 32: OutOfMemory, 33: TooLong, 34: TooManyVfs, 35: BadFifo, 36: BadBlocks,
-    37: NoBlock,
-}  # fmt: skip
-_IMAGE = {65: "OddLength", 66: "BadSize", 67: "SectionOutside", 68: "BadChecksum", 69: "NotTriples"}
-_TEXT = {97: "Syntax", 98: "TwoValues", 99: "Reserved", 100: "DoesNotFit", 101: "PointerOutside", 102: "Input"}
-_WHYS = ("", "link down", "off", "short", "long", "filter", "no pool", "pool off", "full", "queue off", "no slot")
-_FAULTS = ("", "outside", "not lent", "type", "no buffer size", "offload", "legacy", "too long", "unknown type")
-_STEPS = ("qstep rx", "qstep tx", "eestep", "tx", "rx", "int")
+    statuses.NOT_LENT: NotLent,
+    statuses.NO_QUEUE: NoQueue,
+    statuses.NO_GROUP: NoGroup,
+    statuses.OUT_OF_MEMORY: OutOfMemory,
+    statuses.NO_ROOM: TooLong,
+    statuses.TOO_MANY_VFS: TooManyVfs,
+    statuses.BAD_FIFO: BadFifo,
+    statuses.BAD_BLOCKS: BadBlocks,
+    statuses.NO_BLOCK: NoBlock,
+}
+_IMAGE = {
+    statuses.IMAGE_ODD_LENGTH: "OddLength",
+    statuses.IMAGE_BAD_SIZE: "BadSize",
+    statuses.IMAGE_SECTION_OUTSIDE: "SectionOutside",
+    statuses.IMAGE_BAD_CHECKSUM: "BadChecksum",
+    statuses.IMAGE_NOT_TRIPLES: "NotTriples",
+}
+_TEXT = {
+    statuses.TEXT_SYNTAX: "Syntax",
+    statuses.TEXT_TWO_VALUES: "TwoValues",
+    statuses.TEXT_RESERVED: "Reserved",
+    statuses.TEXT_DOES_NOT_FIT: "DoesNotFit",
+    statuses.TEXT_POINTER_OUTSIDE: "PointerOutside",
+    statuses.TEXT_NOT_UTF8: "Input",
+}
 
 _U8, _U16, _U32, _U64, _SIZE = ctypes.c_uint8, ctypes.c_uint16, ctypes.c_uint32, ctypes.c_uint64, ctypes.c_size_t
 _BYTES, _AT, _BOOL = ctypes.c_void_p, ctypes.c_void_p, ctypes.c_bool
@@ -412,7 +427,7 @@ def rss_hash(key: bytes, data: bytes) -> int:
         raise ValueError(f"a key of {len(key)} bytes, and not of 40")
     word = ctypes.c_uint32()
     status = _library().nic_hash(bytes(key), bytes(data), len(data), ctypes.byref(word))
-    if status != _DONE:
+    if status != statuses.DONE:
         raise _refused(status, f"{len(data)} bytes")
     return word.value
 
@@ -489,14 +504,14 @@ class Function(_Registers):
     def _read(self, call: str, at: int) -> Word:
         word = ctypes.c_uint32()
         status = self.nic._call(call, self.number, _whole(at, 32, "offset"), ctypes.byref(word))
-        return Word(word.value, status == _STRAY)
+        return Word(word.value, status == statuses.STRAY)
 
     def read32(self, at: int) -> Word:
         return self._read("nic_vf_read32", at)
 
     def write32(self, at: int, word: int) -> bool:
         given = _whole(word, 32, "word")
-        return self.nic._call("nic_vf_write32", self.number, _whole(at, 32, "offset"), given) == _DONE
+        return self.nic._call("nic_vf_write32", self.number, _whole(at, 32, "offset"), given) == statuses.DONE
 
     def peek32(self, at: int) -> int | None:
         word, stray = self._read("nic_vf_peek32", at)
@@ -598,7 +613,7 @@ class Nic(_Registers):
                 raise refusal(f"{refusal.__doc__} ({given} {what})")
         handle = _Handle()
         status = self._library.nic_new(vfs, fifo, blocks, ctypes.byref(handle))
-        if status != _DONE:
+        if status != statuses.DONE:
             raise _refused(status, f"{vfs} virtual functions, {fifo} frames, {blocks} blocks")
         self._handle = handle
         self._told = _Told()
@@ -634,7 +649,7 @@ class Nic(_Registers):
     def _ask(self, name: str, *words: object) -> None:
         """A call that is done or refused."""
         status = self._call(name, *words)
-        if status != _DONE:
+        if status != statuses.DONE:
             shown = ", ".join(str(word) for word in words if isinstance(word, int))
             raise _refused(status, f"{name.removeprefix('nic_')} {shown}".strip())
 
@@ -666,13 +681,13 @@ class Nic(_Registers):
     def _read(self, call: str, at: int) -> Word:
         word = ctypes.c_uint32()
         status = self._call(call, _whole(at, 32, "address"), ctypes.byref(word))
-        return Word(word.value, status == _STRAY)
+        return Word(word.value, status == statuses.STRAY)
 
     def read32(self, at: int) -> Word:
         return self._read("nic_read32", at)
 
     def write32(self, at: int, word: int) -> bool:
-        return self._call("nic_write32", _whole(at, 32, "address"), _whole(word, 32, "word")) == _DONE
+        return self._call("nic_write32", _whole(at, 32, "address"), _whole(word, 32, "word")) == statuses.DONE
 
     def peek32(self, at: int) -> int | None:
         word, stray = self._read("nic_peek32", at)
@@ -715,15 +730,15 @@ class Nic(_Registers):
             self._room = ctypes.create_string_buffer(length)
         told = self._told
         status = self._call("nic_collect", self._room, len(self._room), ctypes.byref(told))
-        if status == _IDLE:
+        if status == statuses.IDLE:
             return None
-        if status != _FRAME:
+        if status != statuses.FRAME:
             raise _refused(status, "collect")
         return Frame(told.queue, self._room.raw[: told.len])
 
     def link(self, up: bool) -> bool:
         """The link goes up or down; False if it was so already."""
-        return self._call("nic_link", bool(up)) == _DONE
+        return self._call("nic_link", bool(up)) == statuses.DONE
 
     # --- steps ---
 
@@ -731,13 +746,13 @@ class Nic(_Registers):
         """What an event reports; None if it was idle."""
         told = self._told
         status = self._call(call, *words, ctypes.byref(told))
-        if status == _IDLE:
+        if status == statuses.IDLE:
             return None
         if status not in _TELLERS:
             shown = ", ".join(str(word) for word in words if isinstance(word, int))
             raise _refused(status, f"{call.removeprefix('nic_')} {shown}".strip())
         # (a call of its own doesn't tell its step)
-        told.step = _STEPS.index("rx" if call == "nic_rx_step" else "tx")
+        told.step = statuses.STEPS.index("rx" if call == "nic_rx_step" else "tx")
         return _TELLERS[status](told)
 
     def rx_step(self) -> Wrote | Dropped | Fault | None:
@@ -776,9 +791,9 @@ class Nic(_Registers):
         while True:
             status = self._call("nic_settle", given, ctypes.byref(told), len(told), ctypes.byref(count))
             events += [_TELLERS[it.status](it) for it in told[: count.value]]
-            if status == _DONE:
+            if status == statuses.DONE:
                 return events
-            if status != _MORE:
+            if status != statuses.MORE:
                 raise _refused(status, f"settle {given}")
 
     # --- the EEPROM ---
@@ -789,7 +804,7 @@ class Nic(_Registers):
         status = self._call("nic_install_image", given, len(given))
         if status in _IMAGE:
             raise ImageRefused(_IMAGE[status])
-        if status != _DONE:
+        if status != statuses.DONE:
             raise _refused(status, "install_image")
 
     def install_text(self, text: str) -> None:
@@ -798,16 +813,21 @@ class Nic(_Registers):
         status = self._call("nic_install_text", given, len(given), ctypes.byref(line))
         if status in _TEXT:
             raise TextRefused(_TEXT[status], line.value)
-        if status != _DONE:
+        if status != statuses.DONE:
             raise _refused(status, "install_text")
 
 
 _TELLERS = {
-    _DONE: lambda told: Done(_STEPS[told.step], told.of),
-    _DROPPED: lambda told: Dropped(_WHYS[told.why]),
-    _WROTE: lambda told: Wrote(told.queue, told.slot, bool(told.end), told.desc, told.at, told.len),
-    _ADVANCED: lambda told: Advanced(told.queue, told.slot, told.at if told.back else None),
-    _SENT: lambda told: Sent(told.queue, told.len, told.at if told.back else None),
-    _FAULT: lambda told: Fault(_STEPS[told.step], told.queue, _FAULTS[told.why], told.bus if told.why == 2 else None),
-    _MESSAGE: lambda told: Message(told.group - 1 if told.group else None, told.vector),
+    statuses.DONE: lambda told: Done(statuses.STEPS[told.step], told.of),
+    statuses.DROPPED: lambda told: Dropped(statuses.WHYS[told.why]),
+    statuses.WROTE: lambda told: Wrote(told.queue, told.slot, bool(told.end), told.desc, told.at, told.len),
+    statuses.ADVANCED: lambda told: Advanced(told.queue, told.slot, told.at if told.back else None),
+    statuses.SENT: lambda told: Sent(told.queue, told.len, told.at if told.back else None),
+    statuses.FAULT: lambda told: Fault(
+        statuses.STEPS[told.step],
+        told.queue,
+        statuses.FAULTS[told.why],
+        told.bus if told.why == statuses.FAULT_NOT_LENT else None,
+    ),
+    statuses.MESSAGE: lambda told: Message(told.group - 1 if told.group else None, told.vector),
 }

@@ -2,7 +2,7 @@
 
 use std::fmt;
 
-use crate::ffi;
+use crate::status;
 
 /// Why a call was refused. Nothing changed by it, except where a call's page says so.
 #[derive(Clone, Copy, Debug, PartialEq, Eq, Hash)]
@@ -77,20 +77,20 @@ impl Error {
     /// The refusal of a status that isn't one of the device's replies.
     pub(crate) fn of(status: u8) -> Error {
         match status {
-            16 => Error::NotLent,
-            18 => Error::NoQueue,
-            19 => Error::NoGroup,
-            32 => Error::OutOfMemory,
-            33 => Error::TooLong,
-            34 => Error::TooManyVfs,
-            35 => Error::BadFifo,
-            36 => Error::BadBlocks,
-            37 => Error::NoBlock,
-            65 => Error::Image(ImageFault::OddLength),
-            66 => Error::Image(ImageFault::BadSize),
-            67 => Error::Image(ImageFault::SectionOutside),
-            68 => Error::Image(ImageFault::BadChecksum),
-            69 => Error::Image(ImageFault::NotTriples),
+            status::NOT_LENT => Error::NotLent,
+            status::NO_QUEUE => Error::NoQueue,
+            status::NO_GROUP => Error::NoGroup,
+            status::OUT_OF_MEMORY => Error::OutOfMemory,
+            status::NO_ROOM => Error::TooLong,
+            status::TOO_MANY_VFS => Error::TooManyVfs,
+            status::BAD_FIFO => Error::BadFifo,
+            status::BAD_BLOCKS => Error::BadBlocks,
+            status::NO_BLOCK => Error::NoBlock,
+            status::IMAGE_ODD_LENGTH => Error::Image(ImageFault::OddLength),
+            status::IMAGE_BAD_SIZE => Error::Image(ImageFault::BadSize),
+            status::IMAGE_SECTION_OUTSIDE => Error::Image(ImageFault::SectionOutside),
+            status::IMAGE_BAD_CHECKSUM => Error::Image(ImageFault::BadChecksum),
+            status::IMAGE_NOT_TRIPLES => Error::Image(ImageFault::NotTriples),
             other => unreachable!("the library answers the status {other}, which its header doesn't have"),
         }
     }
@@ -98,11 +98,11 @@ impl Error {
     /// The same of an EEPROM image's text, with the line or the index that the call tells.
     pub(crate) fn of_text(status: u8, at: u64) -> Error {
         Error::Text(match status {
-            97 => TextFault::Syntax(at),
-            98 => TextFault::TwoValues(at),
-            99 => TextFault::Reserved(at),
-            100 => TextFault::DoesNotFit,
-            101 => TextFault::PointerOutside,
+            status::TEXT_SYNTAX => TextFault::Syntax(at),
+            status::TEXT_TWO_VALUES => TextFault::TwoValues(at),
+            status::TEXT_RESERVED => TextFault::Reserved(at),
+            status::TEXT_DOES_NOT_FIT => TextFault::DoesNotFit,
+            status::TEXT_POINTER_OUTSIDE => TextFault::PointerOutside,
             _ => return Error::of(status),
         })
     }
@@ -110,7 +110,7 @@ impl Error {
     /// Whether a call did what it was asked.
     pub(crate) fn unless_done(status: u8) -> Result<(), Error> {
         match status {
-            ffi::DONE => Ok(()),
+            status::DONE => Ok(()),
             refused => Err(Error::of(refused)),
         }
     }

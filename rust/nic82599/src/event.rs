@@ -2,7 +2,8 @@
 
 use std::fmt;
 
-use crate::ffi::{self, Told};
+use crate::ffi::Told;
+use crate::status;
 
 /// A side of a queue.
 #[derive(Clone, Copy, Debug, PartialEq, Eq, Hash)]
@@ -163,10 +164,10 @@ impl Event {
     /// What an event of `nic_settle` tells.
     pub(crate) fn of_settle(told: &Told) -> Event {
         match told.step {
-            0 if told.status == ffi::DONE => Event::Switched { side: Side::Rx, queue: told.of },
-            1 if told.status == ffi::DONE => Event::Switched { side: Side::Tx, queue: told.of },
-            2 => Event::EepromAnswered,
-            4 => Event::of_step(Side::Rx, told),
+            status::RX_ENABLE if told.status == status::DONE => Event::Switched { side: Side::Rx, queue: told.of },
+            status::TX_ENABLE if told.status == status::DONE => Event::Switched { side: Side::Tx, queue: told.of },
+            status::EEPROM => Event::EepromAnswered,
+            status::RECEIVE => Event::of_step(Side::Rx, told),
             _ => Event::of_step(Side::Tx, told),
         }
     }
@@ -176,15 +177,15 @@ impl Event {
         let (queue, slot) = (told.queue, told.slot);
         let back = if told.back == 1 { Some(told.at) } else { None };
         match told.status {
-            ffi::DROPPED => Event::Dropped(Why::of(told.why)),
-            ffi::WROTE => {
+            status::DROPPED => Event::Dropped(Why::of(told.why)),
+            status::WROTE => {
                 let (descriptor, at, length) = (told.desc, told.at, told.len);
                 Event::Wrote { queue, slot, end: told.end == 1, descriptor, at, length }
             }
-            ffi::ADVANCED => Event::Advanced { queue, slot, back },
-            ffi::SENT => Event::Sent { queue, length: told.len, back },
-            ffi::FAULT => Event::Fault { side, queue, why: Fault::of(told) },
-            ffi::MESSAGE => {
+            status::ADVANCED => Event::Advanced { queue, slot, back },
+            status::SENT => Event::Sent { queue, length: told.len, back },
+            status::FAULT => Event::Fault { side, queue, why: Fault::of(told) },
+            status::MESSAGE => {
                 Event::Message { function: told.group.checked_sub(1).map(|v| v as u8), vector: told.vector }
             }
             other => unreachable!("the library tells the status {other} of a step"),
@@ -195,16 +196,16 @@ impl Event {
 impl Why {
     pub(crate) fn of(code: u8) -> Why {
         match code {
-            1 => Why::LinkDown,
-            2 => Why::Off,
-            3 => Why::Short,
-            4 => Why::Long,
-            5 => Why::Filter,
-            6 => Why::NoPool,
-            7 => Why::PoolOff,
-            8 => Why::Full,
-            9 => Why::QueueOff,
-            10 => Why::NoSlot,
+            status::WHY_LINK_DOWN => Why::LinkDown,
+            status::WHY_OFF => Why::Off,
+            status::WHY_SHORT => Why::Short,
+            status::WHY_LONG => Why::Long,
+            status::WHY_FILTER => Why::Filter,
+            status::WHY_NO_POOL => Why::NoPool,
+            status::WHY_POOL_OFF => Why::PoolOff,
+            status::WHY_FULL => Why::Full,
+            status::WHY_QUEUE_OFF => Why::QueueOff,
+            status::WHY_NO_SLOT => Why::NoSlot,
             other => unreachable!("the library tells {other} of why a frame is dropped"),
         }
     }
@@ -213,14 +214,14 @@ impl Why {
 impl Fault {
     fn of(told: &Told) -> Fault {
         match told.why {
-            1 => Fault::Outside,
-            2 => Fault::NotLent(told.bus),
-            3 => Fault::Type,
-            4 => Fault::NoBufferSize,
-            5 => Fault::Offload,
-            6 => Fault::Legacy,
-            7 => Fault::TooLong,
-            8 => Fault::UnknownType,
+            status::FAULT_OUTSIDE => Fault::Outside,
+            status::FAULT_NOT_LENT => Fault::NotLent(told.bus),
+            status::FAULT_TYPE => Fault::Type,
+            status::FAULT_NO_BUFFER_SIZE => Fault::NoBufferSize,
+            status::FAULT_OFFLOAD => Fault::Offload,
+            status::FAULT_LEGACY => Fault::Legacy,
+            status::FAULT_TOO_LONG => Fault::TooLong,
+            status::FAULT_UNKNOWN_TYPE => Fault::UnknownType,
             other => unreachable!("the library tells {other} of what a fault is"),
         }
     }

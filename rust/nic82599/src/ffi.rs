@@ -13,16 +13,7 @@ use std::ffi::CStr;
 use std::os::raw::{c_char, c_void};
 use std::ptr;
 
-pub(crate) const DONE: u8 = 0;
-pub(crate) const IDLE: u8 = 2;
-pub(crate) const DROPPED: u8 = 3;
-pub(crate) const WROTE: u8 = 4;
-pub(crate) const ADVANCED: u8 = 5;
-pub(crate) const SENT: u8 = 6;
-pub(crate) const FAULT: u8 = 7;
-pub(crate) const MESSAGE: u8 = 8;
-pub(crate) const FRAME: u8 = 9;
-pub(crate) const MORE: u8 = 38;
+use crate::status;
 
 /// `struct nic`.
 #[repr(C)]
@@ -163,7 +154,7 @@ impl Handle {
         let mut device = ptr::null_mut();
         // SAFETY: the pointer is that of a place for one.
         match unsafe { nic_new(vfs, fifo, blocks, &mut device) } {
-            DONE => Ok(Handle { raw: UnsafeCell::new(RawNic { device }) }),
+            status::DONE => Ok(Handle { raw: UnsafeCell::new(RawNic { device }) }),
             status => Err(status),
         }
     }
@@ -190,7 +181,7 @@ impl Handle {
         let mut raw = RawKept { kept: ptr::null_mut() };
         // SAFETY: the controller is open; `raw` is a place for a snapshot.
         match unsafe { nic_snapshot(self.n(), &mut raw) } {
-            DONE => Ok(Kept { raw }),
+            status::DONE => Ok(Kept { raw }),
             status => Err(status),
         }
     }

@@ -62,6 +62,7 @@ pub mod pcap;
 mod register;
 pub mod regs;
 mod settle;
+mod status;
 
 use std::ffi::CString;
 use std::os::unix::ffi::OsStrExt;

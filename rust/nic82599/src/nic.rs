@@ -5,10 +5,11 @@ use std::fmt;
 
 use crate::error::Error;
 use crate::event::{Event, Side, Why};
-use crate::ffi::{self, Handle, Kept};
+use crate::ffi::{Handle, Kept};
 use crate::memory::Memory;
 use crate::register::{Register, VfRegister};
 use crate::settle::{Settled, Steps};
+use crate::status;
 
 /// The sizes of a controller.
 #[derive(Clone, Copy, Debug, PartialEq, Eq, Hash)]
@@ -268,8 +269,8 @@ impl Nic {
     /// ```
     pub fn arrive(&self, frame: &[u8]) -> Result<Arrival, Error> {
         match self.handle.arrive(frame) {
-            (ffi::DONE, _) => Ok(Arrival::Waits),
-            (ffi::DROPPED, told) => Ok(Arrival::Dropped(Why::of(told.why))),
+            (status::DONE, _) => Ok(Arrival::Waits),
+            (status::DROPPED, told) => Ok(Arrival::Dropped(Why::of(told.why))),
             (status, _) => Err(Error::of(status)),
         }
     }
@@ -292,7 +293,7 @@ impl Nic {
         data.clear();
         data.resize(self.next_out(), 0);
         match self.handle.collect(data) {
-            (ffi::FRAME, told) => Some(told.queue),
+            (status::FRAME, told) => Some(told.queue),
             _ => None,
         }
     }
@@ -304,7 +305,7 @@ impl Nic {
 
     /// The link goes up or down; false where it is so already. It is up at first.
     pub fn link(&self, up: bool) -> bool {
-        self.handle.link(up) == ffi::DONE
+        self.handle.link(up) == status::DONE
     }
 
     // --- the steps of the device ---
@@ -312,7 +313,7 @@ impl Nic {
     /// Writes one buffer's worth of the frame that waits longest; `None` where there is nothing to do.
     pub fn rx_step(&self) -> Option<Event> {
         match self.handle.rx_step() {
-            (ffi::IDLE, _) => None,
+            (status::IDLE, _) => None,
             (_, told) => Some(Event::of_step(Side::Rx, &told)),
         }
     }
@@ -324,8 +325,8 @@ impl Nic {
     /// [`Error::NoQueue`], [`Error::OutOfMemory`].
     pub fn tx_step(&self, queue: u16) -> Result<Option<Event>, Error> {
         match self.handle.tx_step(queue) {
-            (ffi::IDLE, _) => Ok(None),
-            (ffi::ADVANCED..=ffi::FAULT, told) => Ok(Some(Event::of_step(Side::Tx, &told))),
+            (status::IDLE, _) => Ok(None),
+            (status::ADVANCED..=status::FAULT, told) => Ok(Some(Event::of_step(Side::Tx, &told))),
             (status, _) => Err(Error::of(status)),
         }
     }
@@ -337,15 +338,15 @@ impl Nic {
     /// [`Error::NoQueue`].
     pub fn queue_step(&self, side: Side, queue: u16) -> Result<bool, Error> {
         match self.handle.queue_step(side == Side::Tx, queue) {
-            ffi::DONE => Ok(true),
-            ffi::IDLE => Ok(false),
+            status::DONE => Ok(true),
+            status::IDLE => Ok(false),
             status => Err(Error::of(status)),
         }
     }
 
     /// The EEPROM answers EERD; false where there is nothing to do.
     pub fn eeprom_step(&self) -> bool {
-        self.handle.eeprom_step() == ffi::DONE
+        self.handle.eeprom_step() == status::DONE
     }
 
     /// Sends the next message of the physical function; `None` where there is nothing to do. Those of a virtual
@@ -357,8 +358,8 @@ impl Nic {
     /// Sends the next message of a group, 0 the physical function, v + 1 function v.
     pub(crate) fn message(&self, group: u8) -> Result<Option<Event>, Error> {
         match self.handle.int_step(group) {
-            (ffi::IDLE, _) => Ok(None),
-            (ffi::MESSAGE, told) => Ok(Some(Event::of_step(Side::Rx, &told))),
+            (status::IDLE, _) => Ok(None),
+            (status::MESSAGE, told) => Ok(Some(Event::of_step(Side::Rx, &told))),
             (status, _) => Err(Error::of(status)),
         }
     }
@@ -428,7 +429,7 @@ impl Nic {
     /// ```
     pub fn install_text(&self, text: &str) -> Result<(), Error> {
         match self.handle.install_text(text.as_bytes()) {
-            (ffi::DONE, _) => Ok(()),
+            (status::DONE, _) => Ok(()),
             (status, line) => Err(Error::of_text(status, line)),
         }
     }
@@ -540,14 +541,14 @@ impl Function<'_> {
 
 fn word_or_stray((status, word): (u8, u32), at: u32, is_read: bool) -> Result<u32, Error> {
     match status {
-        ffi::DONE => Ok(word),
+        status::DONE => Ok(word),
         _ => Err(Error::Stray { at, word: if is_read { Some(word) } else { None } }),
     }
 }
 
 fn done_or_stray(status: u8, at: u32) -> Result<(), Error> {
     match status {
-        ffi::DONE => Ok(()),
+        status::DONE => Ok(()),
         _ => Err(Error::Stray { at, word: None }),
     }
 }

@@ -5,8 +5,9 @@ use std::vec::IntoIter;
 
 use crate::error::Error;
 use crate::event::{Event, Side};
-use crate::ffi::{self, Told};
+use crate::ffi::Told;
 use crate::nic::Nic;
+use crate::status;
 
 /// How many queues there are.
 const QUEUES: u16 = 128;
@@ -27,8 +28,8 @@ impl Settled {
             let (status, count) = nic.handle().settle(queues, &mut room);
             events.extend(room[..count].iter().map(Event::of_settle));
             match status {
-                ffi::DONE => return Ok(Settled { events: events.into_iter() }),
-                ffi::MORE => {}
+                status::DONE => return Ok(Settled { events: events.into_iter() }),
+                status::MORE => {}
                 refused => return Err(Error::of(refused)),
             }
         }

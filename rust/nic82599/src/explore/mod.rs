@@ -60,9 +60,9 @@ use std::sync::Once;
 
 use crate::desc::Descriptor;
 use crate::error::Error;
-use crate::ffi;
 use crate::nic::{Nic, Sizes};
 use crate::register::{Register, VfRegister};
+use crate::status;
 
 /// A driver's code as tasks and interrupt handlers over one controller.
 pub trait Scenario: 'static {
@@ -324,7 +324,7 @@ impl Bus {
 
     /// Writes by address; false where no register is.
     pub fn write32(&self, address: u32, word: u32) -> bool {
-        raw::write32(address, word) == ffi::DONE
+        raw::write32(address, word) == status::DONE
     }
 
     /// Reads a register of a virtual function: the word that a driver sees, also where there is none.
@@ -334,18 +334,18 @@ impl Bus {
 
     /// Writes a register of a virtual function; false where there is none.
     pub fn vf_write(&self, number: u8, register: VfRegister, word: u32) -> bool {
-        raw::vf_write32(number, register.offset(), word) == ffi::DONE
+        raw::vf_write32(number, register.offset(), word) == status::DONE
     }
 
     /// Fills a buffer with the bytes from a bus address on; false where one isn't lent, which is a failure unless the
     /// scenario allows it.
     pub fn read_into(&self, bus: u64, bytes: &mut [u8]) -> bool {
-        raw::dma_read(bus, bytes) == ffi::DONE
+        raw::dma_read(bus, bytes) == status::DONE
     }
 
     /// Writes bytes from a bus address on; false where one isn't lent.
     pub fn write_bytes(&self, bus: u64, bytes: &[u8]) -> bool {
-        raw::dma_write(bus, bytes) == ffi::DONE
+        raw::dma_write(bus, bytes) == status::DONE
     }
 
     /// A number of 64 bits; 0 where it isn't lent.

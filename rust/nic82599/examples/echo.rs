@@ -159,6 +159,7 @@ fn start(nic: &Nic) -> Answer<Vec<Queue>> {
     nic.write(MRQC, mrqc::MRQE.is(1) | mrqc::TCPIPV4 | mrqc::UDPIPV4 | mrqc::IPV4);
     nic.write(RXCSUM, rxcsum::PCSD);
     nic.write(DMATXCTL, dmatxctl::TE);
+    nic.write(GPIE, gpie::MULTIPLE_MSIX); // MSI-X mode, which the card needs here
     for pair in 0..QUEUES / 2 {
         let (first, second) = (u32::from(2 * pair), u32::from(2 * pair + 1));
         let on = ivar::INT_ALLOC_VAL_0 | ivar::INT_ALLOC_VAL_2; // of the receive sides

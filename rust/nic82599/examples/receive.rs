@@ -21,6 +21,7 @@ fn main() -> Result<(), Error> {
     nic.write(RDLEN.at(3), 128); // eight descriptors from bus address 0 on
     nic.write(SRRCTL.at(3), srrctl::DESCTYPE.is(1) | srrctl::BSIZEPACKET.is(2));
     nic.write(RXDCTL.at(3), rxdctl::ENABLE);
+    nic.write(GPIE, gpie::MULTIPLE_MSIX); // MSI-X mode, which the card needs here
     nic.write(IVAR.at(1), ivar::INT_ALLOC_2.is(5) | ivar::INT_ALLOC_VAL_2); // its cause: bit 5
     nic.write(EIMS, 1 << 5);
     nic.settle(4)?; // the device enables the queue

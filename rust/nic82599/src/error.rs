@@ -3,13 +3,28 @@
 use std::fmt;
 
 use crate::ffi;
+use crate::memory::BLOCK_BYTES;
 
 /// Why a call was refused. Nothing changed by it, except where a call's page says so.
-#[derive(Clone, Copy, Debug, PartialEq, Eq, Hash)]
+///
+/// `{:?}` shows the same words as `{}`, since that is how `unwrap` and a `main` that ends with an error print it:
+///
+/// ```
+/// use nic82599::{Error, Nic, Sizes};
+///
+/// let refused = Nic::open(Sizes::default())?.memory().read(0x800..0x83C).unwrap_err();
+/// assert_eq!(refused, Error::NotLent(0x800));
+/// assert_eq!(
+///     format!("{refused:?}"),
+///     "bus address 0x00800: block 1 isn't lent, or a later one that the access runs into"
+/// );
+/// # Ok::<(), Error>(())
+/// ```
+#[derive(Clone, Copy, PartialEq, Eq, Hash)]
 #[non_exhaustive]
 pub enum Error {
-    /// A block of this number, or of one of these bus addresses, isn't lent.
-    NotLent,
+    /// The memory that was asked for, from this bus address on, isn't lent, or not all of it.
+    NotLent(u64),
     /// The block is lent already, or doesn't exist.
     NoBlock,
     /// There are 128 queues.
@@ -77,7 +92,6 @@ impl Error {
     /// The refusal of a status that isn't one of the device's replies.
     pub(crate) fn of(status: u8) -> Error {
         match status {
-            16 => Error::NotLent,
             18 => Error::NoQueue,
             19 => Error::NoGroup,
             32 => Error::OutOfMemory,
@@ -114,12 +128,32 @@ impl Error {
             refused => Err(Error::of(refused)),
         }
     }
+
+    /// The same of a call that asked for the memory from a bus address on.
+    pub(crate) fn unless_lent(status: u8, bus: u64) -> Result<(), Error> {
+        match status {
+            ffi::NOT_LENT => Err(Error::NotLent(bus)),
+            other => Error::unless_done(other),
+        }
+    }
+}
+
+impl fmt::Debug for Error {
+    fn fmt(&self, f: &mut fmt::Formatter<'_>) -> fmt::Result {
+        fmt::Display::fmt(self, f)
+    }
 }
 
 impl fmt::Display for Error {
     fn fmt(&self, f: &mut fmt::Formatter<'_>) -> fmt::Result {
         let text = match self {
-            Error::NotLent => "a block of this number, or of one of these bus addresses, isn't lent",
+            Error::NotLent(bus) => {
+                let block = bus / BLOCK_BYTES;
+                return write!(
+                    f,
+                    "bus address 0x{bus:05x}: block {block} isn't lent, or a later one that the access runs into"
+                );
+            }
             Error::NoBlock => "the block is lent already, or doesn't exist",
             Error::NoQueue => "there are 128 queues",
             Error::NoGroup => "there is no such virtual function, or the mode has no pool for it",

@@ -22,6 +22,7 @@ pub(crate) const SENT: u8 = 6;
 pub(crate) const FAULT: u8 = 7;
 pub(crate) const MESSAGE: u8 = 8;
 pub(crate) const FRAME: u8 = 9;
+pub(crate) const NOT_LENT: u8 = 16;
 pub(crate) const MORE: u8 = 38;
 
 /// `struct nic`.

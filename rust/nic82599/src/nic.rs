@@ -246,9 +246,9 @@ impl Nic {
     ///
     /// # Errors
     ///
-    /// [`Error::NotLent`].
+    /// [`Error::NotLent`] with the block's first bus address.
     pub fn take(&self, block: u32) -> Result<(), Error> {
-        Error::unless_done(self.handle.take(block))
+        Error::unless_lent(self.handle.take(block), Memory::block(block).start)
     }
 
     // --- the link ---

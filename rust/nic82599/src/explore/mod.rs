@@ -61,6 +61,7 @@ use std::sync::Once;
 use crate::desc::Descriptor;
 use crate::error::Error;
 use crate::ffi;
+use crate::memory::Memory;
 use crate::nic::{Nic, Sizes};
 use crate::register::{Register, VfRegister};
 
@@ -388,7 +389,7 @@ impl Bus {
     ///
     /// As by [`Nic::take`], which is a failure unless the scenario allows it.
     pub fn take(&self, block: u32) -> Result<(), Error> {
-        Error::unless_done(raw::take(block))
+        Error::unless_lent(raw::take(block), Memory::block(block).start)
     }
 
     /// A point and nothing else: between two accesses of the driver's own memory.
@@ -514,7 +515,7 @@ impl Look<'_> {
     ///
     /// # Errors
     ///
-    /// As by [`Memory::read`](crate::Memory::read).
+    /// As by [`Memory::read`].
     pub fn read(&self, range: impl RangeBounds<u64>) -> Result<Vec<u8>, Error> {
         self.nic.memory().read(range)
     }

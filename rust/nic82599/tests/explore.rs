@@ -151,9 +151,12 @@ fn each_kind_of_failure() {
         bus.point();
     };
     fails(Simple { name: "always", act: counts, always, ..SIMPLE }, "always", "three");
-    fails(Simple { name: "check", act: |bus, _| bus.fail("it can't be"), ..SIMPLE }, "check", "it can't be");
-    let panics = |_: &Bus, state: &State| assert_eq!(state.count.get(), 1, "as by assert");
-    fails(Simple { name: "panics", act: panics, ..SIMPLE }, "check", "as by assert");
+    let check = |bus: &Bus, _: &State| bus.check(false, "it can't be");
+    let place = format!("it can't be ({}:{})", file!(), line!() - 1);
+    fails(Simple { name: "check", act: check, ..SIMPLE }, "check", &place);
+    let panics = |_: &Bus, state: &State| assert!(state.count.get() == 1, "as by assert");
+    let place = format!("as by assert ({}:{})", file!(), line!() - 1);
+    fails(Simple { name: "panics", act: panics, ..SIMPLE }, "check", &place);
     let waits = |bus: &Bus, state: &State| bus.wait_until(|| state.count.get() == 9);
     fails(Simple { name: "waits", act: waits, ..SIMPLE }, "deadlock", "waits, and nobody can act");
     let goes_on = |bus: &Bus, _: &State| (0..1_000).for_each(|it| bus.write(RETA.at(0), it));

@@ -155,8 +155,8 @@ pub fn main(scenario: impl Scenario) -> ExitCode {
 }
 
 /// Searches as the words say, for a test: `search(Race, &["--runs", "500", "--out", "target"])`. One search of the
-/// process runs at a time; one that a task begins is refused. A panic of a task isn't printed but by `--replay`: the
-/// first search puts a hook in front of the one that the process has.
+/// process runs at a time; one that a task begins is refused. A panic of a task is told with its file and line, and
+/// isn't printed but by `--replay`: the first search puts a hook in front of the one that the process has.
 pub fn search(scenario: impl Scenario, words: &[&str]) -> Outcome {
     let program = env::args().next().unwrap_or_default();
     run(scenario, std::iter::once(program).chain(words.iter().map(|&it| it.to_owned())).collect())
@@ -178,6 +178,7 @@ fn run(scenario: impl Scenario, words: Vec<String>) -> Outcome {
     HOOK.call_once(|| {
         let before = panic::take_hook();
         panic::set_hook(Box::new(move |told| {
+            raw::panics_at(told.location());
             if !raw::is_quiet() {
                 before(told)
             }
@@ -429,11 +430,13 @@ impl Bus {
     }
 
     /// The schedule fails here with these words. Another panic of a task does the same.
+    #[track_caller]
     pub fn fail(&self, words: &str) -> ! {
         panic!("{words}")
     }
 
     /// Fails with these words unless something holds.
+    #[track_caller]
     pub fn check(&self, holds: bool, words: &str) {
         if !holds {
             self.fail(words);

@@ -177,6 +177,13 @@ impl fmt::Display for Error {
 
 impl std::error::Error for Error {}
 
+/// Its words, for functions that tell what is wrong by a text.
+impl From<Error> for String {
+    fn from(error: Error) -> String {
+        error.to_string()
+    }
+}
+
 impl fmt::Display for ImageFault {
     fn fmt(&self, f: &mut fmt::Formatter<'_>) -> fmt::Result {
         f.write_str(match self {

@@ -41,7 +41,8 @@
 //! # Ok::<(), nic82599::Error>(())
 //! ```
 //!
-//! The feature `explore` adds the search for the order of steps that breaks a driver.
+//! The feature `explore` adds the search for the order of steps that breaks a driver. Code over [`Device`] runs there
+//! and here.
 //!
 //! What the device does is proved; this crate is tested. A refused call gives an [`Error`] and changes nothing. No
 //! argument ends the program but an index of [`Registers::at`] and of [`VfRegisters::at`], which say so.
@@ -52,6 +53,7 @@
 #![warn(rust_2018_idioms, missing_debug_implementations, unreachable_pub)]
 
 pub mod desc;
+mod device;
 mod error;
 mod event;
 #[cfg(feature = "explore")]
@@ -68,6 +70,7 @@ use std::ffi::CString;
 use std::os::unix::ffi::OsStrExt;
 use std::path::Path;
 
+pub use device::Device;
 pub use error::{Error, ImageFault, TextFault};
 pub use event::{Event, Fault, Side, Step, Why};
 pub use memory::Memory;

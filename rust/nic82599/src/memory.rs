@@ -166,6 +166,6 @@ impl<'a> Memory<'a> {
 }
 
 /// The bus address of a slot. Past the last address it goes on at 0, which a ring that is lent never does.
-fn slot_of(ring: u64, slot: u16) -> u64 {
+pub(crate) fn slot_of(ring: u64, slot: u16) -> u64 {
     ring.wrapping_add(Descriptor::BYTES * u64::from(slot))
 }

@@ -59,9 +59,10 @@ use std::rc::Rc;
 use std::sync::Once;
 
 use crate::desc::Descriptor;
+use crate::device::Device;
 use crate::error::Error;
 use crate::ffi;
-use crate::memory::Memory;
+use crate::memory::{slot_of, Memory};
 use crate::nic::{Nic, Sizes};
 use crate::register::{Register, VfRegister};
 
@@ -110,7 +111,7 @@ pub trait Scenario: 'static {
     ///
     /// # Errors
     ///
-    /// Why it can't be done.
+    /// Why it can't be done. An [`Error`] becomes its words by `?`.
     fn bring_up(&self, bus: &Bus) -> Result<(), String>;
 
     /// Names the tasks, the handlers, and what comes from the link. Each schedule begins with it.
@@ -297,7 +298,7 @@ impl<S: 'static> Begin<S> {
 // --- in tasks and handlers ---
 
 /// What tasks and handlers reach the device by: each call is a point, at which others may act first. In
-/// [`Scenario::bring_up`] calls are made at once.
+/// [`Scenario::bring_up`] calls are made at once. Code that takes `&impl` [`Device`] runs on a [`Nic`] too.
 #[derive(Debug)]
 pub struct Bus {
     /// (it stays on the search's thread)
@@ -365,14 +366,13 @@ impl Bus {
     /// The descriptor of a slot, read as one; [`Bus::get64`] reads a half.
     pub fn descriptor(&self, ring: u64, slot: u16) -> Descriptor {
         let mut bytes = [0; 16];
-        self.read_into(ring.wrapping_add(Descriptor::BYTES * u64::from(slot)), &mut bytes);
+        self.read_into(slot_of(ring, slot), &mut bytes);
         Descriptor::from_bytes(bytes)
     }
 
     /// Writes the descriptor of a slot as one; false where it isn't lent.
     pub fn put_descriptor(&self, ring: u64, slot: u16, descriptor: Descriptor) -> bool {
-        let bytes = descriptor.to_bytes();
-        self.write_bytes(ring.wrapping_add(Descriptor::BYTES * u64::from(slot)), &bytes)
+        self.write_bytes(slot_of(ring, slot), &descriptor.to_bytes())
     }
 
     /// Lends a block.
@@ -455,6 +455,48 @@ impl Bus {
     /// Makes steps of the device until none has anything to do, in [`Scenario::bring_up`]; elsewhere it fails.
     pub fn settle(&self) {
         raw::settle();
+    }
+}
+
+impl Device for Bus {
+    fn read(&self, register: Register) -> u32 {
+        self.read(register)
+    }
+
+    fn write(&self, register: Register, word: u32) {
+        self.write(register, word);
+    }
+
+    fn see32(&self, address: u32) -> u32 {
+        self.read32(address)
+    }
+
+    fn write32(&self, address: u32, word: u32) -> Result<(), Error> {
+        done_or(self.write32(address, word), Error::Stray { at: address, word: None })
+    }
+
+    fn vf_read(&self, number: u8, register: VfRegister) -> u32 {
+        self.vf_read(number, register)
+    }
+
+    fn vf_write(&self, number: u8, register: VfRegister, word: u32) -> Result<(), Error> {
+        done_or(self.vf_write(number, register, word), Error::Stray { at: register.offset(), word: None })
+    }
+
+    fn read_into(&self, bus: u64, bytes: &mut [u8]) -> Result<(), Error> {
+        done_or(self.read_into(bus, bytes), Error::NotLent(bus))
+    }
+
+    fn write_bytes(&self, bus: u64, bytes: &[u8]) -> Result<(), Error> {
+        done_or(self.write_bytes(bus, bytes), Error::NotLent(bus))
+    }
+}
+
+fn done_or(is_done: bool, refused: Error) -> Result<(), Error> {
+    if is_done {
+        Ok(())
+    } else {
+        Err(refused)
     }
 }
 

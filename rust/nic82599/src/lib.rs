@@ -97,7 +97,7 @@ pub fn is_proved() -> bool {
 
 /// Records each controller that is made from now on in a file, the next ones in PATH.2, PATH.3 and so on; %p in the
 /// path is the number of the process. `None`: no more. Without a call of it the variable NIC82599_RECORD has the path.
-/// `tools/nicview PATH` draws a recording.
+/// `tools/niclint --trace PATH` says why steps of a recording did nothing, and `tools/nicview PATH` draws it.
 ///
 /// # Errors
 ///

@@ -204,8 +204,10 @@ fn main() -> Answer<()> {
         }
         // The device goes on until nothing is left to do; a message is handled before its next step.
         for event in nic.steps(QUEUES)? {
-            if let Event::Message { vector, .. } = event? {
-                queues[usize::from(vector)].interrupt(&nic)?;
+            match event? {
+                Event::Message { vector, .. } => queues[usize::from(vector)].interrupt(&nic)?,
+                event if event.is_loss() => return Err(format!("{}: {event}", event.step()).into()),
+                _ => {}
             }
         }
         sent.extend(nic.frames());

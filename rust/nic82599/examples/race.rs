@@ -58,7 +58,7 @@ impl Scenario for Race {
     }
 
     fn bring_up(&self, bus: &Bus) -> Result<(), String> {
-        bus.lend_all().map_err(|it| it.to_string())?;
+        bus.lend_all()?;
         bus.write(RXCTRL, rxctrl::RXEN);
         bus.write(FCTRL, fctrl::UPE);
         bus.write(RDLEN.at(0), 128);

@@ -2,14 +2,29 @@
 
 use std::fmt;
 
+use crate::memory::BLOCK_BYTES;
 use crate::status;
 
 /// Why a call was refused. Nothing changed by it, except where a call's page says so.
-#[derive(Clone, Copy, Debug, PartialEq, Eq, Hash)]
+///
+/// `{:?}` shows the same words as `{}`, since that is how `unwrap` and a `main` that ends with an error print it:
+///
+/// ```
+/// use nic82599::{Error, Nic, Sizes};
+///
+/// let refused = Nic::open(Sizes::default())?.memory().read(0x800..0x83C).unwrap_err();
+/// assert_eq!(refused, Error::NotLent(0x800));
+/// assert_eq!(
+///     format!("{refused:?}"),
+///     "bus address 0x00800: block 1 isn't lent, or a later one that the access runs into"
+/// );
+/// # Ok::<(), Error>(())
+/// ```
+#[derive(Clone, Copy, PartialEq, Eq, Hash)]
 #[non_exhaustive]
 pub enum Error {
-    /// A block of this number, or of one of these bus addresses, isn't lent.
-    NotLent,
+    /// The memory that was asked for, from this bus address on, isn't lent, or not all of it.
+    NotLent(u64),
     /// The block is lent already, or doesn't exist.
     NoBlock,
     /// There are 128 queues.
@@ -77,7 +92,6 @@ impl Error {
     /// The refusal of a status that isn't one of the device's replies.
     pub(crate) fn of(status: u8) -> Error {
         match status {
-            status::NOT_LENT => Error::NotLent,
             status::NO_QUEUE => Error::NoQueue,
             status::NO_GROUP => Error::NoGroup,
             status::OUT_OF_MEMORY => Error::OutOfMemory,
@@ -114,12 +128,32 @@ impl Error {
             refused => Err(Error::of(refused)),
         }
     }
+
+    /// The same of a call that asked for the memory from a bus address on.
+    pub(crate) fn unless_lent(status: u8, bus: u64) -> Result<(), Error> {
+        match status {
+            status::NOT_LENT => Err(Error::NotLent(bus)),
+            other => Error::unless_done(other),
+        }
+    }
+}
+
+impl fmt::Debug for Error {
+    fn fmt(&self, f: &mut fmt::Formatter<'_>) -> fmt::Result {
+        fmt::Display::fmt(self, f)
+    }
 }
 
 impl fmt::Display for Error {
     fn fmt(&self, f: &mut fmt::Formatter<'_>) -> fmt::Result {
         let text = match self {
-            Error::NotLent => "a block of this number, or of one of these bus addresses, isn't lent",
+            Error::NotLent(bus) => {
+                let block = bus / BLOCK_BYTES;
+                return write!(
+                    f,
+                    "bus address 0x{bus:05x}: block {block} isn't lent, or a later one that the access runs into"
+                );
+            }
             Error::NoBlock => "the block is lent already, or doesn't exist",
             Error::NoQueue => "there are 128 queues",
             Error::NoGroup => "there is no such virtual function, or the mode has no pool for it",
@@ -142,6 +176,13 @@ impl fmt::Display for Error {
 }
 
 impl std::error::Error for Error {}
+
+/// Its words, for functions that tell what is wrong by a text.
+impl From<Error> for String {
+    fn from(error: Error) -> String {
+        error.to_string()
+    }
+}
 
 impl fmt::Display for ImageFault {
     fn fmt(&self, f: &mut fmt::Formatter<'_>) -> fmt::Result {

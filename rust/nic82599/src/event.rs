@@ -161,6 +161,20 @@ impl Event {
         }
     }
 
+    /// Whether a frame is lost by it: one was dropped, or a slot can't be processed. A program that only looks for
+    /// messages passes over both.
+    ///
+    /// ```
+    /// use nic82599::{Event, Fault, Side, Why};
+    ///
+    /// assert!(Event::Dropped(Why::NoSlot).is_loss());
+    /// assert!(Event::Fault { side: Side::Rx, queue: 0, why: Fault::NotLent(0x800) }.is_loss());
+    /// assert!(!Event::Message { function: None, vector: 0 }.is_loss());
+    /// ```
+    pub const fn is_loss(&self) -> bool {
+        matches!(self, Event::Dropped(_) | Event::Fault { .. })
+    }
+
     /// What an event of `nic_settle` tells.
     pub(crate) fn of_settle(told: &Told) -> Event {
         match told.step {

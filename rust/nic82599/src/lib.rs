@@ -41,7 +41,8 @@
 //! # Ok::<(), nic82599::Error>(())
 //! ```
 //!
-//! The feature `explore` adds the search for the order of steps that breaks a driver.
+//! The feature `explore` adds the search for the order of steps that breaks a driver. Code over [`Device`] runs there
+//! and here.
 //!
 //! What the device does is proved; this crate is tested. A refused call gives an [`Error`] and changes nothing. No
 //! argument ends the program but an index of [`Registers::at`] and of [`VfRegisters::at`], which say so.
@@ -52,6 +53,7 @@
 #![warn(rust_2018_idioms, missing_debug_implementations, unreachable_pub)]
 
 pub mod desc;
+mod device;
 mod error;
 mod event;
 #[cfg(feature = "explore")]
@@ -69,6 +71,7 @@ use std::ffi::CString;
 use std::os::unix::ffi::OsStrExt;
 use std::path::Path;
 
+pub use device::Device;
 pub use error::{Error, ImageFault, TextFault};
 pub use event::{Event, Fault, Side, Step, Why};
 pub use memory::Memory;
@@ -95,7 +98,7 @@ pub fn is_proved() -> bool {
 
 /// Records each controller that is made from now on in a file, the next ones in PATH.2, PATH.3 and so on; %p in the
 /// path is the number of the process. `None`: no more. Without a call of it the variable NIC82599_RECORD has the path.
-/// `tools/nicview PATH` draws a recording.
+/// `tools/niclint --trace PATH` says why steps of a recording did nothing, and `tools/nicview PATH` draws it.
 ///
 /// # Errors
 ///

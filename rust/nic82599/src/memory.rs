@@ -7,7 +7,7 @@ use crate::error::Error;
 use crate::nic::Nic;
 
 /// How many bytes a block has.
-const BLOCK_BYTES: u64 = 2048;
+pub(crate) const BLOCK_BYTES: u64 = 2048;
 
 /// Packet memory by bus address, from [`Nic::memory`]: what the device reads and writes.
 ///
@@ -26,7 +26,7 @@ const BLOCK_BYTES: u64 = 2048;
 /// memory.write(0x800, b"frame")?;
 /// assert_eq!(memory.read(0x800..0x805)?, b"frame");
 /// assert_eq!(memory.read(Memory::block(1))?.len(), 2048);
-/// assert_eq!(memory.read(..), Err(Error::NotLent)); // block 0 isn't lent
+/// assert_eq!(memory.read(..), Err(Error::NotLent(0))); // block 0 isn't lent
 /// # Ok::<(), nic82599::Error>(())
 /// ```
 #[derive(Clone, Copy, Debug)]
@@ -68,7 +68,7 @@ impl<'a> Memory<'a> {
     ///
     /// [`Error::NotLent`] where one of them isn't lent, and the buffer is as it was.
     pub fn read_into(&self, bus: u64, bytes: &mut [u8]) -> Result<(), Error> {
-        Error::unless_done(self.nic.handle().dma_read(bus, bytes))
+        Error::unless_lent(self.nic.handle().dma_read(bus, bytes), bus)
     }
 
     /// Writes bytes from a bus address on.
@@ -77,7 +77,7 @@ impl<'a> Memory<'a> {
     ///
     /// [`Error::NotLent`] where one of them isn't lent, and nothing is written.
     pub fn write(&self, bus: u64, bytes: &[u8]) -> Result<(), Error> {
-        Error::unless_done(self.nic.handle().dma_write(bus, bytes))
+        Error::unless_lent(self.nic.handle().dma_write(bus, bytes), bus)
     }
 
     /// Writes a byte to all of a range.
@@ -155,16 +155,17 @@ impl<'a> Memory<'a> {
             Bound::Unbounded if first <= Some(self.size()) => Some(self.size()),
             Bound::Unbounded => None,
         };
-        let (first, end) = (first.ok_or(Error::NotLent)?, end.ok_or(Error::NotLent)?);
+        let first = first.ok_or(Error::NotLent(u64::MAX))?;
+        let end = end.ok_or(Error::NotLent(first))?;
         match end.checked_sub(first) {
             None => Err(Error::BadRange),
-            Some(length) if length > 0 && end > self.size() => Err(Error::NotLent),
+            Some(length) if length > 0 && end > self.size() => Err(Error::NotLent(first)),
             Some(length) => Ok((first, length as usize)),
         }
     }
 }
 
 /// The bus address of a slot. Past the last address it goes on at 0, which a ring that is lent never does.
-fn slot_of(ring: u64, slot: u16) -> u64 {
+pub(crate) fn slot_of(ring: u64, slot: u16) -> u64 {
     ring.wrapping_add(Descriptor::BYTES * u64::from(slot))
 }

@@ -11,14 +11,20 @@ use crate::register::{Register, VfRegister};
 use crate::settle::{Settled, Steps};
 use crate::status;
 
-/// The sizes of a controller.
+/// The sizes of a controller: by default it has no virtual functions, 64 frames may wait, and there are 256 blocks.
+///
+/// ```
+/// use nic82599::Sizes;
+///
+/// assert_eq!(Sizes::default(), Sizes { vfs: 0, fifo: 64, blocks: 256 });
+/// ```
 #[derive(Clone, Copy, Debug, PartialEq, Eq, Hash)]
 pub struct Sizes {
     /// How many virtual functions it has, 63 at most.
     pub vfs: u8,
     /// How many frames may wait to be received, 1 to 4,096.
     pub fifo: u16,
-    /// How many blocks of packet memory it has, 1 to 65,536.
+    /// How many blocks of packet memory it has, each of 2,048 bytes: 1 to 65,536.
     pub blocks: u32,
 }
 
@@ -84,7 +90,7 @@ pub struct Nic {
 }
 
 impl Nic {
-    /// A controller of these sizes, with none of its blocks lent.
+    /// A controller of these sizes, with none of its blocks lent: [`Nic::lend_all`] is what most programs call next.
     ///
     /// # Errors
     ///
@@ -247,9 +253,9 @@ impl Nic {
     ///
     /// # Errors
     ///
-    /// [`Error::NotLent`].
+    /// [`Error::NotLent`] with the block's first bus address.
     pub fn take(&self, block: u32) -> Result<(), Error> {
-        Error::unless_done(self.handle.take(block))
+        Error::unless_lent(self.handle.take(block), Memory::block(block).start)
     }
 
     // --- the link ---
@@ -368,7 +374,8 @@ impl Nic {
     /// then its transmit enable; the EEPROM; one transmit step of each such queue; one receive step; one message of
     /// each function. Gives what happened, in order. After each 256 events a round begins anew.
     ///
-    /// All steps are made when the call returns. [`Nic::steps`] makes each when it is asked for.
+    /// All steps are made when the call returns. [`Nic::steps`] makes each when it is asked for. A queue that isn't below
+    /// `queues` is never enabled, and a driver that polls its RXDCTL or TXDCTL polls for ever.
     ///
     /// # Errors
     ///

@@ -1,5 +1,6 @@
 //! Captures of Ethernet frames: reads pcap files (microseconds or nanoseconds, either byte order) and writes them with
-//! microseconds. `tools/pcap2nic` and the Python module also read pcapng.
+//! microseconds. Of pcapng, which Wireshark writes, `editcap -F pcap` makes pcap; `tools/pcap2nic` and the Python module
+//! read it too.
 //!
 //! ```
 //! use nic82599::pcap::{Reader, Writer};
@@ -19,8 +20,16 @@ use std::io::{self, ErrorKind, Read, Write};
 const LONGEST: u32 = 262_144;
 const HEAD: [u8; 24] = [0xD4, 0xC3, 0xB2, 0xA1, 2, 0, 4, 0, 0, 0, 0, 0, 0, 0, 0, 0, 0xFF, 0xFF, 0, 0, 1, 0, 0, 0];
 
+const PCAPNG: [u8; 4] = [0x0A, 0x0D, 0x0D, 0x0A];
+const CUT: &str = "the capture ends within a frame";
+
 fn broken(why: &str) -> io::Error {
     io::Error::new(ErrorKind::InvalidData, why)
+}
+
+/// Why a file ends too early, in place of the words of `read_exact`.
+fn whole(read: io::Result<()>, why: &str) -> io::Result<()> {
+    read.map_err(|it| if it.kind() == ErrorKind::UnexpectedEof { io::Error::new(it.kind(), why) } else { it })
 }
 
 /// Reads a capture, frame by frame. After an error it gives no more.
@@ -36,13 +45,15 @@ impl<R: Read> Reader<R> {
     ///
     /// # Errors
     ///
-    /// Those of the file, and [`ErrorKind::InvalidData`] where it is no capture of Ethernet frames.
+    /// Those of the file, of which [`ErrorKind::UnexpectedEof`] is one that ends within the head, and
+    /// [`ErrorKind::InvalidData`] where it is no pcap of Ethernet frames.
     pub fn new(mut file: R) -> io::Result<Reader<R>> {
         let mut head = [0; 24];
-        file.read_exact(&mut head)?;
+        whole(file.read_exact(&mut head), "no capture (pcap): it ends within its head")?;
         let is_big = match [head[0], head[1], head[2], head[3]] {
             [0xA1, 0xB2, 0xC3, 0xD4] | [0xA1, 0xB2, 0x3C, 0x4D] => true,
             [0xD4, 0xC3, 0xB2, 0xA1] | [0x4D, 0x3C, 0xB2, 0xA1] => false,
+            PCAPNG => return Err(broken("a capture as pcapng, of which `editcap -F pcap` makes one as pcap")),
             _ => return Err(broken("no capture (pcap)")),
         };
         if word(is_big, &head[20..]) & 0xFFFF != 1 {
@@ -56,13 +67,13 @@ impl<R: Read> Reader<R> {
         if self.file.read(&mut head[..1])? == 0 {
             return Ok(None);
         }
-        self.file.read_exact(&mut head[1..])?;
+        whole(self.file.read_exact(&mut head[1..]), CUT)?;
         let (kept, length) = (word(self.is_big, &head[8..12]), word(self.is_big, &head[12..]));
         if kept != length || length > LONGEST {
             return Err(broken("a frame that was captured in part, or is too long"));
         }
         let mut frame = vec![0; length as usize];
-        self.file.read_exact(&mut frame)?;
+        whole(self.file.read_exact(&mut frame), CUT)?;
         Ok(Some(frame))
     }
 }

@@ -61,6 +61,7 @@ impl Registers {
     /// # Panics
     ///
     /// Where there is none: the index is [`count`](Registers::count) or above.
+    #[track_caller]
     pub const fn at(self, index: u16) -> Register {
         assert!(index < self.count, "no register has this index");
         self.place(index)
@@ -125,6 +126,7 @@ impl VfRegisters {
     /// # Panics
     ///
     /// Where no function has it: the index is [`count`](VfRegisters::count) or above.
+    #[track_caller]
     pub const fn at(self, index: u16) -> VfRegister {
         assert!(index < self.count, "no function has a register with this index");
         VfRegister::new(self.first + self.stride * index as u32)

@@ -1,5 +1,7 @@
 //! What each call gives and refuses.
 
+use std::ops::Bound;
+
 use nic82599::desc::{txd, Descriptor, RssType};
 use nic82599::regs::{self, vf, *};
 use nic82599::{rss_hash, Arrival, Error, Event, Fault, Frame, ImageFault, Memory, Nic, Side, Sizes, TextFault, Why};
@@ -73,7 +75,7 @@ fn snapshots() {
         nic.restore(&kept).unwrap();
         assert_eq!(nic.read(RETA.at(3)), 0x0302_0100);
         assert_eq!(nic.memory().read(0x1000..0x1004).unwrap(), b"kept");
-        assert_eq!(nic.take(3), Err(Error::NotLent));
+        assert_eq!(nic.take(3), Err(Error::NotLent(0x1800)));
     }
     drop(nic);
     let other = Nic::open(Sizes { blocks: 1, ..Sizes::default() }).unwrap();
@@ -180,7 +182,7 @@ fn messages_of_a_function() {
 fn ranges() {
     let nic = nic(3);
     let memory = nic.memory();
-    assert_eq!(memory.read(0..1), Err(Error::NotLent));
+    assert_eq!(memory.read(0..1), Err(Error::NotLent(0)));
     nic.lend(0).unwrap();
     nic.lend(1).unwrap();
     let data: Vec<u8> = (0..2560).map(|it| it as u8).collect();
@@ -189,17 +191,18 @@ fn ranges() {
     assert_eq!(memory.read(1000..=3559).unwrap(), data);
     assert_eq!(memory.read(..1002).unwrap()[999..], [0, 0, 1]);
     assert_eq!((memory.read(5..5), memory.read(1 << 60..1 << 60)), (Ok(vec![]), Ok(vec![])));
-    assert_eq!(memory.write(4090, &[1; 10]), Err(Error::NotLent));
+    assert_eq!(memory.write(4090, &[1; 10]), Err(Error::NotLent(4090)));
     assert_eq!(memory.read(4090..4096).unwrap(), [0; 6]);
     let (begin, end) = (4, 0);
     assert_eq!(memory.read(begin..end), Err(Error::BadRange));
-    for refused in [memory.read(..), memory.read(4095..4097), memory.read(7000..), memory.read(0..u64::MAX)] {
-        assert_eq!(refused, Err(Error::NotLent));
-    }
-    assert_eq!(memory.read(0..=u64::MAX), Err(Error::NotLent));
+    assert_eq!((memory.read(..), memory.read(0..u64::MAX)), (Err(Error::NotLent(0)), Err(Error::NotLent(0))));
+    assert_eq!((memory.read(4095..4097), memory.read(7000..)), (Err(Error::NotLent(4095)), Err(Error::NotLent(7000))));
+    assert_eq!(memory.read(0..=u64::MAX), Err(Error::NotLent(0)));
+    let beyond = (Bound::Excluded(u64::MAX), Bound::Unbounded);
+    assert_eq!(memory.read(beyond), Err(Error::NotLent(u64::MAX)));
     nic.lend(2).unwrap();
     assert_eq!((memory.read(..).unwrap().len(), memory.size()), (6144, 6144));
-    assert_eq!((memory.read(6144..), memory.read(6145..)), (Ok(vec![]), Err(Error::NotLent)));
+    assert_eq!((memory.read(6144..), memory.read(6145..)), (Ok(vec![]), Err(Error::NotLent(6145))));
 }
 
 #[test]
@@ -209,18 +212,20 @@ fn addresses_of_any_size() {
     let memory = nic.memory();
     for bus in [6144, 1 << 27, 1 << 32, 1 << 63, u64::MAX, u64::MAX - 2047] {
         let mut byte = [7];
-        assert_eq!(memory.read_into(bus, &mut byte), Err(Error::NotLent));
-        assert_eq!((byte, memory.write(bus, &[0; 32])), ([7], Err(Error::NotLent)));
-        assert_eq!((memory.get64(bus), memory.get32(bus)), (Err(Error::NotLent), Err(Error::NotLent)));
-        assert_eq!(memory.put64(bus, 1), Err(Error::NotLent));
-        assert_eq!(memory.descriptor(bus, 0), Err(Error::NotLent));
-        assert_eq!(memory.fill(bus..=bus, 1), Err(Error::NotLent));
+        let refused = Error::NotLent(bus);
+        assert_eq!(memory.read_into(bus, &mut byte), Err(refused));
+        assert_eq!((byte, memory.write(bus, &[0; 32])), ([7], Err(refused)));
+        assert_eq!((memory.get64(bus), memory.get32(bus)), (Err(refused), Err(refused)));
+        assert_eq!(memory.put64(bus, 1), Err(refused));
+        assert_eq!(memory.descriptor(bus, 0), Err(refused));
+        assert_eq!(memory.fill(bus..=bus, 1), Err(refused));
         assert_eq!((memory.read_into(bus, &mut []), memory.write(bus, &[])), (Ok(()), Ok(())));
     }
     assert_eq!(memory.put_descriptor(u64::MAX - 15, 1, Descriptor::default()), Ok(())); // it goes on at 0
-    assert_eq!(memory.put_descriptor(u64::MAX - 15, u16::MAX, Descriptor::default()), Err(Error::NotLent));
+    let refused = Err(Error::NotLent(0xF_FFE0));
+    assert_eq!(memory.put_descriptor(u64::MAX - 15, u16::MAX, Descriptor::default()), refused);
     assert_eq!(memory.write(6144 - 32, &[1; 32]), Ok(()));
-    assert_eq!(memory.write(6144 - 31, &[1; 32]), Err(Error::NotLent));
+    assert_eq!(memory.write(6144 - 31, &[1; 32]), Err(Error::NotLent(6144 - 31)));
     assert_eq!(Memory::block(u32::MAX).end, 1 << 43);
 }
 
@@ -248,7 +253,7 @@ fn blocks() {
     nic.memory().write(2048, b"ab").unwrap();
     nic.take(1).unwrap();
     for block in [0, 1, 3, u32::MAX] {
-        assert_eq!(nic.take(block), Err(Error::NotLent));
+        assert_eq!(nic.take(block), Err(Error::NotLent(2048 * u64::from(block))));
     }
     nic.lend_all().unwrap();
     assert_eq!(nic.memory().read(Memory::block(1)).unwrap(), [0; 2048]);
@@ -469,7 +474,7 @@ fn images() {
 #[test]
 fn errors_are_told() {
     let told: Vec<String> = [
-        Error::NotLent,
+        Error::NotLent(0xC840),
         Error::Stray { at: 0xC, word: None },
         Error::Stray { at: 0x108, word: Some(u32::MAX) },
         Error::Text(TextFault::Syntax(3)),
@@ -477,7 +482,7 @@ fn errors_are_told() {
     ]
     .map(|it| Box::<dyn std::error::Error + Send + Sync>::from(it).to_string())
     .to_vec();
-    assert_eq!(told[0], "a block of this number, or of one of these bus addresses, isn't lent");
+    assert_eq!(told[0], "bus address 0x0c840: block 25 isn't lent, or a later one that the access runs into");
     assert_eq!(told[1], "no register is at 0x0000c");
     assert_eq!(told[2], "no register is at 0x00108, which reads as 0xffffffff");
     assert_eq!(told[3], "no text of an EEPROM image: line 3 isn't one of the language");

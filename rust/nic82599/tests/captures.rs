@@ -54,6 +54,10 @@ fn what_is_broken() {
         let told = frames(&file[..cut]).map_err(|it| it.kind());
         assert_eq!(told, Err(ErrorKind::UnexpectedEof), "{cut}");
     }
+    let words = |file: &[u8]| frames(file).unwrap_err().to_string();
+    assert_eq!((words(&[]), words(&file[..30])), (words(&file[..23]), words(&file[..60])));
+    assert_eq!(words(&file[..60]), "the capture ends within a frame");
+    assert!(words(&[0x0A, 0x0D, 0x0D, 0x0A].repeat(7)).contains("editcap -F pcap"));
     assert_eq!(frames(&file[..24]).unwrap().len(), 0);
     for (at, byte) in [(0, 7), (20, 2), (32, 61), (35, 1)] {
         let mut bad = file.clone();

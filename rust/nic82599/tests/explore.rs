@@ -7,7 +7,7 @@ use std::{env, fs, process};
 
 use nic82599::explore::{search, Begin, Bus, Look, Outcome, Scenario, Where};
 use nic82599::regs::{vf, *};
-use nic82599::{explore, Sizes};
+use nic82599::{desc, explore, Device, Error, Nic, Sizes};
 
 /// A driver of one or two tasks, which do the same.
 #[derive(Clone, Copy)]
@@ -34,7 +34,7 @@ const SIMPLE: Simple = Simple {
     begin: |_| {},
     always: |_, _| Ok(()),
     end: |_, _| Ok(()),
-    bring_up: |bus| bus.lend(0).map_err(|it| it.to_string()),
+    bring_up: |bus| Ok(bus.lend(0)?),
 };
 
 impl Scenario for Simple {
@@ -151,9 +151,12 @@ fn each_kind_of_failure() {
         bus.point();
     };
     fails(Simple { name: "always", act: counts, always, ..SIMPLE }, "always", "three");
-    fails(Simple { name: "check", act: |bus, _| bus.fail("it can't be"), ..SIMPLE }, "check", "it can't be");
-    let panics = |_: &Bus, state: &State| assert_eq!(state.count.get(), 1, "as by assert");
-    fails(Simple { name: "panics", act: panics, ..SIMPLE }, "check", "as by assert");
+    let check = |bus: &Bus, _: &State| bus.check(false, "it can't be");
+    let place = format!("it can't be ({}:{})", file!(), line!() - 1);
+    fails(Simple { name: "check", act: check, ..SIMPLE }, "check", &place);
+    let panics = |_: &Bus, state: &State| assert!(state.count.get() == 1, "as by assert");
+    let place = format!("as by assert ({}:{})", file!(), line!() - 1);
+    fails(Simple { name: "panics", act: panics, ..SIMPLE }, "check", &place);
     let waits = |bus: &Bus, state: &State| bus.wait_until(|| state.count.get() == 9);
     fails(Simple { name: "waits", act: waits, ..SIMPLE }, "deadlock", "waits, and nobody can act");
     let goes_on = |bus: &Bus, _: &State| (0..1_000).for_each(|it| bus.write(RETA.at(0), it));
@@ -214,7 +217,7 @@ fn memory_and_numbers() {
         (0..3).for_each(|_| bus.pause());
     };
     let end = |_: &State, device: &Look<'_>| {
-        let lent = device.read(0..2048).map_err(|it| it.to_string())?;
+        let lent = device.read(0..2048)?;
         let is_right = lent[16] == 7 && lent[32] == 7 && device.read(2048..2049).is_err() && device.next_out() == 0;
         if is_right && device.descriptor(0, 2).is_ok() && device.vf_peek(0, vf::VTEIMS).is_err() {
             Ok(())
@@ -226,6 +229,73 @@ fn memory_and_numbers() {
         searched(Simple { name: "memory", tasks: 1, act, end, ..SIMPLE }, &["--runs", "20"]).0,
         Outcome::Nothing
     );
+}
+
+/// Takes the frame of a slot, if it has one, and gives the slot back.
+fn take(device: &impl Device, slot: u16) -> Result<bool, Error> {
+    let is_done = device.descriptor(0, slot)?.received().is_some();
+    if is_done {
+        device.put_descriptor(0, slot, desc::Descriptor::receive(0x800))?;
+        device.write(RDT.at(0), u32::from(slot));
+    }
+    Ok(is_done)
+}
+
+/// Sets queue 0 up, by both kinds of names.
+fn start(device: &impl Device) -> Result<(), Error> {
+    device.write(RXCTRL, rxctrl::RXEN);
+    device.write32(FCTRL.address(), fctrl::UPE)?;
+    device.write(RDLEN.at(0), 128);
+    device.modify(SRRCTL.at(0), |_| srrctl::DESCTYPE.is(1) | srrctl::BSIZEPACKET.is(2));
+    device.write(RXDCTL.at(0), rxdctl::ENABLE);
+    for slot in 0..8 {
+        device.put_descriptor(0, slot, desc::Descriptor::receive(0x800))?;
+    }
+    device.write(RDT.at(0), 7);
+    device.write(GCR_EXT, gcr_ext::VT_MODE.is(3));
+    device.vf_write(0, vf::VTEIMS, 1)?;
+    let strays = (device.see32(0xC), device.write32(0xC, 1), device.vf_write(9, vf::VTEIMS, 1));
+    assert_eq!(strays, (0, Err(Error::Stray { at: 0xC, word: None }), Err(Error::Stray { at: 0x108, word: None })));
+    assert_eq!((device.vf_read(0, vf::VTEIMS), device.vf_read(9, vf::VTEIMS)), (1, u32::MAX));
+    assert_eq!((device.read_into(0, &mut [0; 4]), device.see32(RDT.at(0).address())), (Ok(()), 7));
+    Ok(())
+}
+
+/// The same code runs on a controller, and as a task of a search.
+#[test]
+fn a_device_of_either_kind() {
+    let mut frame = [0; 60];
+    frame[0] = 2;
+    let nic = Nic::open(Sizes { blocks: 2, vfs: 1, ..Sizes::default() }).unwrap();
+    nic.lend_all().unwrap();
+    start(&nic).unwrap();
+    assert_eq!(nic.settle(1).map(|it| it.len()), Ok(1));
+    let _ = nic.arrive(&frame);
+    assert_eq!((take(&nic, 0), nic.settle(1).map(|it| it.len()), take(&nic, 0)), (Ok(false), Ok(1), Ok(true)));
+    assert_eq!((take(&nic, 0), Device::read_into(&nic, 0x1000, &mut [0])), (Ok(false), Err(Error::NotLent(0x1000))));
+
+    let bring_up = |bus: &Bus| {
+        bus.lend_all()?;
+        start(bus)?;
+        bus.settle();
+        Ok(())
+    };
+    let begin = |begin: &Begin<State>| {
+        begin.task("taker", |bus, state| {
+            while state.count.get() < 2 {
+                match take(bus, state.count.get() as u16).unwrap() {
+                    true => state.count.set(state.count.get() + 1),
+                    false => bus.wait(),
+                }
+            }
+        });
+        let frame = [&[2][..], &[0; 59]].concat();
+        (0..2).for_each(|_| begin.frame(&frame));
+    };
+    let right = Simple { name: "device", tasks: 0, bring_up, begin, ..SIMPLE };
+    assert_eq!(searched(right, &["--runs", "100"]).0, Outcome::Nothing);
+    let begin = |begin: &Begin<State>| _ = begin.task("reader", |bus, _| _ = Device::descriptor(bus, 0x1000, 0));
+    fails(Simple { name: "beyond", tasks: 0, bring_up, begin, ..SIMPLE }, "memory", "0x1000");
 }
 
 #[test]

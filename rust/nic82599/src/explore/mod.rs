@@ -59,7 +59,9 @@ use std::rc::Rc;
 use std::sync::Once;
 
 use crate::desc::Descriptor;
+use crate::device::Device;
 use crate::error::Error;
+use crate::memory::{slot_of, Memory};
 use crate::nic::{Nic, Sizes};
 use crate::register::{Register, VfRegister};
 use crate::status;
@@ -109,7 +111,7 @@ pub trait Scenario: 'static {
     ///
     /// # Errors
     ///
-    /// Why it can't be done.
+    /// Why it can't be done. An [`Error`] becomes its words by `?`.
     fn bring_up(&self, bus: &Bus) -> Result<(), String>;
 
     /// Names the tasks, the handlers, and what comes from the link. Each schedule begins with it.
@@ -154,8 +156,8 @@ pub fn main(scenario: impl Scenario) -> ExitCode {
 }
 
 /// Searches as the words say, for a test: `search(Race, &["--runs", "500", "--out", "target"])`. One search of the
-/// process runs at a time; one that a task begins is refused. A panic of a task isn't printed but by `--replay`: the
-/// first search puts a hook in front of the one that the process has.
+/// process runs at a time; one that a task begins is refused. A panic of a task is told with its file and line, and
+/// isn't printed but by `--replay`: the first search puts a hook in front of the one that the process has.
 pub fn search(scenario: impl Scenario, words: &[&str]) -> Outcome {
     let program = env::args().next().unwrap_or_default();
     run(scenario, std::iter::once(program).chain(words.iter().map(|&it| it.to_owned())).collect())
@@ -177,6 +179,7 @@ fn run(scenario: impl Scenario, words: Vec<String>) -> Outcome {
     HOOK.call_once(|| {
         let before = panic::take_hook();
         panic::set_hook(Box::new(move |told| {
+            raw::panics_at(told.location());
             if !raw::is_quiet() {
                 before(told)
             }
@@ -295,7 +298,7 @@ impl<S: 'static> Begin<S> {
 // --- in tasks and handlers ---
 
 /// What tasks and handlers reach the device by: each call is a point, at which others may act first. In
-/// [`Scenario::bring_up`] calls are made at once.
+/// [`Scenario::bring_up`] calls are made at once. Code that takes `&impl` [`Device`] runs on a [`Nic`] too.
 #[derive(Debug)]
 pub struct Bus {
     /// (it stays on the search's thread)
@@ -363,14 +366,13 @@ impl Bus {
     /// The descriptor of a slot, read as one; [`Bus::get64`] reads a half.
     pub fn descriptor(&self, ring: u64, slot: u16) -> Descriptor {
         let mut bytes = [0; 16];
-        self.read_into(ring.wrapping_add(Descriptor::BYTES * u64::from(slot)), &mut bytes);
+        self.read_into(slot_of(ring, slot), &mut bytes);
         Descriptor::from_bytes(bytes)
     }
 
     /// Writes the descriptor of a slot as one; false where it isn't lent.
     pub fn put_descriptor(&self, ring: u64, slot: u16, descriptor: Descriptor) -> bool {
-        let bytes = descriptor.to_bytes();
-        self.write_bytes(ring.wrapping_add(Descriptor::BYTES * u64::from(slot)), &bytes)
+        self.write_bytes(slot_of(ring, slot), &descriptor.to_bytes())
     }
 
     /// Lends a block.
@@ -388,7 +390,7 @@ impl Bus {
     ///
     /// As by [`Nic::take`], which is a failure unless the scenario allows it.
     pub fn take(&self, block: u32) -> Result<(), Error> {
-        Error::unless_done(raw::take(block))
+        Error::unless_lent(raw::take(block), Memory::block(block).start)
     }
 
     /// A point and nothing else: between two accesses of the driver's own memory.
@@ -428,11 +430,13 @@ impl Bus {
     }
 
     /// The schedule fails here with these words. Another panic of a task does the same.
+    #[track_caller]
     pub fn fail(&self, words: &str) -> ! {
         panic!("{words}")
     }
 
     /// Fails with these words unless something holds.
+    #[track_caller]
     pub fn check(&self, holds: bool, words: &str) {
         if !holds {
             self.fail(words);
@@ -451,6 +455,48 @@ impl Bus {
     /// Makes steps of the device until none has anything to do, in [`Scenario::bring_up`]; elsewhere it fails.
     pub fn settle(&self) {
         raw::settle();
+    }
+}
+
+impl Device for Bus {
+    fn read(&self, register: Register) -> u32 {
+        self.read(register)
+    }
+
+    fn write(&self, register: Register, word: u32) {
+        self.write(register, word);
+    }
+
+    fn see32(&self, address: u32) -> u32 {
+        self.read32(address)
+    }
+
+    fn write32(&self, address: u32, word: u32) -> Result<(), Error> {
+        done_or(self.write32(address, word), Error::Stray { at: address, word: None })
+    }
+
+    fn vf_read(&self, number: u8, register: VfRegister) -> u32 {
+        self.vf_read(number, register)
+    }
+
+    fn vf_write(&self, number: u8, register: VfRegister, word: u32) -> Result<(), Error> {
+        done_or(self.vf_write(number, register, word), Error::Stray { at: register.offset(), word: None })
+    }
+
+    fn read_into(&self, bus: u64, bytes: &mut [u8]) -> Result<(), Error> {
+        done_or(self.read_into(bus, bytes), Error::NotLent(bus))
+    }
+
+    fn write_bytes(&self, bus: u64, bytes: &[u8]) -> Result<(), Error> {
+        done_or(self.write_bytes(bus, bytes), Error::NotLent(bus))
+    }
+}
+
+fn done_or(is_done: bool, refused: Error) -> Result<(), Error> {
+    if is_done {
+        Ok(())
+    } else {
+        Err(refused)
     }
 }
 
@@ -514,7 +560,7 @@ impl Look<'_> {
     ///
     /// # Errors
     ///
-    /// As by [`Memory::read`](crate::Memory::read).
+    /// As by [`Memory::read`].
     pub fn read(&self, range: impl RangeBounds<u64>) -> Result<Vec<u8>, Error> {
         self.nic.memory().read(range)
     }

@@ -12,7 +12,7 @@ use std::collections::BTreeMap;
 use std::ffi::CString;
 use std::mem::{self, ManuallyDrop};
 use std::os::raw::{c_char, c_int, c_void};
-use std::panic::{self, AssertUnwindSafe};
+use std::panic::{self, AssertUnwindSafe, Location};
 use std::ptr;
 use std::rc::Rc;
 use std::sync::{Mutex, PoisonError};
@@ -119,6 +119,8 @@ struct Running {
 
 thread_local! {
     static RUNNING: Cell<*const Running> = const { Cell::new(ptr::null()) };
+    /// Where the last panic was, as file and line.
+    static PLACE: RefCell<Option<String>> = const { RefCell::new(None) };
 }
 
 static ONE: Mutex<()> = Mutex::new(());
@@ -158,6 +160,13 @@ pub(super) fn is_quiet() -> bool {
     is_running() && running(|it| it.is_quiet)
 }
 
+/// What the hook of panics knows of one.
+pub(super) fn panics_at(place: Option<&Location<'_>>) {
+    if is_running() {
+        PLACE.with(|it| *it.borrow_mut() = place.map(|it| format!("{}:{}", it.file(), it.line())));
+    }
+}
+
 /// What runs here, for a function that the explorer called. Outside of a search it panics.
 fn running<T>(action: impl FnOnce(&Running) -> T) -> T {
     let it = RUNNING.with(Cell::get);
@@ -176,9 +185,15 @@ fn driven(action: impl FnOnce(&dyn Driven) -> Option<String>) -> *const c_char {
     }
 }
 
-/// The result of an action, or the words of its panic.
+/// The result of an action, or the words of its panic and where it was.
 fn caught<T>(action: impl FnOnce() -> T) -> Result<T, String> {
-    panic::catch_unwind(AssertUnwindSafe(action)).map_err(|panic| words_of(&*panic))
+    panic::catch_unwind(AssertUnwindSafe(action)).map_err(|panic| {
+        let words = words_of(&*panic);
+        match PLACE.with(|it| it.borrow_mut().take()) {
+            Some(place) => format!("{words} ({place})"),
+            None => words,
+        }
+    })
 }
 
 fn words_of(panic: &(dyn Any + Send)) -> String {

@@ -194,7 +194,7 @@ impl Run {
         match told {
             Ok(()) => self.answer(&format!("taken {block}")),
             Err(error) => {
-                assert_eq!(error, Error::NotLent);
+                assert_eq!(error, Error::NotLent(2048 * u64::from(block)));
                 self.answer("not lent");
             }
         }
@@ -210,7 +210,7 @@ impl Run {
                 Some(bytes)
             }
             Err(error) => {
-                assert_eq!(error, Error::NotLent);
+                assert_eq!(error, Error::NotLent(bus));
                 self.answer("not lent");
                 None
             }
@@ -235,7 +235,7 @@ impl Run {
         }
         let mut got = vec![0xA5; length];
         let told = self.nic.memory().read_into(bus, &mut got);
-        assert_eq!(told, if lent || length == 0 { Ok(()) } else { Err(Error::NotLent) });
+        assert_eq!(told, if lent || length == 0 { Ok(()) } else { Err(Error::NotLent(bus)) });
         let begin = (bus - first) as usize;
         let want = if lent { whole[begin.min(whole.len())..][..length].to_vec() } else { vec![0xA5; length] };
         assert_eq!(got, want);

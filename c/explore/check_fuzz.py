@@ -7,7 +7,7 @@ import re
 import shutil
 from pathlib import Path
 
-from explore.check import C, HERE, STRICT, Kit, Wrong, ran, told
+from explore.check import HERE, STRICT, C, Kit, Wrong, ran, told
 
 RACE = HERE / "examples/race.c"
 HARNESS = HERE / "fuzz/fuzz.c"

@@ -243,6 +243,7 @@ WORDS = {
     "--out /nowhere": "there is no such folder",
     "--out /dev/null": "there is no such folder",
     "--out": "--out: it wants a word behind it",
+    "--out " + "./" * 510: "--out: the path of the folder is too long",
     "--junit /nowhere/result.xml": "--junit: /nowhere/result.xml can't be written",
     "--junit /tmp": "--junit: /tmp can't be written",
     "--junit": "--junit: it wants a word behind it",

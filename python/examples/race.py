@@ -86,6 +86,9 @@ else:
 
 
 def main() -> int:
+    if sys.argv[1:] not in ([], ["--fixed"]):
+        print(f"usage: {sys.argv[0]} [--fixed]", file=sys.stderr)
+        return 2
     try:
         search(Fixed() if "--fixed" in sys.argv else Race(), 2_000)
     except Failure as failure:

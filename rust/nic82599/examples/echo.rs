@@ -199,14 +199,14 @@ fn main() -> Answer<()> {
     let mut taken = Vec::new();
     for frame in given {
         match nic.arrive(&frame)? {
-            Arrival::Dropped(why) => println!("dropped: {why}"),
+            Arrival::Dropped(why) => println!("dropped {why:#}"),
             Arrival::Waits => taken.push(frame),
         }
         // The device goes on until nothing is left to do; a message is handled before its next step.
         for event in nic.steps(QUEUES)? {
             match event? {
                 Event::Message { vector, .. } => queues[usize::from(vector)].interrupt(&nic)?,
-                event if event.is_loss() => return Err(format!("{}: {event}", event.step()).into()),
+                event if event.is_loss() => return Err(format!("{}: {event:#}", event.step()).into()),
                 _ => {}
             }
         }

@@ -29,14 +29,18 @@ pub enum Step {
     Int(Option<u8>),
 }
 
-/// What a step of the device did. It is shown as the answer that `nicbench run` prints:
+/// What a step of the device did. It is shown as the answer that `nicbench run` prints, and by `{:#}` with what a drop
+/// or a fault means:
 ///
 /// ```
-/// use nic82599::Event;
+/// use nic82599::{Event, Why};
 ///
 /// let event = Event::Message { function: None, vector: 5 };
 /// assert_eq!(event.to_string(), "message pf vector 5");
 /// assert_eq!(event.step().to_string(), "int pf");
+/// let dropped = Event::Dropped(Why::QueueOff);
+/// assert_eq!(dropped.to_string(), "dropped queue off");
+/// assert_eq!(format!("{dropped:#}"), "dropped queue off: its queue isn't on: RXDCTL bit 25 reads 0");
 /// ```
 #[derive(Clone, Copy, Debug, PartialEq, Eq, Hash)]
 pub enum Event {
@@ -102,7 +106,7 @@ pub enum Event {
     },
 }
 
-/// Why a frame is dropped.
+/// Why a frame is dropped. `{:#}` shows what the word means.
 #[derive(Clone, Copy, Debug, PartialEq, Eq, Hash)]
 pub enum Why {
     /// The link is down.
@@ -127,7 +131,7 @@ pub enum Why {
     NoSlot,
 }
 
-/// Why a slot can't be processed.
+/// Why a slot can't be processed. `{:#}` shows what the word means.
 #[derive(Clone, Copy, Debug, PartialEq, Eq, Hash)]
 pub enum Fault {
     /// The head or the tail is no slot of the ring.
@@ -261,9 +265,11 @@ impl fmt::Display for Event {
             Event::Wrote { queue, slot, end, .. } => {
                 write!(f, "wrote queue {queue} slot {slot} {}", if *end { "end" } else { "more" })
             }
+            Event::Dropped(why) if f.alternate() => write!(f, "dropped {why:#}"),
             Event::Dropped(why) => write!(f, "dropped {why}"),
             Event::Advanced { queue, slot, .. } => write!(f, "advanced queue {queue} slot {slot}"),
             Event::Sent { queue, length, .. } => write!(f, "sent queue {queue} len {length}"),
+            Event::Fault { queue, why, .. } if f.alternate() => write!(f, "fault queue {queue} {why:#}"),
             Event::Fault { queue, why, .. } => write!(f, "fault queue {queue} {why}"),
             Event::Message { function: None, vector } => write!(f, "message pf vector {vector}"),
             Event::Message { function: Some(function), vector } => write!(f, "message vf {function} vector {vector}"),
@@ -273,33 +279,51 @@ impl fmt::Display for Event {
 
 impl fmt::Display for Why {
     fn fmt(&self, f: &mut fmt::Formatter<'_>) -> fmt::Result {
-        f.write_str(match self {
-            Why::LinkDown => "link down",
-            Why::Off => "off",
-            Why::Short => "short",
-            Why::Long => "long",
-            Why::Filter => "filter",
-            Why::NoPool => "no pool",
-            Why::PoolOff => "pool off",
-            Why::Full => "full",
-            Why::QueueOff => "queue off",
-            Why::NoSlot => "no slot",
-        })
+        let (word, meaning) = match self {
+            Why::LinkDown => ("link down", "Nic::link took it down"),
+            Why::Off => ("off", "RXCTRL bit 0 is 0"),
+            Why::Short => ("short", "it has fewer than 60 bytes"),
+            Why::Long => ("long", "it has more bytes than 1,514, or with jumbo frames than MAXFRS says"),
+            Why::Filter => ("filter", "no bit of FCTRL and no address (RAL, RAH, MTA) lets its destination in"),
+            Why::NoPool => ("no pool", "none is assigned to it, or the mode of MRQC hasn't that pool"),
+            Why::PoolOff => ("pool off", "VFRE has its pool off"),
+            Why::Full => ("full", "as many frames wait as Sizes::fifo allows"),
+            Why::QueueOff => ("queue off", "its queue isn't on: RXDCTL bit 25 reads 0"),
+            Why::NoSlot => ("no slot", "head and tail of its queue meet, and SRRCTL has DROP_EN"),
+        };
+        f.write_str(word)?;
+        meant(f, meaning)
     }
 }
 
 impl fmt::Display for Fault {
     fn fmt(&self, f: &mut fmt::Formatter<'_>) -> fmt::Result {
-        f.write_str(match self {
-            Fault::Outside => "outside",
-            Fault::NotLent(bus) => return write!(f, "not lent 0x{bus:05x}"),
-            Fault::Type => "type",
-            Fault::NoBufferSize => "no buffer size",
-            Fault::Offload => "offload",
-            Fault::Legacy => "legacy",
-            Fault::TooLong => "too long",
-            Fault::UnknownType => "unknown type",
-        })
+        let (word, meaning) = match self {
+            Fault::Outside => ("outside", "head or tail is no slot of the ring"),
+            Fault::NotLent(bus) => {
+                write!(f, "not lent 0x{bus:05x}")?;
+                return meant(f, "the ring, a buffer, or the place of a report is there");
+            }
+            Fault::Type => ("type", "SRRCTL DESCTYPE isn't 1, advanced descriptors with one buffer"),
+            Fault::NoBufferSize => ("no buffer size", "SRRCTL BSIZEPACKET is 0"),
+            Fault::Offload => ("offload", "the descriptor asks for segmentation, VLAN insertion or a checksum"),
+            Fault::Legacy => ("legacy", "the descriptor has no DEXT, so it is a legacy one"),
+            Fault::TooLong => {
+                ("too long", "the frame has more bytes than 1,514, or with jumbo frames than MAXFRS says")
+            }
+            Fault::UnknownType => ("unknown type", "DTYP of the descriptor is neither data nor context"),
+        };
+        f.write_str(word)?;
+        meant(f, meaning)
+    }
+}
+
+/// What a word means, which is shown by `{:#}`.
+fn meant(f: &mut fmt::Formatter<'_>, meaning: &str) -> fmt::Result {
+    if f.alternate() {
+        write!(f, ": {meaning}")
+    } else {
+        Ok(())
     }
 }
 

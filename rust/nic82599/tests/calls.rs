@@ -488,3 +488,41 @@ fn errors_are_told() {
     assert_eq!(told[3], "no text of an EEPROM image: line 3 isn't one of the language");
     assert_eq!(told[4], "no EEPROM image: the checksum is wrong");
 }
+
+/// By `{:#}` each drop and each fault is shown with more words, which begin with those of `{}`.
+#[test]
+fn what_words_mean() {
+    let mut both = Vec::new();
+    for why in [
+        Why::LinkDown,
+        Why::Off,
+        Why::Short,
+        Why::Long,
+        Why::Filter,
+        Why::NoPool,
+        Why::PoolOff,
+        Why::Full,
+        Why::QueueOff,
+        Why::NoSlot,
+    ] {
+        both.push((Event::Dropped(why).to_string(), format!("{:#}", Event::Dropped(why)), format!("dropped {why:#}")));
+    }
+    for why in [
+        Fault::Outside,
+        Fault::NotLent(0x800),
+        Fault::Type,
+        Fault::NoBufferSize,
+        Fault::Offload,
+        Fault::Legacy,
+        Fault::TooLong,
+        Fault::UnknownType,
+    ] {
+        let fault = Event::Fault { side: Side::Rx, queue: 3, why };
+        both.push((fault.to_string(), format!("{fault:#}"), format!("fault queue 3 {why:#}")));
+    }
+    for (short, long, parts) in both {
+        assert!(long.starts_with(&format!("{short}: ")) && long == parts, "{short}, {long}, {parts}");
+    }
+    let written = Event::Wrote { queue: 3, slot: 0, end: true, descriptor: 0, at: 0x800, length: 60 };
+    assert_eq!(written.to_string(), format!("{written:#}"));
+}

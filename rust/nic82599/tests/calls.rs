@@ -1,10 +1,16 @@
 //! What each call gives and refuses.
 
+#[path = "common/device.rs"]
+mod device;
+
 use std::ops::Bound;
 
+use device::{start, take};
 use nic82599::desc::{txd, Descriptor, RssType};
 use nic82599::regs::{self, vf, *};
-use nic82599::{rss_hash, Arrival, Error, Event, Fault, Frame, ImageFault, Memory, Nic, Side, Sizes, TextFault, Why};
+use nic82599::{
+    rss_hash, Arrival, Device, Error, Event, Fault, Frame, ImageFault, Memory, Nic, Side, Sizes, TextFault, Why,
+};
 
 const TYPE: u32 = 0x0200_0002;
 const ENABLE: u32 = regs::rxdctl::ENABLE;
@@ -525,4 +531,16 @@ fn what_words_mean() {
     }
     let written = Event::Wrote { queue: 3, slot: 0, end: true, descriptor: 0, at: 0x800, length: 60 };
     assert_eq!(written.to_string(), format!("{written:#}"));
+}
+
+/// The code that tests/explore.rs runs as a task of a search.
+#[test]
+fn a_nic_is_a_device() {
+    let nic = Nic::open(Sizes { blocks: 2, vfs: 1, ..Sizes::default() }).unwrap();
+    nic.lend_all().unwrap();
+    start(&nic).unwrap();
+    assert_eq!(nic.settle(1).map(|it| it.len()), Ok(1));
+    assert_eq!((take(&nic, 0), nic.arrive(&frame())), (Ok(false), Ok(Arrival::Waits)));
+    assert_eq!((nic.settle(1).map(|it| it.len()), take(&nic, 0), take(&nic, 0)), (Ok(1), Ok(true), Ok(false)));
+    assert_eq!(nic.read_into(0x1000, &mut [0]), Err(Error::NotLent(0x1000)));
 }

@@ -1,13 +1,17 @@
 //! The search: each kind of failure is found and told, and what is right passes.
 
+#[path = "common/device.rs"]
+mod device;
+
 use std::cell::Cell;
 use std::path::PathBuf;
 use std::sync::atomic::{AtomicU32, Ordering};
 use std::{env, fs, process};
 
+use device::{start, take};
 use nic82599::explore::{search, Begin, Bus, Look, Outcome, Scenario, Where};
 use nic82599::regs::{vf, *};
-use nic82599::{desc, explore, Device, Error, Nic, Sizes};
+use nic82599::{explore, Device, Sizes};
 
 /// A driver of one or two tasks, which do the same.
 #[derive(Clone, Copy)]
@@ -231,49 +235,10 @@ fn memory_and_numbers() {
     );
 }
 
-/// Takes the frame of a slot, if it has one, and gives the slot back.
-fn take(device: &impl Device, slot: u16) -> Result<bool, Error> {
-    let is_done = device.descriptor(0, slot)?.received().is_some();
-    if is_done {
-        device.put_descriptor(0, slot, desc::Descriptor::receive(0x800))?;
-        device.write(RDT.at(0), u32::from(slot));
-    }
-    Ok(is_done)
-}
-
-/// Sets queue 0 up, by both kinds of names.
-fn start(device: &impl Device) -> Result<(), Error> {
-    device.write(RXCTRL, rxctrl::RXEN);
-    device.write32(FCTRL.address(), fctrl::UPE)?;
-    device.write(RDLEN.at(0), 128);
-    device.modify(SRRCTL.at(0), |_| srrctl::DESCTYPE.is(1) | srrctl::BSIZEPACKET.is(2));
-    device.write(RXDCTL.at(0), rxdctl::ENABLE);
-    for slot in 0..8 {
-        device.put_descriptor(0, slot, desc::Descriptor::receive(0x800))?;
-    }
-    device.write(RDT.at(0), 7);
-    device.write(GCR_EXT, gcr_ext::VT_MODE.is(3));
-    device.vf_write(0, vf::VTEIMS, 1)?;
-    let strays = (device.see32(0xC), device.write32(0xC, 1), device.vf_write(9, vf::VTEIMS, 1));
-    assert_eq!(strays, (0, Err(Error::Stray { at: 0xC, word: None }), Err(Error::Stray { at: 0x108, word: None })));
-    assert_eq!((device.vf_read(0, vf::VTEIMS), device.vf_read(9, vf::VTEIMS)), (1, u32::MAX));
-    assert_eq!((device.read_into(0, &mut [0; 4]), device.see32(RDT.at(0).address())), (Ok(()), 7));
-    Ok(())
-}
-
-/// The same code runs on a controller, and as a task of a search.
+/// The code that tests/calls.rs runs on a controller runs as a task of a search. (Here is no `Nic`: while a search runs
+/// the memory of all is that of the search.)
 #[test]
-fn a_device_of_either_kind() {
-    let mut frame = [0; 60];
-    frame[0] = 2;
-    let nic = Nic::open(Sizes { blocks: 2, vfs: 1, ..Sizes::default() }).unwrap();
-    nic.lend_all().unwrap();
-    start(&nic).unwrap();
-    assert_eq!(nic.settle(1).map(|it| it.len()), Ok(1));
-    let _ = nic.arrive(&frame);
-    assert_eq!((take(&nic, 0), nic.settle(1).map(|it| it.len()), take(&nic, 0)), (Ok(false), Ok(1), Ok(true)));
-    assert_eq!((take(&nic, 0), Device::read_into(&nic, 0x1000, &mut [0])), (Ok(false), Err(Error::NotLent(0x1000))));
-
+fn a_bus_is_a_device() {
     let bring_up = |bus: &Bus| {
         bus.lend_all()?;
         start(bus)?;

@@ -1,6 +1,6 @@
-//! What the program `nicbench` does, whole: each of its commands, over any reader and writer.
+//! The program `nicbench`: each of its commands, over any reader and writer.
 //!
-//! It declares nothing, and passes on two crates: `bench_commands` has what reads its input and writes its answer, and
+//! This crate declares nothing, and re-exports two crates: `bench_commands` reads the input and writes the answer, and
 //! `threads_bench` has `threads`, which runs workers on threads.
 #![tactic(auto)]
 

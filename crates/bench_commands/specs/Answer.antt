@@ -39,7 +39,7 @@ pub record WritesBeginning (old new : Option (List ℕ)) (text : List ℕ) : Typ
 abbrev pub FailsToWrite : {T : Type 0} → Result T Failure → Bool → Type 0
 FailsToWrite result has_failed = OnErr result ((result ≡ Err Write) × (has_failed ≡ true))
 
--- an answer is given up for a write, of which one has failed, or for want of memory, where it is begun
+-- an answer is given up for a write, of which one has failed, or for lack of memory, after its beginning
 abbrev pub GivesUp : Failure → Bool → Type 0 → Type 0
 GivesUp Read has_failed IsBegun = ⊥
 GivesUp Write has_failed IsBegun = has_failed ≡ true

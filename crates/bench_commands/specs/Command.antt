@@ -22,7 +22,7 @@ target_said word = result_ok (target_of word)
 abbrev pub if_function : ℕ → Option ℕ
 if_function number = if nat_lt number 63 then Some number else None
 
--- what stands beside the name in a table of commands; another name is no command
+-- what a table of commands has for a name; another name is no command
 abbrev pub beside : List ℕ → List (List ℕ × Option Command) → Option Command
 beside name [] = None
 beside name (row ∷ more) = if bytes_eq name row.0 then row.1 else beside name more
@@ -57,13 +57,13 @@ command_said (name ∷ a ∷ []) = beside name (table_of_one a)
 command_said (name ∷ a ∷ b ∷ []) = beside name (table_of_two a b)
 command_said (name ∷ a ∷ b ∷ c ∷ more) = None
 
--- a command, in front of those that lines behind it say
+-- a command, in front of those that lines after it say
 abbrev pub command_and : ℕ → Option Command → Result (List Command) ℕ → Result (List Command) ℕ
 command_and number None commands = Err number
 command_and number (Some command) (Ok commands) = Ok (command ∷ commands)
 command_and number (Some command) (Err later) = Err later
 
--- what a line says that has these words, in front of what those behind it say: a line without a word says nothing
+-- what a line says that has these words, in front of what those after it say: a line without a word says nothing
 abbrev pub words_and : ℕ → List (List ℕ) → Result (List Command) ℕ → Result (List Command) ℕ
 words_and number [] commands = commands
 words_and number (word ∷ words) commands = command_and number (command_said (word ∷ words)) commands
@@ -73,7 +73,7 @@ unfoldable pub commands_of : List NumberedLine → Result (List Command) ℕ
 commands_of [] = Ok []
 commands_of (line ∷ others) = words_and line.number (words_of line.text) (commands_of others)
 
--- these commands, and behind them others
+-- these commands, and after them others
 abbrev pub commands_then : List Command → Result (List Command) ℕ → Result (List Command) ℕ
 commands_then before (Ok commands) = Ok (before ++ commands)
 commands_then before (Err number) = Err number

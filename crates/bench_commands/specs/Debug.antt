@@ -39,13 +39,13 @@ commands_answer config program (Err number) = refused_at (codes "Syntax") number
 abbrev pub end_of_script : List ℕ
 end_of_script = codes "%"
 
--- the commands are on the lines behind the script's end; where there is none, a line is missing behind the last
+-- the commands are on the lines after the script's end; where there is none, a line is missing after the last
 abbrev pub behind_answer : Config → List NumberedLine → Listing → Answer
 behind_answer config lines program = if has_end end_of_script lines
     then commands_answer config program (commands_of (lines_behind end_of_script lines))
     else refused_at (codes "Syntax") (length lines + 1)
 
--- what is wrong with the script is told before what is wrong behind it
+-- what is wrong with the script is reported before what is wrong after it
 abbrev pub parted_answer : Config → List NumberedLine → Result Listing ScriptFault → Answer
 parted_answer config lines (Ok program) = behind_answer config lines program
 parted_answer config lines (Err fault) = script_refused fault

@@ -76,7 +76,7 @@ pub record StopsForMemory (old new : Option (List ℕ)) (text : List ℕ) : Type
   pub written : Appends old new (beginning ++ refusal_line (codes "OutOfMemory") None)
   pub whole : beginning ++ rest ≡ text
 
--- the status that a failed write ends with: 4 where its error is want of memory, and else 2
+-- the status that a failed write ends with: 4 where its error is lack of memory, and else 2
 abbrev pub unwritten_status : Bool → ℕ
 unwritten_status lacked_memory = if lacked_memory then 4 else 2
 
@@ -99,7 +99,7 @@ abbrev pub EndsSaid : ErrorKind → (ℕ → Type 0) → Outcome → Type 0
 EndsSaid kind IsFailed (Ended status) = (status ≡ words_status kind) ⊎ IsFailed status
 EndsSaid kind IsFailed (Threads workers frames) = ⊥
 
--- it ends by an error of clap's: want of memory is said as everywhere, another one is written as clap has it
+-- it ends by an error of clap's: lack of memory is said as everywhere, another one is written as clap has it
 abbrev pub EndsOf : ErrorKind → Option (List ℕ) → Option (List ℕ) → (ℕ → Type 0) → Outcome → Type 0
 EndsOf of old new IsFailed outcome =
     ((of ≡ kind.OutOfMemory) × EndsSaying old new IsFailed no_memory outcome)

@@ -22,18 +22,18 @@ abbrev pub if_input : Option (List ℕ) → Option (List ℕ)
 if_input (Some bytes) = if nat_lt 36 (length bytes) then None else Some bytes
 if_input None = None
 
--- an input, in front of those that lines behind it say
+-- an input, in front of those that lines after it say
 abbrev pub input_and : ℕ → Option (List ℕ) → Result (List (List ℕ)) ℕ → Result (List (List ℕ)) ℕ
 input_and number None inputs = Err number
 input_and number (Some input) (Ok inputs) = Ok (input ∷ inputs)
 input_and number (Some input) (Err later) = Err later
 
--- what a line says that has these words, in front of what those behind it say: a line without a word says nothing
+-- what a line says that has these words, in front of what those after it say: a line without a word says nothing
 abbrev pub line_and : ℕ → List (List ℕ) → Result (List (List ℕ)) ℕ → Result (List (List ℕ)) ℕ
 line_and number [] inputs = inputs
 line_and number (word ∷ words) inputs = input_and number (if_input (bytes_said (word ∷ words))) inputs
 
--- the inputs that the lines behind the key say, or the number of the first line of another form
+-- the inputs that the lines after the key say, or the number of the first line of another form
 unfoldable pub inputs_of : List NumberedLine → Result (List (List ℕ)) ℕ
 inputs_of [] = Ok []
 inputs_of (line ∷ others) = line_and line.number (words_of line.text) (inputs_of others)
@@ -68,7 +68,7 @@ hash_answer text = lines_answer (lines_of text)
 abbrev pub words_answer : List ℕ → Answer
 words_answer words = record { text = flat_map word_line words; status = 0 }
 
--- these hashes, and behind them those of the inputs
+-- these hashes, and after them those of the inputs
 abbrev pub hashed : List ℕ → List ℕ → Result (List (List ℕ)) ℕ → Result (List ℕ) ℕ
 hashed key before (Ok inputs) = Ok (before ++ map (toeplitz_hash key) inputs)
 hashed key before (Err number) = Err number

@@ -19,7 +19,7 @@ part_text (Bytes bytes) = bytes_text bytes.now
 part_text (Slot queue slot) = slot_text queue slot
 part_text (NotLent address) = codes "not lent " ++ address_text address
 
--- a name, and the parts behind it
+-- a name, and the parts after it
 abbrev pub with_parts : List ℕ → Parts → List ℕ
 with_parts name Zero = name
 with_parts name (One a) = name ++ (codes " " ++ part_text a)

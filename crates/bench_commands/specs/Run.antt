@@ -14,7 +14,7 @@ use Rattle.script_text.specs.declared.ScriptFault.TheVariants as fault
 use Rattle.bench_commands.specs.Answer.{Answer, refused_as, refused_at}
 use Rattle.bench_commands.specs.Steps.{steps_text}
 
--- how a machine stands after its last step: at which instruction, and after how many steps
+-- the state of a machine after its last step: at which instruction, and after how many steps
 abbrev pub end_as : Status → ℕ → ℕ → Answer
 end_as Running pc steps = record { text = codes "limit " ++ (decimal pc ++ codes "\n"); status = 1 }
 end_as Ended pc steps = record { text = codes "ok " ++ (decimal steps ++ codes "\n"); status = 0 }
@@ -31,7 +31,7 @@ end_of state = end_as state.status state.pc state.steps
 abbrev pub config_of : RunOptions → Config
 config_of options = record { vfs = options.vfs; fifo = options.fifo }
 
--- the lines of the steps up to the limit, and how the machine stands then
+-- the lines of the steps up to the limit, and the state of the machine then
 abbrev pub machine_answer : Listing → Config → ℕ → Answer
 machine_answer program config limit = let end = end_of (machine_at program config limit) in
     record { text = steps_text program config limit ++ end.text; status = end.status }

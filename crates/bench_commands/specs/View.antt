@@ -10,13 +10,13 @@ use Rattle.machine.specs.declared.Status.TheVariants.{Ended, Failed, Running}
 use Rattle.text_format.specs.Word.{address_text, word_text}
 use Rattle.bench_commands.specs.Refusal.{refusal_line}
 
--- how a machine stands
+-- the status of a machine
 abbrev pub status_text : Status → List ℕ
 status_text Running = codes "running"
 status_text Ended = codes "ended"
 status_text (Failed at have want) = codes "failed"
 
--- where a machine is: its steps, its next instruction, its word, and how it stands
+-- where a machine is: its steps, its next instruction, its word, and its status
 abbrev pub view_text : View → List ℕ
 view_text view = codes "at " ++ (decimal view.steps ++ (codes " pc " ++ (decimal view.pc
     ++ (codes " acc " ++ (word_text view.acc ++ (codes " " ++ status_text view.status))))))

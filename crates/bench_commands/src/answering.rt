@@ -1,4 +1,4 @@
-//! What a request is answered.
+//! Answers a request from the whole input.
 ghost use Rattle.std.specs.Prelude.{◌≡◌, Err, false, true};
 ghost use Rattle.bench_commands.specs.Answer.{GivesRight};
 ghost use Rattle.bench_commands.specs.Ending.{AnswersRequest, IsBytesAnswer, IsGivenAnswer, IsTextAnswer};
@@ -19,7 +19,7 @@ use std::alloc::Global;
 use std::io::{Read, Write};
 use std::str;
 
-/// Answers a text.
+/// Answers a request that reads its input as text.
 fn answer_text<W: Write>(
     alloc: Global,
     text: &str,
@@ -38,7 +38,7 @@ fn answer_text<W: Write>(
     }
 }
 
-/// Answers bytes.
+/// Answers a request that reads its input as bytes.
 fn answer_bytes<W: Write>(
     alloc: Global,
     bytes: &[u8],
@@ -54,7 +54,7 @@ fn answer_bytes<W: Write>(
     }
 }
 
-/// Answers what was read, as text where a text is wanted.
+/// Answers a request from the bytes that were read, as text where it needs text.
 fn answer_input<W: Write>(
     alloc: Global,
     bytes: &[u8],
@@ -73,11 +73,11 @@ fn answer_input<W: Write>(
     }
 }
 
-/// Reads all input, and writes what is asked for of it, to an output of which no write has failed before: so an answer
-/// is given up for a write only where one fails meanwhile. An `Ok` has the status; then what is written and the status
-/// are those of what is asked for, of all bytes of the input. After `Failure::Read` nothing is written, after
-/// `Failure::OutOfMemory` a part of the answer from its beginning on, and after `Failure::Write` nothing more is
-/// written.
+/// Reads all input, and writes the answer to a request, to an output of which no write has failed before. Returns the
+/// exit status: the output and the status are then those of the request for all bytes of the input.
+///
+/// Errors: after `Failure::Read` nothing is written; after `Failure::OutOfMemory` a part of the answer is, from its
+/// beginning on; after `Failure::Write` nothing more is written.
 pub fn answer<R: Read, W: Write>(
     alloc: Global,
     input: &mut Input<R>,

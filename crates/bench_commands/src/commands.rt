@@ -1,4 +1,4 @@
-//! The debugger's commands, read from lines.
+//! Reads the debugger's commands from lines.
 ghost use Rattle.std.specs.Prelude.{◌≡◌, ℕ, List, [], Err, IfOk, None, Ok, OnOk, Result, Some, option_and_then};
 ghost use Rattle.text_format.specs.Words.{words_of};
 ghost use Rattle.debugger.specs.declared.Command.{Command as DebuggerCommand};
@@ -11,12 +11,12 @@ use script_text::target;
 use std::alloc::{AllocFailed, Global};
 use text_format::{Line, Lines, Words};
 
-/// Why there are no commands.
+/// Why lines aren't commands.
 #[derive(Clone, Copy, Debug, PartialEq, Eq)]
 pub(crate) enum CommandFault {
-    /// The line of this number is no command.
+    /// The line of this number isn't a command.
     Syntax(usize),
-    /// No memory.
+    /// There is no memory for the commands.
     OutOfMemory,
 }
 
@@ -30,7 +30,7 @@ impl<T: Drop> From<AllocFailed<T>> for CommandFault {
     }
 }
 
-/// The number that a word writes.
+/// The number that a word writes, if it writes one.
 fn number(word: &str) -> Option<u32>
     ensures { result ≡ number_said word.now }
 {
@@ -56,7 +56,7 @@ fn function(word: &str) -> Option<u8>
     }
 }
 
-/// A command with one operand.
+/// The command with one operand.
 fn with_one(name: &str, a: &str) -> Option<Command>
     ensures { result ≡ beside name.now (table_of_one a.now) }
 {
@@ -71,7 +71,7 @@ fn with_one(name: &str, a: &str) -> Option<Command>
     }
 }
 
-/// A command with two operands.
+/// The command with two operands.
 fn with_two(name: &str, a: &str, b: &str) -> Option<Command>
     ensures { result ≡ beside name.now (table_of_two a.now b.now) }
 {
@@ -81,7 +81,7 @@ fn with_two(name: &str, a: &str, b: &str) -> Option<Command>
     }
 }
 
-/// The command that words say.
+/// The command that a line's words write.
 fn read_command(mut words: Words<'_>) -> Option<Command>
     ensures { result ≡ command_said words.entry }
 {
@@ -92,7 +92,7 @@ fn read_command(mut words: Words<'_>) -> Option<Command>
     }
 }
 
-/// Adds the command on a line, where it has a word.
+/// Appends the command of a line, where it has a word.
 fn add_line(commands: &mut Vec<Command>, line: Line<'_>) -> Result<(), CommandFault>
     ensures ok { OnOk result ((more : Result (List DebuggerCommand) ℕ)
         → commands_then commands.old.items
@@ -112,7 +112,7 @@ fn add_line(commands: &mut Vec<Command>, line: Line<'_>) -> Result<(), CommandFa
     Ok(())
 }
 
-/// The commands on lines. The first line that has words and is no command is refused.
+/// The commands of the lines. The first line that has words and isn't a command is refused.
 pub(crate) fn read_commands(alloc: Global, lines: Lines<'_>) -> Result<Vec<Command>, CommandFault>
     ensures ok { IfOk result (λ commands. commands_of lines.entry ≡ Ok commands.items) }
     ensures syntax { (n : ℕ) → result ≡ Err (CommandFault.Syntax n)

@@ -1,4 +1,4 @@
-//! What `nicbench eeprom` makes of a text, and with `--load` of an image.
+//! The command `nicbench eeprom`: makes an image from a text, or with `--load` prints the register writes of an image.
 ghost use Rattle.std.specs.Prelude.{◌≡◌, ◌≢◌, MatchOption, OnOk};
 ghost use Rattle.std.specs.Io.KnownBytes.{Appends};
 ghost use Rattle.nic_device.specs.EepromImage.Triples.{triples_of};
@@ -15,7 +15,7 @@ use std::alloc::Global;
 use std::io::Write;
 use text_format::{AddressText, WordText};
 
-/// Why a text means no image; none where there is no memory.
+/// The refusal of a text that isn't an image. `None` where there was no memory.
 fn refusal_of_text(fault: AsmFault) -> Option<Refusal>
     ensures { MatchOption result (fault ≡ AsmFault.OutOfMemory) (λ refusal.
         (fault ≢ AsmFault.OutOfMemory)
@@ -31,7 +31,7 @@ fn refusal_of_text(fault: AsmFault) -> Option<Refusal>
     }
 }
 
-/// Why bytes are no image; none where there is no memory.
+/// The refusal of bytes that aren't an image. `None` where there was no memory.
 fn refusal_of_file(fault: LoadFault) -> Option<Refusal>
     ensures { MatchOption result (fault ≡ LoadFault.OutOfMemory) (λ refusal.
         (fault ≢ LoadFault.OutOfMemory)
@@ -47,7 +47,7 @@ fn refusal_of_file(fault: LoadFault) -> Option<Refusal>
     }
 }
 
-/// Writes the file of the image that an EEPROM text means.
+/// Writes the file of the image that an EEPROM text describes.
 pub(crate) fn write_image<W: Write>(
     alloc: Global,
     text: &str,
@@ -80,7 +80,7 @@ fn write_triple<W: Write>(output: &mut Output<W>, triple: (u32, u32)) -> Result<
     output.write(format_args!("csr {offset} {data}\n"))
 }
 
-/// Writes the register writes of an image, each on a line of its own, and gives the status of that.
+/// Writes the register writes of an image, each on a line of its own, and returns the status.
 fn write_triples<W: Write>(image: &Image, output: &mut Output<W>) -> Result<u8, Failure>
     ensures { Gives result (W.contents output.old.writer) (W.contents output.new.writer)
         output.new.has_failed (triples_answer (triples_of image.now)) }

@@ -1,4 +1,4 @@
-//! The program, from words to a status.
+//! The program: from its words to its exit status.
 ghost use Rattle.std.specs.Prelude.{◌≡◌, ◌⊎◌, None, codes, false, map};
 ghost use Rattle.clap.specs.Words.{kind_of};
 ghost use Rattle.command_line.specs.Asked.{Asks, refusal_of};
@@ -23,18 +23,18 @@ use std::io::{Read, Write};
 /// How the program ends.
 #[derive(Clone, Copy, Debug, PartialEq, Eq)]
 pub enum Outcome {
-    /// With this status: `DONE`, `NOT_ENDED`, `FAILED`, `REFUSED_WORDS` or `NO_MEMORY`.
+    /// With this exit status: `DONE`, `NOT_ENDED`, `FAILED`, `REFUSED_WORDS` or `NO_MEMORY`.
     Ended(u8),
-    /// Not yet: the words ask for `threads`, for which nothing is read or written here.
+    /// Not yet: the words ask for `threads`, which the caller has to run. Nothing was read or written.
     Threads {
-        /// How many workers there are, from 1 to 8.
+        /// The number of workers, 1 to 8.
         workers: u8,
-        /// How many frames arrive, 60 at most.
+        /// The number of frames that arrive, 0 to 60.
         frames: u8,
     },
 }
 
-/// Says a refusal by its name, and ends with this status; or with that of a failed write where it can't be written.
+/// Writes a refusal by its name, and ends with this status; or with that of a failed write where it can't be written.
 fn end_saying<W: Write>(output: &mut Output<W>, name: &str, status: u8) -> Outcome
     ensures { EndsSaying (W.contents output.old.writer) (W.contents output.new.writer)
         (IsUnwritten output.new) (record { text = refusal_line name.now None; status = status })
@@ -46,7 +46,7 @@ fn end_saying<W: Write>(output: &mut Output<W>, name: &str, status: u8) -> Outco
     }
 }
 
-/// Ends where an answer was given up.
+/// Ends the program where an answer was given up.
 fn end_given_up<W: Write>(output: &mut Output<W>, failure: Failure) -> Outcome
     ensures read { failure ≡ Failure.Read → EndsSaying (W.contents output.old.writer)
         (W.contents output.new.writer) (IsUnwritten output.new) (refused_as (codes "Input")) result }
@@ -62,7 +62,7 @@ fn end_given_up<W: Write>(output: &mut Output<W>, failure: Failure) -> Outcome
     }
 }
 
-/// Ends as a request is answered.
+/// Answers a request, and ends the program.
 fn end_request<R: Read, W: Write>(
     alloc: Global,
     input: &mut Input<R>,
@@ -79,7 +79,7 @@ fn end_request<R: Read, W: Write>(
     }
 }
 
-/// The status that words of this kind end with.
+/// The exit status for words that are refused for this reason.
 fn status_of(kind: ErrorKind) -> u8
     ensures { result ≡ words_status kind }
 {
@@ -90,7 +90,7 @@ fn status_of(kind: ErrorKind) -> u8
     }
 }
 
-/// Writes what clap has to say of the words, and ends with the status of that.
+/// Writes clap's message about the words, and ends with its status.
 fn end_words<W: Write>(output: &mut Output<W>, error: &Error) -> Outcome
     ensures { EndsOf (kind_of error.now) (W.contents output.old.writer) (W.contents output.new.writer)
         (IsUnwritten output.new) result }
@@ -106,11 +106,12 @@ fn end_words<W: Write>(output: &mut Output<W>, error: &Error) -> Outcome
 }
 
 /// Reads the words, the program's own name first, then all input where they ask for it, and writes all output, to an
-/// output of which no write has failed before. The words are read before anything else, and where they are refused
-/// nothing else is. After a failed write nothing more is written, and the status is that of the write: `NO_MEMORY`
-/// where the writer says that it had none, and else `FAILED`. It ends as `answer` answers; a failed read is the refusal
-/// `Input`, want of memory the refusal `OutOfMemory`. Where they ask for `threads` nothing is read or written, but for
-/// that refusal.
+/// output of which no write has failed before. The words are read before anything else; where they are refused, no
+/// input is read.
+///
+/// After a failed write nothing more is written, and the status is that of the write: `NO_MEMORY` where the writer had
+/// none, else `FAILED`. A failed read is reported as the refusal `Input`, missing memory as the refusal `OutOfMemory`.
+/// Where the words ask for `threads` nothing is read or written, except for that refusal.
 pub fn bench<'a, R: Read, W: Write, S: AsStr>(
     alloc: Global,
     input: &mut Input<R>,

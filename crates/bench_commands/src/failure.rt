@@ -1,17 +1,17 @@
-//! Why an answer is given up.
+//! Why an answer was given up.
 ghost use Rattle.std.specs.Prelude.{◌≡◌};
 ghost use Rattle.bench_commands.specs.declared.failure.Failure.TheVariants.{OutOfMemory};
 
 use std::alloc::AllocError;
 
-/// Why an answer is given up.
+/// Why an answer was given up before its end.
 #[derive(Clone, Copy, Debug, PartialEq, Eq)]
 pub enum Failure {
-    /// A read failed, or the reads came to no end.
+    /// A read failed, or the input didn't end within `READS` reads.
     Read,
-    /// A write failed.
+    /// A write to the output failed.
     Write,
-    /// No memory.
+    /// There was no memory for the answer.
     OutOfMemory,
 }
 

@@ -1,4 +1,4 @@
-//! What `nicbench hash` makes of a text.
+//! The command `nicbench hash`: RSS hashes of lines of hex.
 ghost use Rattle.std.specs.Prelude.{◌≡◌, ℕ, List, [], Err, IfOk, None, Ok, OnOk, Result, Some};
 ghost use Rattle.std.specs.Prelude.{codes};
 ghost use Rattle.std.specs.Io.KnownBytes.{Appends};
@@ -19,18 +19,18 @@ use std::alloc::{AllocFailed, Global};
 use std::io::Write;
 use text_format::{HexFault, Line, Lines, WordText, Words, hex_bytes};
 
-/// How many bytes a key has.
+/// The size of a key in bytes.
 const KEY_BYTES: usize = 40;
 
-/// How many bytes an input may have.
+/// The most bytes of an input.
 const INPUT_BYTES: usize = 36;
 
-/// Why there are no hashes.
+/// Why a text has no hashes.
 #[derive(Clone, Copy, Debug, PartialEq, Eq)]
 enum HashFault {
-    /// The line of this number is of another form.
+    /// The line of this number isn't hex data of the right length.
     Syntax(usize),
-    /// No memory.
+    /// There is no memory for the hashes.
     OutOfMemory,
 }
 
@@ -45,7 +45,7 @@ impl<T: Drop> From<AllocFailed<T>> for HashFault {
 }
 
 impl HashFault {
-    /// What is wrong with the line of this number.
+    /// The fault of the line of this number.
     fn of(number: usize, fault: HexFault) -> HashFault
         ensures malformed { (n : ℕ) → result ≡ HashFault.Syntax n
             → (n ≡ number) × (fault ≡ HexFault.Malformed) }
@@ -57,7 +57,7 @@ impl HashFault {
     }
 }
 
-/// The bytes of hex that the words are, where there is one word.
+/// The bytes that the words write in hex, where there is one word.
 fn read_bytes(alloc: Global, mut words: Words<'_>) -> Result<Vec<u8>, HexFault>
     ensures ok { IfOk result (λ bytes. bytes_said words.entry ≡ Some bytes.items) }
     ensures malformed { result ≡ Err HexFault.Malformed → bytes_said words.entry ≡ None }
@@ -71,7 +71,7 @@ fn read_bytes(alloc: Global, mut words: Words<'_>) -> Result<Vec<u8>, HexFault>
     }
 }
 
-/// The key that the words are.
+/// The key that the words write.
 fn read_key(alloc: Global, words: Words<'_>) -> Result<Key, HexFault>
     ensures ok { IfOk result (λ key. if_key (bytes_said words.entry) ≡ Some key.0) }
     ensures malformed { result ≡ Err HexFault.Malformed
@@ -84,7 +84,7 @@ fn read_key(alloc: Global, words: Words<'_>) -> Result<Key, HexFault>
     }
 }
 
-/// The hash of the input that the words are.
+/// The hash of the input that the words write.
 fn hash_input(alloc: Global, key: &Key, words: Words<'_>) -> Result<u32, HexFault>
     ensures ok { IfOk result (λ hash. option_map (toeplitz_hash key.now.0)
         (if_input (bytes_said words.entry)) ≡ Some hash) }
@@ -98,7 +98,7 @@ fn hash_input(alloc: Global, key: &Key, words: Words<'_>) -> Result<u32, HexFaul
     Ok(hash(key, &input))
 }
 
-/// Adds the hash of the input on a line, where it has a word.
+/// Appends the hash of the input on a line, where it has a word.
 fn add_line(
     alloc: Global,
     key: &Key,
@@ -122,7 +122,7 @@ fn add_line(
     Ok(())
 }
 
-/// The hashes of the inputs on the lines behind the key.
+/// The hashes of the inputs on the lines after the key.
 fn hash_inputs(alloc: Global, key: &Key, lines: Lines<'_>) -> Result<Vec<u32>, HashFault>
     ensures ok { IfOk result (λ hashes. hashed key.now.0 [] (inputs_of lines.entry)
         ≡ Ok hashes.items) }
@@ -136,7 +136,7 @@ fn hash_inputs(alloc: Global, key: &Key, lines: Lines<'_>) -> Result<Vec<u32>, H
     Ok(hashes)
 }
 
-/// The hashes of the inputs in a text, under the key on its first line.
+/// The hashes of the inputs in a text, with the key on its first line.
 fn hashes_in(alloc: Global, text: &str) -> Result<Vec<u32>, HashFault>
     ensures ok { IfOk result (λ hashes. lines_answer (lines_of text.now)
         ≡ words_answer hashes.items) }
@@ -164,7 +164,7 @@ fn write_hash<W: Write>(output: &mut Output<W>, hash: u32) -> Result<(), Failure
     output.write(format_args!("{hash}\n"))
 }
 
-/// Writes hashes, each on a line of its own, and gives the status of that.
+/// Writes hashes, each on a line of its own, and returns the status.
 fn write_hashes<W: Write>(output: &mut Output<W>, hashes: &[u32]) -> Result<u8, Failure>
     ensures { Gives result (W.contents output.old.writer) (W.contents output.new.writer)
         output.new.has_failed (words_answer hashes.now) }
@@ -175,9 +175,8 @@ fn write_hashes<W: Write>(output: &mut Output<W>, hashes: &[u32]) -> Result<u8, 
     Ok(DONE)
 }
 
-/// Reads a key of 40 bytes on the first line of a text and inputs of 36 bytes at most on those behind
-/// it, all in hex, and writes the Toeplitz hash of each input under the key. All lines are read before
-/// the first hash is written.
+/// Reads a key of 40 bytes from the first line of a text and inputs of at most 36 bytes from those after it, all in
+/// hex, and writes the Toeplitz hash of each input with the key. All lines are read before the first hash is written.
 pub(crate) fn hash_lines<W: Write>(
     alloc: Global,
     text: &str,

@@ -1,11 +1,11 @@
-//! A reader whose failed reads are remembered.
+//! A reader that counts its reads and remembers a failed one.
 ghost use Rattle.std.specs.Prelude.{◌≡◌, ◌+◌, ◌<◌, OnErr, OnOk, false, true};
 ghost use Rattle.std.specs.Io.{ReadsAtMost};
 ghost use Rattle.std.specs.Io.KnownBytes.{ReadConsumes};
 
 use std::io::{Read, Result};
 
-/// How many reads are made at most.
+/// The most reads that are made of an input.
 pub const READS: u32 = 1_000_000;
 
 /// A reader, how many reads were made of it, and whether one of them failed.
@@ -17,7 +17,7 @@ pub struct Input<R> {
 }
 
 impl<R: Read> Input<R> {
-    /// A reader of which nothing was read.
+    /// A reader of which nothing was read yet.
     pub fn of(reader: R) -> Input<R>
         ensures { result ≡ record { reader = reader; reads = 0; has_failed = false } }
     {
@@ -28,7 +28,7 @@ impl<R: Read> Input<R> {
         }
     }
 
-    /// Whether a read failed.
+    /// Whether a read of it failed.
     pub fn has_failed(&self) -> bool
         ensures { result ≡ self.now.has_failed }
     {
@@ -36,7 +36,7 @@ impl<R: Read> Input<R> {
         *has_failed
     }
 
-    /// Reads are counted, and failed ones remembered, from here on.
+    /// Resets the count of reads, and forgets a failed one.
     pub(crate) fn begin(&mut self)
         ensures { self.new ≡ record self.old { reads = 0; has_failed = false } }
     {
@@ -44,7 +44,7 @@ impl<R: Read> Input<R> {
         self.has_failed = false;
     }
 
-    /// Reads into the buffer, and gives how many bytes there are.
+    /// Reads into the buffer, and returns how many bytes were read.
     pub(crate) fn read(&mut self, buffer: &mut [u8]) -> Result<usize>
         requires { self.old.reads < READS }
         ensures bound { ReadsAtMost result buffer.new }

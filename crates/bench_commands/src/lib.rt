@@ -1,9 +1,8 @@
 //! The program `nicbench`, over any reader and writer.
 //!
-//! `answer` takes the words of a command line, reads all input and writes the answer: what is written
-//! for the bytes that are read, and the status, are those of what the words ask for (`IsAnswerTo`).
-//! `bench` is `answer` with a status also where it is given up. The program's `main` stands on this
-//! crate.
+//! `answer` takes what the words of a command line ask for, reads all input and writes the answer: the output for the
+//! bytes that are read, and the status, are those of what the words ask for (`IsAnswerTo`). `bench` reads the words,
+//! calls `answer`, and returns a status in every case. The program's `main` depends on this crate.
 #![tactic(auto)]
 
 mod answering;

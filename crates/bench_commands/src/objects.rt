@@ -1,4 +1,4 @@
-//! What `nicbench asm` makes of a text, and `nicbench dis` of an object.
+//! The commands `nicbench asm` and `nicbench dis`: from a script to an object, and back.
 ghost use Rattle.std.specs.Prelude.{◌≡◌, ◌≢◌, MatchOption};
 ghost use Rattle.bench_commands.specs.Answer.{Gives, refused};
 ghost use Rattle.bench_commands.specs.Objects.{asm_answer, dis_answer, object_refused};
@@ -13,7 +13,7 @@ use script_text::{assemble, disassemble};
 use std::alloc::Global;
 use std::io::Write;
 
-/// Why bytes are no object; none where there is no memory.
+/// The refusal of bytes that aren't an object. `None` where there was no memory.
 fn refusal_of_object(fault: ObjectFault) -> Option<Refusal>
     ensures { MatchOption result (fault ≡ ObjectFault.OutOfMemory) (λ refusal.
         (fault ≢ ObjectFault.OutOfMemory)
@@ -30,7 +30,7 @@ fn refusal_of_object(fault: ObjectFault) -> Option<Refusal>
     }
 }
 
-/// Writes the object of the program that a script means.
+/// Writes the object of a script's program.
 pub(crate) fn write_object<W: Write>(
     alloc: Global,
     text: &str,
@@ -52,7 +52,7 @@ pub(crate) fn write_object<W: Write>(
     }
 }
 
-/// Writes the script of the program whose object the bytes are.
+/// Writes the script of an object's program.
 pub(crate) fn write_script<W: Write>(
     alloc: Global,
     bytes: &[u8],

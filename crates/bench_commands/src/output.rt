@@ -1,4 +1,4 @@
-//! A writer whose failed writes are remembered.
+//! A writer that remembers a failed write.
 ghost use Rattle.std.specs.Prelude.{◌≡◌, ◌⊎◌, Err, IfSome, OnOk, false, true};
 ghost use Rattle.std.specs.Io.KnownBytes.{Appends, Keeps};
 ghost use Rattle.bench_commands.specs.Answer.{FailsToWrite};
@@ -9,8 +9,8 @@ use crate::status::{FAILED, NO_MEMORY};
 use std::fmt::Display;
 use std::io::{Error, ErrorKind, Write};
 
-/// A writer, whether a write to it failed, and whether the writer said then that it had no memory. Once a write has
-/// failed, no more is written to it.
+/// A writer, whether a write to it failed, and whether the writer had no memory then. After a failed write nothing more
+/// is written to it.
 #[derive(Debug, Drop)]
 pub struct Output<W> {
     writer: W,
@@ -19,7 +19,7 @@ pub struct Output<W> {
 }
 
 impl<W: Write> Output<W> {
-    /// A writer of which no write failed.
+    /// A writer of which no write has failed.
     pub fn of(writer: W) -> Output<W>
         ensures { result ≡ record { writer = writer; has_failed = false; lacked_memory = false } }
     {
@@ -30,7 +30,7 @@ impl<W: Write> Output<W> {
         }
     }
 
-    /// Whether a write failed.
+    /// Whether a write to it failed.
     pub fn has_failed(&self) -> bool
         ensures { result ≡ self.now.has_failed }
     {
@@ -38,8 +38,7 @@ impl<W: Write> Output<W> {
         *has_failed
     }
 
-    /// The status that a failed write ends with: `NO_MEMORY` where the kind of the writer's error is want of memory,
-    /// and else `FAILED`.
+    /// The exit status after a failed write: `NO_MEMORY` where the writer's error is `OutOfMemory`, else `FAILED`.
     pub fn failed_status(&self) -> u8
         ensures value { result ≡ unwritten_status self.now.lacked_memory }
         ensures either { (result ≡ 2) ⊎ (result ≡ 4) }
@@ -59,7 +58,8 @@ impl<W: Write> Output<W> {
         Failure::Write
     }
 
-    /// Writes a text. Once a write has failed, no more is written.
+    /// Writes a text. `Failure::Write` where the write fails or one has failed before; after a failed write, nothing is
+    /// written.
     pub fn write<D: Display + Drop>(&mut self, text: D) -> Result<(), Failure>
         ensures ok { OnOk result (IfSome (D.output text)
             (Appends (W.contents self.old.writer) (W.contents self.new.writer))) }
@@ -76,7 +76,7 @@ impl<W: Write> Output<W> {
         }
     }
 
-    /// Writes bytes. Once a write has failed, no more is written.
+    /// Writes these bytes. After a failed write, nothing is written.
     pub(crate) fn write_bytes(&mut self, bytes: &[u8]) -> Result<(), Failure>
         ensures ok { OnOk result (Appends (W.contents self.old.writer) (W.contents self.new.writer)
             bytes.now) }
@@ -93,8 +93,8 @@ impl<W: Write> Output<W> {
         }
     }
 
-    /// Has the writer write what it keeps back, and gives the status to end with: the given one, or where this write
-    /// fails the status of that. Once a write has failed, no more is written, and the status stays.
+    /// Flushes the writer, and returns the exit status: the given one, or where flushing fails the status of that.
+    /// After a failed write, nothing is flushed, and the status stays.
     pub fn flush(&mut self, status: u8) -> u8
         ensures bytes { self.old.has_failed ≡ false
             → Keeps (W.contents self.old.writer) (W.contents self.new.writer) }

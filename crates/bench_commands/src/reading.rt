@@ -1,4 +1,4 @@
-//! All that a reader gives, up to a limit.
+//! Reads all input, up to a limit.
 ghost use Rattle.std.specs.Prelude.{◌≡◌, ◌<◌, ◌≤◌, length, Err, IfOk, IfSome, vec_len};
 ghost use Rattle.bench_commands.specs.Reading.{CouldNotBeRead};
 
@@ -6,20 +6,20 @@ use crate::input::{Input, READS};
 use std::alloc::{AllocError, Global};
 use std::io::Read;
 
-/// How many bytes an input may have.
+/// The most bytes that an input can have: 8 MiB.
 pub const BYTES: usize = 8_388_608;
 
-/// How many bytes a read may give.
+/// The most bytes that one read returns.
 const READ_BYTES: usize = 65_536;
 
-/// Why there is no input.
+/// Why an input wasn't read.
 #[derive(Clone, Copy, Debug, PartialEq, Eq)]
 pub enum InputFault {
     /// There are more than `BYTES` bytes.
     TooLong,
-    /// A read failed, or `READS` reads came to no end.
+    /// A read failed, or the input didn't end within `READS` reads.
     Unread,
-    /// No memory for the bytes.
+    /// There is no memory for the bytes.
     OutOfMemory,
 }
 
@@ -33,15 +33,15 @@ impl From<AllocError> for InputFault {
     }
 }
 
-/// Room for one read.
+/// A buffer for one read.
 fn buffer(alloc: Global) -> Result<Vec<u8>, AllocError>
     ensures { IfOk result (λ v. 0 < vec_len v) }
 {
     vec![in alloc; 0u8; READ_BYTES]
 }
 
-/// All bytes that the reader gives until its end. A failed read isn't tried again. After an `Err`
-/// some bytes may be read.
+/// All bytes of the input, until its end. A failed read isn't tried again. After an error some bytes may have been
+/// read.
 pub fn read_input<R: Read>(alloc: Global, input: &mut Input<R>) -> Result<Vec<u8>, InputFault>
     ensures whole { IfOk result (λ v. IfSome (R.remaining input.old.reader) (λ bytes. v.items ≡ bytes)) }
     ensures fits { IfOk result (λ v. vec_len v ≤ BYTES) }

@@ -1,4 +1,4 @@
-//! What the device replies, as it is printed.
+//! Printing of the device's replies.
 ghost use Rattle.std.specs.Prelude.{◌≡◌, Some};
 ghost use Rattle.bench_commands.specs.Line.{line_text, part_text};
 ghost use Rattle.bench_commands.specs.Reply.{end_text, fault_text, group_text, queue_text, reply_text, why_text};
@@ -10,27 +10,27 @@ use program::RingFault;
 use std::fmt;
 use text_format::{AddressText, BytesText, WordText};
 
-/// A part of a reply, behind its name.
+/// A part of a printed reply, after its name.
 #[derive(Clone, Copy)]
 enum Part<'a> {
     /// A word of the language.
     Named(&'static str),
-    /// A number.
+    /// A decimal number, by itself.
     Number(usize),
-    /// A number, behind what it counts.
+    /// A decimal number, after the word for what it counts.
     Numbered(&'static str, usize),
-    /// A register's word.
+    /// A register's word, in hex.
     Word(u32),
-    /// Bytes.
+    /// The bytes of a frame or of memory, in hex.
     Bytes(&'a [u8]),
-    /// A slot of a queue.
+    /// A descriptor's slot in a queue's ring.
     Slot {
-        /// The number of the queue.
+        /// The queue, 0 to 127.
         queue: u16,
-        /// The number of the slot.
+        /// The index of the descriptor in the ring.
         slot: u16,
     },
-    /// An address of memory that isn't lent.
+    /// A bus address of memory that isn't lent.
     NotLent(u64),
 }
 
@@ -50,14 +50,14 @@ impl fmt::Display for Part<'_> {
     }
 }
 
-/// The parts of a reply, behind its name.
+/// The parts of a printed reply, after its name.
 #[derive(Clone, Copy)]
 enum Parts<'a> {
-    /// None.
+    /// A reply without parts.
     Zero,
-    /// One.
+    /// A reply with one part.
     One(Part<'a>),
-    /// Two.
+    /// A reply with two parts.
     Two(Part<'a>, Part<'a>),
 }
 
@@ -78,7 +78,7 @@ impl fmt::Display for Line<'_> {
     }
 }
 
-/// Why a frame was dropped.
+/// The printed reason for which a frame was dropped.
 fn why(why: Why) -> &'static str
     ensures { result.now ≡ why_text why }
 {
@@ -96,7 +96,7 @@ fn why(why: Why) -> &'static str
     }
 }
 
-/// What a ring met.
+/// The printed reason why a descriptor couldn't be processed.
 fn fault(fault: RingFault) -> Part<'static>
     ensures { part_text result ≡ fault_text fault }
 {
@@ -112,21 +112,21 @@ fn fault(fault: RingFault) -> Part<'static>
     }
 }
 
-/// A queue.
+/// The printed number of a queue.
 fn queue(queue: u16) -> Part<'static>
     ensures { part_text result ≡ queue_text queue }
 {
     Numbered("queue", usize::from(queue))
 }
 
-/// Whether a frame ended.
+/// The printed word for whether a frame ended.
 fn end(end: bool) -> &'static str
     ensures { result.now ≡ end_text end }
 {
     if end { "end" } else { "more" }
 }
 
-/// A group of interrupts.
+/// The printed group of interrupts.
 fn group(group: Group) -> Part<'static>
     ensures { part_text result ≡ group_text group }
 {
@@ -136,7 +136,7 @@ fn group(group: Group) -> Part<'static>
     }
 }
 
-/// The line of a reply.
+/// The line of a reply, before it is printed.
 fn line_of(reply: &ReplyNote) -> Line<'_>
     ensures { line_text result ≡ reply_text reply.now }
 {
@@ -191,7 +191,7 @@ fn line_of(reply: &ReplyNote) -> Line<'_>
     }
 }
 
-/// A reply as it is printed.
+/// A device's reply, printed by `Display`.
 #[derive(Clone, Copy)]
 pub(crate) struct ReplyText<'a>(pub(crate) &'a ReplyNote);
 

@@ -1,4 +1,4 @@
-//! What `nicbench run` makes of a text.
+//! The command `nicbench run`: runs a script.
 ghost use Rattle.std.specs.Prelude.{◌≡◌, ◌≢◌, MatchOption};
 ghost use Rattle.bench_commands.specs.Answer.{Gives, refused};
 ghost use Rattle.bench_commands.specs.Run.{program_answer, run_answer, script_refused};
@@ -15,7 +15,7 @@ use script_text::{ScriptFault, assemble};
 use std::alloc::Global;
 use std::io::Write;
 
-/// Why a text is no script; none where there is no memory.
+/// The refusal of a text that isn't a script. `None` where there was no memory.
 pub(crate) fn refusal_of_script(fault: ScriptFault) -> Option<Refusal>
     ensures { MatchOption result (fault ≡ ScriptFault.OutOfMemory) (λ refusal.
         (fault ≢ ScriptFault.OutOfMemory)
@@ -32,7 +32,7 @@ pub(crate) fn refusal_of_script(fault: ScriptFault) -> Option<Refusal>
     }
 }
 
-/// Runs a program on a new controller.
+/// Runs a program on a new device.
 fn run_program<W: Write>(
     alloc: Global,
     program: Program,
@@ -60,7 +60,7 @@ fn run_program<W: Write>(
     }
 }
 
-/// Runs a script, and writes what it does, line by line as it goes.
+/// Runs a script, and writes the line of each step as it is made.
 pub(crate) fn run_script<W: Write>(
     alloc: Global,
     text: &str,

@@ -1,4 +1,4 @@
-//! What `nicbench debug` makes of a text.
+//! The command `nicbench debug`: debugs a script.
 ghost use Rattle.std.specs.Prelude.{◌≡◌, ◌<◌, ◌^◌, [], length};
 ghost use Rattle.text_format.specs.Lines.{lines_of};
 ghost use Rattle.bench_commands.specs.Answer.{Gives};
@@ -25,7 +25,7 @@ use text_format::Lines;
 /// The word on the line that ends the script.
 const END_OF_SCRIPT: &str = "%";
 
-/// How many lines a text has.
+/// The number of lines of a text.
 fn line_count(text: &str) -> usize
     ensures value { result ≡ length (lines_of text.now) }
     ensures bound { result < 2 ^ 63 }
@@ -39,7 +39,7 @@ fn line_count(text: &str) -> usize
     count
 }
 
-/// Does commands one after the other, and writes the line of each.
+/// Executes commands one after the other, and writes the line of each.
 fn do_commands<W: Write>(
     debugger: &mut Debugger,
     commands: &[Command],
@@ -58,7 +58,7 @@ fn do_commands<W: Write>(
     Ok(DONE)
 }
 
-/// Debugs a program on a new controller.
+/// Debugs a program on a new device.
 fn debug_program<W: Write>(
     alloc: Global,
     program: Program,
@@ -84,7 +84,7 @@ fn debug_program<W: Write>(
     }
 }
 
-/// Debugs a program by the commands on lines. All lines are read before the first command is done.
+/// Debugs a program by the commands on lines. All lines are read before the first command is executed.
 fn debug_by_lines<W: Write>(
     alloc: Global,
     program: Program,
@@ -104,7 +104,7 @@ fn debug_by_lines<W: Write>(
     }
 }
 
-/// Debugs the script at the beginning of a text, by the commands behind the first line whose only word is `%`.
+/// Debugs the script at the beginning of a text, by the commands after the first line whose only word is `%`.
 pub(crate) fn debug_script<W: Write>(
     alloc: Global,
     text: &str,

@@ -1,16 +1,16 @@
-//! The statuses that the program ends with.
+//! The exit statuses of the program.
 
-/// What is asked for is written, all of it.
+/// The answer is written completely.
 pub const DONE: u8 = 0;
 
-/// A script's machine still runs after its last step, or met another word than it expected.
+/// A script's machine still runs after the limit's steps, or an `expect` failed.
 pub const NOT_ENDED: u8 = 1;
 
-/// The input is refused, or a read or a write failed.
+/// The input was refused, or a read or a write failed.
 pub const FAILED: u8 = 2;
 
-/// The words are refused.
+/// The command line was refused.
 pub const REFUSED_WORDS: u8 = 3;
 
-/// There is no memory.
+/// There was no memory for the work.
 pub const NO_MEMORY: u8 = 4;

@@ -1,4 +1,4 @@
-//! A machine's steps, written as they go.
+//! Runs a machine, and writes each step as it is made.
 ghost use Rattle.std.specs.Prelude.{◌≡◌, IfErr, OnOk};
 ghost use Rattle.std.specs.Io.KnownBytes.{Appends};
 ghost use Rattle.machine.specs.Machine.{machine_at, start_of};
@@ -14,7 +14,7 @@ use machine::{Machine, Status, StepAnswer};
 use std::io::Write;
 use text_format::WordText;
 
-/// Writes the line of a step that was made at an instruction; nothing of one without an event.
+/// Writes the line of a step at an instruction. Nothing where the step made no event.
 fn write_answer<W: Write>(
     output: &mut Output<W>,
     pc: u16,
@@ -60,7 +60,7 @@ fn write_steps<W: Write>(
     Ok(())
 }
 
-/// Writes how a machine stands after its last step, and gives the status of that.
+/// Writes the state of a machine after its last step, and returns the status.
 fn write_end<W: Write>(machine: &Machine, output: &mut Output<W>) -> Result<u8, Failure>
     ensures { Gives result (W.contents output.old.writer) (W.contents output.new.writer)
         output.new.has_failed (end_of machine.now.state) }
@@ -85,7 +85,7 @@ fn write_end<W: Write>(machine: &Machine, output: &mut Output<W>) -> Result<u8, 
     }
 }
 
-/// Runs a new machine up to the limit, and writes what it does and how it stands then.
+/// Runs a new machine up to the limit, and writes its steps and its state then.
 pub(crate) fn run_machine<W: Write>(
     machine: &mut Machine,
     limit: u64,

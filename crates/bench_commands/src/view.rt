@@ -1,4 +1,4 @@
-//! What the debugger shows, as it is printed.
+//! Printing of the debugger's answers.
 ghost use Rattle.std.specs.Prelude.{◌≡◌, ◌++◌, None, OnOk, Some, codes};
 ghost use Rattle.std.specs.Io.KnownBytes.{Appends};
 ghost use Rattle.bench_commands.specs.Answer.{FailsToWrite};
@@ -14,7 +14,7 @@ use std::fmt;
 use std::io::Write;
 use text_format::{AddressText, WordText};
 
-/// How a machine stands, as it is printed.
+/// A machine's status, printed by `Display`.
 #[derive(Clone, Copy)]
 struct StatusText(Status);
 
@@ -30,7 +30,7 @@ impl fmt::Display for StatusText {
     }
 }
 
-/// Where a machine is, as it is printed.
+/// The state of a debugger's machine, printed by `Display`.
 #[derive(Clone, Copy)]
 struct ViewText(View);
 
@@ -46,7 +46,7 @@ impl fmt::Display for ViewText {
     }
 }
 
-/// An address and what a read there would give, as it is printed.
+/// An address and what a read there would return, printed by `Display`.
 #[derive(Clone, Copy)]
 struct ShownText {
     address: u32,
@@ -65,7 +65,7 @@ impl fmt::Display for ShownText {
     }
 }
 
-/// Writes the line of a command that is done.
+/// Writes the line of a command that was executed.
 pub(crate) fn write_done<W: Write>(
     output: &mut Output<W>,
     command: Command,
@@ -94,7 +94,7 @@ pub(crate) fn write_done<W: Write>(
     }
 }
 
-/// Why a command isn't done, by its name.
+/// The refusal of a command, by its name.
 fn refusal_of(refusal: DebugRefusal) -> Refusal
     ensures name { result.name.now ≡ refusal_name refusal }
     ensures number { result.number ≡ None }
@@ -107,7 +107,7 @@ fn refusal_of(refusal: DebugRefusal) -> Refusal
     }
 }
 
-/// Writes the line of a command that is refused.
+/// Writes the line of a command that was refused.
 pub(crate) fn write_refused<W: Write>(
     output: &mut Output<W>,
     refusal: DebugRefusal,

@@ -33,7 +33,7 @@ pub record AreShared (memory : Memory) (arena : Numbers) : Type 0 where
   pub either : (number : ℕ) → is_own arena number ≡ true → is_free arena number ≡ not (has_block memory number)
   pub few : (number : ℕ) → has_block memory number ≡ true → is_own arena number ≡ true
 
--- a new card: a new device, and so many blocks, all free
+-- a new card: a new device, and this many blocks, all free
 abbrev pub new_card : ℕ → ℕ → ℕ → Holdings
 new_card vfs fifo blocks = record { device = new_state vfs fifo; arena = all_free 0 blocks }
 
@@ -73,12 +73,12 @@ CanReturn arena (Buf block) = (is_own arena block.number ≡ true) × (is_free a
 CanReturn arena (Twice block) = ⊥
 CanReturn arena other = ⊤
 
--- a block that is handed out is free again
+-- a block that a reply returns is free again
 abbrev pub given_back : Numbers → Option Block → Numbers
 given_back arena (Some block) = with_free arena block.number true
 given_back arena None = arena
 
--- the blocks that are free after a reply: one that it hands out is given back
+-- the blocks that are free after a reply: one that it returns is given back
 abbrev pub arena_after : Numbers → Reply Block → Numbers
 arena_after arena reply = given_back arena (handed_block reply)
 

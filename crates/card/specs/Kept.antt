@@ -4,7 +4,7 @@ use Rattle.std.specs.List.{range_with_len}
 use Rattle.nic_device.specs.DmaArena.Memory.{Memory, has_block}
 use Rattle.nic_device.specs.DmaArena.Numbers.{Numbers}
 
--- so many blocks, numbered from 0 on, of which those are free that aren't lent
+-- this many blocks, numbered from 0 on, of which those are free that aren't lent
 abbrev pub blocks_beside : ℕ → Memory → Numbers
 blocks_beside count memory =
     record { first = 0; free = map (λ number. not (has_block memory number)) (range_with_len 0 count) }

@@ -1,4 +1,4 @@
-//! A device with an arena of packet memory: what moves blocks between the two, and its other events.
+//! A device with an arena of packet memory: calls that move blocks between the two, and the device's other events.
 
 ghost use Rattle.std.specs.Prelude.{◌≡◌, ◌<◌, ◌≤◌, ◌↔◌, ℕ, [], true, false, IsFalse, IfOk, OnOk, OnErr, Ok, Err};
 ghost use Rattle.std.specs.FinMap as map;
@@ -18,7 +18,8 @@ use nic_device::{
 use std::alloc::{AllocError, Global};
 use std::marker::Model;
 
-/// A device, and an arena of the blocks from 0 on. Each of these is free in the arena or lent to the device.
+/// A device, and an arena of the blocks from 0 on. Each block is free in the arena or lent to the device. It can be
+/// dropped, which frees both.
 pub struct Card {
     pub(crate) device: Device,
     pub(crate) arena: Arena,
@@ -36,7 +37,7 @@ impl Model for Card {
     ghost invariant = { λ c. AreShared c.device.memory c.arena };
 }
 
-/// A reply without a block, as its note tells it.
+/// The note of a reply that contains no block.
 fn note_of(reply: Reply) -> ReplyNote
     requires { IsFalse (hands_out reply) }
     ensures { result ≡ reply }
@@ -47,7 +48,7 @@ fn note_of(reply: Reply) -> ReplyNote
     }
 }
 
-/// Lets the reply to a block that was lent go.
+/// Drops the reply to a block that was lent.
 fn is_lent_by(reply: Reply) -> bool
     requires { IsFalse (hands_out reply) }
     ensures { result ≡ true }
@@ -56,7 +57,7 @@ fn is_lent_by(reply: Reply) -> bool
     true
 }
 
-/// Whether a write was stray, by what the device replies to it.
+/// Whether a write reached no register, by the device's reply.
 #[inline]
 fn is_stray(reply: Reply) -> bool
     requires { IsOfWrite reply }
@@ -69,7 +70,7 @@ fn is_stray(reply: Reply) -> bool
     }
 }
 
-/// Gives a block back to the arena that it was taken from.
+/// Returns a block to the arena that it was taken from.
 fn give_back(arena: &mut Arena, buf: Buf)
     requires own { is_own arena.old buf.number ≡ true }
     requires away { is_free arena.old buf.number ≡ false }
@@ -81,7 +82,7 @@ fn give_back(arena: &mut Arena, buf: Buf)
     }
 }
 
-/// A reply as its note tells it. A block that it has is given back to the arena, and its bytes are copied into `room`.
+/// The note of a reply. A block in it is returned to the arena, and its bytes are copied into `room`.
 fn note_returned(arena: &mut Arena, reply: Reply, room: Vec<u8>) -> ReplyNote
     requires own { CanReturn arena.old reply }
     requires empty { room.items ≡ [] }
@@ -99,7 +100,7 @@ fn note_returned(arena: &mut Arena, reply: Reply, room: Vec<u8>) -> ReplyNote
     }
 }
 
-/// Ends lent memory without a block.
+/// Ends lent memory without blocks.
 fn end_memory(memory: LentMemory)
     requires { (number : ℕ) → has_block memory number ≡ false }
 {
@@ -113,7 +114,7 @@ fn end_memory(memory: LentMemory)
     }
 }
 
-/// Takes a block back, where it is lent, and gives it to the arena.
+/// Takes a block back, where it is lent, and returns it to the arena.
 fn take_back(memory: &mut LentMemory, arena: &mut Arena, number: u32)
     requires { AreShared memory.old arena.old }
     ensures shared { AreShared memory.new arena.new }
@@ -141,7 +142,7 @@ fn close(mut memory: LentMemory, mut arena: Arena)
     }
 }
 
-/// Ends a device that no memory is lent to.
+/// Ends a device that has no lent memory.
 fn end_device(device: Device)
     requires { device.memory ≡ map.empty }
 {
@@ -157,8 +158,9 @@ fn end_device(device: Device)
 }
 
 impl Card {
-    /// A new device, and so many blocks, 1 to 65,536, all free. A refused configuration is told before memory is asked
-    /// for.
+    /// A new device, and `blocks` blocks, 1 to 65,536, all free.
+    ///
+    /// Errors: `TooManyVfs`, `Fifo` and `OutOfMemory`, as of `Device::new`. A refused configuration takes no memory.
     pub fn new(alloc: Global, config: Config, blocks: u32) -> Result<Card, NewFault>
         requires some { 0 < blocks }
         requires few { blocks ≤ 65536 }
@@ -176,7 +178,7 @@ impl Card {
         }
     }
 
-    /// Makes an event that moves no block.
+    /// Makes an event that moves no block, and returns the reply. After `AllocError` nothing has changed.
     pub fn make(&mut self, event: Event) -> Result<ReplyNote, AllocError>
         requires { IsFalse (moves_block event) }
         ensures reply { IfOk result (λ reply. reply ≡ reply_to self.old.device event) }
@@ -194,7 +196,8 @@ impl Card {
         }
     }
 
-    /// Reads a register at a port, with the read's effects: the word that it gives, and whether the access was stray.
+    /// Reads a register at a port, with the read's side effects. Returns the word, and whether the access reached no
+    /// register.
     #[inline]
     pub fn read(&mut self, port: Port, number: u32) -> (u32, bool)
         ensures reply { reply_to self.old.device (Event.Read port number) ≡ reply_of_read result.0 result.1 }
@@ -208,7 +211,7 @@ impl Card {
         }
     }
 
-    /// Writes a register at a port: whether the access was stray.
+    /// Writes a register at a port. Returns whether the access reached no register.
     #[inline]
     pub fn write(&mut self, port: Port, number: u32, word: u32) -> bool
         ensures reply { reply_to self.old.device (Event.Write port number word) ≡ reply_of_write result }
@@ -220,7 +223,8 @@ impl Card {
         }
     }
 
-    /// Lends a block that is free, whose bytes are 0: the device replies `Done`. `false` where it isn't free.
+    /// Lends a free block, with all bytes 0. Returns `false` where the block isn't free. After `AllocError` nothing has
+    /// changed.
     pub fn lend(&mut self, block: u32) -> Result<bool, AllocError>
         ensures free { IfOk result (λ lent. lent ≡ is_free self.old.arena block) }
         ensures lent { OnOk result (self.new ≡ with_lent self.old block) }
@@ -244,7 +248,7 @@ impl Card {
         }
     }
 
-    /// Takes a block back, and gives it to the arena. `false` where it isn't lent.
+    /// Takes a block back, and returns it to the arena. `false` where it isn't lent.
     pub fn take(&mut self, block: u32) -> bool
         ensures lent { result ≡ has_block self.old.device.memory block }
         ensures taken { self.new ≡ with_taken self.old block }
@@ -261,7 +265,8 @@ impl Card {
         }
     }
 
-    /// Takes a block back, and gives it to the arena. Where it is lent, its bytes are copied into `room`.
+    /// Takes a block back, and returns it to the arena. The reply is `NotLent`, or `Buf` with a note whose bytes are
+    /// copied into `room`, an empty vector with a capacity of 2048 bytes.
     pub fn take_noted(&mut self, block: u32, room: Vec<u8>) -> ReplyNote
         requires empty { room.items ≡ [] }
         requires room { vec_capacity room ≡ 2048 }
@@ -275,7 +280,7 @@ impl Card {
     }
 
     #[tactic(auto, unfolding(crate::specs::Card::lent_below))]
-    /// Lends the free blocks in order. Where there is no memory for one, those below it are lent.
+    /// Lends the free blocks in order. After `AllocError` the blocks below the one without memory are lent.
     pub fn lend_all(&mut self) -> Result<(), AllocError>
         ensures lent { OnOk result (self.new ≡ lent_below self.old (count_of self.old.arena)) }
         ensures stopped { OnErr result ((block : ℕ) × (block < count_of self.old.arena)
@@ -287,7 +292,7 @@ impl Card {
         Ok(())
     }
 
-    /// What a read of a register would give, without its effects. `None` where it would be stray.
+    /// What a read of a register would return, without the read's side effects. `None` where there is no register.
     pub fn peek(&self, port: Port, number: u32) -> Option<u32>
         ensures { result ≡ word_told (reply_to self.now.device (Event.Read port number)) }
     {
@@ -297,14 +302,14 @@ impl Card {
         }
     }
 
-    /// How many bytes the frame has that would be collected. 0 without one.
+    /// The length in bytes of the frame that would be collected. 0 where there is none.
     pub fn next_out(&self) -> usize
         ensures { result ≡ next_out_of self.now.device.out }
     {
         self.device.next_out()
     }
 
-    /// Puts an EEPROM image into the device.
+    /// Installs an EEPROM image in place of the former one, which is dropped.
     pub fn install(&mut self, image: Image)
         ensures { self.new ≡ with_image self.old image }
     {
@@ -312,7 +317,7 @@ impl Card {
     }
 }
 
-/// Takes all lent blocks back, and ends both.
+/// Takes all lent blocks back, and frees the device and the arena.
 impl Drop for Card {
     fn drop(self) {
         let Card { device, arena } = self;

@@ -8,8 +8,8 @@ use nic_device::{Arena, Device, RestoreRefused, Snapshot};
 use std::alloc::{AllocError, Global};
 use std::marker::Model;
 
-/// What a card holds: a snapshot of its device, with the bytes of the blocks that are lent to it, and how many blocks
-/// the card has. Those that aren't lent are free.
+/// The contents of a card: a snapshot of its device, with the bytes of the lent blocks, and the number of its blocks.
+/// Blocks that aren't lent are free.
 #[derive(Drop)]
 pub struct Kept {
     device: Snapshot,
@@ -40,7 +40,7 @@ fn end_arena(arena: Arena)
 }
 
 impl Card {
-    /// The card as plain data; it stays as it is.
+    /// A copy of the card as plain data; the card stays unchanged. `AllocError` where there is no memory for it.
     pub fn keep(&self) -> Result<Kept, AllocError>
         ensures { IfOk result (λ kept. kept ≡ self.now) }
     {
@@ -55,7 +55,7 @@ impl Card {
 }
 
 impl Kept {
-    /// The card that was kept once more, with packet memory of its own.
+    /// A card with the kept contents, with packet memory of its own.
     pub fn card(&self, alloc: Global) -> Result<Card, AllocError>
         ensures { IfOk result (λ card. card ≡ self.now) }
     {

@@ -1,4 +1,4 @@
-//! The commands and their options.
+//! The commands of `nicbench` and their options.
 ghost use Rattle.std.specs.Prelude.{◌≡◌, IfErr, IfOk, false};
 ghost use Rattle.clap.specs.Words.{App, app_of, kind_of, new_app, rule_of, with_rule, with_subcommand};
 ghost use Rattle.clap.specs.declared.builder.command.Command.TheViews.{out-Command as fields_of};
@@ -11,7 +11,7 @@ use clap::error::ErrorKind;
 use clap::{Arg, ArgAction, Command, Error, value_parser};
 use std::alloc::Global;
 
-/// An option that takes a number, and the number that stands for one that is left out.
+/// An option that takes a number, with a default.
 fn number<'a>(
     alloc: Global,
     name: &'a str,
@@ -30,7 +30,7 @@ fn number<'a>(
         .default_value(default)
 }
 
-/// An option that takes a number, and isn't left out.
+/// An option that takes a number and is required.
 fn needed<'a>(
     alloc: Global,
     name: &'a str,
@@ -119,7 +119,7 @@ fn with_option<'a>(command: Command<'a>, option: Arg<'a>) -> Result<Command<'a>,
     Ok(command)
 }
 
-/// A command with one more subcommand, where there is memory for the two.
+/// A command with one more subcommand. An error of either is passed on.
 fn with_command<'a>(
     command: Result<Command<'a>, Error>,
     more: Result<Command<'a>, Error>,
@@ -201,7 +201,7 @@ fn threads<'a>(alloc: Global) -> Result<Command<'a>, Error>
     with_option(threads, frames(alloc))
 }
 
-/// What the help ends with.
+/// The end of the help text.
 const ENDS: &str = "Exit status:
   0  the program ended
   1  it still ran after the limit's steps, or an expect failed
@@ -211,7 +211,7 @@ const ENDS: &str = "Exit status:
 
 Documentation: `man nicbench` of an installed package; README.md and docs/ of the repository.";
 
-/// `nicbench`, without its commands.
+/// The command `nicbench`, without its subcommands.
 fn bare<'a>(alloc: Global) -> Command<'a>
     ensures app { app_of result ≡ bare_app }
     ensures local { (fields_of result).has_globals ≡ false }

@@ -1,20 +1,20 @@
-//! What `nicbench debug` is asked for.
+//! The options of `nicbench debug`.
 ghost use Rattle.std.specs.Prelude.{◌≡◌};
 ghost use Rattle.clap.specs.Words.{found_of, rows_of};
 ghost use Rattle.command_line.specs.Asked.{debug_options_of};
 
 use clap::ArgMatches;
 
-/// What `nicbench debug` is asked for.
+/// The options of `nicbench debug`.
 #[derive(Clone, Copy, Debug, PartialEq, Eq)]
 pub struct DebugOptions {
-    /// How many virtual functions the controller has.
+    /// The number of virtual functions of the device, 0 to 255 here; more than 63 are refused later.
     pub vfs: u8,
-    /// How many received frames may wait in the controller.
+    /// The capacity of the receive list in frames, 0 to 65,535 here; only 1 to 4,096 are accepted later.
     pub fifo: u16,
 }
 
-/// What the matches of `debug` say.
+/// The options in the matches of `debug`.
 pub(crate) fn debug_options_in(matches: &ArgMatches<'_>) -> DebugOptions
     ensures { result ≡ debug_options_of (rows_of (found_of matches.now)) }
 {

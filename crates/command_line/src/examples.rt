@@ -1,4 +1,4 @@
-//! What some command lines ask for, as laws.
+//! Laws: what some command lines ask for.
 ghost use Rattle.std.specs.Prelude.{◌≡◌, [], ◌∷◌, codes};
 ghost use Rattle.clap.specs.declared.error.ErrorKind.TheVariants as kind;
 ghost use Rattle.command_line.specs.Asked.{Asks, refusal_of};
@@ -7,20 +7,20 @@ ghost use Rattle.command_line.specs.declared.request.BytesRequest.TheVariants.{D
 ghost use Rattle.command_line.specs.declared.request.Request.TheVariants.{Bytes, Text};
 ghost use Rattle.command_line.specs.declared.request.TextRequest.TheVariants.{Asm, Debug, Eeprom, Hash, Run};
 
-/// `nicbench run` asks for no virtual function, for 64 frames and for 100,000 instructions at most.
+/// `nicbench run` asks for no virtual functions, for 64 frames and for at most 100,000 instructions.
 pub fn run_alone()
     ensures { Asks (codes "nicbench" ∷ codes "run" ∷ [])
         (Input (Text (Run (record { vfs = 0; fifo = 64; limit = 100000 })))) }
 {}
 
-/// A value stands after its option or after `=`, with a plus or zeros in front or not.
+/// A value follows its option or a `=` after it, with or without a plus sign or leading zeros.
 pub fn run_with_options()
     ensures { Asks (codes "nicbench" ∷ codes "run" ∷ codes "--vfs" ∷ codes "63"
         ∷ codes "--limit=+5" ∷ codes "--fifo" ∷ codes "004096" ∷ [])
         (Input (Text (Run (record { vfs = 63; fifo = 4096; limit = 5 })))) }
 {}
 
-/// `nicbench debug` asks for the same controller, and takes the options that say another.
+/// `nicbench debug` asks for the same device, and takes the options for another.
 pub fn debug_either_way()
     ensures alone { Asks (codes "nicbench" ∷ codes "debug" ∷ [])
         (Input (Text (Debug (record { vfs = 0; fifo = 64 })))) }
@@ -39,20 +39,20 @@ pub fn objects_either_way()
     ensures script { Asks (codes "nicbench" ∷ codes "dis" ∷ []) (Input (Bytes Dis)) }
 {}
 
-/// `nicbench eeprom` asks for an image, and with `--load` for what an image writes.
+/// `nicbench eeprom` asks for an image, and with `--load` for an image's register writes.
 pub fn eeprom_either_way()
     ensures image { Asks (codes "nicbench" ∷ codes "eeprom" ∷ []) (Input (Text Eeprom)) }
     ensures load { Asks (codes "nicbench" ∷ codes "eeprom" ∷ codes "--load" ∷ [])
         (Input (Bytes LoadEeprom)) }
 {}
 
-/// `nicbench threads` asks for so many workers and frames.
+/// `nicbench threads` asks for these numbers of workers and frames.
 pub fn threads_with_options()
     ensures { Asks (codes "nicbench" ∷ codes "threads" ∷ codes "--workers" ∷ codes "8"
         ∷ codes "--frames=60" ∷ []) (Threads (record { workers = 8; frames = 60 })) }
 {}
 
-/// `nicbench threads` wants both options, from 1 to 8 workers and at most 60 frames.
+/// `nicbench threads` requires both options, with 1 to 8 workers and at most 60 frames.
 pub fn refused_threads()
     ensures no_worker { refusal_of (codes "nicbench" ∷ codes "threads" ∷ codes "--workers"
         ∷ codes "0" ∷ codes "--frames" ∷ codes "1" ∷ []) ≡ kind.ValueValidation ∷ [] }
@@ -66,8 +66,8 @@ pub fn refused_threads()
         ∷ codes "1" ∷ []) ≡ kind.MissingRequiredArgument ∷ [] }
 {}
 
-/// A number beyond the option's type, an option twice, a further word behind either command, an unknown
-/// command and no word are refused.
+/// A number beyond the option's type, an option twice, a further word after a command, an unknown command and no word
+/// are refused.
 pub fn refused_words()
     ensures beyond { refusal_of (codes "nicbench" ∷ codes "run" ∷ codes "--vfs"
         ∷ codes "256" ∷ []) ≡ kind.ValueValidation ∷ [] }

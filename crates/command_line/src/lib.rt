@@ -1,6 +1,6 @@
-//! The words of a command line, read with clap.
+//! Reads the words of a command line with clap.
 //!
-//! `asked` says what words ask for, exactly, and that all others are refused. The program stands on it.
+//! `asked` defines exactly what words ask for, and that all others are refused. The program depends on it.
 #![tactic(auto)]
 
 mod commands;

@@ -1,4 +1,4 @@
-//! From words to what they ask for.
+//! From the words to the request.
 ghost use Rattle.std.specs.Prelude.{◌≡◌, IfErr, IfOk, map, option_and_then};
 ghost use Rattle.clap.specs.Words.{FailsBy, HasKind, HasMatchesOf, fault_of, found_of, kind_of, rows_of};
 ghost use Rattle.clap.specs.Words.{subcommand_rows_of};
@@ -15,7 +15,7 @@ use clap::{ArgMatches, Command, Error};
 use std::alloc::Global;
 use std::convert::AsStr;
 
-/// What clap finds in the words.
+/// Matches the words with clap.
 fn matches_in<'a, S: AsStr>(alloc: Global, words: &'a [S]) -> Result<ArgMatches<'a>, Error>
     ensures matches { IfOk result (HasMatchesOf nicbench_app (map S.text words.entry.now)) }
     ensures faults { FailsBy (fault_of nicbench_app (map S.text words.entry.now)) result }
@@ -24,7 +24,7 @@ fn matches_in<'a, S: AsStr>(alloc: Global, words: &'a [S]) -> Result<ArgMatches<
     command.try_get_matches_from(words)
 }
 
-/// The refusal of a command that isn't there, with the usage of this one.
+/// The refusal of an unknown command, with the usage of this one.
 fn no_such_command(command: &mut Command<'_>) -> Result<Error, Error>
     ensures ok { IfOk result (λ e. kind_of e ≡ ErrorKind.InvalidSubcommand) }
     ensures err { IfErr result (λ e. kind_of e ≡ ErrorKind.OutOfMemory) }
@@ -33,7 +33,7 @@ fn no_such_command(command: &mut Command<'_>) -> Result<Error, Error>
     Ok(refusal)
 }
 
-/// The refusal of a command that isn't there.
+/// The refusal of an unknown command of `nicbench`.
 fn unknown_command(alloc: Global) -> Result<Error, Error>
     ensures ok { IfOk result (λ e. kind_of e ≡ ErrorKind.InvalidSubcommand) }
     ensures err { IfErr result (λ e. kind_of e ≡ ErrorKind.OutOfMemory) }
@@ -41,7 +41,7 @@ fn unknown_command(alloc: Global) -> Result<Error, Error>
     no_such_command(&mut nicbench(alloc)?)
 }
 
-/// What the matches of `eeprom` ask for.
+/// The request in the matches of `eeprom`.
 fn eeprom_in(matches: &ArgMatches<'_>) -> Request
     ensures { result ≡ eeprom_of (rows_of (found_of matches.now)) }
 {
@@ -53,7 +53,7 @@ fn eeprom_in(matches: &ArgMatches<'_>) -> Request
     }
 }
 
-/// How the command of this name asks for the input to be answered, by its matches.
+/// The request of the command of this name, by its matches. `None` where it reads no input.
 fn request_named(name: &str, matches: &ArgMatches<'_>) -> Option<Request>
     ensures { result ≡ request_of name.now (rows_of (found_of matches.now)) }
 {
@@ -98,8 +98,8 @@ fn asked_in(matches: &ArgMatches<'_>) -> Option<Asked>
     }
 }
 
-/// What the words ask for, the program's own name first. An `Err` has the text for whoever wrote them:
-/// why they were refused, or the help or the version that they asked for.
+/// What the words ask for, the program's own name first. The error has the text for the user: why the words were
+/// refused, or the help or the version that they asked for.
 pub fn asked<'a, S: AsStr>(alloc: Global, words: &'a [S]) -> Result<Asked, Error>
     ensures ok { IfOk result (Asks (map S.text words.entry.now)) }
     ensures refused { IfErr result (HasKind (refusal_of (map S.text words.entry.now))) }

@@ -1,14 +1,14 @@
-//! What words ask for.
+//! What a command line asks for.
 use crate::debug_options::DebugOptions;
 use crate::run_options::RunOptions;
 use crate::threads_options::ThreadsOptions;
 
-/// What the words ask for.
+/// What a command line asks for.
 #[derive(Clone, Copy, Debug, PartialEq, Eq)]
 pub enum Asked {
-    /// That the input be read and answered.
+    /// A command that reads the input and answers it.
     Input(Request),
-    /// `nicbench threads`: that workers drive a controller that they share, with these options. No input is read.
+    /// `nicbench threads`: workers drive queues of one device on threads, with these options. No input is read.
     Threads(ThreadsOptions),
 }
 
@@ -21,26 +21,26 @@ pub enum Request {
     Bytes(BytesRequest),
 }
 
-/// What is made of a text.
+/// A command that reads its input as text.
 #[derive(Clone, Copy, Debug, PartialEq, Eq)]
 pub enum TextRequest {
-    /// `nicbench run`: that a script be run, with these options.
+    /// `nicbench run`: runs a script, with these options.
     Run(RunOptions),
-    /// `nicbench debug`: that a script be debugged by the commands behind it, with these options.
+    /// `nicbench debug`: debugs a script by the commands after it, with these options.
     Debug(DebugOptions),
-    /// `nicbench hash`: that lines of hex be hashed.
+    /// `nicbench hash`: hashes lines of hex.
     Hash,
-    /// `nicbench asm`: that a script be made an object.
+    /// `nicbench asm`: makes an object from a script.
     Asm,
-    /// `nicbench eeprom`: that an EEPROM text be made an image.
+    /// `nicbench eeprom`: makes an image from an EEPROM text.
     Eeprom,
 }
 
-/// What is made of bytes.
+/// A command that reads its input as bytes.
 #[derive(Clone, Copy, Debug, PartialEq, Eq)]
 pub enum BytesRequest {
-    /// `nicbench dis`: that an object be shown as a script.
+    /// `nicbench dis`: prints an object as a script.
     Dis,
-    /// `nicbench eeprom --load`: that the register writes of an EEPROM image be shown.
+    /// `nicbench eeprom --load`: prints the register writes of an EEPROM image.
     LoadEeprom,
 }

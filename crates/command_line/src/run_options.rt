@@ -1,22 +1,22 @@
-//! What `nicbench run` is asked for.
+//! The options of `nicbench run`.
 ghost use Rattle.std.specs.Prelude.{◌≡◌};
 ghost use Rattle.clap.specs.Words.{found_of, rows_of};
 ghost use Rattle.command_line.specs.Asked.{options_of};
 
 use clap::ArgMatches;
 
-/// What `nicbench run` is asked for.
+/// The options of `nicbench run`.
 #[derive(Clone, Copy, Debug, PartialEq, Eq)]
 pub struct RunOptions {
-    /// How many virtual functions the controller has.
+    /// The number of virtual functions of the device, 0 to 255 here; more than 63 are refused later.
     pub vfs: u8,
-    /// How many received frames may wait in the controller.
+    /// The capacity of the receive list in frames, 0 to 65,535 here; only 1 to 4,096 are accepted later.
     pub fifo: u16,
-    /// How many instructions are run at most.
+    /// The most instructions that are executed.
     pub limit: u64,
 }
 
-/// What the matches of `run` say.
+/// The options in the matches of `run`.
 pub(crate) fn options_in(matches: &ArgMatches<'_>) -> RunOptions
     ensures { result ≡ options_of (rows_of (found_of matches.now)) }
 {

@@ -1,20 +1,20 @@
-//! What `nicbench threads` is asked for.
+//! The options of `nicbench threads`.
 ghost use Rattle.std.specs.Prelude.{◌≡◌};
 ghost use Rattle.clap.specs.Words.{found_of, rows_of};
 ghost use Rattle.command_line.specs.Asked.{threads_options_of};
 
 use clap::ArgMatches;
 
-/// What `nicbench threads` is asked for.
+/// The options of `nicbench threads`.
 #[derive(Clone, Copy, Debug, PartialEq, Eq)]
 pub struct ThreadsOptions {
-    /// How many workers there are, each with a queue of its own: from 1 to 8.
+    /// The number of workers, each with a queue of its own: 1 to 8.
     pub workers: u8,
-    /// How many frames arrive: 60 at most.
+    /// The number of frames that arrive: 0 to 60.
     pub frames: u8,
 }
 
-/// What the matches of `threads` say.
+/// The options in the matches of `threads`.
 pub(crate) fn threads_options_in(matches: &ArgMatches<'_>) -> ThreadsOptions
     ensures { result ≡ threads_options_of (rows_of (found_of matches.now)) }
 {

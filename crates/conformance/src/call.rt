@@ -1,29 +1,29 @@
-//! The call of a case: its name and the words behind it.
+//! The call of a case: its name and the words after it.
 
 use text_format::Words;
 
-/// A call as a table writes it. A word that is missing is empty, and one that is no number is 0.
+/// A call as a table writes it. A missing word reads as empty, and one that isn't a number as 0.
 #[derive(Clone, Copy)]
 pub struct Call<'a> {
-    /// The name of what is called.
+    /// The name of the called function.
     pub name: &'a str,
-    /// All that stands behind the name.
+    /// All that follows the name.
     pub text: &'a str,
 }
 
 impl<'a> Call<'a> {
-    /// The call of what stands in front of a case's `=`.
+    /// The call before the `=` of a case.
     pub fn of(text: &'a str) -> Call<'a> {
         let (name, text) = text.split_once(" ").unwrap_or((text, ""));
         Call { name, text }
     }
 
-    /// What stands behind the name, as a call.
+    /// The part after the name, as a call.
     pub fn behind(self) -> Call<'a> {
         Call::of(self.text)
     }
 
-    /// The word of this number, counted from 0.
+    /// The word of this number, from 0.
     pub fn word(self, at: usize) -> &'a str {
         Words::of(self.text).nth(at).unwrap_or("")
     }
@@ -43,7 +43,7 @@ impl<'a> Call<'a> {
         (self.number(at) % 0x100) as u8
     }
 
-    /// Two words, as the high and the low half of a number.
+    /// Two words as the high and the low half of a number of 64 bits.
     pub fn long(self, high: usize, low: usize) -> u64 {
         u64::from(self.number(high)) * 0x1_0000_0000 + u64::from(self.number(low))
     }

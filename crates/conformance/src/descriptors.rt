@@ -1,6 +1,8 @@
-//! `dma_ring`: rings and the fields of descriptors. A number of 64 bits is two words, its high and its low half.
+//! `dma_ring`: rings and the fields of descriptors. A number of 64 bits is written as two words, the high and the low
+//! half.
 //!
-//! A ring is a length, a head and a tail. `ring` gives its slots, and how many of them are the device's or `outside`.
+//! A ring is written as length, head and tail. `ring` prints its number of slots, and how many of them the device owns,
+//! or `outside`.
 
 use crate::call::Call;
 use dma_ring::{
@@ -8,7 +10,7 @@ use dma_ring::{
 };
 use std::alloc::{AllocError, Global};
 
-/// What a call answers.
+/// The printed result of a call.
 pub fn answer(alloc: Global, call: Call<'_>) -> Result<String, AllocError> {
     match call.name {
         "ring" | "next" | "descriptor" => ring_text(alloc, call),
@@ -27,7 +29,7 @@ pub fn answer(alloc: Global, call: Call<'_>) -> Result<String, AllocError> {
     }
 }
 
-/// What a call on a ring answers.
+/// The printed result of a call on a ring.
 fn ring_text(alloc: Global, call: Call<'_>) -> Result<String, AllocError> {
     let ring = Ring {
         base: call.long(3, 4),

@@ -1,4 +1,4 @@
-//! Runs each example of `examples/` through the program, and says whether it wrote what stands beside the example.
+//! Runs each example of `examples/` through the program, and prints whether the output is what is written for it.
 //!
 //! `examples/NAME.nic` is a script, and `examples/NAME.out` what `nicbench run` prints for it. `examples/NAME.debug` is
 //! a script with a debugger's commands, and `NAME.out` what `nicbench debug` prints for them. `examples/NAME.txt` is a
@@ -11,8 +11,7 @@ use crate::scripts::answer;
 use crate::texts::hex_in;
 use std::{fs, io};
 
-/// The runs that print what stands in `NAME.out`: the name, the words, the kind of the file that is read, and the
-/// status that the run ends with.
+/// The runs whose output is in `NAME.out`: the name, the words, the kind of the input file, and the exit status.
 const RUNS: [(&str, &str, &str, u8); 15] = [
     ("first", "nicbench run", "nic", 0),
     ("masks", "nicbench run", "nic", 0),
@@ -31,7 +30,7 @@ const RUNS: [(&str, &str, &str, u8); 15] = [
     ("hash", "nicbench hash", "txt", 0),
 ];
 
-/// The words that make bytes of a text, and those that print the bytes, with the kinds of the three files.
+/// The words that make bytes from a text, and those that print the bytes, with the kinds of the three files.
 type Forms = (
     &'static str,
     &'static str,
@@ -50,7 +49,7 @@ const IMAGE: Forms = (
 
 const OBJECT: Forms = ("nicbench asm", "nic", "object", "nicbench dis", "dis");
 
-/// The EEPROM texts, and the scripts whose objects stand beside them.
+/// The EEPROM texts, and the scripts for which there are objects.
 const TEXTS: [(&str, Forms); 5] = [
     ("image", IMAGE),
     ("blank", IMAGE),
@@ -59,7 +58,7 @@ const TEXTS: [(&str, Forms); 5] = [
     ("listing", OBJECT),
 ];
 
-/// The bytes of a file of the examples, which some kinds of files write in lines of hex.
+/// The bytes of an example's file; some kinds of files write them in lines of hex.
 fn example(rt: &HostRuntime, name: &str, kind: &str) -> io::Result<Vec<u8>> {
     let path = format!(in rt.alloc(); "examples/{name}.{kind}")?;
     let text = fs::read_to_string(rt, path.as_str())?;
@@ -69,8 +68,8 @@ fn example(rt: &HostRuntime, name: &str, kind: &str) -> io::Result<Vec<u8>> {
     Ok(text.into_bytes())
 }
 
-/// Whether the program, run by these words on an example's file of one kind, writes that of another, and ends with this
-/// status.
+/// Whether the program, run with these words on an example's file of one kind, writes that of another, and ends with
+/// this status.
 fn is_as_written(
     rt: &HostRuntime,
     name: &str,
@@ -84,13 +83,13 @@ fn is_as_written(
     Ok(status == wanted && written.as_slice() == printed.as_slice())
 }
 
-/// Says whether an example is as it should be.
+/// Prints whether an example is as it should be.
 fn say(rt: &HostRuntime, name: &str, is_right: bool) -> io::Result<()> {
     let answer = if is_right { "as written" } else { "differs" };
     println!(rt; "{name}: {answer}")
 }
 
-/// Runs each example.
+/// Runs all examples, and prints the result of each.
 pub fn run_examples(rt: &HostRuntime) -> io::Result<()> {
     for (name, words, kind, status) in RUNS {
         say(

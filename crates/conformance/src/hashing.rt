@@ -1,4 +1,4 @@
-//! `rss_hash`: what frames are, what of them is hashed, and which entry of the redirection table a hash selects.
+//! `rss_hash`: the classification of frames, what of them is hashed, and the redirection table's entry for a hash.
 
 use crate::call::Call;
 use crate::texts::hex_in;
@@ -6,7 +6,7 @@ use rss_hash::{QueueMode, choose, classify, entry};
 use std::alloc::{AllocError, Global};
 use text_format::BytesText;
 
-/// What a call answers.
+/// The printed result of a call.
 pub fn answer(alloc: Global, call: Call<'_>) -> Result<String, AllocError> {
     match call.name {
         "flow" | "input" => frame_text(alloc, call, call.word(0)),
@@ -20,7 +20,7 @@ pub fn answer(alloc: Global, call: Call<'_>) -> Result<String, AllocError> {
     }
 }
 
-/// Of a frame the version of IP, the protocol with ports, and how many bytes can be hashed; or these bytes; or by a
+/// For a frame the version of IP, the protocol with ports, and how many bytes can be hashed; or these bytes; or by a
 /// word of MRQC the RSS type, and how many bytes are hashed.
 fn frame_text(alloc: Global, call: Call<'_>, frame: &str) -> Result<String, AllocError> {
     let frame = hex_in(alloc, frame)?;
@@ -40,7 +40,7 @@ fn frame_text(alloc: Global, call: Call<'_>, frame: &str) -> Result<String, Allo
     }
 }
 
-/// The redirection table whose words are those numbered 1 to 4, again and again.
+/// The redirection table that repeats the words of number 1 to 4.
 fn table_in(call: Call<'_>) -> [u32; 32] {
     let words = [
         call.number(1),

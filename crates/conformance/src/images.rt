@@ -1,9 +1,9 @@
 //! `eeprom_image`: texts that are assembled, and files that are loaded.
 //!
-//! `assemble TEXT` and `load BYTES` give an image as the number of its words, those that aren't 0xFFFF, and its
-//! register writes, or else the fault. The file of an image that was assembled is loaded again, and `other` is
-//! printed where that is another image. The file of `load` has so many bytes 0xFF, but for the words whose numbers
-//! and values follow.
+//! `assemble TEXT` and `load BYTES` print an image as the number of its words, those that aren't 0xFFFF, and its
+//! register writes, or else the fault. The file of an assembled image is loaded again, and `other` is printed where
+//! that is another image. `load BYTES` makes a file of this many bytes 0xFF, except for the words whose numbers and
+//! values follow.
 
 use crate::call::Call;
 use crate::texts::plain;
@@ -11,7 +11,7 @@ use eeprom_image::{Image, assemble, load};
 use std::alloc::{AllocError, Global};
 use std::fmt::Write;
 
-/// What a call answers.
+/// The printed result of a call.
 pub fn answer(alloc: Global, call: Call<'_>) -> Result<String, AllocError> {
     match call.name {
         "blank" => again_text(alloc, &Image::blank(alloc)?),
@@ -33,7 +33,7 @@ pub fn answer(alloc: Global, call: Call<'_>) -> Result<String, AllocError> {
     }
 }
 
-/// An image that is loaded again from its file.
+/// An image that is loaded again from its file, printed.
 fn again_text(alloc: Global, image: &Image) -> Result<String, AllocError> {
     let file = image.to_bytes(alloc)?;
     match load(alloc, file.as_slice()) {
@@ -55,7 +55,7 @@ fn image_text(alloc: Global, image: &Image) -> Result<String, AllocError> {
     Ok(text)
 }
 
-/// The file that the words of a case describe, sixteen of whose words may be given.
+/// The file that the words of a case describe, in which up to sixteen words are given.
 fn file_in(alloc: Global, call: Call<'_>) -> Result<Vec<u8>, AllocError> {
     let mut bytes = vec![in alloc; 0xFFu8; usize::from(call.half(0))]?;
     for given in 0..16 {

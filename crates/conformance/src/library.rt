@@ -1,15 +1,15 @@
-//! Tables of what the public calls of the lower libraries answer, with values typed from the datasheet, from published
+//! Tables of results of the lower libraries' public calls, with values typed from the datasheet, from published
 //! examples and by hand.
 //!
-//! `data/libraries/NAME.cases` is the table of the library NAME. A case is a line `CALL WORDS = ANSWER`; the module of
-//! the library says which calls there are. Empty lines and lines that begin with `#` say nothing. Data costs no proof,
-//! so that a case which a call can show stands here and not in a test.
+//! `data/libraries/NAME.cases` is the table of the library NAME. A case is a line `CALL WORDS = ANSWER`; the library's
+//! module defines the calls. Empty lines and lines that begin with `#` are ignored. A case costs no proof, so that what
+//! a call can show is here and not in a test.
 
 use crate::call::Call;
 use std::alloc::{AllocError, Global};
 use std::{fs, io};
 
-/// The libraries, each with a table.
+/// The libraries that have a table.
 const LIBRARIES: [&str; 8] = [
     "text_format",
     "reg_table",
@@ -21,7 +21,7 @@ const LIBRARIES: [&str; 8] = [
     "program",
 ];
 
-/// What a call of a library answers.
+/// The printed result of a call of a library.
 fn answer(alloc: Global, library: &str, call: Call<'_>) -> Result<String, AllocError> {
     match library {
         "text_format" => crate::texts::answer(alloc, call),
@@ -36,7 +36,7 @@ fn answer(alloc: Global, library: &str, call: Call<'_>) -> Result<String, AllocE
     }
 }
 
-/// Makes the call of a case, and prints the case where the answer is another.
+/// Makes the call of a case, and prints the case where the result differs.
 fn run_case(rt: &HostRuntime, library: &str, case: &str) -> io::Result<()> {
     let (asked, wanted) = case.split_once(" = ").unwrap_or((case, ""));
     let answered = answer(rt.alloc(), library, Call::of(asked))?;
@@ -46,7 +46,7 @@ fn run_case(rt: &HostRuntime, library: &str, case: &str) -> io::Result<()> {
     println!(rt; "FAIL {library}: {asked} = {answered}")
 }
 
-/// Runs the cases of a library's table, and prints how many there are.
+/// Runs the cases of a library's table, and prints their number.
 fn run_table(rt: &HostRuntime, library: &str) -> io::Result<()> {
     let alloc = rt.alloc();
     let path = format!(in alloc; "libraries/{library}.cases")?;
@@ -61,7 +61,7 @@ fn run_table(rt: &HostRuntime, library: &str) -> io::Result<()> {
     println!(rt; "{library}: {count} cases")
 }
 
-/// Runs the table of each library.
+/// Runs the tables of all libraries.
 pub fn run_libraries(rt: &HostRuntime) -> io::Result<()> {
     for library in LIBRARIES {
         run_table(rt, library)?;

@@ -1,9 +1,8 @@
-//! `program`: objects that are read.
+//! `program`: reading of objects.
 //!
-//! `read HEX`, `cut COUNT HEX`, which reads the first bytes, and `byte AT VALUE HEX`, which reads the bytes with
-//! another one in its place, give a program as its instructions and its data strings, or else the fault. The object
-//! of a program that was read is made again, and `other` is printed where it has other bytes. Hex may be parted by
-//! blanks.
+//! `read HEX`, `cut COUNT HEX`, which reads the first bytes, and `byte AT VALUE HEX`, which reads the bytes with one of
+//! them replaced, print a program as its instructions and its data strings, or else the fault. The object of a program
+//! that was read is made again, and `other` is printed where it has other bytes. Hex may contain blanks.
 
 use crate::call::Call;
 use crate::texts::hex_in;
@@ -12,7 +11,7 @@ use std::alloc::{AllocError, Global};
 use std::fmt::Write;
 use text_format::BytesText;
 
-/// What a call answers.
+/// The printed result of a call.
 pub fn answer(alloc: Global, call: Call<'_>) -> Result<String, AllocError> {
     let hex = match call.name {
         "read" => call.text,
@@ -33,7 +32,7 @@ pub fn answer(alloc: Global, call: Call<'_>) -> Result<String, AllocError> {
     }
 }
 
-/// A program, whose object is made again.
+/// A program, printed, whose object is made again.
 fn program_text(alloc: Global, program: &Program, bytes: &[u8]) -> Result<String, AllocError> {
     if program.to_bytes(alloc)?.as_slice() != bytes {
         return format!(in alloc; "other");

@@ -4,7 +4,7 @@ use crate::call::Call;
 use std::alloc::{AllocError, Global};
 use vf_map::{Mapped, map, mode_of, queues_of};
 
-/// What a call answers. Each begins with a word of GCR_EXT.
+/// The printed result of a call. The first word is a word of GCR_EXT.
 pub fn answer(alloc: Global, call: Call<'_>) -> Result<String, AllocError> {
     let mode = mode_of(call.number(0));
     match call.name {

@@ -1,8 +1,7 @@
-//! `reg_table`: rows, the places that addresses name, and counters.
+//! `reg_table`: rows, places of addresses, and counters.
 //!
-//! `row NAME` gives the count, the first addresses of the first and the last index, the mask, the word after a reset
-//! and the kind. `place ADDRESS` gives name, index and the place's first address, or `none`, and then the bits that
-//! show.
+//! `row NAME` prints the count, the first addresses of the first and the last index, the mask, the reset value and the
+//! kind. `place ADDRESS` prints name, index and the place's first address, or `none`, and then the bits that show.
 
 use crate::call::Call;
 use reg_table::{
@@ -11,7 +10,7 @@ use reg_table::{
 };
 use std::alloc::{AllocError, Global};
 
-/// What a call answers.
+/// The printed result of a call.
 pub fn answer(alloc: Global, call: Call<'_>) -> Result<String, AllocError> {
     match call.name {
         "row" => match row_named(call.text) {
@@ -24,7 +23,7 @@ pub fn answer(alloc: Global, call: Call<'_>) -> Result<String, AllocError> {
     }
 }
 
-/// The first address of a row at an index; beyond its count, that of nothing.
+/// The first address of a row at an index; from its count on, that of nothing.
 fn address(row: RowId, index: u16) -> u32 {
     if index < count_of(row) {
         addr_of(Place { row, index })

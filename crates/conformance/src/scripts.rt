@@ -1,6 +1,7 @@
-//! Runs tables of small scripts and other inputs through the program, and says which don't print what the table says.
+//! Runs tables of small scripts and other inputs through the program, and prints those whose output differs from the
+//! table's.
 //!
-//! A table is a file of `data/`. It begins with the lines that each of its scripts begins with. Behind them come its
+//! A table is a file of `data/`. It begins with the lines that each of its scripts begins with. After them come its
 //! cases, a blank line before each:
 //!
 //! ```text
@@ -13,12 +14,11 @@
 //! limit 2
 //! ```
 //!
-//! `$` gives the words, where they aren't `nicbench run`; with `$x` the lines are the bytes of the input, in hex.
-//! Behind `#>`, which is a comment to the assembler, stands what an instruction prints, and behind `--` the status and
-//! what is printed after that; with no such line this is `ok`, with the number of instructions, and status 0. `-- 3
-//! with` asks for no more than that each line below it, of which there is one at least, is a part of what is printed,
-//! and `-- 2 each` that each line above it, of which there is one at least, by itself behind the lines of the table,
-//! prints what is below.
+//! `$` gives the words, where they aren't `nicbench run`; with `$x` the lines are the bytes of the input, in hex. After
+//! `#>`, which the assembler reads as a comment, is what an instruction prints, and after `--` the status and the
+//! output after that; without such a line this is `ok`, with the number of instructions, and status 0. `-- 3 with` only
+//! requires that each line below it, at least one, is a part of the output. `-- 2 each` requires that each line above
+//! it, at least one, by itself after the table's first lines, prints what is below.
 
 use crate::texts::hex_in;
 use bench_commands::{Input, Outcome, Output, bench};
@@ -27,7 +27,7 @@ use std::fmt::Write;
 use std::{fs, io};
 use text_format::number;
 
-/// The tables.
+/// The tables of `data/`, by name.
 const TABLES: [&str; 22] = [
     "grammar",
     "words",
@@ -60,15 +60,15 @@ struct Case<'a> {
     words: &'a str,
     is_hex: bool,
     lines: &'a str,
-    /// The status that it is to end with.
+    /// The exit status that it should have.
     status: u32,
-    /// Which of the printed lines are given: all behind those of the instructions where this is empty, `with` or `each`
-    /// as `--` has it, and none with `ok`, which stands for `ok` and the number of instructions.
+    /// Which of the printed lines are given: all after those of the instructions where this is empty, `with` or `each`
+    /// as `--` has it, and none with `ok`, which means `ok` and the number of instructions.
     how: &'a str,
     printed: &'a str,
 }
 
-/// The case of a text, which is what stands behind its `==`.
+/// The case of a text, which follows its `==`.
 fn case_of(text: &str) -> Option<Case<'_>> {
     let (title, text) = text.split_once("\n")?;
     let is_hex = text.starts_with("$x ");
@@ -90,8 +90,8 @@ fn case_of(text: &str) -> Option<Case<'_>> {
     })
 }
 
-/// What a script prints: the lines that its comments promise, each with its instruction's number, and then what the
-/// case says.
+/// The expected output of a script: the lines that its comments give, each with its instruction's number, and then
+/// those of the case.
 fn wanted(alloc: Global, script: &str, case: Case<'_>) -> Result<String, AllocError> {
     let mut printed = String::new(alloc);
     let mut count = 0u64;
@@ -108,7 +108,7 @@ fn wanted(alloc: Global, script: &str, case: Case<'_>) -> Result<String, AllocEr
     Ok(printed)
 }
 
-/// Whether there are parts, each on a line, and each stands somewhere in what was printed.
+/// Whether there are parts, each on a line, and each is somewhere in the output.
 fn has_parts(printed: &str, parts: &str) -> bool {
     for part in parts.lines() {
         if part.is_empty() || !printed.contains(part) {
@@ -118,10 +118,10 @@ fn has_parts(printed: &str, parts: &str) -> bool {
     !parts.is_empty()
 }
 
-/// No status of the program: what is told of words that leave threads to be run.
+/// No status of the program: it marks words that ask for threads.
 const NOT_ENDED: u8 = 255;
 
-/// What a run by these words writes, and the status that it ends with.
+/// The output of a run with these words, and its exit status.
 pub fn answer(alloc: Global, words: &str, input: &[u8]) -> Result<(Vec<u8>, u8), AllocError> {
     let words: Vec<&str> = words.split_whitespace().collect(alloc)?;
     let mut written = Vec::new(alloc);
@@ -133,8 +133,8 @@ pub fn answer(alloc: Global, words: &str, input: &[u8]) -> Result<(Vec<u8>, u8),
     Ok((written, status))
 }
 
-/// Whether each line of a case, by itself behind the lines of its table's setup, prints a text and ends with a status.
-/// There is one at least.
+/// Whether each line of a case, by itself after the lines of its table's setup, prints a text and ends with a status.
+/// There is at least one.
 fn each_ends_so(alloc: Global, setup: &str, case: Case<'_>) -> Result<bool, AllocError> {
     for line in case.lines.lines() {
         let script = format!(in alloc; "{setup}{line}")?;
@@ -146,7 +146,7 @@ fn each_ends_so(alloc: Global, setup: &str, case: Case<'_>) -> Result<bool, Allo
     Ok(!case.lines.is_empty())
 }
 
-/// Whether a case, behind the lines of its table's setup, ends as it says.
+/// Whether a case, after the lines of its table's setup, has the expected result.
 fn ends_so(alloc: Global, setup: &str, case: Case<'_>) -> Result<bool, AllocError> {
     if case.how == "each" {
         return each_ends_so(alloc, setup, case);
@@ -170,7 +170,7 @@ fn ends_so(alloc: Global, setup: &str, case: Case<'_>) -> Result<bool, AllocErro
     Ok(u32::from(status) == case.status && is_printed)
 }
 
-/// Runs the cases of a table, and prints which of them differ and how many there are.
+/// Runs the cases of a table, and prints which of them differ and their number.
 fn run_table(rt: &HostRuntime, name: &str) -> io::Result<()> {
     let alloc = rt.alloc();
     let path = format!(in alloc; "{name}.cases")?;
@@ -191,7 +191,7 @@ fn run_table(rt: &HostRuntime, name: &str) -> io::Result<()> {
     println!(rt; "{name}: {count} cases")
 }
 
-/// Runs each table.
+/// Runs all tables, and prints their results.
 pub fn run_tables(rt: &HostRuntime) -> io::Result<()> {
     for name in TABLES {
         run_table(rt, name)?;

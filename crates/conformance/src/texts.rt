@@ -1,14 +1,14 @@
 //! `text_format`: lines, words, numbers, names and hex data.
 //!
-//! In a text `\n`, `\r` and `\t` stand for the end of a line, a carriage return and a tab. `lines` gives a bar, and
-//! for each line its number, what it says and a bar; `words` the words between bars.
+//! In a text `\n`, `\r` and `\t` are a line feed, a carriage return and a tab. `lines` prints a bar, and for each line
+//! its number, its text and a bar; `words` the words between bars.
 
 use crate::call::Call;
 use std::alloc::{AllocError, Global};
 use std::fmt::Write;
 use text_format::{Lines, NAME_LIMIT, Words, hex_bytes, is_name, number};
 
-/// What a call answers.
+/// The printed result of a call.
 pub fn answer(alloc: Global, call: Call<'_>) -> Result<String, AllocError> {
     match call.name {
         "lines" => lines_text(alloc, call.text),
@@ -27,7 +27,7 @@ pub fn answer(alloc: Global, call: Call<'_>) -> Result<String, AllocError> {
     }
 }
 
-/// The bytes that hex writes, which blanks and ends of lines may part. None where it is something else.
+/// The bytes that hex writes, which may contain blanks and line feeds. None where it is something else.
 pub fn hex_in(alloc: Global, text: &str) -> Result<Vec<u8>, AllocError> {
     let digits = text.replace(alloc, "\n", "")?.replace(alloc, " ", "")?;
     Ok(hex_bytes(alloc, digits.as_str()).unwrap_or(Vec::new(alloc)))

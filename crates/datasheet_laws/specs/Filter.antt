@@ -1,4 +1,4 @@
--- Which frames are let in, and for which pool, by the addresses and bits that a driver writes.
+-- Which frames are accepted, and for which pool, by the addresses and bits that a driver writes.
 use Rattle.std.specs.Prelude.{ℕ, ◌≡◌, ◌≢◌, ◌<◌, ◌+◌, ◌*◌, ◌/◌, ◌%◌, ◌==◌, ◌⊎◌, ◌↔◌, true, false, List, slice_index, Some, None, Err, if◌then◌else◌}
 use Rattle.register_file.specs.Bits.{has_bit}
 use Rattle.register_file.specs.Registers.{Registers}
@@ -69,8 +69,8 @@ pub record IsChosen (r : Registers) (frame : List ℕ) (i pool : ℕ) : Type 0 w
   pub selected : has_pool r i pool
   pub lowest : (lower : ℕ) → lower < pool → ¬ has_pool r i lower
 
--- VT_CTL bit 0 parts frames among pools; a frame without a pool of its own is for that of bits 12 to 7, or with bit 29
--- for none; VFRE says which pools take frames
+-- VT_CTL bit 0 distributes frames among pools; a frame without a pool of its own is for that of bits 12 to 7, or with
+-- bit 29 for none; VFRE says which pools take frames
 pub record ChoosesPools (r : Registers) (frame : List ℕ) : Type 0 where
   pub parts : uses_pools r ≡ holds r 0x051B0 0
   pub matched : (i pool : ℕ) → IsChosen r frame i pool → pool_of r frame ≡ Some pool

@@ -14,7 +14,7 @@ pools_by bits = if bits == 1 then 16 else (if bits == 2 then 32 else (if bits ==
 abbrev pub queues_by : ℕ → ℕ
 queues_by bits = if bits == 1 then 8 else (if bits == 2 then 4 else (if bits == 3 then 2 else 0))
 
--- a register of receive queue q, so far behind the queue's first, and one of transmit queue q
+-- a register of receive queue q, so far after the queue's first, and one of transmit queue q
 abbrev pub receive_address : (q behind : ℕ) → ℕ
 receive_address q behind = halves 64 (0x01000 + behind) (0x0D000 + behind) 0x40 q
 

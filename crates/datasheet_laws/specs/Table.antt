@@ -151,7 +151,7 @@ pub record HasLowViews : Type 0 where
   pub masks_cleared : access_at 0x00AB0 ≡ Some (access Eimc 0 0xFFFF)
   pub auto_mask : access_at 0x00AD0 ≡ Some (access Eiam 0 0xFFFF)
 
--- so many addresses at equal steps
+-- this many addresses at equal steps
 pub record Series : Type 0 where
   pub first : ℕ
   pub step : ℕ

@@ -1,8 +1,8 @@
-//! What the datasheet says in numbers, a second time: addresses, offsets, masks, reset values and bits, written by hand
-//! beside the definitions that the contracts of the crates below cite.
+//! The numbers of the datasheet, a second time: addresses, offsets, masks, reset values and bits, written by hand and
+//! independently of the definitions that the contracts of the crates below cite.
 //!
-//! Each law is the contract of a function that does nothing. A definition that was turned together with its code would
-//! still be proved where it stands; it breaks a law here.
+//! Each law is the contract of a function that does nothing. A definition that is wrong together with its code would
+//! still be proved in its own crate; it breaks a law here.
 #![tactic(auto)]
 
 ghost use Rattle.datasheet_laws.specs.Choice.{TypesAreChosen, QueuesAreChosen, ResetsAreAsked};
@@ -12,35 +12,37 @@ ghost use Rattle.datasheet_laws.specs.Mailbox.{PoolResetsLeave};
 ghost use Rattle.datasheet_laws.specs.Offsets.{OffsetsAreListed, OtherOffsetsAreHoles};
 ghost use Rattle.datasheet_laws.specs.Table.{RegistersAreListed, HasAliases, HasLowViews, OtherAddressesMeetNone};
 
-/// Each register has the name, number of indices, kind, mask and reset value that are listed by hand, and lies at the
-/// addresses that are: the first ones, further ones, and those that show bits 15 to 0 alone.
+/// Each register has the name, number of indices, kind, mask and reset value that are listed by hand, and the listed
+/// addresses: the first ones, further ones, and those that show bits 15 to 0 alone.
 pub fn registers_are_listed()
     ensures lines { RegistersAreListed }
     ensures aliases { HasAliases }
     ensures low { HasLowViews }
 {}
 
-/// No other address meets a register: one that does is listed by hand.
+/// No other address has a register: each that has one is listed by hand.
 pub fn other_addresses_meet_none()
     ensures { OtherAddressesMeetNone }
 {}
 
-/// Each offset of a virtual function reaches the physical function's address that is listed by hand: of the registers
-/// that it has once, of its mailbox memory, of its vectors, and of each of its queues, in 16, 32 and 64 pools.
+/// Each offset of a virtual function reaches the physical function's address that is listed by hand: for the registers
+/// of which it has one each, for its mailbox memory, for its vectors, and for each of its queues, with 16, 32 and 64
+/// pools.
 pub fn offsets_are_listed()
     ensures { OffsetsAreListed }
 {}
 
-/// An offset that isn't listed is a hole. Of a function from the number of those that there are on, and of one whose
-/// pool GCR_EXT bits 1 to 0 don't make, each offset is absent.
+/// An offset that isn't listed is a hole. For a function from the number of functions on, and for one whose pool
+/// GCR_EXT bits 1 to 0 don't make, each offset is absent.
 pub fn other_offsets_are_holes()
     ensures { OtherOffsetsAreHoles }
 {}
 
-/// A write of 0x04C00 + 4v, PVFMAILBOX[v], with bit 2 takes the mailbox for the function where bit 3 reads 0, and
-/// without gives it up; one of 0x04B00 + 4v, PFMAILBOX[v], frees it with bit 4, takes it for the physical function with
-/// bit 3 where bit 2 reads 0, or no longer 1, and without gives it up. Both sides read who holds it, and the physical
-/// function reads no more. Bits 0 and 1 of the latter are read as bits 4 and 5 of the former, until one read.
+/// A write of PVFMAILBOX[v], at 0x04C00 + 4v, with bit 2 takes the mailbox for the function where bit 3 reads 0, and
+/// without it releases it. A write of PFMAILBOX[v], at 0x04B00 + 4v, with bit 4 frees the mailbox from the function,
+/// with bit 3 takes it for the physical function where bit 2 reads 0, or is freed by this write, and without bit 3
+/// releases it. Both sides read who holds it, and the physical function reads no more. Bits 0 and 1 of PFMAILBOX[v] are
+/// read as bits 4 and 5 of PVFMAILBOX[v], until one read.
 pub fn mailboxes_shake()
     ensures { MailboxesShake }
 {}
@@ -64,32 +66,32 @@ pub fn pool_resets_leave_mailboxes()
     ensures { PoolResetsLeave }
 {}
 
-/// A frame to one station is let in exactly where bit 9 of FCTRL, at 0x05080, is 1 or one of the 128 addresses is its
-/// destination, byte by byte: the first in bits 7 to 0 of 0x0A200 + 8i, the fifth in bits 7 to 0 of 0x0A204 + 8i, whose
-/// bit 31 says that it is valid. One to several is by bit 8, an address, or MTA, from 0x05200 on, where bit 2 of
-/// MCSTCTRL, at 0x05090, is 1; one to all by bit 10 or bit 8.
+/// A unicast frame is accepted exactly where bit 9 of FCTRL, at 0x05080, is 1 or one of the 128 receive addresses is
+/// its destination, byte by byte: the first in bits 7 to 0 of 0x0A200 + 8i, the fifth in bits 7 to 0 of 0x0A204 + 8i,
+/// whose bit 31 marks it as valid. A multicast frame is accepted by bit 8, by a receive address, or by MTA, from
+/// 0x05200 on, where bit 2 of MCSTCTRL, at 0x05090, is 1; a broadcast frame by bit 10 or bit 8.
 pub fn frames_are_let_in()
     ensures { FramesAreLetIn }
 {}
 
-/// VT_CTL, at 0x051B0, parts frames among pools by bit 0. A frame's pool is the lowest of the first address that is its
-/// destination: of address i pools 0 to 31 are the bits of 0x0A600 + 8i, pools 32 to 63 those of the next word. A frame
-/// without an address is for the pool in bits 12 to 7 of VT_CTL, or for none with bit 29. A pool takes frames by its
-/// bit of 0x051E0 or of the next word.
+/// VT_CTL, at 0x051B0, distributes frames among pools by bit 0. A frame's pool is the lowest one of the first receive
+/// address that is its destination: for address i the bits of 0x0A600 + 8i are pools 0 to 31, those of the next word
+/// pools 32 to 63. A frame without such an address is for the pool in bits 12 to 7 of VT_CTL, or for none with bit 29.
+/// A pool has reception enabled by its bit of 0x051E0 or of the next word.
 pub fn pools_are_chosen()
     ensures { PoolsAreChosen }
 {}
 
-/// Codes 1, 0xA and 0xB of MRQC bits 3 to 0 hash, and no other does: by bit 16 TCP over IPv4, type 1; by 22 UDP over
-/// IPv4, type 7; by 17 IPv4 by its addresses, type 2; by 21 TCP over IPv6, type 3; by 23 UDP over IPv6, type 8; by 20
-/// IPv6 by its addresses, type 5; else type 0.
+/// Codes 1, 0xA and 0xB of MRQC bits 3 to 0 enable hashing, and no other does: bit 16 for TCP over IPv4, type 1; bit 22
+/// for UDP over IPv4, type 7; bit 17 for IPv4 by its addresses, type 2; bit 21 for TCP over IPv6, type 3; bit 23 for
+/// UDP over IPv6, type 8; bit 20 for IPv6 by its addresses, type 5; else type 0.
 pub fn types_are_chosen()
     ensures { TypesAreChosen }
 {}
 
 /// The queue of a frame, by MRQC bits 3 to 0, at 0x05818, and GCR_EXT bits 1 to 0, at 0x11050; the entry of RETA, from
-/// 0x05C00 on, four in each word and the first in bits 3 to 0; and the hash, which RXCSUM bit 13, at 0x05000, has
-/// descriptors tell where it is 1.
+/// 0x05C00 on, four in each word and the first in bits 3 to 0; and the hash, which descriptors report where RXCSUM bit
+/// 13, at 0x05000, is 1.
 pub fn queues_are_chosen()
     ensures { QueuesAreChosen }
 {}

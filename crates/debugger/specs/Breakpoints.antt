@@ -8,7 +8,7 @@ use Rattle.debugger.specs.declared.command.DebugRefusal.TheVariants.{NoSuchPc, T
 abbrev pub has_break : List ℕ → ℕ → Bool
 has_break breakpoints pc = list_any (λ set. set == pc) breakpoints
 
--- one more, at an instruction of a program of so many; there are at most 32, and one that is set stays
+-- one more, at an instruction of a program of this many; there are at most 32, and one that is set stays
 abbrev pub with_break : ℕ → List ℕ → ℕ → Result (List ℕ) DebugRefusal
 with_break count breakpoints pc =
     if nat_lt pc count

@@ -27,7 +27,7 @@ shows s shown = record { answer = Ok (view_of s shown); session = s }
 abbrev pub refuses : Session → DebugRefusal → Answered
 refuses s refusal = record { answer = Err refusal; session = s }
 
--- the machine has made so many steps
+-- the machine has made this many steps
 abbrev pub at : Session → ℕ → Session
 at s steps = record s { steps = steps }
 
@@ -40,7 +40,7 @@ with_breakpoints s (Err refusal) = refuses s refusal
 abbrev pub peeked : Session → Port → ℕ → Option ℕ
 peeked s port address = word_told (step_of (machine_of s).device (Read port address)).reply
 
--- so many steps on
+-- this many steps forward
 abbrev pub stepped : Session → ℕ → Session
 stepped s count = at s (run_on s.program s.config [] s.steps count)
 
@@ -66,7 +66,7 @@ pub record IsOnTheWay (before after target : Session) : Type 0 where
   pub short : after.steps < target.steps
   pub takes : StepTakesMemory before.program (machine_at before.program before.config after.steps)
 
--- what want of memory leaves: a step or a continue has made some of its steps, and the next one may take memory, so
+-- what lack of memory leaves: a step or a continue has made some of its steps, and the next one may take memory, so
 -- that none is wanting where no step is left to make; a way back takes memory where it is one, and changes nothing; the
 -- rest take none
 abbrev pub LeftBy : Session → Command → Session → Type 0

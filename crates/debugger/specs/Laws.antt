@@ -1,4 +1,4 @@
--- What the definitions of the debugger come to.
+-- Laws of the debugger's definitions.
 use Rattle.std.specs.Prelude.{◌≡◌, ◌⊎◌, ◌+◌, ◌-◌, ◌<◌, ◌≤◌, ℕ, true, false, List, [], Ok, Err}
 use Rattle.nic_device.specs.declared.Config.{Config}
 use Rattle.machine.specs.Machine.{machine_at}
@@ -48,7 +48,7 @@ abbrev pub RunsEndFirst : Type 0
 RunsEndFirst = (program : Listing) (config : Config) (breakpoints : List ℕ) (n limit : ℕ)
     → EndsFirst program config breakpoints n limit (run_on program config breakpoints n limit)
 
--- from where so many steps back lead, as many steps on lead to the same position
+-- from where this many steps back lead, as many steps on lead to the same position
 abbrev pub BackAndOnAgain : Type 0
 BackAndOnAgain = (s : Session) (count : ℕ) → IsCounted s → count ≤ s.steps
     → run_on s.program s.config [] (s.steps - count) count ≡ s.steps

@@ -1,4 +1,4 @@
--- So many steps on.
+-- This many steps on.
 use Rattle.std.specs.Prelude.{ℕ, zero, suc, Bool, true, false, List, if◌then◌else◌}
 use Rattle.nic_device.specs.declared.Config.{Config}
 use Rattle.machine.specs.Machine.{machine_at, machine_step}
@@ -18,7 +18,7 @@ is_stopped answer.Stopped = true
 abbrev pub stops_at : Listing → Config → ℕ → Bool
 stops_at program config n = is_stopped (machine_step program (machine_at program config n)).answer
 
--- where a machine that has made n steps is so many steps later: where it stops before, or meets a breakpoint after a
+-- where a machine that has made n steps is this many steps later: where it stops before, or meets a breakpoint after a
 -- step
 unfoldable pub run_on : Listing → Config → List ℕ → ℕ → ℕ → ℕ
 run_on program config breakpoints n zero = n

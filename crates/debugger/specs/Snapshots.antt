@@ -17,7 +17,7 @@ AreOf machine snapshots = All (λ s. IsOf machine s) snapshots
 abbrev pub StayOf : Course → List Course → List Course → Type 0
 StayOf machine before after = (m : Course) → IsOf machine m → AreOf m before → AreOf m after
 
--- a snapshot of the machine that isn't later than so many steps
+-- a snapshot of the machine that isn't later than this many steps
 pub record IsBefore (machine snapshot : Course) (steps : ℕ) : Type 0 where
   pub same : IsOf machine snapshot
   pub early : snapshot.state.steps ≤ steps

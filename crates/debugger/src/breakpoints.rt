@@ -1,4 +1,4 @@
-//! Breakpoints.
+//! The list of breakpoints at instructions.
 
 ghost use Rattle.std.specs.Prelude.{◌≡◌, IfErr, OnOk, OnErr, Ok, Err};
 ghost use Rattle.debugger.specs.Breakpoints.{has_break, with_break, without_break};
@@ -6,7 +6,7 @@ ghost use Rattle.debugger.specs.Breakpoints.{has_break, with_break, without_brea
 use crate::command::DebugRefusal;
 use arrayvec::ArrayVec;
 
-/// How many breakpoints there may be.
+/// The most breakpoints that can be set.
 pub const BREAK_LIMIT: usize = 32;
 
 /// The numbers of the instructions with a breakpoint.
@@ -19,7 +19,7 @@ pub(crate) fn has_break(breakpoints: &Breakpoints, pc: u32) -> bool
     breakpoints.as_slice().contains(&pc)
 }
 
-/// Sets a breakpoint at an instruction of a program of so many.
+/// Sets a breakpoint at an instruction of a program of `count` instructions.
 pub(crate) fn set_break(
     breakpoints: &mut Breakpoints,
     count: u16,
@@ -41,7 +41,7 @@ pub(crate) fn set_break(
     }
 }
 
-/// Takes the breakpoint at an instruction away.
+/// Removes the breakpoint at an instruction.
 pub(crate) fn clear_break(breakpoints: &mut Breakpoints, pc: u32) -> Result<(), DebugRefusal>
     ensures set { OnOk result (without_break breakpoints.old.items pc ≡ Ok breakpoints.new.items) }
     ensures refused { IfErr result (λ refusal. without_break breakpoints.old.items pc ≡ Err refusal) }

@@ -1,57 +1,57 @@
-//! Commands, and what they show.
+//! The commands of a debugger, and what they return.
 
 use machine::Status;
 use thiserror::Error;
 
-/// What a debugger is asked for.
+/// A command to a debugger.
 #[derive(Clone, Copy, Debug, PartialEq, Eq)]
 pub enum Command {
-    /// So many steps on, or fewer where the machine stops.
+    /// Makes this many steps, or fewer where the machine stops.
     Step(u64),
-    /// So many steps back.
+    /// Goes back this many steps.
     Back(u64),
-    /// On, up to so many steps: to the next instruction with a breakpoint, after the first step at least, or to where
-    /// the machine stops.
+    /// Runs on, at most this many steps: until, after at least one step, the next instruction has a breakpoint, or the
+    /// machine stops.
     Continue(u64),
-    /// A breakpoint at the instruction of this number. One that is set already stays.
+    /// Sets a breakpoint at the instruction of this number. One that is already set stays.
     Break(u32),
-    /// No breakpoint any more at the instruction of this number.
+    /// Removes the breakpoint at the instruction of this number.
     Clear(u32),
-    /// Also what a read of this address through the physical function would give, without its effects.
+    /// Shows what a read of this address through the physical function would return, without the read's side effects.
     Show(u32),
-    /// Also what a read of this offset through this virtual function would give, without its effects.
+    /// Shows what a read of this offset through this virtual function would return, without the read's side effects.
     ShowVf(u8, u32),
 }
 
-/// Where the machine of a debugger is.
+/// The state of a debugger's machine after a command.
 #[derive(Clone, Copy, Debug, PartialEq, Eq)]
 pub struct View {
-    /// How many steps it has made.
+    /// The number of steps that it has made.
     pub steps: u64,
-    /// The number of its next instruction, or of the last where it stopped there.
+    /// The number of its next instruction, from 0; or of the one at which it stopped.
     pub pc: u16,
-    /// The word that was read last, masked since then.
+    /// The accumulator: the word that was last read or peeked, with each `and` since then applied.
     pub acc: u32,
-    /// Whether it runs, has ended, or has failed.
+    /// Whether the machine runs, has ended, or has failed.
     pub status: Status,
-    /// What a show was asked for; `None` where that would be stray, and after other commands.
+    /// The word that a show command asked for. `None` where there is no register, and after other commands.
     pub shown: Option<u32>,
 }
 
-/// Why a command isn't done. The debugger is as it was, but a step or a continue that finds no memory has made the
-/// steps before.
+/// Why a command was refused. The debugger is unchanged, except that `Step` and `Continue` that find no memory have
+/// made the steps before.
 #[derive(Clone, Copy, Debug, PartialEq, Eq, Error)]
 pub enum DebugRefusal {
-    /// Fewer steps were made than it should go back.
+    /// Fewer steps were made than the command would go back.
     #[error("before the first step")]
     AtStart,
-    /// There is no instruction of this number, or no breakpoint to clear.
+    /// The program has no instruction of this number, or there is no breakpoint to clear.
     #[error("no such instruction")]
     NoSuchPc,
-    /// 32 breakpoints are set.
+    /// 32 breakpoints are already set.
     #[error("too many breakpoints")]
     TooManyBreaks,
-    /// There is no memory for a step, or for the steps from the start on.
+    /// There is no memory for a step, or to run again from an earlier state.
     #[error("out of memory")]
     OutOfMemory,
 }

@@ -1,4 +1,4 @@
-//! The debugger.
+//! The debugger: a machine with breakpoints that can go back.
 
 ghost use Rattle.std.specs.Prelude.{◌≡◌, ◌≢◌, ◌<◌, ◌≤◌, ◌↔◌, [], Err, IfOk, IfErr};
 ghost use Rattle.std.specs.Result.{IsErrAnd};
@@ -18,9 +18,9 @@ use std::alloc::Global;
 use std::marker::Model;
 use std::mem;
 
-/// A machine with breakpoints. Its program and configuration are kept, and snapshots on its way, so that it can go
-/// back: one at each multiple of 256 steps that it first reaches, the first 64 of them, and behind these one more that
-/// moves on with it, where there is memory for them. It isn't dropped, but finished.
+/// A machine with breakpoints. To go back, it keeps its program and configuration, and snapshots where there is memory
+/// for them: one at each of the first 64 multiples of 256 steps, and a later one that is replaced as the machine
+/// advances. It can't be dropped: `finish` ends it.
 pub struct Debugger {
     alloc: Global,
     object: Vec<u8>,
@@ -50,8 +50,8 @@ impl Model for Debugger {
 }
 
 impl Debugger {
-    /// A debugger of a program at step 0, on a new device of this configuration, without breakpoints. Where there is no
-    /// such device, the program comes back.
+    /// A debugger of a program at step 0, on a new device of this configuration, without breakpoints. The error says
+    /// why there is no such device, and returns the program.
     pub fn new(alloc: Global, program: Program, config: Config) -> Result<Debugger, NewRefused>
         ensures made { IfOk result
             (λ debugger. debugger ≡ record { program = program; config = config; steps = 0; breakpoints = [] }) }
@@ -81,8 +81,8 @@ impl Debugger {
         }
     }
 
-    /// Does a command, and tells where the machine is then. After a refusal the debugger is as it was, but a step or a
-    /// continue that finds no memory has made the steps before, and stands in front of one that may take memory.
+    /// Executes a command, and returns the machine's state. After a refusal the debugger is unchanged; but `Step` and
+    /// `Continue` that find no memory have made the steps before, and the next step is one that may take memory.
     pub fn exec(&mut self, command: Command) -> Result<View, DebugRefusal>
         ensures answer { result ≢ Err DebugRefusal.OutOfMemory → result ≡ (command_of self.old command).answer }
         ensures session { result ≢ Err DebugRefusal.OutOfMemory → self.new ≡ (command_of self.old command).session }
@@ -101,7 +101,7 @@ impl Debugger {
         }
     }
 
-    /// Closes the machine.
+    /// Closes the debugger, and frees its machine and its snapshots.
     pub fn finish(self) {
         let Debugger {
             alloc: _,
@@ -114,7 +114,7 @@ impl Debugger {
         machine.finish();
     }
 
-    /// Where the machine is, with what is shown.
+    /// The state of the machine, with a shown word.
     fn view(&self, shown: Option<u32>) -> View
         ensures { result ≡ view_of self.now shown }
     {
@@ -127,7 +127,7 @@ impl Debugger {
         }
     }
 
-    /// So many steps on.
+    /// Executes `Command::Step`: makes up to `count` steps.
     fn step(&mut self, count: u64) -> Result<View, DebugRefusal>
         ensures { Does self.old (Command.Step count) result self.new }
     {
@@ -142,7 +142,7 @@ impl Debugger {
         }
     }
 
-    /// On, to a breakpoint.
+    /// Executes `Command::Continue`: runs on to a breakpoint, at most `limit` steps.
     fn go_on(&mut self, limit: u64) -> Result<View, DebugRefusal>
         ensures { Does self.old (Command.Continue limit) result self.new }
     {
@@ -157,8 +157,8 @@ impl Debugger {
         }
     }
 
-    /// So many steps back: from the last snapshot that isn't later, else from the start on, in a machine that takes the
-    /// place of this one when it is done.
+    /// Executes `Command::Back`: runs from the last snapshot that isn't later, else from the start, in a new machine
+    /// that replaces this one when it is done.
     fn back(&mut self, count: u64) -> Result<View, DebugRefusal>
         ensures { Does self.old (Command.Back count) result self.new }
     {
@@ -182,7 +182,7 @@ impl Debugger {
         }
     }
 
-    /// A breakpoint at an instruction.
+    /// Executes `Command::Break`: sets a breakpoint.
     fn set(&mut self, pc: u32) -> Result<View, DebugRefusal>
         ensures { Does self.old (Command.Break pc) result self.new }
     {
@@ -193,7 +193,7 @@ impl Debugger {
         }
     }
 
-    /// No breakpoint any more at an instruction.
+    /// Executes `Command::Clear`: removes a breakpoint.
     fn clear(&mut self, pc: u32) -> Result<View, DebugRefusal>
         ensures { Does self.old (Command.Clear pc) result self.new }
     {

@@ -1,4 +1,4 @@
-//! So many steps on.
+//! Running a machine forward, and replaying it up to a step.
 
 ghost use Rattle.std.specs.Prelude.{◌≡◌, ◌<◌, ◌≤◌, [], IfOk, IsOk, OnOk, OnErr, Ok};
 ghost use Rattle.debugger.specs.Running.{is_stopped, run_on};
@@ -15,7 +15,7 @@ use nic_device::{Config, NewFault};
 use program::{OutOfMemory, Program};
 use std::alloc::Global;
 
-/// Makes a step, and tells whether the machine has stopped before.
+/// Makes a step, and returns whether the machine had already stopped.
 fn step(machine: &mut Machine) -> Result<bool, OutOfMemory>
     ensures stopped { IfOk result (λ stopped.
         stopped ≡ is_stopped (machine_step machine.old.program machine.old.state).answer) }
@@ -30,8 +30,8 @@ fn step(machine: &mut Machine) -> Result<bool, OutOfMemory>
     }
 }
 
-/// Makes so many steps, or fewer where the machine stops, or where its next instruction has a breakpoint after a step.
-/// Snapshots that are due on the way are kept.
+/// Makes `limit` steps, or fewer where the machine stops, or where its next instruction has a breakpoint after a step.
+/// Takes the snapshots that are due on the way.
 pub(crate) fn run_on(
     machine: &mut Machine,
     breakpoints: &Breakpoints,
@@ -63,7 +63,7 @@ pub(crate) fn run_on(
     Ok(())
 }
 
-/// A machine before its first step, on a device that can be made.
+/// A machine before its first step, of a configuration that a device can have.
 fn start(alloc: Global, program: Program, config: Config) -> Result<Machine, OutOfMemory>
     requires { CanBeMade config }
     ensures { IfOk result (λ machine.
@@ -78,7 +78,7 @@ fn start(alloc: Global, program: Program, config: Config) -> Result<Machine, Out
     }
 }
 
-/// A machine on the way to so many steps: from a snapshot that isn't later, else before its first step.
+/// A machine at or before this step: from a snapshot that isn't later, else before its first step.
 fn early(
     alloc: Global,
     object: &[u8],
@@ -108,7 +108,7 @@ fn early(
     }
 }
 
-/// The machine of an object's program, after so many steps, or fewer where it stops. It is run on from the last of the
+/// The machine of an object's program after this many steps, or fewer where it stops. It is run from the last of the
 /// snapshots that isn't later, else from the start.
 pub(crate) fn replay(
     alloc: Global,

@@ -1,4 +1,4 @@
-//! Snapshots on the way of a machine, from which a debugger goes back.
+//! Snapshots of a machine, from which a debugger goes back.
 
 ghost use Rattle.std.specs.Prelude.{◌≡◌, ◌-◌, ◌*◌, ◌^◌, ◌<◌, ◌≤◌, [], IfSome};
 ghost use Rattle.debugger.specs.Snapshots.{AreOf, IsBefore, StayOf};
@@ -7,25 +7,25 @@ ghost use Rattle.machine.specs.Course.{Course};
 use machine::{Machine, MachineSnapshot};
 use std::alloc::Global;
 
-/// A snapshot is kept at each multiple of so many steps, up to `FIRST_STEPS`.
+/// The distance in steps between the snapshots that stay.
 const SNAPSHOT_STEPS: u64 = 256;
 
-/// How many snapshots stay: those of the first multiples.
+/// The number of snapshots that stay.
 const SNAPSHOT_LIMIT: usize = 64;
 
-/// The last number of steps whose snapshot stays.
+/// The step of the last snapshot that stays.
 const FIRST_STEPS: u64 = SNAPSHOT_LIMIT as u64 * SNAPSHOT_STEPS;
 
-/// Snapshots of one machine, the earliest first: behind those that stay, one that later ones take the place of.
+/// Snapshots of one machine, the earliest first: those that stay, and after them one that is replaced by later ones.
 #[derive(Drop)]
 pub(crate) struct Snapshots {
     pub(crate) kept: Vec<MachineSnapshot>,
-    /// The number of steps at which the next one is due.
+    /// The step at which the next snapshot is due.
     next: u64,
 }
 
 impl Snapshots {
-    /// No snapshots yet.
+    /// An empty list of snapshots, of which the first is due at the first multiple.
     pub(crate) fn new(alloc: Global) -> Snapshots
         ensures { result.kept.items ≡ [] }
     {
@@ -35,7 +35,7 @@ impl Snapshots {
         }
     }
 
-    /// No snapshots yet, and none will be due before the last step that a machine counts.
+    /// An empty list of snapshots, of which none is due before the last step that a machine counts.
     pub(crate) fn none(alloc: Global) -> Snapshots
         ensures { result.kept.items ≡ [] }
     {
@@ -45,7 +45,7 @@ impl Snapshots {
         }
     }
 
-    /// Keeps a snapshot where one is due, in place of the one that doesn't stay. One that finds no memory is left out.
+    /// Takes a snapshot where one is due, in place of the one that doesn't stay. Without memory for it, it is left out.
     pub(crate) fn keep(&mut self, machine: &Machine)
         ensures { StayOf machine.now self.old.kept.items self.new.kept.items }
     {
@@ -61,7 +61,7 @@ impl Snapshots {
         let _ = self.kept.push(snapshot);
     }
 
-    /// The last snapshot that isn't later than so many steps.
+    /// The last snapshot that isn't later than this step.
     pub(crate) fn before(&self, steps: u64) -> Option<&MachineSnapshot>
         ensures { IfSome result (λ snapshot. (machine : Course) →
             AreOf machine self.now.kept.items → IsBefore machine snapshot.now steps) }
@@ -79,9 +79,9 @@ impl Snapshots {
     }
 }
 
-/// The number of steps at which a snapshot is due after the one at so many: up to `FIRST_STEPS` the next multiple, and
-/// then the last multiple that isn't more than half as many again, so that a way back from the furthest step that was
-/// reached is less than a third of the way to it.
+/// The step at which the next snapshot is due after one at this step. Up to `FIRST_STEPS` it is the next multiple; then
+/// the last multiple that is at most half as many steps again, so that going back from the furthest step that was
+/// reached replays less than a third of them.
 fn next_after(steps: u64) -> u64
     ensures later { steps < 2 ^ 64 - 1 → steps < result }
     ensures near { FIRST_STEPS ≤ steps → 2 * result ≤ 3 * steps }

@@ -26,7 +26,7 @@ use Rattle.nic_device.specs.declared.event.Why.{Why}
 use Rattle.nic_device.specs.declared.event.Why.TheVariants.{Short, Long, Full, NoSlot}
 
 -- a frame that arrives: RUC counts those that are too short, ROC those that are too long, MPC those that find the list
--- full, and GPRC those that are let in
+-- full, and GPRC those that are accepted
 abbrev pub counts_dropped : Why → Place → Bool
 counts_dropped Short p = is_place (place Ruc 0) p
 counts_dropped Long p = is_place (place Roc 0) p
@@ -38,7 +38,7 @@ counts_arrived Done p = is_place (place Gprc 0) p
 counts_arrived (Dropped why) p = counts_dropped why p
 counts_arrived other p = false
 
--- a step of receiving: QPRC counts a frame that is written to its end, and QPRDC one dropped for want of a slot, both
+-- a step of receiving: QPRC counts a frame that is written to its end, and QPRDC one dropped for lack of a slot, both
 -- in the counter that RQSMR names for its queue
 abbrev pub counts_slotless : Registers → List Waiting → Place → Bool
 counts_slotless r [] p = false

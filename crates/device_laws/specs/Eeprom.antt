@@ -21,7 +21,7 @@ use Rattle.device_laws.specs.Laws.{reply_to_read, after_write}
 abbrev pub with_image : State → List ℕ → State
 with_image s image = record s { image = image }
 
--- an image has the register writes of another one, and this one behind them
+-- an image has the register writes of another one, and this one after them
 abbrev pub HasOneMore : List ℕ → List ℕ → ℕ → ℕ → Type 0
 HasOneMore image more offset value = triples_of more ≡ triples_of image ++ (offset, value) ∷ []
 
@@ -30,7 +30,7 @@ abbrev pub IsWritten : ℕ → Type 0
 IsWritten offset = (p : Place) → Names offset p → (p.row ≢ Ctrl) × (p.row ≢ Eerd)
 
 -- with one write more at its end, an image leads a reset where it led, and then on by that write, as by any other. What
--- is behind a write that does nothing is so made too
+-- is after a write that does nothing is so made too
 abbrev pub LastWriteIsMade : Type 0
 LastWriteIsMade =
     (s : State) (image : List ℕ) (offset value : ℕ) → HasOneMore s.image image offset value → IsWritten offset →
@@ -53,13 +53,13 @@ control_address = 0x10010
 abbrev pub read_address : ℕ
 read_address = 0x10014
 
--- EEC tells how many words the image has: 64 doubled so often
+-- EEC reports the size of the image: s where it has 64 * 2^s words
 abbrev pub ControlTellsSize : Type 0
 ControlTellsSize =
     (s : State) → IsSound s → (doubled : ℕ) → length s.image ≡ 64 * 2 ^ doubled →
     reply_to_read s control_address ≡ Word (0x300 + 0x800 * doubled)
 
--- a word that EERD asks for is there after a step of the EEPROM, beside its index and DONE: 0xFFFF outside the image
+-- a word that EERD asks for is there after an EEPROM step, with its index and DONE: 0xFFFF outside the image
 pub record GivesWord (s : State) (index : ℕ) : Type 0 where
   pub reply : reply_to s event.EepromStep ≡ Done
   pub word :

@@ -34,7 +34,7 @@ use Rattle.nic_device.specs.declared.event.Reply.{Reply}
 use Rattle.nic_device.specs.declared.named.Named.TheVariants.{Register}
 use Rattle.nic_device.specs.declared.event.Reply.TheVariants.{Word, Stray, Done, Idle, Wrote}
 
--- after every event no bit is told whose cause or mask is 0
+-- after every event a bit is told only while its cause and its mask are 1
 abbrev pub ToldIsPending : Type 0
 ToldIsPending =
     (s : State) → IsSound s → (e : Event Block) → IsEvent e → (g : Group) → index_of g < 64 →
@@ -106,7 +106,7 @@ ReadCounterStartsAgain =
 abbrev pub good_frames : ℕ
 good_frames = 0x04074
 
--- a frame that is let in is counted in GPRC: the next read gives one more than it would have given, but the largest
+-- a frame that is accepted is counted in GPRC: the next read gives one more than it would have given, but the largest
 -- word stays
 abbrev pub LetInFrameIsCounted : Type 0
 LetInFrameIsCounted =
@@ -134,7 +134,7 @@ AskedResetResets =
     (s : State) (address word : ℕ) (p : Place) → Names address p → IsTrue (asks_reset (row_of p.row).kind word) →
     IsReset s (after_write s address word)
 
--- each register has its reset value, no side of a queue is wanted on, and no bit is told
+-- each register has its reset value, no side of a queue is asked to be enabled, and no bit is told
 pub record HasResetValues (s : State) : Type 0 where
   pub words : (p : Place) → p.index < (row_of p.row).count → word_at s.registers.words p ≡ (row_of p.row).reset
   pub wanted : (dir : Dir) (queue : ℕ) → queue < 128 → IsFalse (is_wanted s.registers dir queue)
@@ -158,7 +158,7 @@ WritesNoSetting s (event.Write port number word) =
     (p : Place) (view : ℕ) → named s port number ≡ Register p view → IsOfNoSetting p
 WritesNoSetting s other = ⊤
 
--- keeps the frame limit, and how queues are parted among pools
+-- keeps the frame limit, and how queues are separated into pools
 pub record KeepsSettings (old new : State) : Type 0 where
   pub limit : frame_limit new.registers ≡ frame_limit old.registers
   pub mode : mode_in new.registers ≡ mode_in old.registers
@@ -168,7 +168,7 @@ OtherEventsKeepSettings = (s : State) (e : Event Block) → WritesNoSetting s e 
 
 -- what is delivered
 
--- so many of the bytes that are left of the first frame
+-- this many of the bytes that are left of the first frame
 abbrev pub piece_of : List Waiting → ℕ → List ℕ
 piece_of [] len = []
 piece_of (w ∷ others) len = take len (drop w.offset w.frame)
@@ -183,8 +183,7 @@ abbrev pub wrote : ℕ → State → Event Block → List ℕ
 wrote queue s event.RxStep = piece_on queue s.waiting (reply_to s event.RxStep)
 wrote queue s other = []
 
--- after a piece was written memory has its bytes at the address that was told, unless they share some with the
--- descriptor
+-- after a piece was written memory has its bytes at the reported address, unless they share some with the descriptor
 abbrev pub PieceIsReadBack : Type 0
 PieceIsReadBack =
     (s : State) → IsSound s → (queue slot : ℕ) (end : Bool) (desc at len : ℕ) →

@@ -69,7 +69,7 @@ pub record LeavesOtherSides (dir : Dir) (queue : ℕ) (old new : State) : Type 0
 abbrev pub EventStaysWithinReach : Type 0
 EventStaysWithinReach = (s : State) (e : Event Block) → StaysWithin (reach_of s e) s (after s e)
 
--- and so each side of a queue and each group stands that the reach has nothing of
+-- and so each side of a queue and each group outside the reach is unchanged
 pub record LeavesMissed (r : Reach) (old new : State) : Type 0 where
   pub receive : (queue : ℕ) → Misses r.registers (of_side Rx queue) → LeavesReceive queue old new
   pub transmit :
@@ -161,7 +161,7 @@ abbrev pub ReceivesOutside : Reply Block → ℕ → Type 0
 ReceivesOutside (Wrote queue slot end desc at len) number = Avoids number desc 16 × Avoids number at len
 ReceivesOutside other number = ⊤
 
--- it writes the descriptor and the bytes that it tells of, and so leaves the other blocks
+-- it writes the descriptor and the bytes that it reports, and so leaves the other blocks
 abbrev pub ReceivingLeavesOtherBlocks : Type 0
 ReceivingLeavesOtherBlocks =
     (s : State) (number : ℕ) → ReceivesOutside (reply_to s event.RxStep) number
@@ -175,7 +175,7 @@ pub record TransmittingLeaves (queue : ℕ) (old new : State) : Type 0 where
 abbrev pub TransmittingLeavesTheRest : Type 0
 TransmittingLeavesTheRest = (s : State) (queue : ℕ) → TransmittingLeaves queue s (after s (event.TxStep queue))
 
--- it writes back at the address that it tells, the head or the descriptor, and so leaves the other blocks
+-- it writes back at the address that it reports, the head or the descriptor, and so leaves the other blocks
 abbrev pub TransmittingLeavesOtherBlocks : Type 0
 TransmittingLeavesOtherBlocks =
     (s : State) (queue number : ℕ) →
@@ -214,7 +214,7 @@ pub record EepromLeaves (old new : State) : Type 0 where
 abbrev pub EepromStepLeavesTheRest : Type 0
 EepromStepLeavesTheRest = (s : State) → EepromLeaves s (after s event.EepromStep)
 
--- the link with the cause that it raises leaves as much beside the physical function's group
+-- the link with the cause that it raises leaves as much, except the physical function's group
 abbrev pub LinkLeavesTheRest : Type 0
 LinkLeavesTheRest = (s : State) (up : Bool) → LeavesAllButGroup group.Pf s (after s (event.Link up))
 

@@ -1,4 +1,4 @@
--- What a message of a group tells a driver, and when there is one.
+-- What a message of a group reports to a driver, and when there is one.
 use Rattle.std.specs.Prelude.{ℕ, ◌≡◌, ◌<◌, IsTrue, IsFalse}
 use Rattle.nic_device.specs.RegTable.declared.rows.RowId.TheVariants.{IvarMisc}
 use Rattle.nic_device.specs.IntrUnit.Interrupts.{is_due}
@@ -14,12 +14,12 @@ use Rattle.nic_device.specs.Step.{after, reply_to}
 use Rattle.nic_device.specs.declared.event.Event.TheVariants as event
 use Rattle.nic_device.specs.declared.event.Reply.TheVariants.{Message}
 
--- a bit of a group is due: its cause and its mask are 1, it wasn't told, and it has a vector
+-- a bit of a group is due: its cause and its mask are 1, it wasn't reported, and it has a vector
 abbrev pub IsDueIn : Registers → Group → ℕ → Type 0
 IsDueIn r g bit = IsTrue (is_due (interrupts_of r g) (word_of r IvarMisc 0) bit)
 
--- the step sends the vector of the lowest bit that is due, and tells that bit: its cause is cleared where the
--- auto-clear has it, its mask where GPIE bit 30 is 1 and the auto-mask has it, and every other bit is as it was
+-- the step sends the vector of the lowest due bit, and marks that bit as told: its cause is cleared where the
+-- auto-clear has it, its mask where GPIE bit 30 is 1 and the auto-mask has it, and every other bit is unchanged
 pub record SendsLowest (s : State) (g : Group) : Type 0 where
   pub vector : ℕ
   pub bit : ℕ

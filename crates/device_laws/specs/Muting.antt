@@ -9,8 +9,8 @@ use Rattle.nic_device.specs.Step.{step_of}
 use Rattle.nic_device.specs.declared.event.Event.TheVariants as event
 use Rattle.nic_device.specs.declared.event.Reply.TheVariants.{Idle}
 
--- while frames are parted among pools, a step of transmitting of a queue whose pool doesn't send is idle and changes
--- nothing
+-- while frames are distributed among pools, a step of transmitting of a queue whose pool doesn't send is idle and
+-- changes nothing
 abbrev pub MutedQueueIsIdle : Type 0
 MutedQueueIsIdle =
     (s : State) → IsTrue (uses_pools s.registers) → (queue pool : ℕ) → queue < 128 →

@@ -58,7 +58,7 @@ pub record HasSlot (s : State) (w : Waiting) : Type 0 where
   pub on : IsTrue (side_for s w).on
   pub some : IsFalse (is_empty (side_for s w).ring)
 
--- the case that a reply tells of: of these no two are there at once
+-- the case that a reply reports: no two of these occur at once
 abbrev pub DroppedCase : State → Waiting → Why → Type 0
 DroppedCase s w QueueOff = IsFalse (side_for s w).on
 DroppedCase s w NoSlot = IsSlotless s w × IsTrue (drops s.registers w.queue) × (w.offset ≡ 0)
@@ -71,7 +71,7 @@ CaseOf s w (Wrote queue slot end desc at len) = HasSlot s w × IsTrue (is_ok (fi
 CaseOf s w (Fault queue fault) = HasSlot s w × IsFalse (is_ok (filling s w).answer)
 CaseOf s w other = ⊥
 
--- each reply is told in its case alone
+-- each reply occurs in its case alone
 abbrev pub EachReplyInItsCase : Type 0
 EachReplyInItsCase =
     (s : State) → IsFalse (is_stopped s.registers) → (w : Waiting) (others : List Waiting) → s.waiting ≡ w ∷ others →

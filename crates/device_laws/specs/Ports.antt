@@ -1,4 +1,4 @@
--- What virtual functions reach, beside the physical function.
+-- What virtual functions reach, compared with the physical function.
 use Rattle.std.specs.Prelude.{ℕ, ◌≡◌}
 use Rattle.nic_device.specs.VfMap.Map.{mapped}
 use Rattle.nic_device.specs.VfMap.declared.mapped.Mapped.TheVariants as mapped_as

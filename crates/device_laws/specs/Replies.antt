@@ -1,4 +1,4 @@
--- What the reply to a step tells a driver of the state after it.
+-- What the reply to a step says about the state after it.
 use Rattle.std.specs.Prelude.{ℕ, ◌≡◌, ◌≢◌, ◌+◌, ◌*◌, ◌/◌, ◌%◌, ◌^◌, false, ⊤, List, [], ◌∷◌, ◌++◌, length, Option, Some, if◌then◌else◌}
 use Rattle.nic_device.specs.DmaArena.Block.{Block}
 use Rattle.nic_device.specs.DmaRing.declared.ring.Ring.{Ring}
@@ -40,7 +40,7 @@ pub record ShutReceive (queue : ℕ) (old new : State) : Type 0 where
       receive_queue_of new.registers queue
       ≡ record (receive_queue_of old.registers queue) { on = false; wanted = false }
 
--- what a step of receiving tells
+-- what the reply to a receive step says
 abbrev pub received_tells : Reply Block → State → State → Type 0
 received_tells (Wrote queue slot end desc at len) old new = TookReceive queue slot old new
 received_tells (Fault queue fault) old new = ShutReceive queue old new
@@ -53,8 +53,8 @@ report_of r queue =
     then word_of r Tdwbah queue * 2 ^ 32 + 4 * (word_of r Tdwbal queue / 4)
     else descriptor_address (ring_of r Tx queue) (ring_of r Tx queue).head
 
--- the transmit side of a step's own queue took the slot at its head, which moves on, and all else of the side is as it
--- was; a report that is told is where the queue reports
+-- the transmit side of a step's own queue took the slot at its head, which advances, and all else of the side is
+-- unchanged; a report that the reply names is where the queue reports
 pub record TookTransmit (own queue : ℕ) (back : Option ℕ) (old new : State) : Type 0 where
   pub named : queue ≡ own
   pub side :
@@ -70,7 +70,7 @@ pub record ShutTransmit (own queue : ℕ) (old new : State) : Type 0 where
       ≡ record (transmit_queue_of old.registers own) { on = false; wanted = false }
   pub staged : staged_by new own ≡ []
 
--- what a step of transmitting tells
+-- what the reply to a transmit step says
 abbrev pub sent_tells : ℕ → Reply Block → State → State → Type 0
 sent_tells own (Advanced queue slot back) old new =
     TookTransmit own queue back old new × (slot ≡ (ring_of old.registers Tx own).head)
@@ -86,7 +86,7 @@ TransmittingTells =
     (s : State) → IsSound s → (queue : ℕ) →
     sent_tells queue (reply_to s (event.TxStep queue)) s (after s (event.TxStep queue))
 
--- a frame of so many bytes joined the frames out, last of all
+-- a frame of this many bytes joined the frames out, last of all
 pub record AddsFrame (queue len : ℕ) (old new : State) : Type 0 where
   pub frame : List ℕ
   pub long : length frame ≡ len
@@ -101,8 +101,8 @@ abbrev pub out_collected : Reply Block → State → State → Type 0
 out_collected (Frame queue bytes) old new = old.out ≡ (queue, bytes) ∷ new.out
 out_collected other old new = new.out ≡ old.out
 
--- the frames out after an event: one joins exactly where a step of transmitting tells it as sent, one goes exactly
--- where it is collected, and no other event changes them
+-- the transmitted frames after an event: one is appended exactly where a transmit step reports it as sent, one is
+-- removed exactly where it is collected, and no other event changes them
 abbrev pub out_after : Event Block → Reply Block → State → State → Type 0
 out_after (event.TxStep queue) reply old new = out_sent reply old new
 out_after event.Collect reply old new = out_collected reply old new

@@ -108,7 +108,7 @@ ChangeLaw = (a : Numbers) (number : ℕ) (free : Bool) → is_own a number ≡ t
 abbrev pub GivenBack : Type 0
 GivenBack = (a : Numbers) (number : ℕ) → is_free a number ≡ true → with_free (with_free a number false) number true ≡ a
 
--- a cut parts the numbers: each is on one side, and none on both
+-- a split partitions the numbers: each is on one side, and none on both
 pub record PartsNumbers (a : Numbers) (at : ℕ) : Type 0 where
   pub each : (number : ℕ) → is_own a number ≡ (is_own (numbers_below a at) number || is_own (numbers_from a at) number)
   pub once : (number : ℕ) → (is_own (numbers_below a at) number && is_own (numbers_from a at) number) ≡ false

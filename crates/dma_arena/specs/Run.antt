@@ -2,7 +2,7 @@ use Rattle.std.specs.Prelude.{◌≡◌, ℕ, zero, suc, ◌+◌, ◌-◌, ◌<�
 use Rattle.dma_arena.specs.Block.{Block, zero_block}
 use Rattle.dma_arena.specs.Numbers.{Numbers, count_of, is_free, with_free}
 
--- blocks in hand whose numbers follow one another, each byte of them 0: the first number, and how many they are
+-- owned blocks with consecutive numbers, each byte of them 0: the first number, and how many they are
 pub record BlockRun : Type 0 where
   pub first : ℕ
   pub count : ℕ
@@ -18,11 +18,11 @@ run_from a count number zero = None
 run_from a count number (suc left) =
     if are_free a number count then Some number else run_from a count (number + 1) left
 
--- the lowest number of the arena, from this one on, from which so many of its blocks are free
+-- the lowest number of the arena, from this one on, from which this many of its blocks are free
 abbrev pub run_behind : Numbers → ℕ → ℕ → Option ℕ
 run_behind a count from = run_from a count from (a.first + count_of a - from)
 
--- the lowest number of the arena from which so many of its blocks are free
+-- the lowest number of the arena from which this many of its blocks are free
 abbrev pub run_in : Numbers → ℕ → Option ℕ
 run_in a count = run_behind a count a.first
 

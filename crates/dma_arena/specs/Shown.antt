@@ -13,11 +13,11 @@ shown_from number (Some block ∷ places) = fin.insert (shown_from (number + 1) 
 abbrev pub shown : List (Option Block) → Memory
 shown places = shown_from 0 places
 
--- what stands at a place: a block, or nothing
+-- the content of a place: a block, or nothing
 abbrev pub at_place : List (Option Block) → ℕ → Option Block
 at_place places number = slice_index_or places number None
 
--- whether a block stands at a place
+-- whether there is a block at a place
 abbrev pub is_filled : List (Option Block) → ℕ → Bool
 is_filled places number = is_some (at_place places number)
 

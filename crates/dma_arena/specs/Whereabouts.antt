@@ -4,11 +4,11 @@ use Rattle.dma_arena.specs.Memory.{Memory, has_block}
 use Rattle.dma_arena.specs.Numbers.{Numbers, is_own, is_free, are_all_free, all_free, with_free, numbers_below, numbers_from, IsInside}
 use Rattle.dma_arena.specs.Run.{run_numbers, without_run, IsFreeRun}
 
--- how many blocks in hand have this number
+-- how many owned blocks have this number
 abbrev pub times_in_hand : List ℕ → ℕ → ℕ
 times_in_hand hand number = count_by (λ held. held == number) hand
 
--- in how many places the block of this number is: free in the arena, in hand, or lent
+-- in how many places the block of this number is: free in the arena, owned, or lent
 abbrev pub places_of : Numbers → List ℕ → Memory → ℕ → ℕ
 places_of a hand m number =
     (if is_free a number then 1 else 0) + times_in_hand hand number + (if has_block m number then 1 else 0)
@@ -19,7 +19,7 @@ EachOnce a hand m = (number : ℕ) → is_own a number ≡ true → places_of a 
 
 -- the moves of a block between the places, each of which keeps that so
 pub record MovesKeepEachOnce : Type 0 where
-  -- a new arena, none of whose numbers is in hand or lent
+  -- a new arena, none of whose numbers is owned or lent
   pub made : (first count : ℕ) → EachOnce (all_free first count) [] map.empty
   pub taken : (a : Numbers) (hand : List ℕ) (m : Memory) (number : ℕ) → is_free a number ≡ true → EachOnce a hand m
       → EachOnce (with_free a number false) (number ∷ hand) m
@@ -29,7 +29,7 @@ pub record MovesKeepEachOnce : Type 0 where
       → EachOnce a (number ∷ hand) m → EachOnce a hand (map.insert m number bytes)
   pub back : (a : Numbers) (hand : List ℕ) (m : Memory) (number : ℕ) → has_block m number ≡ true → EachOnce a hand m
       → EachOnce a (number ∷ hand) (map.remove m number)
-  -- a block of an arena that shares no number with this one comes, and leaves for its home, which takes it
+  -- a block of an arena that shares no number with this one comes, and goes back to its own arena
   pub foreign : (a : Numbers) (hand : List ℕ) (m : Memory) (number : ℕ) → is_own a number ≡ false → EachOnce a hand m
       → EachOnce a (number ∷ hand) m
   pub home : (a home : Numbers) (hand : List ℕ) (m : Memory) (number : ℕ) → is_own a number ≡ false
@@ -38,14 +38,14 @@ pub record MovesKeepEachOnce : Type 0 where
   -- an arena that is split, whose blocks are all free, leaves two
   pub split : (a : Numbers) (hand : List ℕ) (m : Memory) (at : ℕ) → are_all_free a ≡ true → IsInside a at
       → EachOnce a hand m → EachOnce (numbers_below a at) hand m × EachOnce (numbers_from a at) hand m
-  -- in which order blocks are in hand says nothing
+  -- the order of the owned blocks doesn't matter
   pub order : (a : Numbers) (hand other : List ℕ) (m : Memory)
       → ((number : ℕ) → times_in_hand hand number ≡ times_in_hand other number) → EachOnce a hand m → EachOnce a other m
-  -- a block in hand is neither free nor lent, so that it can be given back and lent
+  -- an owned block is neither free nor lent, so that it can be given back and lent
   pub welcome : (a : Numbers) (hand : List ℕ) (m : Memory) (number : ℕ) → is_own a number ≡ true
       → EachOnce a (number ∷ hand) m → (is_free a number ≡ false) × (has_block m number ≡ false)
 
--- the numbers of a run stand in it once each, and no other number does
+-- the numbers of a run occur in it once each, and no other number does
 pub record IsEachNumber (first count : ℕ) : Type 0 where
   pub inside : (number : ℕ) → first ≤ number → number < first + count
       → times_in_hand (run_numbers first count) number ≡ 1
@@ -57,7 +57,7 @@ pub record RunsKeepEachOnce : Type 0 where
   pub numbers : (first count : ℕ) → IsEachNumber first count
   pub taken : (a : Numbers) (hand : List ℕ) (m : Memory) (first count : ℕ) → IsFreeRun a first count
       → EachOnce a hand m → EachOnce (without_run a first count) (run_numbers first count ++ hand) m
-  -- the highest block leaves the run, and is in hand by itself
+  -- the highest block leaves the run, and is owned by itself
   pub popped : (a : Numbers) (hand : List ℕ) (m : Memory) (first count : ℕ)
       → EachOnce a (run_numbers first (count + 1) ++ hand) m
       → EachOnce a (run_numbers first count ++ (first + count) ∷ hand) m

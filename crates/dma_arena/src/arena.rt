@@ -7,13 +7,13 @@ use crate::free_list::FreeList;
 use std::alloc::Global;
 use std::marker::Model;
 
-/// How many block numbers there are: every number is below this.
+/// The number of block numbers: each is below this.
 pub const BLOCK_NUMBERS: u32 = 65536;
 
-/// Blocks of packet memory by their numbers, each of them free or not.
+/// A pool of blocks of packet memory with consecutive numbers, each of them free or in use.
 ///
-/// Contracts see its first number, and of each number whether it is free. An arena cannot be
-/// dropped: it is closed in the end, once all of its blocks are free.
+/// Contracts see its first number, and for each number whether it is free. An arena can't be dropped: `close` ends it,
+/// once all of its blocks are free.
 pub struct Arena {
     first: u16,
     list: FreeList,
@@ -29,10 +29,10 @@ impl Model for Arena {
     ghost invariant = { λ a. IsArena (record { first = a.first; free = a.list }) };
 }
 
-/// Why there is no arena of these numbers.
+/// Why no arena of these numbers was made.
 #[derive(Clone, Copy, Debug, PartialEq, Eq)]
 pub enum ArenaFault {
-    /// No number was asked for.
+    /// No blocks were asked for.
     Empty,
     /// A number would be above 65,535.
     TooMany,
@@ -40,30 +40,31 @@ pub enum ArenaFault {
     OutOfMemory,
 }
 
-/// Why an arena was not split.
+/// Why an arena wasn't split.
 #[derive(Clone, Copy, Debug, PartialEq, Eq)]
 pub enum SplitFault {
-    /// A block of the arena is not free.
+    /// A block of the arena isn't free.
     InUse,
-    /// The number is the arena's first, or none of its numbers: a part would be empty.
+    /// The number is the arena's first, or none of its numbers: one half would be empty.
     OutsideArena,
-    /// There was no memory for the list of the second part.
+    /// There was no memory for the free list of the second half.
     OutOfMemory,
 }
 
-/// A split that was refused: why, and the arena as it was.
+/// A refused split: why, and the arena.
 pub struct SplitRefused {
-    /// Why the arena was not split.
+    /// Why the arena wasn't split.
     pub fault: SplitFault,
-    /// The arena, unchanged.
+    /// The arena, as it was.
     pub arena: Arena,
 }
 
 impl Arena {
-    /// An arena of the block numbers `first` to `first + count - 1`, all of them free.
+    /// An arena of the block numbers `first` to `first + count - 1`, all of them free. Its memory is 2,048 bytes a
+    /// block.
     ///
-    /// `Empty` where `count` is 0, `TooMany` where a number would be above 65,535, and
-    /// `OutOfMemory`, in this order.
+    /// Errors, in this order: `Empty` where `count` is 0, `TooMany` where a number would be above 65,535, and
+    /// `OutOfMemory`.
     pub fn new(alloc: Global, first: u32, count: u32) -> Result<Arena, ArenaFault>
         ensures ok { IfOk result (λ a. a ≡ all_free first count) }
         ensures made { IsOk result → (0 < count) × (first + count ≤ 65536) }
@@ -92,14 +93,14 @@ impl Arena {
         u32::from(self.first)
     }
 
-    /// How many block numbers this arena has: those from its first one on.
+    /// How many block numbers this arena has, from its first one on.
     pub fn count(&self) -> u32
         ensures { result ≡ count_of self.now }
     {
         self.list.len() as u32
     }
 
-    /// Whether the block number is one of this arena's.
+    /// Whether the block number is one of this arena's, free or not.
     pub fn owns(&self, block: u32) -> bool
         ensures own { result ≡ is_own self.now block }
         ensures arena { IsArena self.now }
@@ -107,7 +108,7 @@ impl Arena {
         self.place(block).is_some()
     }
 
-    /// Whether the block is free here. A block that is none of this arena's is not.
+    /// Whether the block is free in this arena. `false` for a number that isn't the arena's.
     pub fn is_free(&self, block: u32) -> bool
         ensures { result ≡ is_free self.now block }
     {
@@ -124,9 +125,9 @@ impl Arena {
         self.list.count_free()
     }
 
-    /// Takes some free block, of whose bytes each is 0. None exactly when none is free.
+    /// Takes a free block, all of whose bytes are 0. `None` exactly when none is free.
     ///
-    /// Which of the free blocks it is, is left open.
+    /// Which of the free blocks it is, is unspecified.
     pub fn take(&mut self) -> Option<Buf>
         ensures none { IsNone result ↔ (free_count self.old ≡ 0) }
         ensures free { IfSome result (λ b. IsTrue (is_free self.old b.number)) }
@@ -138,8 +139,7 @@ impl Arena {
         self.take_at(number)
     }
 
-    /// Takes the block of this number, of whose bytes each is 0. None exactly when it is not
-    /// free here.
+    /// Takes the block of this number, all of whose bytes are 0. `None` exactly when it isn't free here.
     pub fn take_at(&mut self, block: u32) -> Option<Buf>
         ensures none { IsNone result ↔ (is_free self.old block ≡ false) }
         ensures zero { IfSome result (λ b. b ≡ zero_block block) }
@@ -153,8 +153,8 @@ impl Arena {
         Some(Buf::cleared(block as u16, self.list.take(at as u32)))
     }
 
-    /// Takes a block back, which is free here from then on. A block whose number is none of
-    /// this arena's, or is free here already, is handed back, and the arena is unchanged.
+    /// Returns a block to the arena, where it is free from then on. A block whose number isn't this arena's, or is free
+    /// here already, comes back in the error, and the arena is unchanged.
     pub fn give(&mut self, buf: Buf) -> Result<(), Buf>
         ensures ok { IsOk result ↔ (IsTrue (is_own self.old buf.number) × (is_free self.old buf.number ≡ false)) }
         ensures given { OnOk result (self.new ≡ with_free self.old buf.number true) }
@@ -170,10 +170,10 @@ impl Arena {
         }
     }
 
-    /// Parts the arena at a number: one of the numbers below `at`, and one of those from `at` on.
+    /// Splits the arena at a number into one of the numbers below `at` and one of those from `at` on.
     ///
-    /// `InUse` where a block is not free, `OutsideArena` where one part would have no number,
-    /// and `OutOfMemory`, in this order. Each hands the arena back unchanged.
+    /// Errors, in this order: `InUse` where a block isn't free, `OutsideArena` where one half would have no number, and
+    /// `OutOfMemory`. Each returns the arena unchanged.
     pub fn split(self, at: u32) -> Result<(Arena, Arena), SplitRefused>
         ensures below { IfOk result (λ p. p.0 ≡ numbers_below self at) }
         ensures above { IfOk result (λ p. p.1 ≡ numbers_from self at) }
@@ -198,8 +198,7 @@ impl Arena {
         }
     }
 
-    /// Closes the arena, whose memory is freed. It is handed back unchanged exactly when one
-    /// of its blocks is not free.
+    /// Closes the arena and frees its memory. The arena comes back unchanged exactly when one of its blocks isn't free.
     pub fn close(self) -> Result<(), Arena>
         ensures ok { IsOk result ↔ IsTrue (are_all_free self) }
         ensures back { IfErr result (λ a. a ≡ self) }
@@ -212,7 +211,7 @@ impl Arena {
         Ok(())
     }
 
-    /// Where a number of this arena has its slot.
+    /// The index of a number's slot in the free list.
     fn place(&self, block: u32) -> Option<usize>
         ensures own { is_some result ≡ is_own self.now block }
         ensures place { IfSome result (λ at. self.now.first + at ≡ block) }
@@ -229,7 +228,7 @@ impl Arena {
         if at < self.list.len() { Some(at) } else { None }
     }
 
-    /// The number of the first block in the list of the free ones.
+    /// The number of the first block of the free list.
     fn first_free(&self) -> Option<u32>
         ensures free { IfSome result (λ number. IsTrue (is_free self.now number)) }
         ensures none { IfNone result (free_count self.now ≡ 0) }
@@ -245,7 +244,7 @@ impl Arena {
         self.list.all_free()
     }
 
-    /// Parts the list of blocks.
+    /// Splits the free list at an index.
     fn split_at(self, place: usize) -> Result<(Arena, Arena), SplitRefused>
         requires free { IsTrue (are_all_free self) }
         requires inside { (0 < place) × (place < count_of self) }

@@ -7,25 +7,25 @@ use crate::raw::Raw;
 use std::alloc::{AllocError, Global};
 use std::marker::Model;
 
-/// How many bytes a block has.
+/// The size of a block in bytes.
 pub const BLOCK_BYTES: usize = 2048;
 
-/// The memory of one block. It is moved from owner to owner, and freed by `free` alone.
+/// The memory of one block. It moves from owner to owner, and only `free` frees it.
 pub(crate) type RawBlock = Raw<[u8; BLOCK_BYTES], Global>;
 
-/// Memory for a block.
+/// Allocates the memory of a block.
 pub(crate) fn make(alloc: Global) -> Result<RawBlock, AllocError> {
     Ok(Raw::of(Box::new(alloc, [0; BLOCK_BYTES])?))
 }
 
-/// Clears a block's memory.
+/// Sets a block's bytes to 0.
 fn clear(bytes: &mut RawBlock)
     ensures { bytes.new.value ≡ replicate 2048 0 }
 {
     *bytes.get_mut() = [0; BLOCK_BYTES];
 }
 
-/// Nothing is in the slot.
+/// Drops an empty slot.
 pub(crate) fn nothing(slot: Option<Buf>)
     requires { slot ≡ None }
 {
@@ -35,12 +35,12 @@ pub(crate) fn nothing(slot: Option<Buf>)
     }
 }
 
-/// A block of packet memory in hand.
+/// A block of packet memory that the program owns.
 ///
-/// Contracts see it as its number and its bytes. It is one value, in one place: it cannot be
-/// cloned, and it cannot be dropped, so it is given to an arena or lent in the end.
+/// Contracts see it as its number and its bytes. It can't be cloned and can't be dropped, so that each block is in one
+/// place: in the end it is given to an arena or lent.
 ///
-/// It also knows a byte from which on each is still 0, as all are when it is taken from an arena.
+/// It also stores an index from which on all of its bytes are still 0, as they are when it is taken from an arena.
 pub struct Buf {
     number: u16,
     written: u16,
@@ -61,7 +61,7 @@ impl Model for Buf {
 impl Buf {
     ghost use Rattle.dma_arena.specs.Loan.{LendsBytes};
 
-    /// The block in hand, cleared.
+    /// A block of this number with this memory, set to 0.
     pub(crate) fn cleared(number: u16, mut bytes: RawBlock) -> Buf
         ensures { result ≡ zero_block number }
     {
@@ -83,7 +83,7 @@ impl Buf {
         bytes
     }
 
-    /// Puts bytes into the block, from one of its bytes on. They must fit: the block has 2,048 bytes.
+    /// Copies bytes into the block from index `at` on. They must fit: the block has 2,048 bytes.
     #[tactic(auto, unfolding(crate::specs::Memory::put_bytes))]
     pub fn put(&mut self, at: usize, bytes: &[u8])
         requires { at + length bytes.now ≤ 2048 }
@@ -94,8 +94,8 @@ impl Buf {
         self.bytes.get_mut()[at..end].copy_from_slice(bytes);
     }
 
-    /// A byte from which on each is 0. It is told without a look at them, so some before it may be 0
-    /// too.
+    /// An index from which on all bytes are 0, at most 2,048. It is stored and not searched for, so bytes before it may
+    /// be 0 too.
     pub fn zeros_from(&self) -> usize
         ensures within { result ≤ 2048 }
         ensures zeros { IsZeroFrom result self.now.bytes }
@@ -118,7 +118,7 @@ impl Buf {
         u64::from(self.number) * 2048
     }
 
-    /// The block's bytes.
+    /// The 2,048 bytes of the block.
     pub fn bytes(&self) -> &[u8; BLOCK_BYTES]
         ensures value { result.now ≡ self.now.bytes }
         ensures whole { IsBlock self.now }
@@ -131,8 +131,8 @@ impl Buf {
         bytes
     }
 
-    /// The block's bytes, to write in. The block keeps its number, and has in the end the bytes
-    /// that were last written here.
+    /// The block's bytes, writable. The block keeps its number, and in the end has the bytes that were last written
+    /// here.
     pub fn bytes_mut(&mut self) -> &mut [u8; BLOCK_BYTES]
         ensures* written { sem 𝓛 (LendsBytes self.entry result) }
         ensures value { result.now ≡ self.old.bytes }

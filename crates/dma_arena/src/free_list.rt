@@ -1,5 +1,5 @@
-//! The blocks of an arena by their places, each free or not. The free ones are a list, linked through their first
-//! bytes, and are counted.
+//! The blocks of an arena by index, each free or not. The free ones form a linked list, whose links are in the blocks'
+//! first bytes, and are counted.
 
 ghost use Rattle.std.specs.Prelude.{ℕ, ◌≡◌, ◌+◌, ◌-◌, ◌<◌, ◌≤◌, true, false, is_some, map, Some, None, length, replicate, count_by, slice_index_or, slice_set, IfOk, IfErr, IfSome, IfNone, IsTrue};
 ghost use Rattle.std.specs.List.{list_all};
@@ -10,12 +10,12 @@ use crate::links::{FreeBlock, Links};
 use std::alloc::{AllocError, Global};
 use std::marker::Model;
 
-/// Where the list begins and ends: no block has this place.
+/// The index that ends the list at both ends: no block has it.
 const END: u32 = 65536;
 
-/// The blocks of an arena, each at its place, with the list of the free ones.
+/// The blocks of an arena, each at its index, with the list of the free ones.
 ///
-/// Contracts see of each place in turn whether its block is free.
+/// Contracts see for each index whether its block is free.
 pub(crate) struct FreeList {
     ends: Links,
     slots: Vec<Option<FreeBlock>>,
@@ -35,7 +35,7 @@ impl Model for FreeList {
 }
 
 impl FreeList {
-    /// Places for blocks, none of them free.
+    /// Slots for `count` blocks, none of them free.
     fn empty(alloc: Global, count: usize) -> Result<FreeList, AllocError>
         requires { count ≤ 65536 }
         ensures { IfOk result (λ list. list ≡ replicate count false) }
@@ -58,7 +58,7 @@ impl FreeList {
         })
     }
 
-    /// Blocks that are all free, in the order of their places.
+    /// `count` blocks that are all free, in the order of their indices.
     pub(crate) fn full(alloc: Global, count: usize) -> Result<FreeList, AllocError>
         requires { count ≤ 65536 }
         ensures { IfOk result (λ list. list ≡ replicate count true) }
@@ -76,7 +76,7 @@ impl FreeList {
         Ok(list)
     }
 
-    /// How many places there are.
+    /// The number of slots.
     pub(crate) fn len(&self) -> usize
         ensures count { result ≡ length self.now }
         ensures small { result ≤ 65536 }
@@ -85,7 +85,7 @@ impl FreeList {
         self.slots.len()
     }
 
-    /// Whether the block of a place is free.
+    /// Whether the block at an index is free.
     pub(crate) fn is_free(&self, place: usize) -> bool
         requires { place < length self.now }
         ensures { result ≡ slice_index_or self.now place false }
@@ -100,14 +100,14 @@ impl FreeList {
         self.free
     }
 
-    /// Whether each block is free.
+    /// Whether all blocks are free.
     pub(crate) fn all_free(&self) -> bool
         ensures { result ≡ list_all (λ free. free) self.now }
     {
         all_are_free(&self.slots)
     }
 
-    /// The first place of the list.
+    /// The index of the first free block. `None` where no block is free.
     pub(crate) fn first(&self) -> Option<u32>
         ensures free { IfSome result (λ place. IsTrue (slice_index_or self.now place false)) }
         ensures small { IfSome result (λ place. place < length self.now) }
@@ -120,7 +120,7 @@ impl FreeList {
         }
     }
 
-    /// Makes the block of a place free.
+    /// Makes the block at an index free.
     pub(crate) fn put(&mut self, place: u32, memory: RawBlock)
         requires inside { place < length self.old }
         requires in_use { slice_index_or self.old place false ≡ false }
@@ -130,7 +130,7 @@ impl FreeList {
         self.free += 1;
     }
 
-    /// Takes the block of a place, which is free.
+    /// Takes the block at an index, which is free.
     pub(crate) fn take(&mut self, place: u32) -> RawBlock
         requires { IsTrue (slice_index_or self.old place false) }
         ensures { self.new ≡ slice_set self.old place false }
@@ -139,7 +139,7 @@ impl FreeList {
         unlink(&mut self.ends, &mut self.slots, place)
     }
 
-    /// Takes the free blocks of another list from a place on, as many as there are places here.
+    /// Moves free blocks from another list, from index `from` on, into all slots of this one.
     fn fill(&mut self, other: &mut FreeList, from: usize)
         requires empty { self.old ≡ replicate (length self.old) false }
         requires fits { from + length self.old ≤ 65536 }
@@ -156,7 +156,7 @@ impl FreeList {
         }
     }
 
-    /// Parts the places: those below `place`, and those from it on.
+    /// Splits the slots: those below index `place`, and those from it on. The list comes back where there is no memory.
     pub(crate) fn split(mut self, place: usize) -> Result<(FreeList, FreeList), FreeList>
         requires free { self ≡ replicate (length self) true }
         requires inside { place ≤ length self }
@@ -179,7 +179,7 @@ impl FreeList {
         Ok((below, above))
     }
 
-    /// Frees the blocks, one by one.
+    /// Frees the memory of all free blocks.
     pub(crate) fn free_all(self) {
         let FreeList {
             ends: _,
@@ -195,7 +195,7 @@ impl FreeList {
     }
 }
 
-/// The links of a place that is linked.
+/// The links of a linked index.
 fn links_at(ends: Links, slots: &[Option<FreeBlock>], place: u32) -> Links
     requires there { is_some (nodes_of ends slots.now place) ≡ true }
     ensures { nodes_of ends slots.now place ≡ Some result }
@@ -209,7 +209,7 @@ fn links_at(ends: Links, slots: &[Option<FreeBlock>], place: u32) -> Links
     }
 }
 
-/// Sets the links of a place that is linked.
+/// Sets the links of a linked index.
 fn relink(ends: &mut Links, slots: &mut [Option<FreeBlock>], place: u32, links: Links)
     requires there { is_some (nodes_of ends.old slots.old place) ≡ true }
     ensures linked { Relinked (nodes_of ends.old slots.old) (nodes_of ends.new slots.new) place links }
@@ -229,7 +229,7 @@ fn relink(ends: &mut Links, slots: &mut [Option<FreeBlock>], place: u32, links: 
     }
 }
 
-/// Links a block in, before the first.
+/// Links a block in at the front of the list.
 fn link(ends: &mut Links, slots: &mut [Option<FreeBlock>], place: u32, memory: RawBlock)
     requires linked { IsLinked ends.old slots.old }
     requires inside { place < length slots.old }
@@ -263,7 +263,7 @@ fn link(ends: &mut Links, slots: &mut [Option<FreeBlock>], place: u32, memory: R
     );
 }
 
-/// Takes a block out of the list: its neighbours are linked to each other.
+/// Takes a block out of the list, and links its neighbours to each other.
 fn unlink(ends: &mut Links, slots: &mut [Option<FreeBlock>], place: u32) -> RawBlock
     requires linked { IsLinked ends.old slots.old }
     requires free { is_some (slice_index_or slots.old place None) ≡ true }

@@ -1,6 +1,5 @@
-//! The laws of packet memory, for whoever proves something above it. Each function here is a
-//! theorem: it does nothing when it runs, and what it ensures holds of the definitions that the
-//! contracts of this crate cite.
+//! The laws of packet memory, for proofs in crates above it. Each function here is a theorem: it does nothing when it
+//! runs, and what it ensures holds of the definitions that the contracts of this crate cite.
 
 ghost use Rattle.dma_arena.specs.Laws.{LentByBlocks, LentEnds, ReadsBytes, ReadsBack, ReadsApart, WritesInside, WriteKeepsBlocks, MovesApart, WriteAvoids, BlockLaw, PutLaw, OwnsItsNumbers, ChangeLaw, CountLaw, GivenBack, CutLaw, LowestLaw, RunLaw, InsideAvoids, ReadsItsBlock};
 ghost use Rattle.dma_arena.specs.Whereabouts.{MovesKeepEachOnce, RunsKeepEachOnce};
@@ -64,14 +63,15 @@ pub fn numbers()
     ensures count { CountLaw }
 {}
 
-/// A block that is taken and given back leaves the arena as it was. A split parts the numbers: each is in one part.
+/// A block that is taken and given back leaves the arena as it was. A split partitions the numbers: each is in one
+/// half.
 pub fn numbers_stay()
     ensures given_back { GivenBack }
     ensures parted { CutLaw }
 {}
 
-/// Where arenas share no number, each block of an arena is in exactly one place, free, in hand
-/// or lent: it is so at first, and each move of a block keeps it so.
+/// Where arenas share no number, each block of an arena is in exactly one place: free, owned or lent. It is so at
+/// first, and each move of a block keeps it so.
 pub fn each_block_once()
     ensures { MovesKeepEachOnce }
 {}

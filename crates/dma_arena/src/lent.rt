@@ -9,13 +9,13 @@ use crate::table::Table;
 use std::alloc::Global;
 use std::marker::Model;
 
-/// The packet memory that is lent to the device: blocks by their numbers, and the bus over them.
+/// The packet memory that is lent to the device: blocks by number, and the bus through which they are accessed.
 ///
-/// Bus address `a` is byte `a % 2048` of block `a / 2048`. A range of addresses may cross
-/// blocks; it is lent where each block that it touches is. Contracts see the lent numbers with
-/// the bytes of each. It cannot be dropped: it is finished in the end, once it is empty.
+/// Bus address `a` is byte `a % 2048` of block `a / 2048`. A range of addresses may span blocks; it is lent where each
+/// block that it touches is. Contracts see the lent numbers with the bytes of each. It can't be dropped: `finish` ends
+/// it, once no block is lent.
 ///
-/// Only `lend` takes memory: room for the numbers up to the highest that was ever lent.
+/// Only `lend` allocates: room for the numbers up to the highest that was ever lent.
 pub struct LentMemory {
     blocks: Table,
 }
@@ -34,16 +34,16 @@ impl Model for LentMemory {
     ghost invariant = { λ a. IsWhole a.blocks };
 }
 
-/// Why a block was not lent, and the block.
+/// Why a block wasn't lent, and the block.
 pub enum LendRefused {
-    /// A block of its number is lent already.
+    /// A block of this number is already lent.
     Twice(Buf),
-    /// There was no memory to note it.
+    /// There was no memory to record the block.
     OutOfMemory(Buf),
 }
 
 impl LentMemory {
-    /// Lent memory without a block. It takes no memory.
+    /// Lent memory without a block. It allocates nothing.
     pub fn new(alloc: Global) -> LentMemory
         ensures { result ≡ map.empty }
     {
@@ -54,8 +54,8 @@ impl LentMemory {
 
     /// Lends a block under its number.
     ///
-    /// `Twice` exactly where that number is lent already, else `OutOfMemory`. Both hand the block
-    /// back, and leave what is lent as it is.
+    /// Errors: `Twice` exactly where that number is already lent, else `OutOfMemory`. Both return the block, and leave
+    /// the lent memory as it was.
     pub fn lend(&mut self, buf: Buf) -> Result<(), LendRefused>
         ensures lent { OnOk result (self.new ≡ map.insert self.old buf.number buf.bytes) }
         ensures once { OnOk result (has_block self.old buf.number ≡ false) }
@@ -74,7 +74,7 @@ impl LentMemory {
         }
     }
 
-    /// Takes a block back, with the bytes that the bus left in it. None where it is not lent.
+    /// Takes a block back, with the bytes that the bus left in it. `None` where it isn't lent.
     pub fn take(&mut self, block: u32) -> Option<Buf>
         ensures taken { result ≡ block_at self.old block }
         ensures left { self.new ≡ map.remove self.old block }
@@ -83,7 +83,7 @@ impl LentMemory {
         self.blocks.remove(block)
     }
 
-    /// The lowest number that is lent. None where no block is.
+    /// The lowest lent number. `None` where no block is lent.
     pub fn lowest(&self) -> Option<u32>
         ensures none { IsNone result ↔ (self.now ≡ map.empty) }
         ensures lent { IfSome result (λ number. IsTrue (has_block self.now number)) }
@@ -92,8 +92,8 @@ impl LentMemory {
         self.blocks.lowest()
     }
 
-    /// Whether each of the `len` bytes from a bus address on is in a lent block. A range that
-    /// would pass block 65,535 is not lent; one without bytes is.
+    /// Whether each of the `len` bytes from a bus address on is in a lent block. A range that would pass block 65,535
+    /// isn't lent; an empty range is.
     pub fn is_lent(&self, address: u64, len: usize) -> bool
         ensures lent { result ≡ is_lent self.now address len }
         ensures whole { IsWhole self.now }
@@ -101,7 +101,7 @@ impl LentMemory {
         ranges::are_lent(&self.blocks, address, len)
     }
 
-    /// The 16 bytes from a bus address on, as those of a descriptor.
+    /// The 16 bytes of a descriptor at a bus address. All must be lent.
     pub fn read16(&self, address: u64) -> [u8; 16]
         requires { is_lent self.now address 16 ≡ true }
         ensures { result ≡ read_at self.now address 16 }
@@ -111,7 +111,7 @@ impl LentMemory {
         bytes
     }
 
-    /// Writes 16 bytes from a bus address on, as those of a descriptor.
+    /// Writes the 16 bytes of a descriptor at a bus address. All must be lent.
     pub fn write16(&mut self, address: u64, bytes: [u8; 16])
         requires { is_lent self.old address 16 ≡ true }
         ensures { self.new ≡ write_at self.old address bytes }
@@ -119,7 +119,7 @@ impl LentMemory {
         self.write_at(address, &bytes);
     }
 
-    /// Fills the slice with the bytes from a bus address on.
+    /// Fills the slice with the bytes from a bus address on. All must be lent.
     pub fn read_at(&self, address: u64, bytes: &mut [u8])
         requires { is_lent self.now address (length bytes.old) ≡ true }
         ensures { bytes.new ≡ read_at self.now address (length bytes.old) }
@@ -127,7 +127,7 @@ impl LentMemory {
         ranges::read_bytes(&self.blocks, address, bytes);
     }
 
-    /// Writes the bytes of the slice from a bus address on.
+    /// Writes the bytes of the slice from a bus address on. All must be lent.
     pub fn write_at(&mut self, address: u64, bytes: &[u8])
         requires { is_lent self.old address (length bytes.now) ≡ true }
         ensures { self.new ≡ write_at self.old address bytes.now }
@@ -135,7 +135,7 @@ impl LentMemory {
         ranges::write_bytes(&mut self.blocks, address, bytes);
     }
 
-    /// Ends the lent memory. It is handed back unchanged exactly when a block is lent.
+    /// Ends the lent memory. It comes back unchanged exactly when a block is lent.
     pub fn finish(self) -> Result<(), LentMemory>
         ensures ok { IsOk result ↔ (self ≡ map.empty) }
         ensures back { IfErr result (λ m. m ≡ self) }

@@ -1,4 +1,4 @@
-//! How free blocks are linked: through their first bytes.
+//! The links of free blocks, which are stored in the blocks' first bytes.
 
 ghost use Rattle.std.specs.Prelude.{◌≡◌};
 ghost use Rattle.dma_arena.specs.Links.{links_of};
@@ -6,14 +6,14 @@ ghost use Rattle.dma_arena.specs.Links.{links_of};
 use crate::buf::{BLOCK_BYTES, RawBlock};
 use std::marker::Model;
 
-/// The places of a free block's neighbours in the list of the free ones.
+/// The indices of a free block's neighbours in the free list.
 #[derive(Clone, Copy)]
 pub(crate) struct Links {
     pub(crate) next: u32,
     pub(crate) prev: u32,
 }
 
-/// The memory of a free block, whose first eight bytes are its links. Contracts see these.
+/// The memory of a free block, whose first eight bytes are its links. Contracts see the links.
 pub(crate) struct FreeBlock {
     memory: RawBlock,
 }
@@ -28,7 +28,7 @@ impl Model for FreeBlock {
 }
 
 impl FreeBlock {
-    /// The memory, linked so.
+    /// Writes links into the memory of a block that becomes free.
     pub(crate) fn of(mut memory: RawBlock, links: Links) -> FreeBlock
         ensures { result ≡ links }
     {
@@ -36,13 +36,13 @@ impl FreeBlock {
         FreeBlock { memory }
     }
 
-    /// The memory of a block that leaves the list.
+    /// The memory of a block that leaves the free list.
     pub(crate) fn into_memory(self) -> RawBlock {
         let FreeBlock { memory } = self;
         memory
     }
 
-    /// Where the neighbours are.
+    /// The indices of its neighbours.
     pub(crate) fn links(&self) -> Links
         ensures { result ≡ self.now }
     {
@@ -50,7 +50,7 @@ impl FreeBlock {
     }
 }
 
-/// The links that the first bytes are.
+/// The links that a block's first eight bytes hold.
 #[tactic(auto, unfolding(crate::specs::Links::links_of))]
 fn read_links(bytes: &[u8; BLOCK_BYTES]) -> Links
     ensures { result ≡ links_of bytes.now }
@@ -65,7 +65,7 @@ fn read_links(bytes: &[u8; BLOCK_BYTES]) -> Links
     }
 }
 
-/// Writes links into the first bytes.
+/// Writes links into a block's first eight bytes, little-endian.
 fn write_links(bytes: &mut [u8; BLOCK_BYTES], next: u32, prev: u32)
     ensures { links_of bytes.new ≡ record { next = next; prev = prev } }
 {

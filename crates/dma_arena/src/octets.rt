@@ -3,7 +3,7 @@ ghost use Rattle.std.specs.Vec.{vec_capacity};
 
 use std::marker::Model;
 
-/// Bytes that are kept, as those of a frame, which contracts see as their list.
+/// Stored bytes, such as a frame's. Contracts see them as a list.
 #[derive(Debug, Drop)]
 pub struct Octets {
     bytes: Vec<u8>,
@@ -18,14 +18,14 @@ impl Model for Octets {
 }
 
 impl Octets {
-    /// The bytes of the vector, which is kept as it is: nothing is copied.
+    /// Takes over the bytes of the vector: nothing is copied.
     pub fn of(bytes: Vec<u8>) -> Octets
         ensures { result ≡ bytes.items }
     {
         Octets { bytes }
     }
 
-    /// A copy of the bytes, in a vector that has room for them: no memory is asked for.
+    /// A copy of the bytes in this empty vector, which has room for them: it allocates nothing.
     pub fn copied(bytes: &[u8], mut room: Vec<u8>) -> Octets
         requires empty { room.items ≡ [] }
         requires room { length bytes.now ≤ vec_capacity room }
@@ -37,7 +37,7 @@ impl Octets {
         }
     }
 
-    /// Whether both are the same bytes.
+    /// Whether both have equal bytes.
     pub fn same(&self, other: &Octets) -> bool
         ensures { IsTrue result ↔ (self.now ≡ other.now) }
     {
@@ -51,7 +51,7 @@ impl Octets {
         self.bytes.as_slice()
     }
 
-    /// The vector with the bytes: nothing is copied.
+    /// The bytes as a vector: nothing is copied.
     pub fn into_vec(self) -> Vec<u8>
         ensures { result.items ≡ self }
     {

@@ -1,4 +1,4 @@
-//! Ranges of bus addresses over the lent blocks, gone through block by block.
+//! Accesses to ranges of bus addresses in the lent blocks, block by block.
 
 ghost use Rattle.std.specs.Prelude.{◌≡◌, ◌*◌, ◌+◌, ◌≤◌, true, length};
 ghost use Rattle.dma_arena.specs.Memory.{has_block, is_lent, read_at, write_at, IsWhole};

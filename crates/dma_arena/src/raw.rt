@@ -1,4 +1,4 @@
-//! A value in memory of its own, held by its address.
+//! A value in an allocation of its own, held by its address.
 
 ghost use Rattle.std.specs.Prelude.{◌≡◌};
 ghost use Rattle.std.specs.Borrow.{sem};
@@ -8,7 +8,7 @@ ghost use denote.Struct.Lending.{lent_at};
 use std::alloc::Allocator;
 use std::marker::{Model, Send, Sync};
 
-/// The memory at one address, with the value that lies there. It owns both.
+/// The address of an allocation and the value there. It owns both.
 pub(crate) struct Raw<T, A: Allocator> {
     at: *mut T,
     alloc: A,
@@ -22,7 +22,7 @@ impl<T, A: Allocator> Model for Raw<T, A> {
 }
 
 impl<T: Drop, A: Allocator> Raw<T, A> {
-    /// The value of the box, where it lies: nothing is copied.
+    /// Takes over a box's allocation with its value: nothing is copied.
     pub(crate) fn of(value: Box<T, A>) -> Raw<T, A>
         ensures { result.value ≡ value.value }
     {
@@ -30,12 +30,12 @@ impl<T: Drop, A: Allocator> Raw<T, A> {
         Raw { at, alloc }
     }
 
-    /// Frees the memory.
+    /// Drops the value and frees its allocation.
     pub(crate) fn free(self) {
         drop(self.into_box());
     }
 
-    /// The box of the value, which frees its memory in the end.
+    /// The value's box again, whose drop frees the memory.
     fn into_box(self) -> Box<T, A>
         ensures { result.value ≡ self.value }
     {
@@ -47,14 +47,14 @@ impl<T: Drop, A: Allocator> Raw<T, A> {
 impl<T, A: Allocator> Raw<T, A> {
     ghost use Rattle.dma_arena.specs.Raw.{Follows};
 
-    /// The value, to read.
+    /// Borrows the value, without a copy.
     pub(crate) fn get(&self) -> &T
         ensures { result.now ≡ self.now.value }
     {
         unsafe { &*self.at }
     }
 
-    /// The value, to write in.
+    /// Borrows the value mutably.
     pub(crate) fn get_mut(&mut self) -> &mut T
         ensures* follows { sem 𝓛 (Follows T.row A.row A.Allocator self.entry result) }
         ensures value { result.now ≡ self.old.value }

@@ -1,4 +1,4 @@
-//! Runs: blocks whose numbers follow one another.
+//! Runs: blocks with consecutive numbers, for packets of several blocks.
 
 ghost use Rattle.std.specs.Prelude.{ℕ, ◌≡◌, ◌↔◌, ◌+◌, ◌-◌, ◌<◌, ◌≤◌, None, option_map, slice_index_or, IfErr, IfSome, IfNone, IsNone, IsOk, OnSome};
 ghost use Rattle.dma_arena.specs.Block.{zero_block};
@@ -9,13 +9,13 @@ use crate::arena::Arena;
 use crate::buf::{Buf, nothing};
 use std::marker::Model;
 
-/// How many blocks a run has at most.
+/// The most blocks that a run can have.
 const RUN_BLOCKS: usize = 8;
 
-/// Blocks in hand whose numbers follow one another, each byte of them 0.
+/// Owned blocks with consecutive numbers, all of whose bytes are 0.
 ///
-/// Contracts see it as its first number and how many blocks it has. It cannot be dropped: it is finished in the
-/// end, once all of its blocks are popped.
+/// Contracts see it as its first number and its count. It can't be dropped: `finish` ends it, once all of its blocks
+/// are popped.
 pub struct Run {
     first: u32,
     count: u32,
@@ -33,14 +33,14 @@ impl Model for Run {
 }
 
 impl Run {
-    /// The number of its lowest block.
+    /// The lowest block number of the run.
     pub fn first(&self) -> u32
         ensures { result ≡ self.now.first }
     {
         self.first
     }
 
-    /// How many blocks it has.
+    /// How many blocks are left, 0 to 8.
     pub fn count(&self) -> u32
         ensures count { result ≡ self.now.count }
         ensures few { result ≤ 8 }
@@ -48,7 +48,7 @@ impl Run {
         self.count
     }
 
-    /// Takes its highest block out, of whose bytes each is 0. None exactly when it has none.
+    /// Takes out the block with the highest number, all of whose bytes are 0. `None` exactly when no block is left.
     pub fn pop(&mut self) -> Option<Buf>
         ensures none { IsNone result ↔ (self.old.count ≡ 0) }
         ensures highest { IfSome result (λ b. b ≡ zero_block (self.old.first + self.old.count - 1)) }
@@ -62,7 +62,7 @@ impl Run {
         self.slots[self.count as usize].take()
     }
 
-    /// Ends the run. It is handed back unchanged exactly when it has a block.
+    /// Ends the run. It comes back unchanged exactly when a block is left.
     pub fn finish(self) -> Result<(), Run>
         ensures ok { IsOk result ↔ (self.count ≡ 0) }
         ensures back { IfErr result (λ r. r ≡ self) }
@@ -80,7 +80,7 @@ impl Run {
         Ok(())
     }
 
-    /// A run without a block.
+    /// A run without blocks that begins at this number.
     fn empty(first: u32) -> Run
         ensures { result ≡ record { first = first; count = 0 } }
     {
@@ -91,7 +91,7 @@ impl Run {
         }
     }
 
-    /// Puts the block behind it.
+    /// Appends the next block.
     fn push(&mut self, buf: Buf)
         requires few { self.old.count < 8 }
         requires next { buf ≡ zero_block (self.old.first + self.old.count) }
@@ -104,8 +104,8 @@ impl Run {
 }
 
 impl Arena {
-    /// The lowest number, from `from` on, from which `count` blocks are free. None exactly where there is none. `from`
-    /// isn't below the arena's numbers.
+    /// The lowest number, from `from` on, at which `count` blocks (8 at most) with consecutive numbers are free. `None`
+    /// exactly where there is none. `from` must not be below the arena's numbers.
     pub fn find_run(&self, from: u32, count: u32) -> Option<u32>
         requires from { self.now.first ≤ from }
         requires few { count ≤ 8 }
@@ -122,8 +122,8 @@ impl Arena {
         None
     }
 
-    /// Takes the lowest run of `count` free blocks, of whose bytes each is 0: blocks whose numbers follow one another.
-    /// None exactly where no such blocks are free. It takes no memory.
+    /// Takes the lowest run of `count` free blocks (1 to 8), all of whose bytes are 0. `None` exactly where no `count`
+    /// consecutive blocks are free. It allocates nothing.
     pub fn take_run(&mut self, count: u32) -> Option<Run>
         requires few { (1 ≤ count) × (count ≤ 8) }
         ensures run { result ≡ option_map (λ first. record { first = first; count = count }) (run_in self.old count) }
@@ -143,7 +143,7 @@ impl Arena {
     }
 }
 
-/// Nothing is in any of the slots.
+/// Drops the slots of a run, which are all empty.
 fn nothing_left(slots: [Option<Buf>; RUN_BLOCKS])
     requires { (k : ℕ) → slice_index_or slots k None ≡ None }
 {

@@ -1,4 +1,4 @@
-//! The lent blocks by their numbers.
+//! The lent blocks by number.
 
 ghost use Rattle.std.specs.Prelude.{ℕ, ◌≡◌, ◌↔◌, ◌+◌, ◌-◌, ◌<◌, ◌≤◌, ◌++◌, true, false, None, length, replicate, is_some, count_by, option_copied, unwrap_or, [], IsTrue, IfSome, IfNone, IfErr, IsNone, OnOk, OnErr};
 ghost use Rattle.std.specs.FinMap as map;
@@ -9,15 +9,15 @@ use crate::buf::{Buf, nothing};
 use std::alloc::{AllocError, Global};
 use std::marker::Model;
 
-/// What stands for the lowest number while no block is lent: no block has it.
+/// The value of the lowest number while no block is lent: no block has it.
 const NONE_LENT: u32 = 65536;
 
-/// The lent blocks, each at the place of its number: block `n` at place `n`.
+/// The lent blocks, each at the index of its number.
 ///
-/// Contracts see the lent numbers with the bytes of each. There are places up to the highest
-/// number that was ever lent, 65,536 at most, and only `insert` makes them.
+/// Contracts see the lent numbers with the bytes of each. There are slots up to the highest number that was ever lent,
+/// 65,536 at most, and only `insert` makes them.
 ///
-/// It knows how many blocks it has, and the lowest of their numbers.
+/// It stores how many blocks it has, and the lowest of their numbers.
 pub(crate) struct Table {
     places: Vec<Option<Buf>>,
     first: u32,
@@ -40,7 +40,7 @@ impl Model for Table {
 }
 
 impl Table {
-    /// A table without a block. It takes no memory.
+    /// A table without blocks. It allocates nothing.
     pub(crate) fn new(alloc: Global) -> Table
         ensures { result ≡ map.empty }
     {
@@ -51,7 +51,7 @@ impl Table {
         }
     }
 
-    /// The block of a number. None where it is not lent.
+    /// The lent block of a number. `None` where it isn't lent.
     pub(crate) fn get(&self, number: u32) -> Option<&Buf>
         ensures { option_copied result ≡ block_at self.now number }
     {
@@ -61,7 +61,7 @@ impl Table {
         self.places[number as usize].as_ref()
     }
 
-    /// Whether the block of a number is lent.
+    /// Whether the block of this number is lent.
     pub(crate) fn has(&self, number: u32) -> bool
         ensures { result ≡ has_block self.now number }
     {
@@ -75,7 +75,7 @@ impl Table {
         self.first == NONE_LENT
     }
 
-    /// The lowest number that is lent. None where no block is.
+    /// The lowest lent number. `None` where no block is lent.
     pub(crate) fn lowest(&self) -> Option<u32>
         ensures none { IsNone result ↔ (self.now ≡ map.empty) }
         ensures lent { IfSome result (λ number. IsTrue (has_block self.now number)) }
@@ -87,8 +87,7 @@ impl Table {
         Some(self.first)
     }
 
-    /// Puts bytes into a lent block, from one of its bytes on. They must fit: a block has 2,048
-    /// bytes.
+    /// Copies bytes into a lent block from index `offset` on. They must fit: a block has 2,048 bytes.
     pub(crate) fn put(&mut self, number: u32, offset: usize, bytes: &[u8])
         requires lent { has_block self.old number ≡ true }
         requires room { offset + length bytes.now ≤ 2048 }
@@ -101,10 +100,10 @@ impl Table {
         }
     }
 
-    /// Puts a block at the place of its number, which is not lent.
+    /// Inserts a block at its number, which isn't lent.
     ///
-    /// It is handed back where there is no memory for the places up to its own; nothing is lent
-    /// then that was not.
+    /// The block comes back where there is no memory for the slots up to its own; then no other block is lent than
+    /// before.
     pub(crate) fn insert(&mut self, buf: Buf) -> Result<(), Buf>
         requires { has_block self.old buf.number ≡ false }
         ensures lent { OnOk result (self.new ≡ map.insert self.old buf.number buf.bytes) }
@@ -121,8 +120,8 @@ impl Table {
         Ok(())
     }
 
-    /// Takes the block of a number out. None where it is not lent. Where it was the lowest and is
-    /// not the last, the next one is looked for, place by place.
+    /// Removes the block of a number. `None` where it isn't lent. Where it had the lowest number and other blocks are
+    /// left, the next number is searched for slot by slot.
     pub(crate) fn remove(&mut self, number: u32) -> Option<Buf>
         ensures taken { result ≡ block_at self.old number }
         ensures left { self.new ≡ map.remove self.old number }
@@ -141,7 +140,7 @@ impl Table {
         Some(buf)
     }
 
-    /// Ends a table without a block, which gives its places back.
+    /// Ends a table without blocks, and frees its slots.
     pub(crate) fn end(self)
         requires { self ≡ map.empty }
     {
@@ -157,7 +156,7 @@ impl Table {
     }
 }
 
-/// Makes places up to that of a number, below 65,536, each without a block.
+/// Makes slots up to a number, below 65,536, each without a block.
 fn make_places(places: &mut Vec<Option<Buf>>, number: u32) -> Result<(), AllocError>
     requires { number < 65536 }
     ensures made { OnOk result (places.new.items
@@ -179,7 +178,7 @@ fn make_places(places: &mut Vec<Option<Buf>>, number: u32) -> Result<(), AllocEr
     Ok(())
 }
 
-/// The first place that has a block, where none below `from` has one. `count` places have one.
+/// The index of the first slot with a block, where none below `from` has one. `count` slots have one.
 fn first_from(places: &[Option<Buf>], from: u32, count: u32) -> u32
     requires below { NoneBelow places.now from }
     requires few { length places.now ≤ 65536 }

@@ -11,7 +11,7 @@ use Rattle.dma_ring.specs.declared.transmit.Command.{Command}
 abbrev pub posted : ℕ → ℕ
 posted address = address
 
--- the RSS type and the hash that a written-back first half tells
+-- the RSS type and the hash in a written-back first half
 abbrev pub rss_in : ℕ → ℕ
 rss_in first = first % 2 ^ 4
 
@@ -27,7 +27,7 @@ data_word len last payload = (if last then DATA + LAST else DATA) + len + 2 ^ PA
 abbrev pub PostedIsTheBuffer : Type 0
 PostedIsTheBuffer = (address : ℕ) → address % 2 ≡ 0 → buffer_of (posted address) ≡ address
 
--- what the device tells of a packet, a driver reads
+-- what the device reports of a packet, a driver reads
 pub record TellsBoth (first : ℕ) (packet : Packet) : Type 0 where
   pub rss : rss_in first ≡ packet.rss
   pub hash : hash_in first ≡ packet.hash
@@ -35,7 +35,7 @@ pub record TellsBoth (first : ℕ) (packet : Packet) : Type 0 where
 abbrev pub ToldIsRead : Type 0
 ToldIsRead = (packet : Packet) → packet.rss < 2 ^ 4 → packet.hash < 2 ^ 32 → TellsBoth (told_of packet) packet
 
--- the command of a data descriptor: so many bytes, the packet's end and the report together, and no offload
+-- the command of a data descriptor: this many bytes, the packet's end and the report together, and no offload
 abbrev pub data_command : ℕ → Bool → Command
 data_command len last =
     record { len = len; kind = 3; end = last; report = last; extended = true; offload = false }

@@ -1,5 +1,4 @@
--- What rings and descriptors promise as a whole. Bits stand here by the datasheet's numbers, and not by the names that
--- the code gives them.
+-- Laws of rings and descriptors. They number bits as the datasheet does, and don't use the code's names for them.
 use Rattle.std.specs.Prelude.{ℕ, ◌≡◌, ◌≢◌, ◌+◌, ◌*◌, ◌%◌, ◌^◌, ◌<◌, ◌≤◌, ◌⊎◌, ◌==◌, Bool, false, not, ◌||◌, IsTrue, IsFalse, [], ◌∷◌, length}
 use Rattle.dma_ring.specs.Bits.{has_bit, field}
 use Rattle.dma_ring.specs.Descriptor.{first_half, second_half, of_halves}
@@ -48,7 +47,7 @@ pub record HasHalves (low high : ℕ) : Type 0 where
 abbrev pub HalvesComeBack : Type 0
 HalvesComeBack = (low high : ℕ) → HasHalves low high
 
--- a word tells what a packet is, each field in its own bits, and nothing in the bits that are left
+-- a word reports what a packet is, each field in its own bits, and nothing in the other bits
 pub record TellsPacket (word : ℕ) (packet : Packet) : Type 0 where
   pub fits : word < 2 ^ 64
   pub rss : field 3 0 word ≡ packet.rss
@@ -62,7 +61,7 @@ pub record TellsPacket (word : ℕ) (packet : Packet) : Type 0 where
 abbrev pub PacketIsTold : Type 0
 PacketIsTold = (packet : Packet) → packet.rss < 2 ^ 4 → packet.hash < 2 ^ 32 → TellsPacket (told_of packet) packet
 
--- a word tells that the descriptor is done, whether the packet ends, and how many bytes came, and nothing else
+-- a word reports that the descriptor is done, whether the packet ends, and the number of bytes, and nothing else
 pub record TellsPiece (word bytes : ℕ) (ends : Bool) : Type 0 where
   pub fits : word < 2 ^ 64
   pub done : IsTrue (is_done word)

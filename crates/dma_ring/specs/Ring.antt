@@ -9,7 +9,7 @@ slots_of r = r.length / 16
 abbrev pub is_outside : Ring → Bool
 is_outside r = not (nat_lt r.head (slots_of r) && nat_lt r.tail (slots_of r))
 
--- the slot after one of so many slots: 0 after the last
+-- the slot after one of this many slots: 0 after the last
 abbrev pub next_of : ℕ → ℕ → ℕ
 next_of slots slot = if slot + 1 == slots then 0 else slot + 1
 
@@ -17,7 +17,7 @@ next_of slots slot = if slot + 1 == slots then 0 else slot + 1
 abbrev pub descriptor_address : Ring → ℕ → ℕ
 descriptor_address r slot = (r.base + 16 * slot) % 2 ^ 64
 
--- of so many slots, those from one on up to the tail, which is left out; at most `most` of them
+-- of this many slots, those from one on up to the tail, which is left out; at most `most` of them
 unfoldable pub slots_up_to : ℕ → ℕ → ℕ → ℕ → List ℕ
 slots_up_to slots tail zero slot = []
 slots_up_to slots tail (suc most) slot =

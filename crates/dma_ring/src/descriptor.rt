@@ -21,7 +21,7 @@ pub fn second_half(descriptor: &[u8; 16]) -> u64
     LittleEndian::read_u64(&descriptor[8..])
 }
 
-/// The descriptor of two words.
+/// The 16 bytes of a descriptor with these halves.
 #[tactic(auto, unfolding(crate::specs::Descriptor::of_halves))]
 pub fn of_halves(first: u64, second: u64) -> [u8; 16]
     ensures { result ≡ of_halves first second }

@@ -1,8 +1,8 @@
-/// A side of a queue.
+/// A side of a queue, the direction of its frames.
 #[derive(Clone, Copy, PartialEq, Eq, Debug)]
 pub enum Dir {
-    /// Receive.
+    /// The receive side: frames from the link to memory.
     Rx,
-    /// Transmit.
+    /// The transmit side: frames from memory to the link.
     Tx,
 }

@@ -1,4 +1,5 @@
-//! A driver's side of the descriptors: what it writes for the device, and what it reads of what the device wrote back.
+//! A driver's side of the descriptors: what it writes for the device, and what it reads from what the device wrote
+//! back.
 //!
 //! Intel 82599 datasheet, sections on advanced receive descriptors and on advanced transmit data descriptors.
 
@@ -19,10 +20,10 @@ const LAST: u64 = (1 << 24) + (1 << 27);
 /// The lowest bit of the length of the whole packet, PAYLEN.
 const PAYLEN: u32 = 46;
 
-/// The bit by which the device tells that a transmit descriptor is done, DD.
+/// The bit by which the device reports that a transmit descriptor is done, DD.
 const SENT: u32 = 32;
 
-/// The first half of a receive descriptor that names the buffer at a bus address, which is even.
+/// The first half of a receive descriptor whose buffer is at a bus address, which is even.
 pub fn posted_word(address: u64) -> u64
     requires { address % 2 ≡ 0 }
     ensures { result ≡ posted address }
@@ -30,28 +31,28 @@ pub fn posted_word(address: u64) -> u64
     address
 }
 
-/// Whether a receive descriptor was written back, by its second half.
+/// Whether a receive descriptor was written back (DD), by its second half.
 pub fn is_written_back(second: u64) -> bool
     ensures { result ≡ is_done second }
 {
     second % 2 == 1
 }
 
-/// Whether the packet ends in the buffer of a descriptor that was written back, by its second half.
+/// Whether the packet ends (EOP) in the buffer of a descriptor that was written back, by its second half.
 pub fn is_last(second: u64) -> bool
     ensures { result ≡ ends_packet second }
 {
     second / 2 % 2 == 1
 }
 
-/// How many bytes came into the buffer of a descriptor that was written back, by its second half.
+/// How many bytes were written into the buffer of a descriptor that was written back, by its second half.
 pub fn length_told(second: u64) -> u16
     ensures { result ≡ bytes_in second }
 {
     (second / 0x1_0000_0000 % 0x1_0000) as u16
 }
 
-/// The number of the packet's RSS type, below 16, by the first half of a descriptor that was written back.
+/// The packet's RSS type, 0 to 15, by the first half of a descriptor that was written back.
 pub fn rss_told(first: u64) -> u8
     ensures value { result ≡ rss_in first }
     ensures small { result < 16 }
@@ -59,7 +60,7 @@ pub fn rss_told(first: u64) -> u8
     (first % 16) as u8
 }
 
-/// The packet's hash, by the first half of a descriptor that was written back. 0 where none is told.
+/// The packet's RSS hash, by the first half of a descriptor that was written back. 0 where none is reported.
 pub fn hash_told(first: u64) -> u32
     requires { first < 2 ^ 64 }
     ensures { result ≡ hash_in first }
@@ -67,8 +68,8 @@ pub fn hash_told(first: u64) -> u32
     (first / 0x1_0000_0000) as u32
 }
 
-/// The second half of a transmit data descriptor for so many bytes of a packet, whose whole length is below 2^18. With
-/// `last` the packet ends with them, and the device tells when it is done.
+/// The second half of a transmit data descriptor for `len` bytes of a packet of `payload` bytes, below 2^18. With
+/// `last` the packet ends with them, and the device reports when the descriptor is done.
 pub fn data_descriptor_word(len: u16, last: bool, payload: u32) -> u64
     requires { payload < 2 ^ 18 }
     ensures { result ≡ data_word len last payload }
@@ -77,7 +78,7 @@ pub fn data_descriptor_word(len: u16, last: bool, payload: u32) -> u64
     flags + u64::from(len) + (u64::from(payload) << PAYLEN)
 }
 
-/// Whether a transmit descriptor is done, by its second half.
+/// Whether a transmit descriptor is done (DD), by its second half.
 pub fn is_sent(second: u64) -> bool
     ensures { result ≡ has_bit 32 second }
 {

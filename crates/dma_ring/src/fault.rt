@@ -1,19 +1,19 @@
-/// Why a slot can't be processed. A fault writes no memory.
+/// Why a descriptor can't be processed. A fault writes no memory.
 #[derive(Clone, Copy, PartialEq, Eq, Debug)]
 pub enum RingFault {
-    /// The head or the tail is no slot of the ring.
+    /// The ring's head or tail is no slot of the ring.
     Outside,
-    /// Memory that the access needs isn't lent: the address of its first byte.
+    /// Memory that the access needs isn't lent. This is the bus address of its first byte.
     NotLent(u64),
-    /// The receive queue's descriptor type isn't the advanced one with one buffer.
+    /// The receive queue's descriptor type in SRRCTL isn't 1, advanced with one buffer.
     DescType,
-    /// The receive queue's buffer size is 0.
+    /// The receive queue's buffer size in SRRCTL is 0.
     NoBufferSize,
-    /// The transmit descriptor asks for segmentation, VLAN insertion or a checksum.
+    /// The transmit descriptor asks for segmentation, VLAN insertion or checksum insertion.
     Offload,
-    /// The transmit descriptor is a legacy one.
+    /// The transmit descriptor has the legacy format.
     Legacy,
-    /// The frame is above the frame limit.
+    /// The transmit frame is longer than the frame limit.
     TooLong,
     /// The transmit descriptor is neither a data nor a context descriptor.
     UnknownType,

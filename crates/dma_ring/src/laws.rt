@@ -1,9 +1,9 @@
-//! What a ring and its descriptors promise as a whole. A law is the contract of a function that does nothing.
+//! Laws of a ring and its descriptors. A law is the contract of a function that does nothing.
 
 ghost use Rattle.dma_ring.specs.Driver.{PostedIsTheBuffer, ToldIsRead, DataIsAsked};
 ghost use Rattle.dma_ring.specs.Laws.{AvailableSlotsFollowTheHead, SlotsAreApart, SlotsAreInBlocks, RingIsInBlock, HalvesComeBack, PacketIsTold, PieceIsTold, CommandIsAsked, DoneIsSet};
 
-/// The device's slots are none where head and tail are equal, and else the head and those after it.
+/// The device owns no slot where head and tail are equal, and else the head and the slots after it up to the tail.
 pub fn available_slots_follow_the_head()
     ensures { AvailableSlotsFollowTheHead }
 {}
@@ -16,26 +16,27 @@ pub fn slots_are_apart()
     ensures ring { RingIsInBlock }
 {}
 
-/// A descriptor of two halves has 16 bytes and gives both halves back.
+/// A descriptor of two halves has 16 bytes, and both halves are read back.
 pub fn halves_come_back()
     ensures { HalvesComeBack }
 {}
 
-/// A driver reads of a written-back descriptor what was told: of the packet in the first half, of the piece in the
-/// second. No two fields share a bit.
+/// A driver reads from a written-back descriptor what the device reported: of the packet in the first half, of the
+/// piece in the second. No two fields share a bit.
 pub fn receive_fields()
     ensures packet { PacketIsTold }
     ensures piece { PieceIsTold }
 {}
 
-/// The device reads a command of the bits that the datasheet gives its fields. Setting the done bit changes no other.
+/// The device reads a command from the bits that the datasheet gives its fields. Setting the done bit changes no other
+/// bit.
 pub fn transmit_fields()
     ensures command { CommandIsAsked }
     ensures done { DoneIsSet }
 {}
 
-/// A driver and the device read of each other's descriptors what was written: the buffer that is posted, the packet
-/// that is told, and the command of a data descriptor.
+/// A driver and the device read from each other's descriptors what was written: the buffer that is posted, the packet
+/// that is reported, and the command of a data descriptor.
 pub fn driver_and_device_agree()
     ensures posted { PostedIsTheBuffer }
     ensures told { ToldIsRead }

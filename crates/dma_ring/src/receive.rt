@@ -5,51 +5,55 @@
 ghost use Rattle.std.specs.Prelude.{◌≡◌, ◌<◌, ◌^◌};
 ghost use Rattle.dma_ring.specs.Receive.{buffer_of, told_of, written_back};
 
-/// Bits of a written-back first half: the packet is IPv4. The RSS type is in bits 3 to 0.
+/// Bit of a written-back first half: the packet is IPv4. The RSS type is in bits 3 to 0.
 const IPV4: u32 = 4;
 
-/// The packet is IPv6.
+/// Bit of the first half: the packet is IPv6.
 const IPV6: u32 = 6;
 
-/// The packet is TCP.
+/// Bit of the first half: the packet is TCP.
 const TCP: u32 = 8;
 
-/// The packet is UDP.
+/// Bit of the first half: the packet is UDP.
 const UDP: u32 = 9;
 
-/// The lowest bit of the packet's hash.
+/// The lowest bit of the packet's RSS hash in the first half.
 const HASH: u32 = 32;
 
-/// Bits of a written-back second half: the descriptor is done.
+/// Bit of a written-back second half: the descriptor is done.
 const DD: u32 = 0;
 
-/// The packet ends in this buffer.
+/// Bit of the second half: the packet ends in this buffer.
 const EOP: u32 = 1;
 
-/// The lowest bit of the number of bytes in this buffer.
+/// The lowest bit of the number of bytes in this buffer, in the second half.
 const PKT_LEN: u32 = 32;
 
-/// The bus address of the buffer that a descriptor's first half names. Bit 0 is ignored.
+/// The bus address of the buffer, by a descriptor's first half. Bit 0 is ignored.
 pub fn buffer_address(first: u64) -> u64
     ensures { result ≡ buffer_of first }
 {
     2 * (first / 2)
 }
 
-/// What a descriptor tells of a packet.
+/// What a descriptor reports of a packet.
 #[derive(Clone, Copy, PartialEq, Eq, Debug)]
 pub struct Packet {
-    /// The number of its RSS type, below 16.
+    /// The RSS type, 0 to 15.
     pub rss: u8,
+    /// Whether the packet is IPv4.
     pub ipv4: bool,
+    /// Whether the packet is IPv6.
     pub ipv6: bool,
+    /// Whether the packet is TCP.
     pub tcp: bool,
+    /// Whether the packet is UDP.
     pub udp: bool,
-    /// Its hash, 0 where none is told.
+    /// The RSS hash, 0 where none is reported.
     pub hash: u32,
 }
 
-/// The first half that the device writes back: what it tells of the packet.
+/// The first half that the device writes back: what it reports of the packet.
 pub fn packet_word(packet: &Packet) -> u64
     ensures { result ≡ told_of packet.now }
 {
@@ -61,8 +65,7 @@ pub fn packet_word(packet: &Packet) -> u64
         + (u64::from(packet.hash) << HASH)
 }
 
-/// The second half that the device writes back: done, the end of the packet where it is, and how many bytes are in
-/// this buffer.
+/// The second half that the device writes back: done, whether the packet ends, and the number of bytes in this buffer.
 pub fn done_word(len: u16, end: bool) -> u64
     ensures { result ≡ written_back len end }
 {

@@ -1,24 +1,24 @@
 ghost use Rattle.std.specs.Prelude.{◌≡◌, ◌<◌, ◌≤◌, length, IsTrue, IsFalse};
 ghost use Rattle.dma_ring.specs.Ring.{slots_of, is_outside, next_of, descriptor_address, available_slots};
 
-/// How many bytes a descriptor has.
+/// The size of a descriptor in bytes.
 pub const DESCRIPTOR_BYTES: u32 = 16;
 
-/// A ring, as a queue's registers give it.
+/// A ring, as a queue's registers describe it.
 #[derive(Clone, Copy, PartialEq, Eq, Debug)]
 pub struct Ring {
-    /// The bus address of slot 0.
+    /// The bus address of slot 0 (RDBAL and RDBAH, or TDBAL and TDBAH).
     pub base: u64,
-    /// The length in bytes; what is left over 16 is no slot.
+    /// The length in bytes (RDLEN or TDLEN). A rest below 16 bytes is no slot.
     pub length: u32,
-    /// The slot that the device processes next.
+    /// The slot that the device processes next (RDH or TDH).
     pub head: u16,
-    /// The first slot that isn't the device's.
+    /// The first slot that the device doesn't own (RDT or TDT).
     pub tail: u16,
 }
 
 impl Ring {
-    /// How many slots the ring has.
+    /// The number of slots in the ring.
     pub fn slots(&self) -> u32
         ensures { result ≡ slots_of self.now }
     {
@@ -32,7 +32,7 @@ impl Ring {
         u32::from(self.head) >= self.slots() || u32::from(self.tail) >= self.slots()
     }
 
-    /// How many slots are the device's: those from the head up to the tail, the tail left out. 0 where they are equal.
+    /// How many slots the device owns: those from the head up to the tail, the tail excluded. 0 where they are equal.
     pub fn available(&self) -> u32
         requires { IsFalse (is_outside self.now) }
         ensures { result ≡ length (available_slots self.now) }
@@ -46,7 +46,7 @@ impl Ring {
         }
     }
 
-    /// The slot after one: 0 after the last.
+    /// The slot after this one: 0 after the last.
     pub fn next(&self, slot: u16) -> u16
         requires slot { slot < slots_of self.now }
         requires slots { slots_of self.now ≤ 65536 }

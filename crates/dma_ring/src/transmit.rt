@@ -7,49 +7,49 @@ ghost use Rattle.dma_ring.specs.Transmit.{command_of, with_done};
 
 use crate::bits::has_bit;
 
-/// The lowest bit of the descriptor's type. The number of bytes, DTALEN, is in bits 15 to 0; the frame check sequence,
-/// IFCS, bit 25, and the payload length, PAYLEN, bits 63 to 46, have no effect.
+/// The lowest bit of the descriptor's type, DTYP. The number of bytes, DTALEN, is in bits 15 to 0. Two fields have no
+/// effect: the frame check sequence, IFCS, bit 25, and the payload length, PAYLEN, bits 63 to 46.
 const DTYP: u32 = 20;
 
-/// The packet ends with this buffer.
+/// End of packet: the packet ends with this buffer.
 const EOP: u32 = 24;
 
-/// The status is to be reported.
+/// Report status: the device reports when the descriptor is done.
 const RS: u32 = 27;
 
-/// The descriptor is an advanced one.
+/// The descriptor has the advanced format.
 const DEXT: u32 = 29;
 
-/// VLAN insertion.
+/// VLAN insertion is asked for, which isn't supported.
 const VLE: u32 = 30;
 
-/// Segmentation.
+/// Segmentation is asked for, which isn't supported.
 const TSE: u32 = 31;
 
-/// The descriptor is done.
+/// The device is done with the descriptor.
 const DD: u32 = 32;
 
-/// The lowest bit of the checksums to insert.
+/// The lowest bit of the field of checksums to insert.
 const POPTS: u32 = 40;
 
 /// What the second half of a transmit descriptor asks for.
 #[derive(Clone, Copy, PartialEq, Eq, Debug)]
 pub struct Command {
-    /// How many bytes the buffer has.
+    /// The number of bytes in the buffer.
     pub len: u16,
-    /// The descriptor's type: 2 context, 3 data.
+    /// The descriptor's type: 2 is context, 3 is data.
     pub kind: u8,
-    /// The packet ends with this buffer.
+    /// Whether the packet ends with this buffer (EOP).
     pub end: bool,
-    /// The device writes back when it is done.
+    /// Whether the device reports when the descriptor is done (RS).
     pub report: bool,
-    /// The descriptor is an advanced one.
+    /// Whether the descriptor has the advanced format (DEXT).
     pub extended: bool,
-    /// It asks for segmentation, VLAN insertion or checksums.
+    /// Whether it asks for segmentation, VLAN insertion or checksums.
     pub offload: bool,
 }
 
-/// The command in a descriptor's second half.
+/// Decodes a descriptor's second half.
 #[tactic(auto, unfolding(crate::specs::Transmit::command_of))]
 pub fn command_in(second: u64) -> Command
     ensures { result ≡ command_of second }

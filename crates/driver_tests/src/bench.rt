@@ -1,4 +1,4 @@
-//! A controller that is set up, a driver of its queue 0, and frames.
+//! A device that is set up, a driver of its queue 0, and frames.
 
 use crate::outcome::{Hand, done, empty, fail, push, refused, same, same_bytes, same_pair, sees};
 use device_lock::Calls;
@@ -6,7 +6,7 @@ use nic_device::{Arena, Buf, Config, Device, Event, LentMemory, Mode, Octets, Pa
 use pmd::{Direct, Home, Nic, Packet, Pmd, PmdFault, Setup, StopRefused, TxAnswer, pf_setup};
 use std::process::Abort;
 
-/// Promiscuous, with neither pools nor hashing.
+/// Promiscuous, with neither pools nor RSS.
 pub const PLAIN: Setup = Setup {
     mode: Mode::Off,
     mrqc: 0,
@@ -16,7 +16,7 @@ pub const PLAIN: Setup = Setup {
     frame: 1518,
 };
 
-/// How many calls there are, with those of idle steps.
+/// The number of calls, those of idle steps included.
 pub fn count_calls(calls: &Calls) -> usize {
     let (made, rested) = calls.kept();
     let mut steps = usize::from(rested.is_some());
@@ -26,7 +26,7 @@ pub fn count_calls(calls: &Calls) -> usize {
     made.len().saturating_add(steps.saturating_mul(4))
 }
 
-/// Why a driver refuses a call: the same as its fault, with which it can be compared.
+/// Why a driver refuses a call: its fault, in a form that can be compared.
 #[derive(Clone, Copy, PartialEq, Eq)]
 pub enum Why {
     BadSize,
@@ -37,7 +37,7 @@ pub enum Why {
     Call,
 }
 
-/// Why it does by this fault.
+/// The reason in a fault.
 pub fn reason(fault: &PmdFault) -> Why {
     match fault {
         PmdFault::BadSize => Why::BadSize,
@@ -49,12 +49,12 @@ pub fn reason(fault: &PmdFault) -> Why {
     }
 }
 
-/// This is why the driver refuses a call.
+/// Checks that the driver refuses a call for this reason.
 pub fn is_why(rt: &impl Abort, fault: &PmdFault, wanted: Why) {
     sees(rt, reason(fault) == wanted);
 }
 
-/// A frame of TCP over IPv4, of 60 bytes: from 02:00:00:00:00:02 to 02:00:00:00:00:01.
+/// A frame with a TCP segment over IPv4, of 60 bytes: from 02:00:00:00:00:02 to 02:00:00:00:00:01.
 pub const TCP_FRAME: [u8; 60] = [
     0x02, 0x00, 0x00, 0x00, 0x00, 0x01, 0x02, 0x00, 0x00, 0x00, 0x00, 0x02, 0x08, 0x00, 0x45, 0x00,
     0x00, 0x28, 0x00, 0x00, 0x00, 0x00, 0x40, 0x06, 0x00, 0x00, 0x42, 0x09, 0x95, 0xbb, 0xa1, 0x8e,
@@ -62,7 +62,7 @@ pub const TCP_FRAME: [u8; 60] = [
     0x00, 0x00, 0x00, 0x00, 0x00, 0x00, 0x00, 0x00, 0x00, 0x00, 0x00, 0x00,
 ];
 
-/// A frame of TCP over IPv6, of 74 bytes, between the same addresses of the link.
+/// A frame with a TCP segment over IPv6, of 74 bytes, with the same MAC addresses.
 pub const TCP6_FRAME: [u8; 74] = [
     0x02, 0x00, 0x00, 0x00, 0x00, 0x01, 0x02, 0x00, 0x00, 0x00, 0x00, 0x02, 0x86, 0xdd, 0x60, 0x00,
     0x00, 0x00, 0x00, 0x14, 0x06, 0x40, 0x3f, 0xfe, 0x25, 0x01, 0x02, 0x00, 0x1f, 0xff, 0x00, 0x00,
@@ -71,52 +71,52 @@ pub const TCP6_FRAME: [u8; 74] = [
     0x00, 0x00, 0x50, 0x10, 0x00, 0x00, 0x00, 0x00, 0x00, 0x00,
 ];
 
-/// A promiscuous device with one virtual function, in whose list so many frames can wait. It steps on the queue of this
-/// number before each call.
+/// A promiscuous device with one virtual function, whose receive list has room for `fifo` frames. The queue of this
+/// number is stepped before each call.
 pub fn opened(rt: &impl Hand, fifo: u16, queue: u16) -> Direct {
     set_up(rt, fifo, queue, &PLAIN)
 }
 
-/// The same, set up otherwise.
+/// A device as `opened`, with other settings.
 pub fn set_up(rt: &impl Hand, fifo: u16, queue: u16, setup: &Setup) -> Direct {
     let mut direct = untouched(rt, fifo, queue);
     done(rt, pf_setup(rt.alloc(), &mut direct, setup));
     direct
 }
 
-/// The same, not set up.
+/// A device as `opened`, but not set up.
 pub fn untouched(rt: &impl Hand, fifo: u16, queue: u16) -> Direct {
     let device = done(rt, Device::new(rt.alloc(), Config { vfs: 1, fifo }));
     Direct::new(rt.alloc(), device, queue)
 }
 
-/// A device that steps on queue 0 before each call.
+/// A device whose queue 0 is stepped before each call.
 pub fn stepped(rt: &impl Hand, device: Device) -> Direct {
     Direct::new(rt.alloc(), device, 0)
 }
 
-/// The same device, which is stepped on another queue from here on.
+/// A device whose steps are of another queue from here on.
 pub fn stepped_on(rt: &impl Hand, direct: Direct, queue: u16) -> Direct {
     Direct::new(rt.alloc(), in_hand(direct), queue)
 }
 
-/// The device itself.
+/// The device of a `Direct`, which is finished.
 pub fn in_hand(direct: Direct) -> Device {
     let (device, _calls) = direct.finish();
     device
 }
 
-/// The blocks 4 to 35, all free.
+/// An arena of blocks 4 to 35, all free.
 pub fn blocks(rt: &impl Hand) -> Arena {
     done(rt, Arena::new(rt.alloc(), 4, 32))
 }
 
-/// A driver of queue 0 with rings of 8.
+/// A driver of queue 0 with rings of 8 descriptors.
 pub fn started<N: Nic>(rt: &impl Hand, nic: &mut N) -> Pmd {
     started_with(rt, nic, 8, (4, 32))
 }
 
-/// A driver of queue 0 with rings of this size, and so many blocks from a number on.
+/// A driver of queue 0 with rings of this size, and an arena of these blocks.
 pub fn started_with<N: Nic>(
     rt: &impl Hand,
     nic: &mut N,
@@ -130,7 +130,7 @@ pub fn started_with<N: Nic>(
     )
 }
 
-/// Ends a device. Answers what was lent to it, and its frames out.
+/// Ends a device. Returns the memory that was lent to it, and its transmitted frames.
 pub fn taken_apart(device: Device) -> (LentMemory, Vec<(u8, Octets)>) {
     let Parts {
         memory,
@@ -140,14 +140,14 @@ pub fn taken_apart(device: Device) -> (LentMemory, Vec<(u8, Octets)>) {
     (memory, frames)
 }
 
-/// Ends a device to which nothing is lent. Answers its frames out.
+/// Ends a device without lent memory. Returns its transmitted frames.
 pub fn end(rt: &impl Hand, device: Device) -> Vec<(u8, Octets)> {
     let (memory, frames) = taken_apart(device);
     done(rt, memory.finish());
     frames
 }
 
-/// What a driver leaves: its arena, and how many blocks were lost, packets handed out, and packets accepted.
+/// What a driver leaves: its arena, and how many blocks were lost, packets returned, and packets accepted.
 pub fn left_by(home: Home) -> (Arena, u32, usize, usize) {
     let Home {
         arena,
@@ -158,7 +158,7 @@ pub fn left_by(home: Home) -> (Arena, u32, usize, usize) {
     (arena, lost, handed.len(), accepted.len())
 }
 
-/// Sees that nothing is lost and all blocks are free. Answers how many packets were handed out and accepted.
+/// Checks that nothing is lost and all blocks are free. Returns how many packets were returned and accepted.
 pub fn close(rt: &impl Hand, home: Home) -> (usize, usize) {
     let (arena, lost, handed, accepted) = left_by(home);
     same(rt, lost as usize, 0);
@@ -166,7 +166,7 @@ pub fn close(rt: &impl Hand, home: Home) -> (usize, usize) {
     (handed, accepted)
 }
 
-/// The reply is that it is done.
+/// Checks that the reply is `Done`.
 pub fn is_done(rt: &impl Abort, reply: Reply) {
     match reply {
         Reply::Done => {}
@@ -174,7 +174,7 @@ pub fn is_done(rt: &impl Abort, reply: Reply) {
     }
 }
 
-/// The word that was read.
+/// The word in a reply to a read.
 pub fn word_in(rt: &impl Abort, reply: Reply) -> u32 {
     match reply {
         Reply::Word(word) => word,
@@ -182,7 +182,7 @@ pub fn word_in(rt: &impl Abort, reply: Reply) -> u32 {
     }
 }
 
-/// The block that was taken.
+/// The block in a reply to a `Take`.
 pub fn block_in(rt: &impl Abort, reply: Reply) -> Buf {
     match reply {
         Reply::Buf(block) => block,
@@ -190,17 +190,17 @@ pub fn block_in(rt: &impl Abort, reply: Reply) -> Buf {
     }
 }
 
-/// Makes an event that the device just does.
+/// Makes an event, and checks that the reply is `Done`.
 pub fn make<N: Nic>(rt: &impl Hand, nic: &mut N, event: Event) {
     is_done(rt, done(rt, nic.call(rt.alloc(), event)));
 }
 
-/// Lets a frame arrive, which goes into the device's list.
+/// Lets a frame arrive, and checks that it joins the receive list.
 pub fn arrive<N: Nic>(rt: &impl Hand, nic: &mut N, bytes: Vec<u8>) {
     make(rt, nic, Event::Arrive(Octets::of(bytes)));
 }
 
-/// The frame of this number, of 60 to 315 bytes, with the number in front.
+/// The frame of this number: 60 to 315 bytes that begin with the number.
 pub fn frame_of(rt: &impl Hand, number: u16) -> Vec<u8> {
     let [low, high] = number.to_le_bytes();
     let mut bytes = empty(rt);
@@ -215,14 +215,14 @@ pub fn frame_of(rt: &impl Hand, number: u16) -> Vec<u8> {
     bytes
 }
 
-/// The frame of TCP with its port changed in its low byte, and so its hash.
+/// A TCP segment whose port has this low byte, which changes its hash.
 pub fn segment(rt: &impl Hand, number: u8) -> Vec<u8> {
     let mut frame = TCP_FRAME;
     frame[35] = number;
     done(rt, Vec::from_array(rt.alloc(), frame))
 }
 
-/// The frames out are those of the numbers below this, in order.
+/// Checks that the transmitted frames are those of the numbers below this, in order.
 pub fn are_first_frames(rt: &impl Hand, frames: &[(u8, Octets)], count: u16) {
     same(rt, frames.len(), usize::from(count));
     let mut number: u16 = 0;
@@ -232,7 +232,7 @@ pub fn are_first_frames(rt: &impl Hand, frames: &[(u8, Octets)], count: u16) {
     }
 }
 
-/// These are the bytes of the frame of this number.
+/// Checks that these are the bytes of the frame of this number.
 pub fn is_frame(rt: &impl Hand, bytes: &Octets, number: u16) {
     same_bytes(rt, bytes.bytes(), frame_of(rt, number).as_slice());
 }
@@ -251,22 +251,22 @@ pub fn has_bytes(packet: &Packet, frame: &[u8]) -> bool {
     rest.is_empty() && usize::from(packet.len) == frame.len()
 }
 
-/// Sees that these are the packet's bytes.
+/// Checks that these are the packet's bytes.
 pub fn holds_bytes(rt: &impl Abort, packet: &Packet, frame: &[u8]) {
     sees(rt, has_bytes(packet, frame));
 }
 
-/// The packet holds the frame of this number.
+/// Checks that the packet holds the frame of this number.
 pub fn holds_frame(rt: &impl Hand, packet: &Packet, number: u16) {
     holds_bytes(rt, packet, frame_of(rt, number).as_slice());
 }
 
-/// The next packet, where one waits.
+/// The next received packet, where there is one.
 pub fn received<N: Nic>(rt: &impl Hand, nic: &mut N, pmd: &mut Pmd) -> Option<Packet> {
     done(rt, pmd.rx(rt.alloc(), nic))
 }
 
-/// Sends a packet that the ring has room for.
+/// Sends a packet for which the ring has room.
 pub fn send<N: Nic>(rt: &impl Hand, nic: &mut N, pmd: &mut Pmd, packet: Packet) {
     match done(rt, pmd.tx(rt.alloc(), nic, packet)) {
         TxAnswer::Taken => {}
@@ -274,12 +274,12 @@ pub fn send<N: Nic>(rt: &impl Hand, nic: &mut N, pmd: &mut Pmd, packet: Packet) 
     }
 }
 
-/// Gives a packet's blocks back to the driver.
+/// Returns a packet's blocks to the driver.
 pub fn release(rt: &impl Hand, pmd: &mut Pmd, packet: Packet) {
     done(rt, pmd.release(packet));
 }
 
-/// Reaps once. Answers whether no packet is outstanding.
+/// Reaps once. Returns whether no packet is outstanding.
 pub fn reap_once<N: Nic>(rt: &impl Hand, nic: &mut N, pmd: &mut Pmd) -> bool {
     done(rt, pmd.reap(rt.alloc(), nic)).idle
 }
@@ -294,22 +294,22 @@ pub fn reap<N: Nic>(rt: &impl Hand, nic: &mut N, pmd: &mut Pmd) {
     fail(rt, "packets stay outstanding");
 }
 
-/// Stops a driver.
+/// Stops a driver, which must succeed.
 pub fn stopped<N: Nic>(rt: &impl Hand, nic: &mut N, pmd: Pmd) -> Home {
     done(rt, pmd.stop(rt.alloc(), nic))
 }
 
-/// Stops a driver, all of whose blocks come home. Answers how many packets were handed out and accepted.
+/// Stops a driver, all of whose blocks are free again. Returns how many packets were returned and accepted.
 pub fn stop<N: Nic>(rt: &impl Hand, nic: &mut N, pmd: Pmd) -> (usize, usize) {
     close(rt, stopped(rt, nic, pmd))
 }
 
-/// Stops a driver by which so many packets came and went, and all of whose blocks come home.
+/// Stops a driver that returned and accepted this many packets, and all of whose blocks are free again.
 pub fn stops<N: Nic>(rt: &impl Hand, nic: &mut N, pmd: Pmd, packets: (usize, usize)) {
     same_pair(rt, stop(rt, nic, pmd), packets);
 }
 
-/// A driver whose queue doesn't go off when it is stopped, as nobody steps on it.
+/// Checks that the stop of a driver times out, since its queue isn't stepped.
 pub fn stop_times_out<N: Nic>(rt: &impl Hand, nic: &mut N, pmd: Pmd) -> Pmd {
     let StopRefused { fault, pmd } = refused(rt, pmd.stop(rt.alloc(), nic));
     is_why(rt, &fault, Why::StartTimeout);

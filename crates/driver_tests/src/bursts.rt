@@ -10,12 +10,12 @@ use nic_device::{Event, Octets, Port};
 use pmd::{Direct, Packet, Pmd};
 use std::collections::VecDeque;
 
-/// The registers of the tails of queue 0, by which descriptors are given to the device.
+/// The tail registers of queue 0, through which descriptors are given to the device.
 const RDT: u32 = 0x1018;
 
 const TDT: u32 = 0x6018;
 
-/// How many calls wrote a register of the physical function.
+/// How many calls wrote this register of the physical function.
 fn writes(calls: &Calls, register: u32) -> usize {
     let (made, _rested) = calls.kept();
     let mut writes: usize = 0;
@@ -27,7 +27,7 @@ fn writes(calls: &Calls, register: u32) -> usize {
     writes
 }
 
-/// A device, a driver of its queue 0, and the packets that it handed out and that weren't sent yet.
+/// A device, a driver of its queue 0, and the packets that it returned and that weren't sent yet.
 struct Bursts {
     direct: Direct,
     pmd: Pmd,
@@ -35,7 +35,7 @@ struct Bursts {
 }
 
 impl Bursts {
-    /// With rings of this size, and so many blocks from block 4 on.
+    /// With rings of this size, and `count` blocks from block 4 on.
     fn new(rt: &impl Hand, size: u16, count: u32) -> Bursts {
         let mut direct = opened(rt, 64, 0);
         let pmd = started_with(rt, &mut direct, size, (4, count));
@@ -53,7 +53,7 @@ impl Bursts {
         }
     }
 
-    /// How many packets a burst hands out, at most so many, behind the others.
+    /// Receives a burst of at most `most` packets, and appends them. Returns how many they are.
     fn received(&mut self, rt: &impl Hand, most: u16) -> u16 {
         done(
             rt,
@@ -62,7 +62,8 @@ impl Bursts {
         )
     }
 
-    /// How many of the packets a burst takes. Where fewer than so many slots are vacant, it frees what was sent.
+    /// Sends the packets by a burst, which frees what was sent where fewer than `vacant` slots are free. Returns how
+    /// many it took.
     fn sent(&mut self, rt: &impl Hand, vacant: u16) -> u16 {
         done(
             rt,
@@ -76,7 +77,7 @@ impl Bursts {
         writes(self.direct.calls(), register)
     }
 
-    /// The packets are the frames from number 0 on, so many.
+    /// Checks that the packets are the frames of number 0 to `count` - 1.
     fn are_frames(&self, rt: &impl Hand, count: u16) {
         let mut number: u16 = 0;
         for packet in self.packets.iter() {
@@ -86,7 +87,7 @@ impl Bursts {
         same(rt, usize::from(number), usize::from(count));
     }
 
-    /// Ends all, once each packet is sent. So many packets were handed out and accepted. Answers the frames out.
+    /// Ends all, once each packet is sent. `count` packets were returned and accepted. Returns the transmitted frames.
     fn end(self, rt: &impl Hand, count: usize) -> Vec<(u8, Octets)> {
         let Bursts {
             mut direct,
@@ -103,7 +104,7 @@ impl Bursts {
     }
 }
 
-/// The first 40 packets come by bursts of 32 at most: each that hands packets out writes the tail once.
+/// The first 40 packets are received by bursts of at most 32: each that returns packets writes the tail once.
 fn forty_come(rt: &impl Hand, bursts: &mut Bursts) {
     bursts.arrive(rt, 0, 40);
     let before = bursts.writes(RDT);
@@ -114,7 +115,7 @@ fn forty_come(rt: &impl Hand, bursts: &mut Bursts) {
     same(rt, bursts.writes(RDT), before.saturating_add(2));
 }
 
-/// Forty packets come by bursts and go by one.
+/// Forty packets are received by bursts and sent by one.
 fn forty_come_and_go(rt: &impl Hand) {
     let mut bursts = Bursts::new(rt, 64, 128);
     forty_come(rt, &mut bursts);
@@ -130,8 +131,8 @@ fn packets_come_and_go_by_bursts_with_one_tail_write_each(rt: HostRuntime) {
     forty_come_and_go(&rt);
 }
 
-/// What is done by bursts: frames of these numbers arrive; a burst hands out so many packets at most; it sends, and
-/// frees what was sent where fewer than so many slots are vacant.
+/// A step of the test: frames of these numbers arrive; a burst receives at most this many packets; a burst sends, and
+/// frees what was sent where fewer than this many slots are free.
 #[derive(Clone, Copy)]
 enum Step {
     Arrive(u16, u16),
@@ -139,7 +140,7 @@ enum Step {
     Send(u16),
 }
 
-/// What is done, and how many packets the burst then tells of.
+/// The steps, and how many packets each burst then reports.
 const STEPS: [(Step, u16); 8] = [
     (Step::Arrive(0, 3), 0),
     (Step::Receive(7), 3),
@@ -151,7 +152,7 @@ const STEPS: [(Step, u16); 8] = [
     (Step::Send(1), 2),
 ];
 
-/// Does it. Answers how many packets the burst tells of.
+/// Makes a step. Returns how many packets the burst reports.
 fn make_step(rt: &impl Hand, bursts: &mut Bursts, step: Step) -> u16 {
     match step {
         Step::Arrive(first, behind) => {
@@ -163,7 +164,7 @@ fn make_step(rt: &impl Hand, bursts: &mut Bursts, step: Step) -> u16 {
     }
 }
 
-/// Does so step by step with rings of 8, by which nine packets come and go.
+/// Makes these steps with rings of 8, through which nine packets are received and sent.
 fn make_steps(rt: &impl Hand, steps: &[(Step, u16)]) {
     let mut bursts = Bursts::new(rt, 8, 32);
     for (step, wanted) in steps {
@@ -173,7 +174,7 @@ fn make_steps(rt: &impl Hand, steps: &[(Step, u16)]) {
     bursts.end(rt, 9);
 }
 
-/// Rings of 8: seven packets may be outstanding, and three are, which went out.
+/// With rings of 8, seven packets can be outstanding, and three are, which were transmitted.
 #[test]
 fn a_burst_frees_what_was_sent_where_too_few_slots_are_vacant(rt: HostRuntime) {
     make_steps(&rt, &STEPS);

@@ -1,4 +1,4 @@
-//! What others do beside a driver of queue 0, told as data, and the events that it is.
+//! What other programs do next to a driver of queue 0, as data, and the events for it.
 
 use crate::bench::TCP_FRAME;
 use crate::outcome::{Hand, done, empty, push, some};
@@ -7,17 +7,17 @@ use nic_device::{Arena, Dir, Event, Octets, Port};
 /// A place in memory.
 #[derive(Clone, Copy)]
 pub enum At {
-    /// Address 0.
+    /// The bus address 0.
     Zero,
     /// The driver's receive ring.
     Receive,
-    /// Its transmit ring.
+    /// The driver's transmit ring.
     Transmit,
-    /// A free place in the block of its receive ring.
+    /// A free range in the block of its receive ring.
     Free,
-    /// Block 100, for a ring of others.
+    /// Block 100, for a ring of the others.
     Ring,
-    /// Block 101, for a buffer of others.
+    /// Block 101, for a buffer of the others.
     Buffer,
 }
 
@@ -40,26 +40,26 @@ impl Rings {
     }
 }
 
-/// What others do.
+/// An action of the other programs.
 #[derive(Clone, Copy)]
 pub enum Deed {
     /// They write a word at a port, by the register's number there.
     Writes(Port, u32, u32),
-    /// They take so many blocks from a number on.
+    /// They take this many blocks from a number on.
     Takes(u32, u32),
-    /// They lend so many blocks of their own from a number on.
+    /// They lend this many blocks of their own from a number on.
     Lends(u32, u32),
-    /// They write a byte all over the eight slots of a ring.
+    /// They fill the eight slots of a ring with a byte.
     Fills(At, u8),
-    /// They write a descriptor into the eight slots of a ring: a buffer's place, and its second half as a word.
+    /// They write a descriptor to the eight slots of a ring: a buffer's place, and its second half as a word.
     Names(At, At, u64),
-    /// Queue 3 receives a segment of TCP by a ring of 8.
+    /// Queue 3 receives a TCP segment through a ring of 8.
     Receives(At),
-    /// Queue 3 fetches so many slots of a ring of 8, and writes its head back to a place where one is given.
+    /// Queue 3 fetches this many slots of a ring of 8, and writes its head back to a place where one is given.
     Sends(At, Option<At>, u32),
 }
 
-/// The events of deeds so far, the blocks of others that aren't lent, and where the driver's rings are.
+/// The events of the actions so far, the blocks of the others that aren't lent, and the driver's rings.
 pub struct Doing {
     list: Vec<Event>,
     blocks: Arena,
@@ -67,7 +67,7 @@ pub struct Doing {
 }
 
 impl Doing {
-    /// No events, and so many blocks from a number on.
+    /// Without events, and with these blocks for the others.
     pub fn new(rt: &impl Hand, rings: Rings, (first, count): (u32, u32)) -> Doing {
         Doing {
             list: empty(rt),
@@ -86,7 +86,7 @@ impl Doing {
         (list, blocks)
     }
 
-    /// One deed more.
+    /// Adds the events of one action.
     pub fn add(&mut self, rt: &impl Hand, deed: Deed) {
         match deed {
             Deed::Writes(port, address, word) => self.push(rt, Event::Write(port, address, word)),

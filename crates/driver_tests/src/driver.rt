@@ -1,4 +1,4 @@
-//! A driver over a device in hand, from its start to its stop.
+//! A driver on a device that the test owns, from its start to its stop.
 
 use crate::bench::{
     PLAIN, TCP_FRAME, Why, are_first_frames, block_in, blocks, close, end, holds_bytes, in_hand,
@@ -11,7 +11,7 @@ use crate::rig::Rig;
 use nic_device::{Arena, Buf, Event, Mode, Octets, Port};
 use pmd::{Bufs, Direct, Nic, Packet, Pmd, Rest, Setup, StartRefused, TxFault};
 
-/// The frame of TCP arrives and is received.
+/// The TCP frame arrives and is received.
 fn tcp_received(rt: &impl Hand, rig: &mut Rig) -> Packet {
     rig.arrive(rt, segment(rt, TCP_FRAME[35]));
     let packet = some(rt, rig.received(rt));
@@ -19,7 +19,7 @@ fn tcp_received(rt: &impl Hand, rig: &mut Rig) -> Packet {
     packet
 }
 
-/// The frame of TCP alone went out.
+/// Checks that the TCP frame alone was transmitted.
 fn tcp_went_out(rt: &impl Hand, frames: &[(u8, Octets)]) {
     same(rt, frames.len(), 1);
     for (_queue, bytes) in frames {
@@ -27,7 +27,7 @@ fn tcp_went_out(rt: &impl Hand, frames: &[(u8, Octets)]) {
     }
 }
 
-/// It is received and sent again.
+/// The TCP frame is received and sent back.
 fn tcp_goes_through(rt: &impl Hand, rig: &mut Rig) {
     let packet = tcp_received(rt, rig);
     none(rt, rig.received(rt));
@@ -65,7 +65,7 @@ fn sixth_queue(rt: &impl Hand) -> Rig {
     Rig { direct, pmd }
 }
 
-/// The frame of TCP is received with its kind and hash.
+/// Checks that the TCP frame is received with its RSS type and hash.
 fn tcp_is_hashed(rt: &impl Hand, rig: &mut Rig) {
     let packet = tcp_received(rt, rig);
     same(rt, usize::from(packet.rss), 1);
@@ -82,7 +82,7 @@ fn the_sixth_queue_of_a_function_receives_by_the_hash(rt: HostRuntime) {
     rig.end(rt, (1, 0));
 }
 
-/// So many of a driver's blocks are free.
+/// Checks that this many of a driver's blocks are free.
 fn are_free(rt: &impl Hand, rig: &mut Rig, blocks: u32) {
     same(
         rt,
@@ -91,7 +91,7 @@ fn are_free(rt: &impl Hand, rig: &mut Rig, blocks: u32) {
     );
 }
 
-/// So many frames go through rings of this size. As many blocks are free before and after it.
+/// This many frames go through rings of this size. The given numbers of blocks are free before and after it.
 fn go_through(rt: &impl Hand, size: u16, blocks: (u32, u32), free: u32, count: u16) {
     let mut rig = Rig::new(rt, size, blocks);
     are_free(rt, &mut rig, free);
@@ -107,7 +107,7 @@ fn two_hundred_frames_go_through_a_ring_of_eight(rt: HostRuntime) {
     go_through(&rt, 8, (4, 32), 23, 200);
 }
 
-/// How many blocks are free, so many at most.
+/// How many blocks are free, this many at most.
 pub fn free_blocks(rt: &impl Hand, pmd: &mut Pmd, most: u32) -> u32 {
     if most == 0 {
         return 0;
@@ -156,7 +156,7 @@ const STARTS: [Start<'static>; 7] = [
     ("a queue that is never stepped", Steps::Nothing, 8, (4, 32), Why::StartTimeout, true),
 ];
 
-/// A start that is refused, for frames of so many bytes at most.
+/// A start that is refused, for frames of this many bytes at most.
 pub fn refused_start<N: Nic>(
     rt: &impl Hand,
     nic: &mut N,
@@ -170,7 +170,7 @@ pub fn refused_start<N: Nic>(
     )
 }
 
-/// What is left of it comes home. Answers why it is refused, and whether blocks were lent.
+/// Ends what is left of a refused start. Returns why it was refused, and whether blocks were lent.
 pub fn come_home<N: Nic>(rt: &impl Hand, nic: &mut N, refusal: StartRefused) -> (Why, bool) {
     let StartRefused { fault, rest } = refusal;
     let (packets, is_lent) = match rest {
@@ -181,7 +181,7 @@ pub fn come_home<N: Nic>(rt: &impl Hand, nic: &mut N, refusal: StartRefused) -> 
     (reason(&fault), is_lent)
 }
 
-/// Why a start beside such steps is refused, and whether blocks were lent.
+/// Why a start with such steps is refused, and whether blocks were lent.
 fn start_beside(rt: &impl Hand, steps: Steps, size: u16, numbers: (u32, u32)) -> (Why, bool) {
     match steps {
         Steps::OnQueue(queue) => {
@@ -229,7 +229,7 @@ fn packet_of(block: Buf) -> Packet {
     }
 }
 
-/// The driver refuses to send a packet whose block isn't its own. It comes back.
+/// Checks that the driver refuses to send a packet whose block isn't its own, and returns the packet.
 fn foreign_sent(rt: &impl Hand, rig: &mut Rig, packet: Packet) -> Packet {
     let sent = rig.pmd.tx(rt.alloc(), &mut rig.direct, packet);
     let TxFault { fault, packet } = refused(rt, sent);
@@ -237,7 +237,7 @@ fn foreign_sent(rt: &impl Hand, rig: &mut Rig, packet: Packet) -> Packet {
     some(rt, packet)
 }
 
-/// Nor does it take it back. Answers the one block of the packet.
+/// Checks that the driver refuses to take the packet back. Returns its one block.
 fn foreign_released(rt: &impl Hand, pmd: &mut Pmd, packet: Packet) -> Buf {
     let Packet {
         mut bufs,
@@ -271,7 +271,7 @@ fn a_packet_of_another_arena_comes_back(rt: HostRuntime) {
     rig.end(rt, (0, 0));
 }
 
-/// The driver answers that it doesn't run, and still makes packets and takes them back.
+/// Checks that the driver refuses calls since it doesn't run, and still makes packets and takes them back.
 fn runs_no_more(rt: &impl Hand, direct: &mut Direct, pmd: &mut Pmd) {
     let fault = refused(rt, pmd.rx(rt.alloc(), direct));
     is_why(rt, &fault, Why::DeviceFault);
@@ -289,19 +289,19 @@ fn stop_twice(rt: &impl Hand) {
     Rig { direct, pmd }.end(rt, (0, 0));
 }
 
-/// The device is stepped on another queue for a while: the first stop finds that the queue doesn't go off, the second
-/// one succeeds. In between the driver answers that it doesn't run, and still makes packets and takes them back.
+/// The device is stepped on another queue for a while: the first stop finds that the queue isn't disabled, the second
+/// one succeeds. In between the driver refuses calls since it doesn't run, and still makes packets and takes them back.
 #[test]
 fn a_stop_that_was_refused_is_tried_again(rt: HostRuntime) {
     stop_twice(&rt);
 }
 
-/// Takes a block that is lent to a device in hand.
+/// Takes a block that is lent to an owned device.
 fn taken(rt: &impl Hand, direct: &mut Direct, block: u32) -> Buf {
     block_in(rt, done(rt, direct.call(rt.alloc(), Event::Take(block))))
 }
 
-/// Stops a driver that handed out and accepted nothing, and loses one block. Answers the arena.
+/// Stops a driver that returned and accepted nothing, and loses one block. Returns the arena.
 fn stop_with_a_loss(rt: &impl Hand, direct: &mut Direct, pmd: Pmd) -> Arena {
     let (arena, lost, handed, accepted) = left_by(stopped(rt, direct, pmd));
     same(rt, lost as usize, 1);
@@ -309,7 +309,7 @@ fn stop_with_a_loss(rt: &impl Hand, direct: &mut Direct, pmd: Pmd) -> Arena {
     arena
 }
 
-/// A block is lost, and all others come home.
+/// A block is lost, and all others are free again.
 fn lose_a_block(rt: &impl Hand) {
     let Rig { mut direct, pmd } = Rig::new(rt, 8, (4, 32));
     let gone = taken(rt, &mut direct, 9);
@@ -319,7 +319,7 @@ fn lose_a_block(rt: &impl Hand) {
     end(rt, in_hand(direct));
 }
 
-/// A block is taken from the device behind the driver's back: it is lost, and all others come home.
+/// A block is taken from the device without the driver's knowledge: it is lost, and all others are free again.
 #[test]
 fn a_block_that_is_gone_is_lost(rt: HostRuntime) {
     lose_a_block(&rt);

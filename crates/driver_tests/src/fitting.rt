@@ -1,4 +1,4 @@
-//! What a closed history says of the frames that were let in before a driver's start.
+//! What a closed history says of the frames that were accepted before a driver's start.
 
 use crate::bench::{PLAIN, end, word_in};
 use crate::outcome::{Hand, done, empty, fail, holds, push, sees, some};
@@ -10,8 +10,8 @@ use pmd::{Setup, ThroughLock, frames_fit, pf_setup};
 type Bench = Shared<0, 64>;
 
 /// How many bytes a frame has that arrives, how many a driver's frames have at most, with their check sequence, whether
-/// this one is let in, and whether it fits the driver's packets, or was dropped: these are in one block of 2,048 bytes,
-/// in two, and in five.
+/// this one is accepted, and whether it fits the driver's packets, or was dropped: these are in one block of 2,048
+/// bytes, in two, and in five.
 #[rattlefmt::skip]
 const ROWS: [(&str, u16, u16, bool, bool); 8] = [
     ("one block holds it", 2048, 1518, true, true),
@@ -24,7 +24,7 @@ const ROWS: [(&str, u16, u16, bool, bool); 8] = [
     ("it is dropped as too short", 59, 1518, false, true),
 ];
 
-/// A frame of so many bytes to the broadcast address arrives. Answers whether it is let in.
+/// A frame of this many bytes to the broadcast address arrives. Returns whether it is accepted.
 fn arrive(rt: &impl Hand, bench: &Bench, pass: &mut Pass, len: u16) -> bool {
     let mut bytes = empty(rt);
     for _byte in 0..len {
@@ -57,7 +57,7 @@ fn set_up(rt: &impl Hand, bench: &Bench, pass: Pass) -> Pass {
     nic.finish()
 }
 
-/// Whether the frames fit the driver's packets by a history, once it is closed. By one entry behind the first, they do.
+/// Whether the frames fit the driver's packets by a history, once it is closed. By one entry after the first, they do.
 fn fits_in(rt: &impl Hand, bench: Bench, passes: [Pass; 2], frame: u16) -> bool {
     let passes = done(rt, Vec::from_array(rt.alloc(), passes));
     let closed = done(rt, bench.close(passes));
@@ -72,8 +72,8 @@ fn fits_in(rt: &impl Hand, bench: Bench, passes: [Pass; 2], frame: u16) -> bool 
     answer
 }
 
-/// Whether a frame of so many bytes is let in, where frames may have 9,728 bytes with their check sequence, and whether
-/// the frames fit a driver whose first event comes then. Behind that a longer one is let in.
+/// Whether a frame of this many bytes is accepted, where frames may have 9,728 bytes with their check sequence, and
+/// whether the frames fit a driver whose first event comes then. After that a longer one is accepted.
 fn fits(rt: &impl Hand, len: u16, frame: u16) -> (bool, bool) {
     let (bench, mut passes) = done(rt, Bench::new(rt.alloc(), 1, 2, 1000));
     let other = some(rt, passes.pop());
@@ -85,7 +85,7 @@ fn fits(rt: &impl Hand, len: u16, frame: u16) -> (bool, bool) {
     (let_in, fits_in(rt, bench, [driver, other], frame))
 }
 
-/// A frame is let in or not, and fits or not, as the row of this name says.
+/// A frame is accepted or not, and fits or not, as the row of this name says.
 fn fits_or_not(rt: &impl Hand, name: &str, (len, frame): (u16, u16), wanted: (bool, bool)) {
     let told = fits(rt, len, frame);
     holds(rt, name, "let in", told.0 == wanted.0);

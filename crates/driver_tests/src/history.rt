@@ -1,4 +1,4 @@
-//! The calls on a device in hand as a history: a driver of queue 0 made some of them, and others the rest.
+//! The calls on an owned device as a history: a driver of queue 0 made some of them, and others the rest.
 
 use crate::outcome::{Hand, done, push, some};
 use device_lock::{Call, Entry, Watched, left_alone};
@@ -11,34 +11,34 @@ pub const DRIVER: u8 = 0;
 /// The pass of all others.
 pub const OTHERS: u8 = 1;
 
-/// Puts a call behind a history.
+/// Appends a call to a history.
 fn add_call(rt: &impl Hand, history: &mut Vec<Entry>, pass: u8, call: Call) {
     let Call { event, reply } = call;
     push(rt, history, Entry { pass, event, reply });
 }
 
-/// Puts calls of one pass behind a history.
+/// Appends calls of one pass to a history.
 pub fn add_calls(rt: &impl Hand, history: &mut Vec<Entry>, pass: u8, calls: Vec<Call>) {
     for call in calls {
         add_call(rt, history, pass, call);
     }
 }
 
-/// Puts entries behind a history.
+/// Appends entries to a history.
 pub fn add_entries(rt: &impl Hand, history: &mut Vec<Entry>, entries: Vec<Entry>) {
     for entry in entries {
         push(rt, history, entry);
     }
 }
 
-/// Ends a way to a device by which one pass made all calls, and puts these behind a history.
+/// Ends a way to a device by which one pass made all calls, and puts these after a history.
 pub fn finished(rt: &impl Hand, history: &mut Vec<Entry>, pass: u8, direct: Direct) -> Device {
     let (device, calls) = direct.finish();
     add_calls(rt, history, pass, done(rt, calls.into_vec(rt.alloc())));
     device
 }
 
-/// Puts calls behind a history. The marked ones are the driver's.
+/// Appends calls to a history. The marked ones are the driver's.
 pub fn add_marked(rt: &impl Hand, history: &mut Vec<Entry>, marks: &[bool], calls: Vec<Call>) {
     let mut number: usize = 0;
     for call in calls {

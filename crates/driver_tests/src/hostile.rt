@@ -1,4 +1,4 @@
-//! A driver whose queue others don't leave alone: nothing is promised of its packets, and it still comes to its end.
+//! A driver whose queue others don't leave alone: nothing is promised of its packets, but it can still be stopped.
 
 use crate::bench::{
     PLAIN, frame_of, in_hand, left_by, make, release, set_up, started, stepped, stopped,
@@ -72,7 +72,7 @@ impl On {
     }
 }
 
-/// What the reply to a step of queue 3 tells that it wrote.
+/// What queue 3 wrote, by the reply to its step.
 #[derive(Clone, Copy, PartialEq, Eq)]
 enum What {
     Nothing,
@@ -92,8 +92,8 @@ type Deeds = (Deed, Deed, Deed);
 /// No deed: no block is taken.
 const NONE: Deed = Takes(0, 0);
 
-/// What others do to a driver in its midst: by what name, on which device, with which blocks of theirs, as first and
-/// count, the deeds, whether the driver's queue is left alone, and what a step of queue 3 tells first.
+/// What others do to a driver while it runs: the name of the case, the device, the blocks of the others, as first and
+/// count, the actions, whether the driver's queue is left alone, and what a step of queue 3 first reports.
 type Row<'a> = (&'a str, On, (u32, u32), Deeds, bool, Told<At>);
 
 /// Blocks of the numbers of the driver's.
@@ -126,8 +126,8 @@ const GOES_ON: u64 = 0x000F_0000_2A30_003C;
 const ENDS: u64 = 0x000F_0000_2B30_003C;
 
 /// In the first rows others write registers, take and lend blocks and write descriptors. In the last, some step of
-/// queue 3 writes, in places into the driver's blocks: only its reply tells so, whoever makes it. The queue's ring may
-/// be in a block of the driver's, where all bytes are 0, and so name block 0; and it may be the driver's own.
+/// queue 3 writes, in places into the driver's blocks: only its reply shows that, whoever makes the step. The queue's
+/// ring may be in a block of the driver's, where all bytes are 0, and so name block 0; and it may be the driver's own.
 #[rattlefmt::skip]
 const ROWS: [Row<'static>; 28] = [
     ("nothing is done", On::Plain, SAME, (NONE, NONE, NONE), true, NO_WRITE),
@@ -194,7 +194,7 @@ fn begin_on(rt: &impl Hand, setup: &Setup) -> Begun {
     }
 }
 
-/// So many lists of the steps of queue 0, with a frame that arrives in each fifth.
+/// This many lists of the steps of queue 0, with a frame that arrives in each fifth.
 fn traffic(rt: &impl Hand, schedule: &mut Schedule, count: u16) {
     for number in 0..count {
         let mut list = empty(rt);
@@ -219,7 +219,7 @@ pub fn offer<N: Nic>(rt: &impl Hand, nic: &mut N, pmd: &mut Pmd, packet: Packet)
     }
 }
 
-/// Thirty rounds, whatever the driver answers.
+/// Thirty rounds, whatever the driver returns.
 fn drive<N: Nic>(rt: &impl Hand, nic: &mut N, pmd: &mut Pmd) {
     for _round in 0..30 {
         match pmd.rx(rt.alloc(), nic) {
@@ -251,7 +251,7 @@ fn home_of(rt: &impl Hand, direct: &mut Direct, stopped: Result<Home, StopRefuse
     }
 }
 
-/// A driver in whose midst others do something. It stops, and each of its blocks is home or counted as lost. Answers
+/// A driver runs while others do something. It is stopped, and each of its blocks is free or counted as lost. Returns
 /// the history until the stop.
 fn endures(rt: &impl Hand, begun: Begun, doing: Doing) -> Vec<Entry> {
     let Begun {
@@ -283,8 +283,8 @@ pub fn stopped_again(rt: &impl Hand, direct: &mut Direct, pmd: Pmd) -> Home {
     stopped(rt, direct, pmd)
 }
 
-/// Sees that all blocks are home or lost, and that the lost ones and those of the second arena are where the others
-/// left them: in hand, or still lent.
+/// Checks that all blocks are back or lost, and that the lost ones and those of the second arena are where the others
+/// left them: owned, or still lent.
 fn settle(rt: &impl Hand, home: Home, device: Device, mut bufs: Vec<Buf>, second: Arena) {
     let (arena, lost, _handed, _accepted) = left_by(home);
     same(rt, arena.free_blocks().saturating_add(lost) as usize, 32);
@@ -294,7 +294,7 @@ fn settle(rt: &impl Hand, home: Home, device: Device, mut bufs: Vec<Buf>, second
     let _away = all_home(rt, bufs, arenas);
 }
 
-/// What an entry tells that queue 3 wrote, by bus addresses.
+/// What queue 3 wrote by an entry, with bus addresses.
 fn told_by(entry: &Entry) -> Told<u64> {
     match &entry.reply {
         Reply::Wrote {
@@ -317,7 +317,7 @@ fn told_by(entry: &Entry) -> Told<u64> {
     }
 }
 
-/// What queue 3 wrote first in a history. Each step by which it wrote is made the driver's own.
+/// What queue 3 wrote first in a history. Each step by which it wrote is assigned to the driver's pass.
 fn first_told(history: &mut [Entry]) -> Told<u64> {
     let mut first = (What::Nothing, 0, 0);
     for entry in history {
@@ -332,7 +332,7 @@ fn first_told(history: &mut [Entry]) -> Told<u64> {
     first
 }
 
-/// The history of a driver that endures a row, and where its rings were.
+/// The history of a driver in the case of a row, and where its rings were.
 fn endured(rt: &impl Hand, on: On, blocks: (u32, u32), deeds: Deeds) -> (Vec<Entry>, Rings) {
     let begun = begin_on(rt, &on.setup());
     let rings = begun.rings;
@@ -344,13 +344,13 @@ fn endured(rt: &impl Hand, on: On, blocks: (u32, u32), deeds: Deeds) -> (Vec<Ent
     (endures(rt, begun, doing), rings)
 }
 
-/// Sees that a bus address told in the row of this name is the one that is wanted.
+/// Checks that a bus address in the row of this name is the expected one.
 fn is_address(rt: &impl Hand, name: &str, what: &str, told: u64, wanted: u32) {
     holds(rt, name, what, told == u64::from(wanted));
 }
 
-/// A driver endures a row, whose history is judged as it says. One that doesn't leave the queue alone would not if the
-/// driver's pass had made the steps of queue 3.
+/// Runs a driver in the case of a row, and judges the history as the row says. Where the queue isn't left alone, it
+/// wouldn't be either if the driver's pass had made the steps of queue 3.
 fn check(rt: &impl Hand, (name, on, blocks, deeds, spares, wanted): Row<'_>) {
     let (mut history, rings) = endured(rt, on, blocks, deeds);
     let is_alone = is_left_alone(history.as_slice());
@@ -363,7 +363,7 @@ fn check(rt: &impl Hand, (name, on, blocks, deeds, spares, wanted): Row<'_>) {
     holds(rt, name, "by the driver's steps", spares || !is_alone);
 }
 
-/// A driver endures each of these rows.
+/// Runs a driver in the case of each of these rows.
 fn check_all(rt: &impl Hand, rows: &[Row<'_>]) {
     for row in rows {
         check(rt, *row);
@@ -375,7 +375,7 @@ fn a_driver_stops_whatever_others_do(rt: HostRuntime) {
     check_all(&rt, &ROWS);
 }
 
-/// A driver endures each of these writes by others.
+/// Runs a driver with each of these writes by others.
 fn check_writes(rt: &impl Hand, writes: &[(u32, u32, bool)]) {
     for (address, word, spares) in writes {
         let name = done(rt, format!(in rt.alloc(); "a write at {address:#07x}"));

@@ -1,4 +1,4 @@
-//! A driver among foreign events that are told beforehand.
+//! A driver among foreign events that are given in advance.
 
 use crate::bench::{
     end, frame_of, holds_frame, in_hand, is_done, is_frame, make, opened, reap, reap_once,
@@ -10,17 +10,17 @@ use crate::schedule::{Left, Schedule, all_home, finish, push_switches, take_all}
 use nic_device::{Arena, Buf, Device, Dir, Event, Octets, Port, Reply};
 use pmd::{Finished, Interleaved, Nic, Packet, Pmd, TxAnswer};
 
-/// A device among these foreign events.
+/// A device with these foreign events between the calls.
 pub fn amid(rt: &impl Hand, device: Device, schedule: Schedule) -> Interleaved {
     Interleaved::new(rt.alloc(), device, schedule)
 }
 
-/// A device among no foreign events, which nobody steps on.
+/// A device without foreign events, which isn't stepped.
 pub fn unstepped(rt: &impl Hand, device: Device) -> Interleaved {
     amid(rt, device, empty(rt))
 }
 
-/// The same where both sides of queue 0 are switched before each of the next 200 calls.
+/// A device as `unstepped`, but both sides of queue 0 are switched before each of the next 200 calls.
 fn switched(rt: &impl Hand, device: Device) -> Interleaved {
     let mut schedule = empty(rt);
     for _list in 0..200 {
@@ -48,7 +48,7 @@ fn own_packet(rt: &impl Hand, pmd: &mut Pmd) -> Packet {
     some(rt, pmd.packet(60))
 }
 
-/// A driver whose ring takes no packet more.
+/// Checks that a driver's ring accepts no more packets.
 fn is_full(rt: &impl Hand, nic: &mut Interleaved, pmd: &mut Pmd) {
     let eighth = own_packet(rt, pmd);
     match done(rt, pmd.tx(rt.alloc(), nic, eighth)) {
@@ -57,7 +57,7 @@ fn is_full(rt: &impl Hand, nic: &mut Interleaved, pmd: &mut Pmd) {
     }
 }
 
-/// A driver whose ring takes seven packets, which nobody sends, and whose stop times out.
+/// A driver whose ring accepts seven packets, which aren't sent, and whose stop times out.
 fn seven_are_taken(rt: &impl Hand, nic: &mut Interleaved, pmd: Pmd) -> Pmd {
     let mut pmd = pmd;
     for _packet in 0..7 {
@@ -85,7 +85,7 @@ fn a_ring_of_eight_takes_seven_packets_that_nobody_sends(rt: HostRuntime) {
     fill_a_ring(&rt);
 }
 
-/// Sees that the last of these replies is the fault of queue 0, and that the others are done.
+/// Checks that the last of these replies is the fault of queue 0, and that the others are done.
 fn last_is_a_fault(rt: &impl Hand, mut replies: Vec<Reply>) {
     match some(rt, replies.pop()) {
         Reply::Fault { queue: 0, .. } => {}
@@ -120,7 +120,7 @@ fn after_a_fault(rt: &impl Hand, nic: Interleaved) -> Device {
     device
 }
 
-/// The driver hands nothing out where somebody writes a tail beyond its ring.
+/// The driver returns nothing where another program writes a tail beyond its ring.
 fn amid_a_foreign_tail(rt: &impl Hand, rig: Rig) -> Rig {
     let Rig { direct, mut pmd } = rig;
     let mut nic = amid(rt, in_hand(direct), foreign_tail(rt));
@@ -130,8 +130,8 @@ fn amid_a_foreign_tail(rt: &impl Hand, rig: Rig) -> Rig {
     Rig { direct, pmd }
 }
 
-/// Somebody writes a tail beyond the driver's ring: the frame meets a fault, which switches the receive side off. The
-/// driver hands nothing out, and all its blocks come home.
+/// Another program writes a tail beyond the driver's ring: the frame meets a fault, which disables the receive side.
+/// The driver returns nothing, and all its blocks are free again.
 #[test]
 fn a_foreign_tail_switches_the_queue_off(rt: HostRuntime) {
     let rt = &rt;
@@ -183,7 +183,8 @@ fn busy(rt: &impl Hand, count: u16) -> Schedule {
     schedule
 }
 
-/// The frames of queue 0 among those that went out are the first so many, in order. Others went out beside them.
+/// Checks that the frames of queue 0 among the transmitted ones are the first `count`, in order. Others were
+/// transmitted too.
 fn went_out(rt: &impl Hand, frames: &[(u8, Octets)], count: u16) {
     sees(rt, frames.len() > 5 * usize::from(count));
     let mut number: u16 = 0;
@@ -206,7 +207,7 @@ fn with_two_queues(rt: &impl Hand, others: &mut Arena) -> Device {
     in_hand(direct)
 }
 
-/// The next packet, where one waits, holds the frame of this number and is sent again. Answers the next number.
+/// The next packet, where one waits, holds the frame of this number and is sent again. Returns the next number.
 fn next_goes_on(rt: &impl Hand, nic: &mut Interleaved, pmd: &mut Pmd, number: u16) -> u16 {
     match received(rt, nic, pmd) {
         Some(packet) => {
@@ -241,7 +242,7 @@ fn a_thousand_go_through(rt: &impl Hand, device: Device) -> Device {
     in_hand(direct)
 }
 
-/// Takes a device apart to which blocks of one arena are lent. Answers its frames out.
+/// Dismantles a device to which blocks of one arena are lent. Returns its frames out.
 fn apart(rt: &impl Hand, device: Device, others: Arena) -> Vec<(u8, Octets)> {
     let mut bufs = empty(rt);
     let (memory, frames) = taken_apart(device);
@@ -251,7 +252,7 @@ fn apart(rt: &impl Hand, device: Device, others: Arena) -> Vec<(u8, Octets)> {
     frames
 }
 
-/// A thousand frames go through beside two busy queues.
+/// A thousand frames go through while two other queues are busy.
 fn go_through_beside_two(rt: &impl Hand) {
     let mut others = done(rt, Arena::new(rt.alloc(), 100, 4));
     let device = with_two_queues(rt, &mut others);

@@ -1,4 +1,4 @@
-//! What a closed history says of a queue beside which another pass made an event.
+//! Whether a closed history leaves a queue alone, where another pass made an event.
 
 use crate::bench::{block_in, end};
 use crate::outcome::{Hand, done, fail, holds, some};
@@ -7,10 +7,10 @@ use crate::team::Bench;
 use device_lock::Pass;
 use nic_device::{Arena, Buf, Event, Port, Reply};
 
-/// The register by which the queues are parted among pools.
+/// The register by which the queues are separated into pools.
 const GCR_EXT: u32 = 0x11050;
 
-/// What another pass does.
+/// An event of another pass.
 #[derive(Clone, Copy)]
 enum Deed {
     Writes(Port, u32, u32),
@@ -30,9 +30,9 @@ impl Deed {
     }
 }
 
-/// What another pass does, the word of GCR_EXT before that, and whether queue 0 is left alone: where other queues are
-/// written, blocks that the driver doesn't lend are taken, and it pokes there. It isn't by any name of a register that
-/// the queue rests on, a reset of its pool, and its driver's blocks.
+/// An event of another pass, the word of GCR_EXT before it, and whether queue 0 is left alone. It is where other queues
+/// are written, blocks that the driver doesn't lend are taken, and such blocks are written. It isn't by any access to a
+/// register that the queue relies on, by a reset of its pool, and by accesses to its driver's blocks.
 type Row<'a> = (&'a str, u32, Deed, bool);
 
 #[rattlefmt::skip]
@@ -58,7 +58,7 @@ const ROWS: [Row<'static>; 19] = [
     ("a block of the driver's is poked", 0, Deed::Pokes(0x2808), false),
 ];
 
-/// An event that gives no block back.
+/// Makes an event that returns no block.
 fn make(rt: &impl Hand, bench: &Bench, pass: &mut Pass, event: Event) {
     match reply(rt, bench, pass, event) {
         Reply::Done
@@ -71,13 +71,13 @@ fn make(rt: &impl Hand, bench: &Bench, pass: &mut Pass, event: Event) {
     }
 }
 
-/// The block 5, which the driver takes back.
+/// Block 5, which the driver takes back.
 fn taken(rt: &impl Hand, bench: &Bench, driver: &mut Pass) -> Buf {
     block_in(rt, reply(rt, bench, driver, Event::Take(5)))
 }
 
 /// The driver of queue 0 reads a register and lends block 5, and then another pass makes the event. Before all that
-/// GCR_EXT was written, and in the end the driver takes its block back.
+/// GCR_EXT is written, and in the end the driver takes its block back.
 fn make_all(
     rt: &impl Hand,
     bench: &Bench,
@@ -105,7 +105,7 @@ fn judged(rt: &impl Hand, bench: Bench, driver: Pass, other: Pass) -> bool {
     answer
 }
 
-/// Whether queue 0 is left alone, where another pass makes the event in its driver's midst.
+/// Whether queue 0 is left alone, where another pass makes the event between its driver's calls.
 fn is_left_alone(rt: &impl Hand, mode: u32, event: Event) -> bool {
     let (bench, mut passes) = done(rt, Bench::new(rt.alloc(), 1, 2, 100));
     let mut other = some(rt, passes.pop());

@@ -1,8 +1,9 @@
-//! What no contract says of a shared device and of the driver: that calls of several threads on one device return, each
-//! with the reply to its own event, and that the shared device then closes; that the driver's calls succeed where
-//! memory is ample, over a device in hand, among foreign events and over one that threads share, that what they write
-//! is what the device then does, and that a driver comes to its end whatever others do to its queue, also beside
-//! another on threads; that a task which doesn't begin gives up; and that workers meet point by point.
+//! Tests of what no contract states about a shared device and the driver: that calls of several threads on one device
+//! return, each with the reply to its own event, and that the shared device then closes; that the driver's calls
+//! succeed where there is enough memory, on a device that the test owns, among foreign events and on a device that
+//! threads share; that the device does what they write; that a driver can always be stopped, whatever others do to its
+//! queue, also next to another driver on threads; that a task which doesn't start gives up; and that workers meet at
+//! each point.
 #![tactic(auto)]
 
 #[cfg(test)]

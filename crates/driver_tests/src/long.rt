@@ -23,7 +23,7 @@ fn rig_for_long_frames(rt: &impl Hand) -> Rig {
     Rig { direct, pmd }
 }
 
-/// Stops a driver, to which 320 blocks come home, and by which so many packets came and went.
+/// Stops a driver that returned and accepted this many packets, and to which 320 blocks come back.
 fn stop_with_320(rt: &impl Hand, direct: &mut Direct, pmd: Pmd, packets: (usize, usize)) {
     let home = stopped(rt, direct, pmd);
     same(rt, home.arena.free_blocks() as usize, 320);
@@ -39,7 +39,7 @@ fn long_frame(rt: &impl Hand) -> Vec<u8> {
     bytes
 }
 
-/// The packet that comes within three looks.
+/// The packet that is received within three polls.
 fn received_soon(rt: &impl Hand, rig: &mut Rig) -> Packet {
     for _look in 0..3 {
         if let Some(packet) = rig.received(rt) {
@@ -49,7 +49,7 @@ fn received_soon(rt: &impl Hand, rig: &mut Rig) -> Packet {
     fail(rt, "no packet comes")
 }
 
-/// The oldest frame that went out.
+/// The oldest transmitted frame.
 fn collected(rt: &impl Hand, direct: &mut Direct) -> Octets {
     match done(rt, direct.call(rt.alloc(), Event::Collect)) {
         Reply::Frame { bytes, .. } => bytes,
@@ -57,14 +57,14 @@ fn collected(rt: &impl Hand, direct: &mut Direct) -> Octets {
     }
 }
 
-/// The long frame goes out.
+/// Checks that the long frame is transmitted.
 fn is_collected(rt: &impl Hand, direct: &mut Direct) {
     let frame = collected(rt, direct);
     same_bytes(rt, frame.bytes(), long_frame(rt).as_slice());
 }
 
-/// A packet of three Bufs that holds the long frame is sent, which goes out whole and alone. Then the driver is
-/// stopped, by which so many packets came and went.
+/// Sends a packet of three Bufs with the long frame, which is transmitted complete and alone. Then stops the driver,
+/// which returned and accepted this many packets.
 fn goes_out(rt: &impl Hand, rig: Rig, packet: Packet, packets: (usize, usize)) {
     let mut rig = rig;
     same(rt, packet.bufs.count(), 3);
@@ -75,14 +75,14 @@ fn goes_out(rt: &impl Hand, rig: Rig, packet: Packet, packets: (usize, usize)) {
     ends_empty(rt, rig, packets);
 }
 
-/// The driver is stopped, and no frame is left to go out.
+/// Stops the driver, and checks that no transmitted frame is left.
 fn ends_empty(rt: &impl Hand, rig: Rig, packets: (usize, usize)) {
     let Rig { mut direct, pmd } = rig;
     stop_with_320(rt, &mut direct, pmd, packets);
     same(rt, end(rt, in_hand(direct)).len(), 0);
 }
 
-/// The frame fills two blocks, and a third in part: three descriptors of each ring.
+/// The frame fills two blocks, and a third partly: three descriptors of each ring.
 #[test]
 fn a_frame_of_5_000_bytes_is_received_and_sent_again(rt: HostRuntime) {
     let rt = &rt;
@@ -139,7 +139,7 @@ fn a_driver_of_no_such_size_makes_no_call(rt: HostRuntime) {
     }
 }
 
-/// A set-up for frames of so many bytes at most makes no call.
+/// A set-up for frames of this many bytes at most makes no call.
 fn sets_nothing_up(rt: &impl Hand, frame: u16) {
     let setup = Setup { frame, ..PLAIN };
     let mut direct = untouched(rt, 64, 0);

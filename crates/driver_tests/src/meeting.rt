@@ -95,7 +95,7 @@ fn two_tasks_meet(rt: HostRuntime) {
     same(&rt, missing as usize, 0);
 }
 
-/// Comes to each point in turn. Behind a point it finds that each worker came there.
+/// Comes to each point in turn. After a point it finds that each worker came there.
 fn go_through<G: Gate>(
     rt: &impl Hand,
     gate: &G,

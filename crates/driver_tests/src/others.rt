@@ -82,7 +82,7 @@ fn other_event(random: &mut Random) -> Event {
 /// Where foreign events come from: numbers that look random, and two arenas of the same numbers, 200 to 231, none of
 /// which is the driver's.
 pub struct Others {
-    /// The numbers.
+    /// The numbers from which events are drawn.
     pub random: Random,
     first: Arena,
     second: Arena,
@@ -128,7 +128,7 @@ impl Others {
         }
     }
 
-    /// So many lists of up to five such events.
+    /// This many lists of up to five such events.
     pub fn lists(&mut self, rt: &impl Hand, count: usize) -> Schedule {
         let mut schedule = empty(rt);
         for _list in 0..count {
@@ -141,7 +141,7 @@ impl Others {
         schedule
     }
 
-    /// The arenas.
+    /// The two arenas, at the end.
     pub fn into_arenas(self) -> [Arena; 2] {
         let Others {
             random: _,

@@ -1,4 +1,4 @@
-//! What a test's runtime can do, and answers that a test goes on with.
+//! What a test's runtime can do, and the results with which a test goes on.
 
 use std::alloc::AllocGlobal;
 use std::mem;
@@ -11,19 +11,19 @@ pub trait Hand: Abort + Wait + Threads + Sync + AllocGlobal {}
 
 impl<R: Abort + Wait + Threads + Sync + AllocGlobal> Hand for R {}
 
-/// Ends a test that failed, and tells at what.
+/// Ends a failed test with a message.
 pub fn fail(rt: &impl Abort, what: &str) -> ! {
     panic!(rt; "{what}")
 }
 
-/// Sees that something holds.
+/// Checks that a condition holds.
 pub fn sees(rt: &impl Abort, is_so: bool) {
     if !is_so {
         fail(rt, "not so");
     }
 }
 
-/// The value of an answer that is no refusal.
+/// The value of a result that must be `Ok`.
 pub fn done<T, E>(rt: &impl Abort, answer: Result<T, E>) -> T {
     match answer {
         Ok(value) => value,
@@ -31,7 +31,7 @@ pub fn done<T, E>(rt: &impl Abort, answer: Result<T, E>) -> T {
     }
 }
 
-/// The value of an answer that isn't none.
+/// The value of an option that must be `Some`.
 pub fn some<T>(rt: &impl Abort, answer: Option<T>) -> T {
     match answer {
         Some(value) => value,
@@ -39,7 +39,7 @@ pub fn some<T>(rt: &impl Abort, answer: Option<T>) -> T {
     }
 }
 
-/// Why an answer was refused.
+/// The error of a result that must be `Err`.
 pub fn refused<T, E>(rt: &impl Abort, answer: Result<T, E>) -> E {
     match answer {
         Ok(_value) => fail(rt, "not refused"),
@@ -47,23 +47,23 @@ pub fn refused<T, E>(rt: &impl Abort, answer: Result<T, E>) -> E {
     }
 }
 
-/// Sees that two numbers are the same.
+/// Checks that two numbers are the same.
 pub fn same(rt: &impl Abort, told: usize, wanted: usize) {
     assert_eq!(rt; told, wanted);
 }
 
-/// Sees that something holds of the case of this name.
+/// Checks that something holds of the case of this name.
 pub fn holds(rt: &impl Abort, name: &str, what: &str, is_so: bool) {
     assert!(rt; is_so, "{name}: {what}");
 }
 
-/// Sees that two pairs of numbers are the same.
+/// Checks that two pairs of numbers are the same.
 pub fn same_pair(rt: &impl Abort, told: (usize, usize), wanted: (usize, usize)) {
     same(rt, told.0, wanted.0);
     same(rt, told.1, wanted.1);
 }
 
-/// Sees that two lists of bytes are the same.
+/// Checks that two lists of bytes are the same.
 pub fn same_bytes(rt: &impl Abort, told: &[u8], wanted: &[u8]) {
     sees(rt, told == wanted);
 }
@@ -73,7 +73,7 @@ pub fn empty<T>(rt: &impl Hand) -> Vec<T> {
     Vec::new(rt.alloc())
 }
 
-/// Puts an item behind a list.
+/// Appends an item to a list.
 pub fn push<T>(rt: &impl Abort, list: &mut Vec<T>, item: T) {
     done(rt, list.push(item));
 }
@@ -83,7 +83,7 @@ pub fn put<T>(rt: &impl Abort, at: &mut Option<T>, value: T) {
     none(rt, mem::replace(at, Some(value)));
 }
 
-/// Sees that an answer is none.
+/// Checks that an option is `None`.
 pub fn none<T>(rt: &impl Abort, answer: Option<T>) {
     match answer {
         Some(_value) => fail(rt, "not none"),
@@ -91,7 +91,7 @@ pub fn none<T>(rt: &impl Abort, answer: Option<T>) {
     }
 }
 
-/// Lets a list go, all of whose items were taken out.
+/// Drops a list all of whose items were taken out.
 pub fn emptied<T>(rt: &impl Abort, list: Vec<T>) {
     assert!(rt; list.is_empty());
     list.destroy_empty();

@@ -1,4 +1,4 @@
-//! A queue at a port of a device in hand.
+//! A queue at a port of a device that the test owns.
 
 use crate::bench::{PLAIN, Why, end, in_hand, reason};
 use crate::outcome::{Hand, done, holds, refused, same, sees, some};
@@ -64,7 +64,7 @@ const ROWS: [Row<'static>; 5] = [
     ("a function that isn't there has no queue", Port::Vf(2), 0, Ask::Ready, Some(Why::DeviceFault)),
 ];
 
-/// Asks it of a queue. Answers why it is refused.
+/// Asks it of a queue. Returns why it is refused.
 fn asked(rt: &impl Hand, direct: &mut Direct, queue: &Queue, ask: Ask) -> Option<Why> {
     let alloc = rt.alloc();
     let fault = match ask {
@@ -85,7 +85,7 @@ fn asked(rt: &impl Hand, direct: &mut Direct, queue: &Queue, ask: Ask) -> Option
     Some(reason(&fault))
 }
 
-/// Asks it of a queue of a new device. Answers why it is refused, and whether the registers of queue 2 are then those
+/// Asks it of a queue of a new device. Returns why it is refused, and whether the registers of queue 2 are then those
 /// of a queue that is up.
 fn asked_of(rt: &impl Hand, port: Port, number: u16, ask: Ask) -> (Option<Why>, bool) {
     let mut direct = opened(rt);
@@ -97,7 +97,7 @@ fn asked_of(rt: &impl Hand, port: Port, number: u16, ask: Ask) -> (Option<Why>, 
     (why, is_up)
 }
 
-/// Each of these queues answers as its row says, and one that comes up has its registers.
+/// Checks that each of these queues behaves as its row says, and that one that comes up has its registers.
 fn check_all(rt: &impl Hand, rows: &[Row<'_>]) {
     for (name, port, number, ask, wanted) in rows {
         let (why, is_up) = asked_of(rt, *port, *number, *ask);

@@ -21,8 +21,8 @@ pub const SEEDS: [u32; 20] = [
     0xAAAA_AAAA, 0xC0DE_CAFE, 0xDEAD_BEEF, 0xFFFF_0000, 0xFFFF_FFFF,
 ];
 
-/// What a history tells of queue 0: the frames that wait, those that were written, how many came and went out, and
-/// those that were collected.
+/// What a history says of queue 0: the frames that wait, those that were written, how many arrived and were
+/// transmitted, and those that were collected.
 #[derive(Drop)]
 struct Tally<'a> {
     waiting: VecDeque<&'a [u8]>,
@@ -33,7 +33,7 @@ struct Tally<'a> {
 }
 
 impl<'a> Tally<'a> {
-    /// Of no entries.
+    /// The tally of an empty history.
     fn new(rt: &impl Hand) -> Self {
         Tally {
             waiting: VecDeque::new(rt.alloc()),
@@ -44,7 +44,7 @@ impl<'a> Tally<'a> {
         }
     }
 
-    /// One entry more.
+    /// Adds one entry of the history.
     fn add(&mut self, rt: &impl Hand, entry: &'a Entry) {
         match (&entry.event, &entry.reply) {
             (Event::Arrive(frame), Reply::Done) => {
@@ -67,7 +67,7 @@ impl<'a> Tally<'a> {
         }
     }
 
-    /// So many entries more.
+    /// This many entries more.
     fn add_all(&mut self, rt: &impl Hand, history: &'a [Entry]) {
         for entry in history {
             self.add(rt, entry);
@@ -95,8 +95,8 @@ fn offer<N: Nic>(rt: &impl Hand, nic: &mut N, pmd: &mut Pmd, packet: Packet) {
     }
 }
 
-/// So many rounds: a packet that came in is sent again, now and then one of the driver's own, and now and then those
-/// that were sent are reaped.
+/// This many rounds: a received packet is sent back, sometimes one of the driver's own is sent, and sometimes the sent
+/// ones are reaped.
 fn drive<N: Nic>(rt: &impl Hand, random: &mut Random, nic: &mut N, pmd: &mut Pmd, rounds: usize) {
     for _round in 0..rounds {
         match received(rt, nic, pmd) {
@@ -132,8 +132,8 @@ fn driven(rt: &impl Hand, others: &mut Others) -> Amid {
     Amid { pmd, left, history }
 }
 
-/// What was handed out are the first of the frames that a history wrote for queue 0, and no more went out than was
-/// accepted. The history leaves queue 0 alone.
+/// Checks that what was returned are the first of the frames that a history wrote for queue 0, and that no more were
+/// transmitted than accepted. The history leaves queue 0 alone.
 fn is_well(rt: &impl Hand, history: &[Entry], pmd: &Pmd) {
     sees(rt, is_left_alone(history));
     let mut tally = Tally::new(rt);
@@ -142,8 +142,8 @@ fn is_well(rt: &impl Hand, history: &[Entry], pmd: &Pmd) {
     sees(rt, tally.sent as usize <= pmd.accepted().len());
 }
 
-/// With the link up and nothing but the steps of its queue before each call, the driver hands out what waits, and what
-/// it accepted goes out.
+/// With the link up and only the steps of its queue before each call, the driver returns what waits, and what it
+/// accepted is transmitted.
 fn settle(rt: &impl Hand, others: &mut Others, nic: &mut Direct, pmd: &mut Pmd) {
     match done(rt, nic.call(rt.alloc(), Event::Link(true))) {
         Reply::Done | Reply::Idle => {}
@@ -158,7 +158,7 @@ fn word(rt: &impl Hand, device: &Device, address: u32) -> usize {
     some(rt, device.peek_register(address)) as usize
 }
 
-/// What the registers count is what the history tells.
+/// Checks that the registers count what the history says.
 fn counts_agree(rt: &impl Hand, device: &Device, tally: &Tally<'_>) {
     same(rt, word(rt, device, 0x04074), tally.arrived as usize); // GPRC
     same(rt, word(rt, device, 0x01030), tally.written.len()); // QPRC
@@ -171,7 +171,7 @@ fn are_all(rt: &impl Hand, records: &[Record], frames: &[&[u8]]) {
     sees(rt, are_first(records, frames));
 }
 
-/// All that was written was handed out, and these frames, which went out, are all that was accepted.
+/// Checks that all that was written was returned, and that these transmitted frames are all that was accepted.
 fn all_agree(rt: &impl Hand, home: Home, tally: &Tally<'_>, out: &[&[u8]]) {
     are_all(rt, home.handed.as_slice(), tally.written.as_slice());
     are_all(rt, home.accepted.as_slice(), out);
@@ -179,7 +179,7 @@ fn all_agree(rt: &impl Hand, home: Home, tally: &Tally<'_>, out: &[&[u8]]) {
     same(rt, accepted, tally.sent as usize);
 }
 
-/// What a driver among random events has come to: it is stopped, the device is in hand, and the history is whole.
+/// A driver among random events at the end: it is stopped, the test owns the device, and the history is complete.
 struct Settled {
     home: Home,
     device: Device,
@@ -188,7 +188,7 @@ struct Settled {
     foreign: usize,
 }
 
-/// Drives a driver among random events, which is well then. It settles, is stopped, and its queue was left alone.
+/// Drives a driver among random events, and checks it. It settles, is stopped, and its queue was left alone.
 fn driven_and_stopped(rt: &impl Hand, others: &mut Others) -> Settled {
     let Amid {
         mut pmd,
@@ -217,7 +217,7 @@ fn driven_and_stopped(rt: &impl Hand, others: &mut Others) -> Settled {
     }
 }
 
-/// All frames that went out, those that were collected first.
+/// All transmitted frames, those that were collected first.
 fn out<'a>(rt: &impl Hand, collected: &[&'a [u8]], frames: &'a [(u8, Octets)]) -> Vec<&'a [u8]> {
     let mut out: Vec<&[u8]> = empty(rt);
     for frame in collected {
@@ -229,8 +229,8 @@ fn out<'a>(rt: &impl Hand, collected: &[&'a [u8]], frames: &'a [(u8, Octets)]) -
     out
 }
 
-/// What the registers count, what the driver handed out and accepted and what went out is what the history tells.
-/// Answers what is lent to the device.
+/// Checks that what the registers count, what the driver returned and accepted and what was transmitted agree with the
+/// history. Returns what is lent to the device.
 fn tally_agrees(rt: &impl Hand, device: Device, home: Home, history: &[Entry]) -> LentMemory {
     let mut tally = Tally::new(rt);
     tally.add_all(rt, history);
@@ -241,7 +241,7 @@ fn tally_agrees(rt: &impl Hand, device: Device, home: Home, history: &[Entry]) -
     memory
 }
 
-/// One schedule, drawn from a seed. Answers how many foreign events were made.
+/// One schedule, drawn from a seed. Returns how many foreign events were made.
 fn among_events_of(rt: &impl Hand, seed: u32) -> usize {
     let mut others = Others::new(rt, seed);
     let Settled {
@@ -258,7 +258,7 @@ fn among_events_of(rt: &impl Hand, seed: u32) -> usize {
     foreign
 }
 
-/// 100,000 foreign events in all, none of which touches the driver's queue. What the driver hands out are the first of
+/// 100,000 foreign events in all, none of which touches the driver's queue. What the driver returns are the first of
 /// the frames that were written for its queue, all of them in the end; what goes out are the first of those that it
 /// accepted, all of them in the end.
 #[test]

@@ -1,4 +1,4 @@
-//! A device in hand and a driver of one of its queues, as one value.
+//! An owned device and a driver of one of its queues, as one value.
 
 use crate::bench::{
     arrive, end, frame_of, holds_bytes, in_hand, opened, reap, received, send, started_with, stops,
@@ -9,21 +9,21 @@ use pmd::{Direct, Packet, Pmd};
 
 /// The device, and its driver, which has started.
 pub struct Rig {
-    /// The device.
+    /// The device, which the test owns.
     pub direct: Direct,
-    /// The driver.
+    /// The driver of the device's queue.
     pub pmd: Pmd,
 }
 
 impl Rig {
-    /// A promiscuous device, and a driver of its queue 0 with rings of this size and so many blocks from a number on.
+    /// A promiscuous device, and a driver of its queue 0 with rings of this size and this many blocks from a number on.
     pub fn new(rt: &impl Hand, size: u16, blocks: (u32, u32)) -> Rig {
         let mut direct = opened(rt, 64, 0);
         let pmd = started_with(rt, &mut direct, size, blocks);
         Rig { direct, pmd }
     }
 
-    /// A frame arrives.
+    /// Lets a frame arrive from the link.
     pub fn arrive(&mut self, rt: &impl Hand, bytes: Vec<u8>) {
         arrive(rt, &mut self.direct, bytes);
     }
@@ -50,7 +50,7 @@ impl Rig {
         self.send(rt, packet);
     }
 
-    /// Five frames from this number on come, are handed out in order, and are sent again.
+    /// Five frames from this number on come, are returned in order, and are sent again.
     fn five_frames(&mut self, rt: &impl Hand, first: u16) {
         for number in first..first.saturating_add(5) {
             self.arrive(rt, frame_of(rt, number));
@@ -68,7 +68,7 @@ impl Rig {
         }
     }
 
-    /// Stops the driver, to which all blocks come home, and so many packets were handed out and accepted. Answers the
+    /// Stops the driver, to which all blocks come back, and this many packets were returned and accepted. Returns the
     /// frames out.
     pub fn end(self, rt: &impl Hand, packets: (usize, usize)) -> Vec<(u8, Octets)> {
         let Rig { mut direct, pmd } = self;

@@ -1,4 +1,4 @@
-//! Runs of two workers: at gates of the test's own, under a limit of entries, and with somebody beside them.
+//! Runs of two workers: at gates of the test's own, under a limit of entries, and with other events between theirs.
 
 use crate::meeting::meets;
 use crate::outcome::{Hand, holds, same, sees};
@@ -8,8 +8,8 @@ use pmd::{Gate, Lockstep};
 use std::sync::atomic::{AtomicU64, Ordering};
 use std::sync::{Mutex, Wait};
 
-/// A gate whose first point opens to a worker only while both stand at it: each of the two looks there for a while
-/// whether the other has come. Its other points are open, and so is the first to anybody else.
+/// A gate whose first point opens to a worker only while both are at it: each polls there for a while whether the other
+/// has come. Its other points are open, and so is the first to anybody else.
 #[derive(Drop)]
 struct Meeting<'a, R> {
     rt: &'a R,
@@ -84,14 +84,14 @@ const ONE_FRAME: Order = Order {
     frames: 1,
 };
 
-/// Runs two workers with nobody beside them.
+/// Runs two workers without other events.
 fn alone<G: Gate + Sync>(rt: &impl Hand, gate: &G, order: Order) -> Came {
     let came = run_team(rt, gate, order, Beside::new(rt, How::Nothing, 1));
     sees(rt, came.failed == 0 && came.lost == [0, 0]);
     came
 }
 
-/// So many frames were let in, and so many workers ended by a gate that was shut and by a full history.
+/// This many frames were accepted, and this many workers ended by a gate that was shut and by a full history.
 fn is_counted(rt: &impl Hand, came: &Came, (fed, shut, full): (usize, u32, u32)) {
     same(rt, came.fed, fed);
     same(rt, came.shut as usize, shut as usize);
@@ -109,7 +109,8 @@ fn two_workers_stand_at_one_point(rt: HostRuntime) {
     is_counted(&rt, &came, (1, 0, 0));
 }
 
-/// Where one worker runs after the other, the first finds nobody at that point, and is shut out; both have all at home.
+/// Where one worker runs after the other, the first finds nobody at that point, and is shut out; both have all blocks
+/// back.
 #[test]
 fn workers_one_after_the_other_do_not_meet(rt: HostRuntime) {
     let gate = InTurn {
@@ -132,14 +133,14 @@ fn a_point_is_shut_to_one_worker(rt: HostRuntime) {
     }
 }
 
-/// Workers that a gate doesn't let on say so and have all at home, and no frame arrives.
+/// Workers that a gate doesn't let on say so and have all blocks back, and no frame arrives.
 #[test]
 fn a_gate_that_is_shut_ends_both_workers(rt: HostRuntime) {
     let came = alone(&rt, &Shut, ONE_FRAME);
     is_counted(&rt, &came, (0, 2, 0));
 }
 
-/// Two workers and ten frames under a limit. Answers whether it was met.
+/// Two workers and ten frames under a limit. Returns whether it was met.
 fn limited(rt: &impl Hand, limit: u32) -> bool {
     let order = Order {
         limit,
@@ -157,8 +158,8 @@ fn limited(rt: &impl Hand, limit: u32) -> bool {
     met
 }
 
-/// Whatever the limit, every call returns, the history closes with no more entries than that, and all blocks come home:
-/// from just behind the set-up on to where both workers are done.
+/// Whatever the limit, every call returns, the history closes with no more entries than that, and all blocks come back:
+/// from just after the set-up on to where both workers are done.
 #[test]
 fn a_full_history_ends_both_workers(rt: HostRuntime) {
     sees(&rt, limited(&rt, 300));
@@ -198,7 +199,7 @@ fn a_neighbour_visits_two_workers(rt: HostRuntime) {
     }
 }
 
-/// Two workers end beside a stranger, who makes no fewer events than it is to make.
+/// Two workers end while a stranger makes events, at least as many as it is to make.
 fn end_beside(rt: &impl Hand, order: Order, seed: u32) {
     let beside = Beside::new(rt, How::Meddles, seed);
     let came = run_team(rt, &Lockstep::new(rt, 3), order, beside);

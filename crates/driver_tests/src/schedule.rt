@@ -1,4 +1,4 @@
-//! Lists of foreign events for an `Interleaved`, what is left of them at its end, and blocks that come home.
+//! Lists of foreign events for an `Interleaved`, what is left of them at its end, and blocks that come back.
 
 use crate::history::add_marked;
 use crate::outcome::{Hand, done, emptied, empty, none, push, put, some};
@@ -9,34 +9,34 @@ use pmd::{Finished, Interleaved};
 /// Lists of foreign events, one for each of the next calls.
 pub type Schedule = Vec<Vec<Event>>;
 
-/// Puts the switches of both sides of queue 0 behind a list.
+/// Appends the switches of both sides of queue 0 to a list.
 pub fn push_switches(rt: &impl Hand, list: &mut Vec<Event>) {
     push(rt, list, Event::QueueStep(Dir::Rx, 0));
     push(rt, list, Event::QueueStep(Dir::Tx, 0));
 }
 
-/// Puts the steps of queue 0 behind a list: both sides are switched, it sends, and the device receives.
+/// Appends the steps of queue 0 to a list: both sides are switched, it sends, and the device receives.
 pub fn push_steps(rt: &impl Hand, list: &mut Vec<Event>) {
     push_switches(rt, list);
     push(rt, list, Event::TxStep(0));
     push(rt, list, Event::RxStep);
 }
 
-/// Lets an event go. The block that it would have lent is its hand's.
+/// Drops an event. The block that it would have lent is its hand's.
 fn let_go(rt: &impl Hand, bufs: &mut Vec<Buf>, event: Event) {
     if let Some(buf) = event.into_buf() {
         push(rt, bufs, buf);
     }
 }
 
-/// Lets a reply go. The block that it hands out is its hand's.
+/// Drops a reply. The block that it returns is its hand's.
 pub fn let_reply_go(rt: &impl Hand, bufs: &mut Vec<Buf>, reply: Reply) {
     if let Some(buf) = reply.into_buf() {
         push(rt, bufs, buf);
     }
 }
 
-/// Lets the events of a list go.
+/// Drops the events of a list.
 fn let_all_go(rt: &impl Hand, bufs: &mut Vec<Buf>, mut list: Vec<Event>) {
     for _event in 0..list.len() {
         let_go(rt, bufs, some(rt, list.pop()));
@@ -47,7 +47,7 @@ fn let_all_go(rt: &impl Hand, bufs: &mut Vec<Buf>, mut list: Vec<Event>) {
 /// What an `Interleaved` leaves: the device, the history of its calls, how many foreign events were made, and the
 /// blocks that foreign events took or didn't lend.
 pub struct Left {
-    /// The device.
+    /// The device at the end.
     pub device: Device,
     /// The calls that were made. The own ones are the driver's.
     pub history: Vec<Entry>,
@@ -130,7 +130,7 @@ fn not_whole(rt: &impl Hand, mut arenas: Vec<Arena>) -> Vec<Arena> {
     away
 }
 
-/// All blocks come home: each to the first of the arenas that it is missing from, and none is missing then. Answers how
+/// All blocks come back: each to the first of the arenas that it is missing from, and none is missing then. Returns how
 /// many arenas didn't close before that.
 pub fn all_home(rt: &impl Hand, mut bufs: Vec<Buf>, arenas: Vec<Arena>) -> usize {
     let mut away = not_whole(rt, arenas);

@@ -38,12 +38,12 @@ fn close(rt: &impl Hand, bench: Bench, passes: Vec<Pass>) -> Closed<0, 64> {
     done(rt, bench.close(passes))
 }
 
-/// A shared device, its bench's number and so many passes, whose history has so many entries at most.
+/// A shared device, its bench's number and this many passes, whose history has this many entries at most.
 fn shared(rt: &impl Hand, bench: u64, passes: u8, limit: u32) -> (Bench, Vec<Pass>) {
     done(rt, Bench::new(rt.alloc(), bench, passes, limit))
 }
 
-/// A step of receiving by a pass is refused. Answers why.
+/// A step of receiving by a pass is refused. Returns why.
 fn refused_step(rt: &impl Hand, bench: &Bench, pass: &mut Pass) -> CallFault<()> {
     why(
         rt,
@@ -51,7 +51,7 @@ fn refused_step(rt: &impl Hand, bench: &Bench, pass: &mut Pass) -> CallFault<()>
     )
 }
 
-/// Closes a shared device to which no memory is lent, and from which no frame went out. Answers how many calls its
+/// Closes a shared device to which no memory is lent, and from which no frame went out. Returns how many calls its
 /// history has, and how many of them are of the pass of this tag.
 fn counted(rt: &impl Hand, bench: Bench, passes: Vec<Pass>, tag: u8) -> (usize, usize) {
     let closed = close(rt, bench, passes);
@@ -63,7 +63,7 @@ fn counted(rt: &impl Hand, bench: Bench, passes: Vec<Pass>, tag: u8) -> (usize, 
     counts
 }
 
-/// Closes a shared device to which no memory is lent, and from which no frame went out. Answers how many calls its
+/// Closes a shared device to which no memory is lent, and from which no frame went out. Returns how many calls its
 /// history has.
 fn closed(rt: &impl Hand, bench: Bench, passes: Vec<Pass>) -> usize {
     let (made, _own) = counted(rt, bench, passes, 0);
@@ -75,7 +75,7 @@ fn passes_of(rt: &impl Hand, passes: [Pass; 2]) -> Vec<Pass> {
     done(rt, Vec::from_array(rt.alloc(), passes))
 }
 
-/// Writes a register.
+/// Writes a register through a pass.
 fn write(rt: &impl Hand, bench: &Bench, pass: &mut Pass, address: u32, word: u32) {
     is_done(
         rt,
@@ -83,7 +83,7 @@ fn write(rt: &impl Hand, bench: &Bench, pass: &mut Pass, address: u32, word: u32
     );
 }
 
-/// Reads a register.
+/// Reads a register through a pass.
 fn read(rt: &impl Hand, bench: &Bench, pass: &mut Pass, address: u32) -> u32 {
     word_in(rt, reply(rt, bench, pass, Event::Read(Port::Pf, address)))
 }
@@ -124,7 +124,7 @@ enum Deed {
     Switches,
 }
 
-/// Does it.
+/// Makes the calls of a thread.
 fn work(rt: &impl Hand, bench: &Bench, pass: Pass, work: Deed) -> Pass {
     match work {
         Deed::Words => write_and_read(rt, bench, pass),
@@ -148,7 +148,7 @@ fn both_work(rt: &impl Hand, bench: &Bench, passes: Vec<Pass>, what: Deed) -> Ve
     passes_of(rt, [some(rt, first), some(rt, second)])
 }
 
-/// Two threads work at one device. So many calls are made in all, and so many by each pass.
+/// Two threads work at one device. This many calls are made in all, and this many by each pass.
 fn two_threads(rt: &impl Hand, what: Deed, tag: u8, calls: (usize, usize)) {
     let (bench, passes) = shared(rt, 1, 2, 1000);
     let passes = both_work(rt, &bench, passes, what);
@@ -165,7 +165,7 @@ fn two_threads_switch_queues_of_one_device(rt: HostRuntime) {
     two_threads(&rt, Deed::Switches, 1, (40, 20));
 }
 
-/// Reads HLREG0.
+/// Reads HLREG0 through a way to a device.
 fn read_hlreg0<N: Nic>(rt: &impl Hand, nic: &mut N) {
     let told = done(rt, nic.call(rt.alloc(), Event::Read(Port::Pf, 0x04240)));
     same(rt, word_in(rt, told) as usize, 0x403);
@@ -177,7 +177,7 @@ fn refused_at<N: Nic>(rt: &impl Hand, nic: &mut N) -> CallFault<()> {
 }
 
 /// A read through the lock, and then a step, which a full history refuses. Five calls were made by then, and seven in
-/// the end. Answers the pass.
+/// the end. Returns the pass.
 fn five_and_seven(rt: &impl Hand, bench: &Bench, pass: Pass) -> Pass {
     let mut nic = ThroughLock::new(rt, bench, pass, 9);
     read_hlreg0(rt, &mut nic);
@@ -188,7 +188,7 @@ fn five_and_seven(rt: &impl Hand, bench: &Bench, pass: Pass) -> Pass {
     pass
 }
 
-/// Calls by one pass are behind steps, until the history is full.
+/// Calls by one pass are after steps, until the history is full.
 fn call_behind_steps(rt: &impl Hand) {
     let (bench, mut passes) = shared(rt, 1, 1, 7);
     let pass = five_and_seven(rt, &bench, some(rt, passes.pop()));
@@ -247,7 +247,7 @@ fn three_steps(rt: &impl Hand, bench: &Bench, pass: &mut Pass) {
     }
 }
 
-/// Three steps of receiving, and then one that a full history refuses. Answers the pass.
+/// Three steps of receiving, and then one that a full history refuses. Returns the pass.
 fn three_and_no_more(rt: &impl Hand, bench: &Bench, pass: Pass) -> Pass {
     let mut pass = pass;
     three_steps(rt, bench, &mut pass);

@@ -1,5 +1,5 @@
-//! Two drivers of the queues of one pool, beside a stranger that resets the device, the pool and the function, takes
-//! and lends blocks of their rings, and writes what the queues rest on at random, while 10,000 frames arrive.
+//! Two drivers of the queues of one pool, while a stranger resets the device, the pool and the function, takes and
+//! lends blocks of their rings, and writes registers that the queues rely on at random, and 10,000 frames arrive.
 
 use crate::bench::segment;
 use crate::hostile::offer;
@@ -16,17 +16,17 @@ use pmd::{Home, Pmd, Rest, StartRefused, StopRefused, ThroughLock};
 /// How many turns a run has, in each of which four frames arrive; there is a run for each of twenty seeds.
 const TURNS: u32 = 125;
 
-/// After so many turns all is set up again.
+/// After this many turns all is set up again.
 const SPELL: u32 = 25;
 
-/// Rows of queue 0, by address; that of queue 1 stands 64 bytes behind.
+/// Registers of queue 0, by address; those of queue 1 are 64 bytes higher.
 #[rattlefmt::skip]
 const ROWS: [u32; 12] = [
     0x01000, 0x01008, 0x01010, 0x01014, 0x01018, 0x01028,  // RDBAL, RDLEN, RDH, SRRCTL, RDT, RXDCTL
     0x06000, 0x06008, 0x06010, 0x06018, 0x06028, 0x06038,  // TDBAL, TDLEN, TDH, TDT, TXDCTL, TDWBAL
 ];
 
-/// A driver of a queue: it runs, or is at home. How many blocks it lost so far.
+/// A driver of a queue, running or stopped, and how many blocks it has lost so far.
 struct Driver {
     queue: u16,
     pass: Option<Pass>,
@@ -36,7 +36,7 @@ struct Driver {
 }
 
 impl Driver {
-    /// One that is at home.
+    /// A driver that is stopped.
     fn new(rt: &impl Hand, pass: Pass) -> Driver {
         let queue = u16::from(pass.tag() % 2);
         Driver {
@@ -48,7 +48,7 @@ impl Driver {
         }
     }
 
-    /// It is at home.
+    /// Takes over what a stopped driver left.
     fn come_home(&mut self, rt: &impl Hand, home: Home) {
         let Home {
             arena,
@@ -60,7 +60,7 @@ impl Driver {
         put(rt, &mut self.arena, arena);
     }
 
-    /// Starts it where it is at home. One that only half started is stopped later.
+    /// Starts the driver where it is stopped. One that only half started is stopped later.
     fn start(&mut self, rt: &impl Hand, bench: &Bench) {
         let Some(arena) = self.arena.take() else {
             return;
@@ -76,7 +76,7 @@ impl Driver {
         put(rt, &mut self.pass, nic.finish());
     }
 
-    /// Stops it where it runs. One whose stop is refused runs on.
+    /// Stops the driver where it runs. One whose stop is refused keeps running.
     fn stop(&mut self, rt: &impl Hand, bench: &Bench) {
         let Some(pmd) = self.pmd.take() else {
             return;
@@ -122,7 +122,7 @@ impl Driver {
     }
 }
 
-/// A stranger's event.
+/// A random event of the stranger.
 fn event(random: &mut Random, bufs: &mut Vec<Buf>) -> Event {
     let queue = u32::from(random.byte() % 2);
     match random.byte() % 8 {
@@ -166,15 +166,15 @@ impl Storm {
         }
     }
 
-    /// Stops both drivers.
+    /// Stops both drivers where they run.
     fn stop(&mut self, rt: &impl Hand, bench: &Bench) {
         for driver in self.drivers.iter_mut() {
             driver.stop(rt, bench);
         }
     }
 
-    /// Stops both drivers, sets the device up, and starts them. Both queues are pool 0's, and frames are parted between
-    /// them by their hash.
+    /// Stops both drivers, sets the device up, and starts them. Both queues are pool 0's, and frames are distributed
+    /// between them by their hash.
     fn begin(&mut self, rt: &impl Hand, bench: &Bench) {
         self.stop(rt, bench);
         let host = some(rt, self.host.take());
@@ -188,7 +188,7 @@ impl Storm {
         }
     }
 
-    /// A frame arrives.
+    /// Lets a frame arrive from the link.
     fn arrive(&mut self, rt: &impl Hand, bench: &Bench) {
         let mut host = some(rt, self.host.take());
         let arriving = Event::Arrive(Octets::of(segment(rt, self.random.byte())));
@@ -220,7 +220,7 @@ struct Over {
     bufs: Vec<Buf>,
 }
 
-/// Ends a storm whose drivers are at home.
+/// Ends a storm whose drivers are stopped.
 fn end_storm(rt: &impl Hand, storm: Storm) -> Over {
     let Storm {
         random: _,
@@ -250,7 +250,7 @@ fn all_turns(rt: &impl Hand, bench: &Bench, storm: &mut Storm) {
     storm.stop(rt, bench);
 }
 
-/// A run of a seed. Answers how many frames were sent.
+/// A run of a seed. Returns how many frames were sent.
 fn run_of(rt: &impl Hand, seed: u32) -> usize {
     let (bench, passes) = done(rt, Bench::new(rt.alloc(), 1, 4, 1_000_000));
     let mut storm = Storm::new(rt, passes, seed);
@@ -266,8 +266,8 @@ fn run_of(rt: &impl Hand, seed: u32) -> usize {
     sent.len()
 }
 
-/// Every call returns, the history closes, each block is home or counted as lost and found with the stranger or the
-/// device, and what went out is what the history tells.
+/// Every call returns, the history closes, each block is free or counted as lost and found with the stranger or the
+/// device, and what was transmitted agrees with the history.
 #[test]
 fn two_drivers_endure_a_storm(rt: HostRuntime) {
     let mut sent: usize = 0;

@@ -1,5 +1,5 @@
-//! Who is beside two workers: a neighbour who visits while they wait for the frames, or a stranger who makes random
-//! events on the queues and the blocks of both.
+//! Other programs next to two workers: a neighbour who visits while they wait for the frames, or a stranger who makes
+//! random events on the queues and the blocks of both.
 
 use crate::bench::{is_done, word_in};
 use crate::hostile::WRITES;
@@ -12,7 +12,7 @@ use nic_device::{Arena, Buf, Event, Port, Reply};
 use pmd::Gate;
 use std::sync::atomic::{AtomicU64, Ordering};
 
-/// The neighbour's number at the gate, behind the workers and the host.
+/// The neighbour's number at the gate, after the workers and the host.
 const NEIGHBOUR: usize = 3;
 
 /// How many events the stranger makes at least, and at most.
@@ -20,10 +20,10 @@ pub const LEAST: u32 = 1_000;
 
 const MOST: u32 = 20_000;
 
-/// What is done beside the workers.
+/// What other programs do next to the workers.
 #[derive(Clone, Copy)]
 pub enum How {
-    /// Nothing.
+    /// Nothing else is done.
     Nothing,
     /// A neighbour takes the blocks that slots 5 and 6 of queue 0 name.
     Takes,
@@ -33,8 +33,8 @@ pub enum How {
     Meddles,
 }
 
-/// Who is beside the workers: their events, blocks of the workers' numbers, and the blocks that they took or couldn't
-/// lend.
+/// The other programs next to the workers: their events, blocks of the workers' numbers, and the blocks that they took
+/// or couldn't lend.
 pub struct Beside {
     how: How,
     others: Others,
@@ -53,7 +53,7 @@ impl Beside {
         }
     }
 
-    /// Puts the arenas behind others. Answers the blocks in hand.
+    /// Puts the arenas after others. Returns the owned blocks.
     pub fn leave(self, rt: &impl Hand, arenas: &mut Vec<Arena>) -> Vec<Buf> {
         let Beside {
             how: _,
@@ -95,7 +95,7 @@ impl Beside {
         }
     }
 
-    /// The neighbour's visit.
+    /// Makes the neighbour's visit to the queues.
     fn visit(&mut self, rt: &impl Hand, bench: &Bench, pass: &mut Pass) {
         if let How::Takes = self.how {
             self.take(rt, bench, pass, 5);

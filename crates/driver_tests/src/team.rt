@@ -1,5 +1,5 @@
-//! Two workers, of the queues 0 and 1, at a device that they share, and who is beside them on another thread: they are
-//! run, brought home and taken apart.
+//! Two workers, of the queues 0 and 1, on a device that they share, and another program on a thread of its own: they
+//! are run and ended.
 
 use crate::bench::{TCP_FRAME, TCP6_FRAME, count_calls, taken_apart};
 use crate::hostile::stopped_again;
@@ -26,9 +26,9 @@ pub const BLOCKS: u32 = 32;
 /// frames arrive.
 #[derive(Clone, Copy)]
 pub struct Order {
-    /// The entries.
+    /// The most entries of the history.
     pub limit: u32,
-    /// The looks.
+    /// How often each worker polls for a packet.
     pub rounds: u32,
     /// The frames, TCP segments over IPv4 and over IPv6 in turn.
     pub frames: u8,
@@ -137,8 +137,8 @@ fn work<G: Gate + Sync>(
     done(rt, ran)
 }
 
-/// Runs two workers at a gate, and somebody beside them. Answers what they leave, and the passes of the host and of who
-/// is beside.
+/// Runs two workers at a gate, and the other program. Returns what they leave, and the passes of the host and of the
+/// other program.
 fn run_beside<G: Gate + Sync>(
     rt: &impl Hand,
     gate: &G,
@@ -165,12 +165,12 @@ fn run_beside<G: Gate + Sync>(
     (some(rt, ran), host, other)
 }
 
-/// What came of a run, once all is at home.
+/// The outcome of a run, once all blocks are back.
 #[derive(Drop)]
 pub struct Came {
-    /// How many frames were let in.
+    /// How many frames were accepted.
     pub fed: usize,
-    /// How many packets were handed out.
+    /// How many packets were returned.
     pub packets: usize,
     /// How many entries the history has.
     pub made: usize,
@@ -186,11 +186,11 @@ pub struct Came {
     pub lost: [u32; 2],
     /// Whether the history leaves each queue alone.
     pub alone: [bool; 2],
-    /// How many arenas didn't close before all blocks came home.
+    /// How many arenas didn't close before all blocks came back.
     pub away: usize,
 }
 
-/// What is to be taken apart: what came so far, the drivers that run on, each with its queue, and the arenas.
+/// What is to be dismantled: what came so far, the drivers that run on, each with its queue, and the arenas.
 struct Ending {
     came: Came,
     running: Vec<(u16, Pmd)>,
@@ -198,7 +198,7 @@ struct Ending {
 }
 
 impl Ending {
-    /// Of a run in which so many frames were let in, and so many calls made beside.
+    /// Of a run in which this many frames were accepted, and this many calls made beside.
     fn new(rt: &impl Hand, fed: usize, beside: usize) -> Ending {
         let came = Came {
             fed,
@@ -232,7 +232,7 @@ impl Ending {
         }
     }
 
-    /// The driver of a queue is home: each of its blocks is free or lost.
+    /// What the driver of a queue left: each of its blocks is free or lost.
     fn add_home(&mut self, rt: &impl Hand, queue: u16, home: Home) {
         let Home {
             arena,
@@ -245,7 +245,7 @@ impl Ending {
         push(rt, &mut self.arenas, arena);
     }
 
-    /// Takes one worker's end apart. Answers its pass.
+    /// Takes one worker's end apart. Returns its pass.
     fn add(&mut self, rt: &impl Hand, end: WorkerEnd) -> Pass {
         let WorkerEnd {
             pass,
@@ -263,7 +263,7 @@ impl Ending {
         pass
     }
 
-    /// Looks what the history tells.
+    /// Computes what the history says.
     fn look(&mut self, rt: &impl Hand, closed: &Closed<1, 64>) {
         self.came.made = closed.history().len();
         self.came.alone = [closed.left_alone(0, 0), closed.left_alone(1, 1)];
@@ -271,7 +271,7 @@ impl Ending {
         same(rt, beside.len(), self.came.beside);
     }
 
-    /// Stops the drivers that run on, over the device in hand. What goes out meanwhile is put behind what was sent.
+    /// Stops the drivers that run on, over the owned device. What goes out meanwhile is put after what was sent.
     fn stop_all(&mut self, rt: &impl Hand, device: Device, sent: &mut Sent) -> Device {
         let mut device = device;
         for _driver in 0..self.running.len() {
@@ -290,10 +290,10 @@ impl Ending {
     }
 }
 
-/// The frames that went out and weren't collected, as queue and length, in their order.
+/// The transmitted frames that weren't collected, as queue and length, in their order.
 pub type Sent = VecDeque<(u16, usize)>;
 
-/// What a reply tells of them.
+/// Adds what a reply says of them.
 fn add_sent(rt: &impl Hand, sent: &mut Sent, reply: &ReplyNote) {
     match reply {
         ReplyNote::Sent { queue, len, .. } => done(rt, sent.push_back((*queue, *len))),
@@ -304,7 +304,7 @@ fn add_sent(rt: &impl Hand, sent: &mut Sent, reply: &ReplyNote) {
     }
 }
 
-/// What a history tells of them.
+/// What a history says of them.
 pub fn sent_in(rt: &impl Hand, history: &[Entry]) -> Sent {
     let mut sent = VecDeque::new(rt.alloc());
     for entry in history {
@@ -319,7 +319,7 @@ fn is_sent(rt: &impl Hand, told: Option<&(u16, usize)>, queue: u16, len: usize) 
     sees(rt, *of == queue && *bytes == len);
 }
 
-/// The frames out are those that were told of, in order.
+/// Checks that the transmitted frames are those that were reported, in order.
 fn are_sent(rt: &impl Hand, sent: &Sent, frames: &[(u8, Octets)]) {
     same(rt, sent.len(), frames.len());
     let mut number: usize = 0;
@@ -329,8 +329,8 @@ fn are_sent(rt: &impl Hand, sent: &Sent, frames: &[(u8, Octets)]) {
     }
 }
 
-/// Takes a device apart: what went out is what was told, and each block comes home. Answers how many arenas didn't
-/// close before that.
+/// Ends a device: checks that the transmitted frames agree with the history, and that each block is free again. Returns
+/// how many arenas didn't close before that.
 pub fn apart(
     rt: &impl Hand,
     device: Device,
@@ -344,7 +344,7 @@ pub fn apart(
     all_home(rt, bufs, arenas)
 }
 
-/// Takes the ends of all workers apart. Answers that, and all passes.
+/// Ends all workers. Returns what they leave, and all passes.
 fn begin_ending(rt: &impl Hand, ran: Ran, host: Pass, other: Pass) -> (Ending, Vec<Pass>) {
     let Ran { mut ends, fed } = ran;
     let mut ending = Ending::new(rt, fed, count_calls(other.calls()));
@@ -357,7 +357,7 @@ fn begin_ending(rt: &impl Hand, ran: Ran, host: Pass, other: Pass) -> (Ending, V
     (ending, passes)
 }
 
-/// Stops the drivers that run on, over the device of a closed history, and takes the device apart.
+/// Stops the drivers that still run, on the device of a closed history, and ends the device.
 fn end_all(rt: &impl Hand, ending: Ending, closed: Closed<1, 64>, beside: Beside) -> Came {
     let mut ending = ending;
     ending.look(rt, &closed);
@@ -374,7 +374,7 @@ fn end_all(rt: &impl Hand, ending: Ending, closed: Closed<1, 64>, beside: Beside
     came
 }
 
-/// Runs two workers at a gate, with somebody beside them, and takes all apart.
+/// Runs two workers at a gate, with the other program, and ends all.
 pub fn run_team<G: Gate + Sync>(
     rt: &impl Hand,
     gate: &G,

@@ -45,13 +45,13 @@ pub record SaysFirst (number : ℕ) (said : TextLine) (lines behind : List Numbe
   pub first : lines ≡ record { number = number; text = text } ∷ behind
   pub says : said ≡ text_line text
 
--- these lines give what a line of this number gives that says this, and then what those behind give, which are fewer
+-- these lines give what a line of this number gives that says this, and then what those after give, which are fewer
 pub record SaysNext (number : ℕ) (said : TextLine) (lines behind : List NumberedLine) : Type 0 where
   pub gives : (content : Content)
       → with_lines content lines ≡ (with_line content number said then λ more. with_lines more behind)
   pub shorter : length behind < length lines
 
--- a size and the lines behind it, where there is one
+-- a size and the lines after it, where there is one
 abbrev pub Sized : Type 0
 Sized = Option (ℕ × List NumberedLine)
 
@@ -68,7 +68,7 @@ unfoldable pub sized : List NumberedLine → Result Sized AsmFault
 sized [] = Ok None
 sized (line ∷ lines) = sized_by (text_line line.text) line.number lines (sized lines)
 
--- what the lines behind the size give; without a size the line one past the last is faulty
+-- what the lines after the size give; without a size the line one past the last is faulty
 abbrev pub content_behind : ℕ → Sized → Result Content AsmFault
 content_behind past None = Err (Syntax past)
 content_behind past (Some start) = with_lines (only_size start.0) start.1

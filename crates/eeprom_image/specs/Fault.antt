@@ -26,7 +26,7 @@ abbrev pub least : List ℕ → Option ℕ
 least [] = None
 least (n ∷ ns) = lesser n (least ns)
 
--- the index behind the CSR section, which stands at 0x40 where there are triples
+-- the index after the CSR section, which is at 0x40 where there are triples
 abbrev pub section_end : List (ℕ × ℕ) → ℕ
 section_end [] = 0x40
 section_end (triple ∷ triples) = 0x41 + 3 * length (triple ∷ triples)

@@ -20,7 +20,7 @@ file_fault bytes =
     if not ((length bytes % 2) == 0) then Some OddLength else
     if not (is_size (length bytes / 2)) then Some BadSize else words_fault (words_of bytes)
 
--- the fault of the file that a refusal tells: want of memory is told only of a file without one
+-- the fault of the file that a refusal reports: lack of memory is reported only of a file without one
 abbrev pub told_fault : LoadFault → Option LoadFault
 told_fault OutOfMemory = None
 told_fault OddLength = Some OddLength

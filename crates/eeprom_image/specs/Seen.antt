@@ -4,7 +4,7 @@ use Rattle.std.specs.Ordering.{nat_cmp}
 use Rattle.std.specs.BTreeSet.{contains}
 use Rattle.eeprom_image.specs.declared.seen.Seen.{Seen}
 
--- whether an index stands in a table: at its remainder by the number of places, as its quotient and one
+-- whether an index is in a table: at its remainder by the number of places, as its quotient and one
 abbrev pub is_at_place : List ℕ → ℕ → Bool
 is_at_place places index = get_or places (index % length places) 0 == (index / length places + 1)
 

@@ -20,7 +20,7 @@ pub record IsImageOf (content : Content) (words : List ℕ) : Type 0 where
   pub once : given_again (indexes content.words) ≡ []
   pub free : filter (is_reserved (section_end content.triples)) (indexes content.words) ≡ []
   pub inside : IsTrue (fits content)
-  -- the words are an image, whose pointers point behind the checksum
+  -- the words are an image, whose pointers point after the checksum
   pub image : IsImage words
   pub pointers : IsTrue (list_all is_behind (pointers words))
   pub size : length words ≡ content.size

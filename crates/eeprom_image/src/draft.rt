@@ -1,4 +1,4 @@
-//! What the lines of an EEPROM text give.
+//! What the lines of an EEPROM text define.
 
 ghost use Rattle.std.specs.Prelude.{◌≡◌, ◌+◌, ◌≤◌, ◌<◌, ◌^◌, [], length, Ok, None, MatchOption, IfSome, IfOk, IfErr};
 ghost use Rattle.std.specs.Option.{option_map};
@@ -12,21 +12,21 @@ use crate::text::AsmFault;
 use std::alloc::Global;
 use text_format::Lines;
 
-/// How many bytes a line takes at least that gives a word or a register write, so that neither list grows.
+/// The fewest bytes of a line that defines a word or a register write, by which the capacity of both lists is computed.
 const LINE_LENGTH: usize = 8;
 
-/// What the lines so far give.
+/// What the lines so far define.
 #[derive(Drop)]
 pub(crate) struct Draft {
-    /// How many words the image has.
+    /// The number of words of the image.
     pub(crate) size: u32,
-    /// The words given, by index and value.
+    /// The words that are defined, by index and value.
     pub(crate) words: Vec<(u32, u16)>,
-    /// The register writes given, by byte offset and data.
+    /// The register writes that are defined, by byte offset and data.
     pub(crate) triples: Vec<(u32, u32)>,
 }
 
-/// The size, which the first line gives that isn't empty, and the lines behind it.
+/// Reads the size, which the first line that isn't empty defines. Returns it with the lines after it.
 #[tactic(auto, unfolding(crate::specs::Content::sized))]
 fn read_size(text: &str) -> Result<(u32, Lines<'_>), AsmFault>
     ensures ok { IfOk result (λ start. content_of text.now ≡ with_lines (only_size start.0) start.1) }
@@ -46,7 +46,7 @@ fn read_size(text: &str) -> Result<(u32, Lines<'_>), AsmFault>
     Err(AsmFault::Syntax(count + 1))
 }
 
-/// What the next line says, and its number, where it is a `word` or `csr` line that is read in one look.
+/// Reads the next line, with its number, where it is a `word` or `csr` line that the fast path can read.
 fn next_pair(lines: &mut Lines<'_>) -> Option<(usize, TextLine)>
     ensures some { IfSome result (λ said. SaysFirst said.0 said.1 lines.old lines.new) }
     ensures none { result ≡ None → lines.new ≡ lines.old }
@@ -60,7 +60,7 @@ fn next_pair(lines: &mut Lines<'_>) -> Option<(usize, TextLine)>
     None
 }
 
-/// What the next line says, and its number.
+/// Reads the next line, with its number.
 fn next_line(lines: &mut Lines<'_>) -> Option<(usize, TextLine)>
     ensures { MatchOption result (lines.old ≡ []) (λ said. SaysFirst said.0 said.1 lines.old lines.new) }
 {
@@ -68,7 +68,7 @@ fn next_line(lines: &mut Lines<'_>) -> Option<(usize, TextLine)>
     Some((line.number, text_line(line.text)))
 }
 
-/// The same where the next line is none that is read in one look: those in front that have no words say nothing.
+/// Reads the next line where the fast path can't. Empty lines before it count as lines that define nothing.
 fn next_other(lines: &mut Lines<'_>) -> Option<(usize, TextLine)>
     ensures { MatchOption result (lines.old ≡ []) (λ said. SaysNext said.0 said.1 lines.old lines.new) }
 {
@@ -78,7 +78,7 @@ fn next_other(lines: &mut Lines<'_>) -> Option<(usize, TextLine)>
     next_line(lines)
 }
 
-/// What the next line says, and its number, or that some lines say nothing. Those behind are left.
+/// Reads the next line, with its number; or some empty lines at once. The lines after it stay unread.
 fn next_said(lines: &mut Lines<'_>) -> Option<(usize, TextLine)>
     ensures { MatchOption result (lines.old ≡ []) (λ said. SaysNext said.0 said.1 lines.old lines.new) }
 {
@@ -89,7 +89,7 @@ fn next_said(lines: &mut Lines<'_>) -> Option<(usize, TextLine)>
 }
 
 impl Draft {
-    /// Adds what one more line says, of this number.
+    /// Adds what the line of this number defines.
     fn take_line(&mut self, number: usize, said: TextLine) -> Result<(), AsmFault>
         ensures { Gives (λ _. content_in self.new) result (with_line (content_in self.old) number said) }
     {
@@ -102,7 +102,7 @@ impl Draft {
         Ok(())
     }
 
-    /// Adds what the lines give.
+    /// Adds what all lines define.
     #[tactic(auto, unfolding(crate::specs::Content::with_lines))]
     fn take_lines(&mut self, mut lines: Lines<'_>) -> Result<(), AsmFault>
         ensures { Gives (λ _. content_in self.new) result (with_lines (content_in self.old) lines.entry) }
@@ -114,7 +114,7 @@ impl Draft {
     }
 }
 
-/// What a text gives, or its first faulty line.
+/// What a text defines, or its first faulty line.
 pub(crate) fn read(alloc: Global, text: &str) -> Result<Draft, AsmFault>
     ensures { Gives content_in result (content_of text.now) }
 {

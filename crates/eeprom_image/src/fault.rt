@@ -1,4 +1,4 @@
-//! The faults of what a text gives, but for its pointers.
+//! The faults of what a text defines, those of its pointers excluded.
 
 ghost use Rattle.std.specs.Prelude.{◌≡◌, nat_lt, filter, IfOk};
 ghost use Rattle.std.specs.List.{list_all};
@@ -11,10 +11,10 @@ use crate::section::CSR_POINTER;
 use crate::seen::Seen;
 use std::alloc::{AllocError, Global};
 
-/// Where the checksum stands.
+/// The index of the checksum.
 pub(crate) const CHECKSUM_INDEX: usize = 0x3F;
 
-/// Where the CSR section of an assembled image begins.
+/// The index at which the CSR section of an assembled image begins.
 pub(crate) const CSR_SECTION: usize = 0x40;
 
 fn lesser(n: u32, other: Option<u32>) -> Option<u32>
@@ -26,7 +26,7 @@ fn lesser(n: u32, other: Option<u32>) -> Option<u32>
     }
 }
 
-/// Whether each index is above the one before it.
+/// Whether the indices are in ascending order, each once.
 fn ascend(words: &[(u32, u16)]) -> bool
     ensures { result ≡ ascend 0 (indexes words.now) }
 {
@@ -43,7 +43,7 @@ fn ascend(words: &[(u32, u16)]) -> bool
     true
 }
 
-/// The highest index, 0 where there is none.
+/// The highest index. 0 where there is none.
 fn highest(words: &[(u32, u16)]) -> u32
     ensures { result ≡ highest 0 (indexes words.now) }
 {
@@ -67,7 +67,7 @@ fn is_below(n: u32, other: Option<u32>) -> bool
     }
 }
 
-/// The lowest index that is given twice. Once one was found, only those below it are looked for.
+/// The lowest index that is defined twice. Once one is found, only lower ones are looked for.
 pub(crate) fn lowest_given_again(
     alloc: Global,
     words: &[(u32, u16)],
@@ -91,7 +91,7 @@ pub(crate) fn lowest_given_again(
     Ok(lowest)
 }
 
-/// The index behind the CSR section, which has room for any number of triples here.
+/// The index after the CSR section, for any number of register writes.
 pub(crate) fn section_end(triples: &[(u32, u32)]) -> u128
     ensures { result ≡ section_end triples.now }
 {
@@ -109,7 +109,7 @@ fn is_reserved(end: u128, index: u32) -> bool
         || (index as usize >= CSR_SECTION && u128::from(index) < end)
 }
 
-/// The lowest reserved index that is given.
+/// The lowest reserved index that is defined.
 pub(crate) fn lowest_reserved(words: &[(u32, u16)], end: u128) -> Option<u32>
     ensures { result ≡ least (filter (is_reserved end) (indexes words.now)) }
 {
@@ -123,14 +123,14 @@ pub(crate) fn lowest_reserved(words: &[(u32, u16)], end: u128) -> Option<u32>
     lowest
 }
 
-/// Whether each word given is inside.
+/// Whether each defined word is inside the image.
 fn are_below(words: &[(u32, u16)], size: u32) -> bool
     ensures { result ≡ list_all (λ given. nat_lt given.0 size) words.now }
 {
     words.iter().all(|given| given.0 < size)
 }
 
-/// Whether each word given and the CSR section is inside.
+/// Whether each defined word and the CSR section are inside the image.
 pub(crate) fn fits(draft: &Draft) -> bool
     ensures { result ≡ fits (content_in draft.now) }
 {

@@ -1,4 +1,4 @@
-//! From a file's bytes to an image.
+//! Loads an image from a file's bytes.
 
 ghost use Rattle.std.specs.Prelude.{◌≡◌, ◌%◌, ◌*◌, List, ℕ, length, Some, None, IfSome, IfOk, IfErr, OnOk, MatchResult};
 ghost use Rattle.eeprom_image.specs.Bytes.{bytes_of, words_of};
@@ -12,30 +12,30 @@ use byteorder::{ByteOrder, LittleEndian};
 use std::alloc::{AllocError, Global};
 use thiserror::Error;
 
-/// Why bytes are no image's file, by number.
+/// Why bytes aren't an image's file, by number. The first that applies is returned.
 #[derive(Clone, Copy, Debug, PartialEq, Eq, Error)]
 pub enum LoadFault {
-    /// They are no whole words.
+    /// The number of bytes is odd.
     #[error("an odd number of bytes")]
     OddLength,
-    /// They aren't 64 words, or that doubled up to eight times.
+    /// The number of words isn't 64 times a power of two from 1 to 256.
     #[error("no size of an image")]
     BadSize,
     /// A used pointer among words 0x03 to 0x0E, or a word of its section, is outside the image.
     #[error("a section outside the image")]
     SectionOutside,
-    /// Words 0x00 to 0x3F and the sections don't add up to 0xBABA.
+    /// Words 0x00 to 0x3F and the sections don't add up to 0xBABA, modulo 2^16.
     #[error("a wrong checksum")]
     BadChecksum,
-    /// The length of the CSR section is no multiple of 3.
+    /// The length of the CSR section isn't a multiple of 3.
     #[error("a CSR section that isn't of whole triples")]
     NotTriples,
-    /// They are an image's file, and there is no memory for the image.
+    /// The bytes are an image's file, but there is no memory for the image.
     #[error("out of memory")]
     OutOfMemory,
 }
 
-/// The first fault of a file by number, memory aside.
+/// The first fault of a file by number, memory excluded.
 #[tactic(auto, unfolding(crate::specs::File::file_fault))]
 fn file_fault(bytes: &[u8]) -> Option<LoadFault>
     ensures first { result ≡ file_fault bytes.now }
@@ -60,7 +60,7 @@ fn file_fault(bytes: &[u8]) -> Option<LoadFault>
     None
 }
 
-/// Reads the words of a file.
+/// Reads the little-endian words of a file.
 fn read_words(bytes: &[u8], words: &mut [u16])
     requires { length bytes.now ≡ 2 * length words.old }
     ensures { words.new ≡ words_of bytes.now }
@@ -78,11 +78,10 @@ fn words_in(alloc: Global, bytes: &[u8]) -> Result<Vec<u16>, AllocError>
     Ok(words)
 }
 
-/// The image whose file the bytes are, or their first fault by number.
+/// Loads the image whose file the bytes are, or returns their first fault by number.
 ///
-/// What it takes is the file of the image that it gives, each byte of it, and the file of each image
-/// is taken. It takes time linear in the number of bytes. `OutOfMemory` comes only where there is no
-/// other fault.
+/// The bytes that it accepts are exactly the file of the image that it returns, and the file of each image is accepted.
+/// It takes time linear in the number of bytes. `OutOfMemory` comes only where there is no other fault.
 pub fn load(alloc: Global, bytes: &[u8]) -> Result<Image, LoadFault>
     ensures file { IfOk result (λ image. IsImage image × (bytes.now ≡ bytes_of image)) }
     ensures each_file { (words : List ℕ) → IsImage words → bytes.now ≡ bytes_of words →

@@ -1,4 +1,4 @@
-//! Images.
+//! EEPROM images: their words, and the register writes of their CSR section.
 
 ghost use Rattle.std.specs.Prelude.{◌≡◌, ◌*◌, ◌^◌, ◌<◌, ◌≤◌, length, slice_get, IfOk};
 ghost use Rattle.eeprom_image.specs.Bytes.{word_at, bytes_of};
@@ -15,8 +15,8 @@ use byteorder::{ByteOrder, LittleEndian};
 use std::alloc::{AllocError, Global};
 use std::marker::Model;
 
-/// An EEPROM image: 64 words, or that doubled up to eight times, whose sections are inside, whose
-/// checksum is right and whose CSR section is of whole triples.
+/// An EEPROM image: 64 times a power of two words, from 64 to 16,384, whose sections lie inside, whose checksum is
+/// right and whose CSR section consists of whole register writes.
 #[derive(Debug, Drop)]
 pub struct Image {
     words: Vec<u16>,
@@ -33,7 +33,7 @@ impl Model for Image {
     ghost invariant = { λ a. IsImage a.words.items };
 }
 
-/// Whether an image may have so many words.
+/// Whether an image can have this many words.
 pub(crate) fn is_size(count: usize) -> bool
     ensures { result ≡ is_size count }
 {
@@ -52,7 +52,8 @@ impl Image {
         Image { words }
     }
 
-    /// The blank image, which the text `size 64` means: 63 words 0xFFFF, and the checksum behind them.
+    /// The blank image, which the text `size 64` describes: 63 words 0xFFFF, and then the checksum. `AllocError` where
+    /// there is no memory for it.
     pub fn blank(alloc: Global) -> Result<Image, AllocError>
         ensures words { IfOk result (λ image. image ≡ blank) }
         ensures meant { IfOk result (λ image. IsImageOf (only_size 64) image) }
@@ -62,7 +63,7 @@ impl Image {
         Ok(Image { words })
     }
 
-    /// The same image once more.
+    /// A copy of the image. `AllocError` where there is no memory for it.
     pub fn copy(&self) -> Result<Image, AllocError>
         ensures { IfOk result (λ image. image ≡ self.now) }
     {
@@ -70,7 +71,7 @@ impl Image {
         Ok(Image { words })
     }
 
-    /// The words, which are those of an image.
+    /// The 16-bit words of the image, in order.
     pub fn words(&self) -> &[u16]
         ensures words { result.now ≡ self.now }
         ensures image { IsImage self.now }
@@ -78,14 +79,14 @@ impl Image {
         &self.words
     }
 
-    /// The word at an index, 0xFFFF outside.
+    /// The word at an index. 0xFFFF from the number of words on.
     pub fn word(&self, index: usize) -> u16
         ensures { result ≡ word_at self.now index }
     {
         self.words.as_slice().word(index)
     }
 
-    /// How often 64 words are doubled to give the image's: s, 0 to 8, where it has 64 * 2^s.
+    /// The size as a power of two: s, 0 to 8, where the image has 64 * 2^s words.
     pub fn doublings(&self) -> u8
         ensures doublings { result ≡ doublings (length self.now) }
         ensures words { length self.now ≡ 64 * 2 ^ result }
@@ -104,21 +105,22 @@ impl Image {
         }
     }
 
-    /// The register writes of the CSR section, in order. There are none where word 0x0D is unused.
+    /// The register writes of the CSR section, in order. None where word 0x0D is unused.
     pub fn triples(&self) -> Triples<'_>
         ensures { result ≡ triples_of self.now }
     {
         Triples::of(self.csr_section())
     }
 
-    /// How many register writes there are.
+    /// The number of register writes.
     pub fn triple_count(&self) -> usize
         ensures { result ≡ length (triples_of self.now) }
     {
         self.csr_section().len() / 3
     }
 
-    /// The register write of an index: the register's byte offset, and the data. `None` behind the last.
+    /// The register write of this number, from 0: the register's byte offset, and the data. `None` from the number of
+    /// register writes on.
     pub fn triple(&self, index: usize) -> Option<(u32, u32)>
         ensures { result ≡ slice_get (triples_of self.now) index }
     {
@@ -130,15 +132,15 @@ impl Image {
         }
     }
 
-    /// The words of the CSR section behind its first one.
+    /// The words of the CSR section after its first one.
     fn csr_section(&self) -> &[u16]
         ensures { result.now ≡ section_at self.now (word_at self.now 13) }
     {
         section(&self.words, self.word(CSR_POINTER))
     }
 
-    /// The file of the image: the words in order, of each the low byte first. Loading it gives the
-    /// same words.
+    /// The file of the image: its words in order, little-endian. Loading it gives the same words. `AllocError` where
+    /// there is no memory for it.
     pub fn to_bytes(&self, alloc: Global) -> Result<Vec<u8>, AllocError>
         ensures { IfOk result (λ bytes. bytes.items ≡ bytes_of self.now) }
     {

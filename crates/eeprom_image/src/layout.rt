@@ -1,4 +1,4 @@
-//! The words of an image from what a text gives.
+//! Lays out the words of an image from what a text defines.
 
 ghost use Rattle.std.specs.Prelude.{◌≡◌, ◌+◌, ◌*◌, ◌<◌, ◌≤◌, ◌++◌, fold, length, replicate, vec_len, nat_lt, IsTrue, IfOk, OnOk};
 ghost use Rattle.std.specs.List.{list_all};
@@ -13,7 +13,7 @@ use crate::fault::{CHECKSUM_INDEX, CSR_SECTION};
 use crate::section::{CHECKSUM, CSR_POINTER, checked_sum, is_unused, pointers};
 use std::alloc::{AllocError, Global};
 
-/// Writes the words given.
+/// Writes the defined words.
 fn put_words(words: &mut [u16], given: &[(u32, u16)])
     requires { IsTrue (list_all (λ given. nat_lt given.0 (length words.old)) given.now) }
     ensures { words.new ≡ fold put_word words.old given.now }
@@ -23,7 +23,7 @@ fn put_words(words: &mut [u16], given: &[(u32, u16)])
     }
 }
 
-/// Adds the three words of a register write: its offset in words, and its data, the low word first.
+/// Appends the three words of a register write: its offset in words, and its data, the low word first.
 fn push_triple(section: &mut Vec<u16>, triple: (u32, u32)) -> Result<(), AllocError>
     ensures { OnOk result (section.new.items ≡ section.old.items ++ triple_words triple) }
 {
@@ -36,7 +36,7 @@ fn push_triple(section: &mut Vec<u16>, triple: (u32, u32)) -> Result<(), AllocEr
     section.extend_from_slice(&words)
 }
 
-/// The CSR section: how many words follow, and those of each register write.
+/// The CSR section: the number of words that follow, and those of each register write.
 fn csr_section(alloc: Global, triples: &[(u32, u32)]) -> Result<Vec<u16>, AllocError>
     requires { 3 * length triples.now < 65536 }
     ensures { IfOk result (λ section. section.items ≡ csr_section triples.now) }
@@ -49,7 +49,7 @@ fn csr_section(alloc: Global, triples: &[(u32, u32)]) -> Result<Vec<u16>, AllocE
     Ok(section)
 }
 
-/// Writes a section from 0x40 on.
+/// Writes a section from index 0x40 on.
 fn put_section(words: &mut [u16], section: &[u16])
     requires { 64 + length section.now ≤ length words.old }
     ensures { words.new ≡ with_section words.old section.now }
@@ -75,7 +75,7 @@ fn put_csr(alloc: Global, words: &mut [u16], triples: &[(u32, u32)]) -> Result<(
     Ok(())
 }
 
-/// Writes all that a text gives over words 0xFFFF, and 0 for the checksum.
+/// Writes all that a text defines over words 0xFFFF, and 0 for the checksum.
 fn lay_into(alloc: Global, words: &mut [u16], draft: &Draft) -> Result<(), AllocError>
     requires blank { words.old ≡ replicate draft.now.size 0xFFFF }
     requires long { 64 ≤ draft.now.size }
@@ -89,7 +89,7 @@ fn lay_into(alloc: Global, words: &mut [u16], draft: &Draft) -> Result<(), Alloc
     Ok(())
 }
 
-/// The words of an image but for the checksum, in whose place stands 0.
+/// The words of an image with 0 in place of the checksum.
 pub(crate) fn lay_out(alloc: Global, draft: &Draft) -> Result<Vec<u16>, AllocError>
     requires long { 64 ≤ draft.now.size }
     requires short { draft.now.size < 65536 }
@@ -101,7 +101,7 @@ pub(crate) fn lay_out(alloc: Global, draft: &Draft) -> Result<Vec<u16>, AllocErr
     Ok(words)
 }
 
-/// Whether each pointer is unused or points behind the checksum.
+/// Whether each pointer is unused or points past the checksum.
 pub(crate) fn are_behind(words: &[u16]) -> bool
     ensures { result ≡ list_all is_behind (pointers words.now) }
 {
@@ -109,7 +109,7 @@ pub(crate) fn are_behind(words: &[u16]) -> bool
         || usize::from(*pointer) >= CSR_SECTION)
 }
 
-/// Puts the checksum into words that have 0 in its place.
+/// Writes the checksum into words that have 0 in its place.
 fn put_checksum(words: &mut [u16])
     requires { 64 ≤ length words.old }
     ensures { words.new ≡ with_checksum words.old }
@@ -118,7 +118,7 @@ fn put_checksum(words: &mut [u16])
     words[CHECKSUM_INDEX] = ((0x10000 + u64::from(CHECKSUM) - sum) % 0x10000) as u16;
 }
 
-/// Words that have 0 in its place, with their checksum.
+/// Words that have 0 in place of the checksum, with the checksum.
 pub(crate) fn with_checksum(mut words: Vec<u16>) -> Vec<u16>
     requires { 64 ≤ vec_len words }
     ensures { result.items ≡ with_checksum words.items }

@@ -1,10 +1,9 @@
-//! EEPROM images of the 82599: the text form that they are assembled from, the file form that they
-//! are loaded from and stored in, and the words and register writes that an image holds.
+//! EEPROM images of the 82599: the text form that they are assembled from, the file form that they are loaded from and
+//! stored in, and the words and register writes that an image contains.
 //!
-//! An [`Image`] is a list of 64 to 16,384 words of 16 bits whose sections are inside and whose
-//! checksum is right. [`assemble`] gives the one image that a text means, and [`load`] the one whose
-//! file the bytes are; each gives the first fault by number else. The device reads an image by
-//! `word` and, at a reset, by `triples`.
+//! An [`Image`] is a list of 64 to 16,384 words of 16 bits whose sections lie inside and whose checksum is right.
+//! [`assemble`] makes the one image that a text describes, and [`load`] the one whose file the bytes are; otherwise
+//! each returns the first fault by number. The device reads an image by `word` and, at a reset, by `triples`.
 #![tactic(auto)]
 
 mod draft;

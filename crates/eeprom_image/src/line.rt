@@ -1,4 +1,4 @@
-//! What a line of an EEPROM text says.
+//! Reads a line of an EEPROM text.
 
 ghost use Rattle.std.specs.Prelude.{◌≡◌, ◌^◌};
 ghost use Rattle.eeprom_image.specs.Line.{number_in, one_number, two_numbers, size_line, word_line, csr_line, text_line};
@@ -6,29 +6,29 @@ ghost use Rattle.eeprom_image.specs.Line.{number_in, one_number, two_numbers, si
 use crate::image::is_size;
 use text_format::{Words, number};
 
-/// What a line says.
+/// The statement of a line.
 #[derive(Clone, Copy)]
 pub(crate) enum TextLine {
-    /// It has no words.
+    /// The line has no words.
     Empty,
-    /// `size N`: the image has so many words.
+    /// `size N`: the image has N words.
     Size(u32),
-    /// `word INDEX VALUE`: the word at the index has the value.
+    /// `word INDEX VALUE`: the word at the index has this value.
     Word(u32, u16),
-    /// `csr OFFSET DATA`: a reset writes the data to the register at the byte offset.
+    /// `csr OFFSET DATA`: a reset writes the data to the register at this byte offset.
     Csr(u32, u32),
-    /// It has none of these forms, or a number out of its range.
+    /// The line has none of these forms, or a number out of its range.
     Malformed,
 }
 
-/// The number that a word writes.
+/// The number that a word writes, if it writes one.
 fn number_in(word: &str) -> Option<u32>
     ensures { result ≡ number_in word.now }
 {
     number(word).ok()
 }
 
-/// The number that is all of these words.
+/// The number, where these words are exactly one number.
 fn one_number(mut words: Words<'_>) -> Option<u32>
     ensures { result ≡ one_number words.entry }
 {
@@ -39,7 +39,7 @@ fn one_number(mut words: Words<'_>) -> Option<u32>
     }
 }
 
-/// The two numbers that are all of these words.
+/// The two numbers, where these words are exactly two numbers.
 fn two_numbers(mut words: Words<'_>) -> Option<(u32, u32)>
     ensures { result ≡ two_numbers words.entry }
 {
@@ -57,7 +57,7 @@ fn size_line(count: Option<u32>) -> TextLine
     }
 }
 
-/// What a `word` line of these operands says.
+/// The statement of a `word` line with these operands.
 pub(crate) fn word_line(given: Option<(u32, u32)>) -> TextLine
     ensures { result ≡ word_line given }
 {
@@ -67,7 +67,7 @@ pub(crate) fn word_line(given: Option<(u32, u32)>) -> TextLine
     }
 }
 
-/// What a `csr` line of these operands says.
+/// The statement of a `csr` line with these operands.
 pub(crate) fn csr_line(given: Option<(u32, u32)>) -> TextLine
     ensures { result ≡ csr_line given }
 {
@@ -79,7 +79,7 @@ pub(crate) fn csr_line(given: Option<(u32, u32)>) -> TextLine
     }
 }
 
-/// What a line says.
+/// Reads a line as a statement.
 #[tactic(auto, unfolding(crate::specs::Line::text_line))]
 pub(crate) fn text_line(line: &str) -> TextLine
     ensures { result ≡ text_line line.now }

@@ -8,23 +8,23 @@ ghost use Rattle.eeprom_image.specs.Image.{are_inside};
 
 use crate::words::Words;
 
-/// The one pointer to the CSR section, whose triples are register writes.
+/// The index of the pointer to the CSR section, whose triples of words are register writes.
 pub(crate) const CSR_POINTER: usize = 0x0D;
 
-/// How many words from the start on are in the checksum.
+/// How many words from the start on the checksum covers.
 const CHECKED_WORDS: u16 = 64;
 
-/// What the words that are in the checksum add up to.
+/// The sum of the words that the checksum covers, modulo 2^16.
 pub(crate) const CHECKSUM: u16 = 0xBABA;
 
-/// Whether a pointer points to nothing, or a first word says that its section has no others.
+/// Whether a pointer points to nothing, or a section's first word says that no words follow: it is 0 or 0xFFFF.
 pub(crate) fn is_unused(word: u16) -> bool
     ensures { result ≡ is_unused word }
 {
     word == 0 || word == 0xFFFF
 }
 
-/// How many words a section has behind a first word that says so.
+/// How many words follow a section's first word.
 pub(crate) fn word_count(word: u16) -> u16
     ensures { result ≡ word_count word }
 {
@@ -52,7 +52,7 @@ pub(crate) fn pointers<W: Words>(words: &W) -> [u16; 12]
     ]
 }
 
-/// Whether a pointer is unused, or the word that it points to and that one's section are in the image.
+/// Whether a pointer is unused, or its whole section is inside the image.
 pub(crate) fn is_inside<W: Words>(words: &W, pointer: u16) -> bool
     ensures { result ≡ is_inside (W.words words.now) pointer }
 {
@@ -60,7 +60,7 @@ pub(crate) fn is_inside<W: Words>(words: &W, pointer: u16) -> bool
     is_unused(pointer) || first + usize::from(word_count(words.word(first))) < words.count()
 }
 
-/// Whether that holds of each pointer.
+/// Whether each pointer is unused or has its section inside the image.
 pub(crate) fn are_inside<W: Words>(words: &W) -> bool
     ensures { result ≡ are_inside (W.words words.now) }
 {
@@ -69,7 +69,7 @@ pub(crate) fn are_inside<W: Words>(words: &W) -> bool
         .all(|pointer| is_inside(words, *pointer))
 }
 
-/// The section that a pointer points to.
+/// The words of the section that a pointer points to, its first one excluded.
 pub(crate) fn section(words: &[u16], pointer: u16) -> &[u16]
     requires { IsTrue (is_inside words.now pointer) }
     ensures { result.now ≡ section_at words.now pointer }
@@ -82,7 +82,7 @@ pub(crate) fn section(words: &[u16], pointer: u16) -> &[u16]
     &words[first..first + count]
 }
 
-/// The sum of so many words from an index on, of those that there are.
+/// The sum of at most `count` words from index `first` on; words past the end are left out.
 fn sum_from<W: Words>(words: &W, first: usize, count: u16) -> u64
     requires { first < 2 ^ 32 }
     ensures sum { result ≡ sum (take count (drop first (W.words words.now))) }
@@ -108,7 +108,7 @@ fn section_sum<W: Words>(words: &W, pointer: u16) -> u64
     sum_from(words, first + 1, word_count(words.word(first)))
 }
 
-/// The sum that the checksum is of.
+/// The sum of the words that the checksum covers.
 pub(crate) fn checked_sum<W: Words>(words: &W) -> u64
     ensures { result ≡ checked_sum (W.words words.now) }
 {
@@ -126,7 +126,7 @@ pub(crate) fn is_checked<W: Words>(words: &W) -> bool
     checked_sum(words) % 0x10000 == u64::from(CHECKSUM)
 }
 
-/// Whether the CSR section is of whole triples.
+/// Whether the CSR section consists of whole triples.
 pub(crate) fn has_whole_triples<W: Words>(words: &W) -> bool
     ensures { result ≡ has_whole_triples (W.words words.now) }
 {

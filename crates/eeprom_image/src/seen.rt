@@ -1,4 +1,4 @@
-//! The indexes that were seen.
+//! A set of the indices that a text has defined.
 
 ghost use Rattle.std.specs.Prelude.{◌≡◌, ℕ, ◌≤◌, ◌<◌, ◌%◌, ◌/◌, false, length, get_or};
 ghost use Rattle.std.specs.Ordering.{nat_cmp};
@@ -7,16 +7,16 @@ ghost use Rattle.std.specs.BTreeSet.{contains};
 use std::alloc::{AllocError, Global};
 use std::collections::BTreeSet;
 
-/// For how many indexes a table has places at most.
+/// The most indices for which a table has places.
 const COUNT_LIMIT: usize = 0x40_0000;
 
-/// How many places a table has for each index that may come.
+/// How many places a table has for each index that may be added.
 const PLACES_EACH: usize = 2;
 
-/// A set of indexes.
+/// A set of indices.
 ///
-/// Most stand in a table, each at its remainder by the number of places, as its quotient and one; 0 is a
-/// place that is free. An index whose place another has stands in a tree.
+/// Most are in a table, each at its remainder modulo the number of places, as its quotient plus one; 0 is a free place.
+/// An index whose place is taken by another one is in a tree.
 #[derive(Drop)]
 pub(crate) struct Seen {
     places: Vec<u32>,
@@ -27,7 +27,7 @@ pub(crate) struct Seen {
         → contains nat_cmp others index ≡ false },
 }
 
-/// The quotient and the remainder of an index by the number of places; most indexes are below that.
+/// The quotient and the remainder of an index by the number of places. Most indices are below that number.
 #[inline(always)]
 fn split(index: usize, count: usize) -> (usize, usize)
     requires { 0 < count }
@@ -44,7 +44,7 @@ impl Seen {
     ghost use Rattle.std.specs.Prelude.{◌≡◌, ◌==◌, ◌||◌, IfOk, OnOk, false};
     ghost use Rattle.eeprom_image.specs.Seen.{is_seen};
 
-    /// None, with places for so many, of which none is above the highest.
+    /// An empty set with places for `count` indices, none of which is above `highest`.
     pub(crate) fn with_room(alloc: Global, count: usize, highest: u32) -> Result<Seen, AllocError>
         ensures { IfOk result (λ seen. (index : ℕ) → is_seen seen index ≡ false) }
     {
@@ -55,7 +55,7 @@ impl Seen {
         })
     }
 
-    /// Whether an index is among those seen before. It is from now on.
+    /// Adds an index, and returns whether it was already in the set.
     pub(crate) fn comes_again(&mut self, index: u32) -> Result<bool, AllocError>
         ensures again { IfOk result (λ again. again ≡ is_seen self.old index) }
         ensures seen { OnOk result ((other : ℕ) →

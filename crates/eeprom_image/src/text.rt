@@ -1,4 +1,4 @@
-//! From an EEPROM text to the image that it means.
+//! Assembles an EEPROM text into its image.
 
 ghost use Rattle.std.specs.Prelude.{◌≡◌, ◌≤◌, ◌<◌, List, ℕ, None, Ok, IfOk, IfErr, IsOkAnd};
 ghost use Rattle.eeprom_image.specs.Fault.{content_fault};
@@ -15,26 +15,26 @@ use crate::section::are_inside;
 use std::alloc::{AllocError, AllocFailed, Global};
 use thiserror::Error;
 
-/// Why a text means no image: its first fault by number.
+/// Why a text describes no image, by number. The first that applies is returned.
 #[derive(Clone, Copy, Debug, PartialEq, Eq, Error)]
 pub enum AsmFault {
-    /// The line of this number, from 1 on, has none of the forms or isn't at its place; it's the first
-    /// such line. It is one past the last line where every line is empty.
+    /// The line of this number, from 1, has none of the forms or is out of place; it is the first such line. The number
+    /// is one past the last line where every line is empty.
     #[error("line {0}: not understood")]
     Syntax(usize),
-    /// The lowest index that two `word` lines give.
+    /// The lowest index that two `word` lines define.
     #[error("word {0:#x} has two values")]
     TwoValues(u32),
     /// The lowest index of a `word` line that is 0x0D, 0x3F or in the CSR section.
     #[error("word {0:#x} is reserved")]
     Reserved(u32),
-    /// An index or the CSR section is beyond the size.
+    /// An index or the CSR section is beyond the image's size.
     #[error("more than fits the size")]
     DoesNotFit,
-    /// A used pointer points below 0x40, or its section isn't inside.
+    /// A used pointer points below 0x40, or its section isn't inside the image.
     #[error("a pointer below 0x40 or to a section outside the image")]
     PointerOutside,
-    /// There is no memory for the work.
+    /// There was no memory for the work.
     #[error("out of memory")]
     OutOfMemory,
 }
@@ -64,7 +64,7 @@ impl<T: Drop> From<AllocFailed<T>> for AsmFault {
 impl Draft {
     ghost use Rattle.eeprom_image.specs.Fault.{points_inside};
 
-    /// Whether each pointer is right, of words that are laid out as the text gives them.
+    /// Whether each pointer is right, in words that are laid out as the text defines them.
     fn points_inside(&self, words: &[u16]) -> bool
         requires long { 64 ≤ self.now.size }
         requires words { IsLaidOut (content_in self.now) words.now }
@@ -74,7 +74,7 @@ impl Draft {
     }
 }
 
-/// The words of content without a fault, and 0 for the checksum; else its first fault by number.
+/// The words of a text without a fault, with 0 in place of the checksum; else its first fault by number.
 #[tactic(auto, unfolding(crate::specs::Fault::content_fault))]
 fn plain_words(alloc: Global, draft: &Draft) -> Result<Vec<u16>, AsmFault>
     requires long { 64 ≤ draft.now.size }
@@ -100,13 +100,12 @@ fn plain_words(alloc: Global, draft: &Draft) -> Result<Vec<u16>, AsmFault>
     Ok(words)
 }
 
-/// The image that an EEPROM text means, or the first fault of the text.
+/// Assembles the image that an EEPROM text describes, or returns the first fault of the text.
 ///
-/// A text has a line `size N` first, and then lines `word INDEX VALUE` and `csr OFFSET DATA` in any
-/// order. The image is the only one of N words that has the words and the register writes given, in
-/// this order, and 0xFFFF in each other word; the CSR section stands at 0x40. The first line of
-/// another form decides, and then the first other fault by number. `OutOfMemory` may stand in place
-/// of any answer.
+/// A text has first a line `size N`, and then lines `word INDEX VALUE` and `csr OFFSET DATA` in any order. The image is
+/// the only one of N words that has the defined words and register writes, in this order, and 0xFFFF in each other
+/// word; the CSR section is at 0x40. A faulty line is reported first, and then the first other fault by number.
+/// `OutOfMemory` may be returned in place of any other result.
 #[tactic(auto, unfolding(crate::specs::Text::sound_content))]
 pub fn assemble(alloc: Global, text: &str) -> Result<Image, AsmFault>
     ensures image { IfOk result (λ image. IsOkAnd (sound_content text.now) (λ content. IsImageOf content image)) }
@@ -117,7 +116,7 @@ pub fn assemble(alloc: Global, text: &str) -> Result<Image, AsmFault>
     Ok(Image::of(with_checksum(words)))
 }
 
-/// A text has exactly one image where it has no fault, and none where it has one.
+/// States that a text describes exactly one image where it has no fault, and none where it has one.
 pub fn one_image()
     ensures one { (text : List ℕ) (content : Content) → sound_content text ≡ Ok content →
         (words : List ℕ) × IsImageOf content words

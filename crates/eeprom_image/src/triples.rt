@@ -1,14 +1,14 @@
-//! The register writes of the CSR section.
+//! The register writes of an image's CSR section.
 
 ghost use Rattle.std.specs.Iterator.{YieldsFirst, item_count};
 
 use std::marker::Model;
 
-/// The register writes of an image in order, each as the register's byte offset, a multiple of 4
-/// below 0x40000, and the data.
+/// The register writes of an image in order, each as the register's byte offset, a multiple of 4 below 0x40000, and the
+/// data.
 #[derive(Debug, Drop)]
 pub struct Triples<'a> {
-    /// What is left of the CSR section behind its first word.
+    /// The rest of the CSR section, its first word excluded.
     words: &'a [u16],
 }
 
@@ -25,7 +25,7 @@ impl<'a> Triples<'a> {
     ghost use Rattle.std.specs.Prelude.{◌≡◌};
     ghost use Rattle.eeprom_image.specs.Triples.{triples_in};
 
-    /// The triples that the words behind the first one of a CSR section hold.
+    /// The register writes in the words of a CSR section, its first one excluded.
     pub(crate) fn of(words: &'a [u16]) -> Triples<'a>
         ensures { result ≡ triples_in words.now }
     {

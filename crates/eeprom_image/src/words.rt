@@ -1,19 +1,19 @@
-//! Words that are kept in one way or another.
+//! Words by index, in an image or in the bytes of a file.
 
 ghost use Rattle.std.specs.Prelude.{◌≡◌, ◌+◌, ◌*◌, ◌<◌, ◌%◌, length, List, ℕ};
 ghost use Rattle.eeprom_image.specs.Bytes.{word_at};
 
 use byteorder::{ByteOrder, LittleEndian};
 
-/// Words by their index: those of an image, or those of a file that may become one.
+/// Words by index: those of an image, or those of a file that may become one.
 pub(crate) trait Words {
     ghost words: { Self → List ℕ };
 
-    /// How many there are.
+    /// The number of words.
     fn count(&self) -> usize
         ensures { result ≡ length (words self.now) };
 
-    /// The word at an index, 0xFFFF outside.
+    /// The word at an index. 0xFFFF from the number of words on.
     fn word(&self, index: usize) -> u16
         ensures { result ≡ word_at (words self.now) index };
 }
@@ -34,7 +34,7 @@ impl Words for &[u16] {
     }
 }
 
-/// The words of a file that is in memory as its bytes.
+/// The words of a file, by its bytes in memory.
 #[derive(Clone, Copy)]
 pub(crate) struct FileWords<'a> {
     pub(crate) bytes: &'a [u8],

@@ -1,4 +1,4 @@
--- When a frame that arrives is let in and why another is dropped, by the bits of registers, and where it waits.
+-- When a frame that arrives is accepted and why another is dropped, by the bits of registers, and where it waits.
 use Rattle.std.specs.Prelude.{ℕ, ◌≡◌, ◌≢◌, ◌<◌, ◌≤◌, ◌⊎◌, ◌↔◌, ◌-◌, ◌/◌, ◌%◌, IsTrue, IsFalse, List, [], ◌∷◌, ◌++◌, length, Some, None, Ok}
 use Rattle.nic_device.specs.DmaArena.Block.{Block}
 use Rattle.nic_device.specs.RegTable.declared.rows.RowId.TheVariants.{Rxctrl, Hlreg0, Maxfrs, VtCtl, Mrqc, GcrExt, Vfre}
@@ -39,8 +39,8 @@ abbrev pub PartsByMrqc : Registers → Type 0
 PartsByMrqc r =
     let code = field 3 0 (word_of r Mrqc 0) in (code ≡ 8) ⊎ ((code ≡ 0xA) ⊎ (code ≡ 0xB))
 
--- a pool has no queues: it is above 15 where GCR_EXT bits 1 to 0 are 1 and MRQC parts frames among pools, and above 31
--- where they aren't 1 and MRQC bits 3 to 0 are 0xA
+-- a pool has no queues: it is above 15 where GCR_EXT bits 1 to 0 are 1 and MRQC distributes frames among pools, and
+-- above 31 where they aren't 1 and MRQC bits 3 to 0 are 0xA
 abbrev pub LacksQueues : Registers → ℕ → Type 0
 LacksQueues r pool =
     ((field 1 0 (word_of r GcrExt 0) ≡ 1) × PartsByMrqc r × (15 < pool))
@@ -97,7 +97,7 @@ pub record IsWelcome (s : State) (frame : List ℕ) : Type 0 where
   pub passed : IsPassed s frame
   pub pool : (bit 0 (word_of s.registers VtCtl 0) ≡ 0) ⊎ HasPoolOn s.registers frame
 
--- frames are parted among pools: VT_CTL bit 0 is 1
+-- frames are distributed among pools: VT_CTL bit 0 is 1
 abbrev pub PartsAmongPools : Registers → Type 0
 PartsAmongPools r = bit 0 (word_of r VtCtl 0) ≡ 1
 
@@ -138,7 +138,7 @@ pub record Joins (s : State) (frame : List ℕ) (new : State) : Type 0 where
   pub hash : last.hash ≡ target.hash
   pub rss : last.rss ≡ target.rss
 
--- the frames that wait after one arrived, by the reply: it joins them where it is let in, and else they are as they
+-- the frames that wait after one arrived, by the reply: it joins them where it is accepted, and else they are as they
 -- were
 abbrev pub WaitsAfterArriving : State → List ℕ → Reply Block → State → Type 0
 WaitsAfterArriving s frame Done new = Joins s frame new

@@ -33,7 +33,7 @@ pub record IsSetUp (r : Registers) (queue : ℕ) : Type 0 where
   pub type : descriptor_type r queue ≡ 1
   pub sized : buffer_size r queue ≢ 0
 
--- the address of the descriptor at the head: 16 bytes for each slot behind the base in RDBAH and RDBAL
+-- the address of the descriptor at the head: 16 bytes for each slot after the base in RDBAH and RDBAL
 abbrev pub descriptor_address : Registers → ℕ → ℕ
 descriptor_address r queue =
     (word_of r Rdbah queue * 2 ^ 32 + word_of r Rdbal queue + 16 * field 15 0 (word_of r Rdh queue)) % 2 ^ 64
@@ -46,7 +46,7 @@ buffer_address s queue = 2 * (first_half (read_at s.memory (descriptor_address s
 abbrev pub piece_length : State → Waiting → ℕ
 piece_length s w = min (buffer_size s.registers w.queue) (length w.frame - w.offset)
 
--- the descriptor isn't lent, at the address that is told; or it is, and the bytes of the buffer aren't
+-- the descriptor isn't lent, at the reported address; or it is, and the bytes of the buffer aren't
 pub record LacksDescriptor (s : State) (queue address : ℕ) : Type 0 where
   pub told : address ≡ descriptor_address s.registers queue
   pub lacks : IsFalse (is_lent s.memory (descriptor_address s.registers queue) 16)

@@ -28,7 +28,7 @@ pub record Lends (s : State) (block : Block) : Type 0 where
   pub is_lent : IsNotLent s block.number → IsLentWith (after s (event.Lend block)) block.number block.bytes
   pub twice : (bytes : List ℕ) → IsLentWith s block.number bytes → step_of s (event.Lend block) ≡ gives (Twice block) s
 
--- a block that is lent is handed back with the bytes that it has then, and is lent no more
+-- a block that is lent is returned with the bytes that it has then, and is lent no more
 pub record Takes (s : State) (number : ℕ) : Type 0 where
   pub none : IsNotLent s number → step_of s (event.Take number) ≡ gives NotLent s
   pub block : (bytes : List ℕ) → IsLentWith s number bytes

@@ -1,4 +1,4 @@
--- Which queue a frame goes to that is let in, by the bits of registers.
+-- Which queue a frame goes to that is accepted, by the bits of registers.
 use Rattle.std.specs.Prelude.{ℕ, ◌≡◌, ◌≢◌, ◌⊎◌, ◌+◌, ◌*◌, ◌%◌, List, Ok}
 use Rattle.nic_device.specs.RegTable.declared.rows.RowId.TheVariants.{GcrExt, Mrqc, VtCtl}
 use Rattle.nic_device.specs.RegisterFile.Registers.{Registers, word_of}

@@ -105,7 +105,7 @@ pub record EndsFirst (len : ℕ) (old new : List Waiting) : Type 0 where
   pub was : old ≡ first ∷ new
   pub whole : first.offset + len ≡ length first.frame
 
--- the first frame stays in front with so many bytes more written, some of it is left, and the others are as they were
+-- the first frame stays in front with this many bytes more written, some of it is left, and the others are as they were
 pub record MovesOnFirst (len : ℕ) (old new : List Waiting) : Type 0 where
   pub first : Waiting
   pub others : List Waiting
@@ -131,9 +131,9 @@ FramesLeaveAtTheirEnd =
     (s : State) → IsSound s →
     WaitsAfterReceiving (reply_to s event.RxStep) s.waiting (after s event.RxStep).waiting
 
--- a slot that is written: the one in RDH bits 15 to 0; its descriptor stands 16 bytes for each slot behind the base in
--- RDBAH and RDBAL, and names the buffer, bit 0 left out, in its first half; SRRCTL says in bits 27 to 25 that
--- descriptors have one buffer, and in bits 4 to 0 how many KB it has, which a piece in the middle of a frame fills
+-- a slot that is written: the one in RDH bits 15 to 0; its descriptor is at the base in RDBAH and RDBAL plus 16 bytes
+-- for each slot before it, and names the buffer, bit 0 ignored, in its first half; SRRCTL says in bits 27 to 25 that
+-- descriptors have one buffer, and in bits 4 to 0 how many KB it has, which a piece from the middle of a frame fills
 pub record WritesAtHead (s : State) (queue slot : ℕ) (end : Bool) (desc at len : ℕ) : Type 0 where
   pub head : slot ≡ field 15 0 (word_of s.registers Rdh queue)
   pub descriptor :

@@ -92,7 +92,7 @@ pub record SendsFrame (queue len : ℕ) (s new : State) : Type 0 where
   pub end : bit 24 (second_half (head_descriptor s queue)) ≡ 1
   pub staged : staged_by new queue ≡ []
 
--- a descriptor of type 3 that doesn't end the packet: its bytes are staged behind the others
+-- a descriptor of type 3 that doesn't end the packet: its bytes are staged after the others
 pub record StagesBytes (queue : ℕ) (s new : State) : Type 0 where
   pub type : field 23 20 (second_half (head_descriptor s queue)) ≡ 3
   pub goes_on : bit 24 (second_half (head_descriptor s queue)) ≡ 0
@@ -103,8 +103,8 @@ pub record StagesNothing (queue : ℕ) (s new : State) : Type 0 where
   pub type : field 23 20 (second_half (head_descriptor s queue)) ≡ 2
   pub staged : staged_by new queue ≡ staged_by s queue
 
--- what a step of transmitting leaves of the frame: where it is told as advanced nothing goes out; where it has a fault
--- what was staged is lost
+-- what a transmit step leaves of the frame: where it is reported as advanced nothing is sent; where it has a fault what
+-- was staged is lost
 abbrev pub SentAfter : ℕ → Reply Block → State → State → Type 0
 SentAfter own (Sent queue len back) s new = SendsFrame own len s new
 SentAfter own (Advanced queue slot back) s new =

@@ -1,8 +1,7 @@
-//! What the device promises of frames and memory, by the bits of registers, above the definitions that the contracts of
-//! `nic_device` cite.
+//! Laws of frames and memory by the bits of registers, beyond the definitions that the contracts of `nic_device` cite.
 //!
 //! Each law is the contract of a function that does nothing. It names registers by their words and bits, as the
-//! datasheet does, so that it stands beside the definition of a step and doesn't repeat it.
+//! datasheet does, so that it is independent of the definition of a step and doesn't repeat it.
 #![tactic(auto)]
 
 ghost use Rattle.frame_laws.specs.Arrival.{ArrivingHasAnOrder, FramesJoinLast};
@@ -14,90 +13,93 @@ ghost use Rattle.frame_laws.specs.Receiving.{SlotsAreWrittenAtHead};
 ghost use Rattle.frame_laws.specs.Switching.{SwitchingHasItsReason, SwitchedSideIsAsWanted};
 ghost use Rattle.frame_laws.specs.Transmitting.{SilenceHasItsReasons, FramesGoOutWhole};
 
-/// A frame that arrives is dropped for the first of these reasons that is there: the link is down; RXCTRL bit 0 is 0;
-/// it has fewer than 60 bytes; it is above the limit, 1,514 bytes or with HLREG0 bit 2 MAXFRS bits 31 to 16 less 4; its
-/// destination doesn't pass the filter; while VT_CTL bit 0 is 1, it has no pool, or its pool's bit of VFRE is 0; as
-/// many frames wait as the list holds. Else it is let in.
+/// An arriving frame is dropped for the first of these reasons that applies: the link is down; RXCTRL bit 0 is 0; it
+/// has fewer than 60 bytes; it is longer than the limit, 1,514 bytes or with HLREG0 bit 2 MAXFRS bits 31 to 16 minus 4;
+/// its destination doesn't pass the filter; while VT_CTL bit 0 is 1, it has no pool, or its pool's bit of VFRE is 0;
+/// the receive list is full. Else it is accepted.
 pub fn arriving_has_an_order()
     ensures { ArrivingHasAnOrder }
 {}
 
-/// A frame that is let in joins the frames that wait, last of all, with its bytes, its queue and its hash, nothing of
-/// it written. One that isn't leaves the list as it was.
+/// A frame that is accepted is appended to the receive list, with its bytes, its queue and its hash, and nothing of it
+/// written. One that isn't accepted leaves the list unchanged.
 pub fn frames_join_last()
     ensures { FramesJoinLast }
 {}
 
-/// A frame that is let in goes to the queue that MRQC bits 3 to 0 say: with 1 to that of its entry in the redirection
-/// table; with 8, 0xA and 0xB to one of its pool's, which are two from 2p on, or four from 4p on with 0xA, or eight
-/// from 8p on where GCR_EXT bits 1 to 0 are 1: the first with 8, else the one that the entry names; and with any other
-/// code to queue 0, with type 0 and hash 0. Its pool is pool 0 while VT_CTL bit 0 is 0, whatever VFRE is; while it is
-/// 1, it is the frame's own, has queues, and its bit of VFRE is 1, whatever the code.
+/// A frame that is accepted goes to the queue that MRQC bits 3 to 0 select: with 1 to that of its entry in the
+/// redirection table; with 8, 0xA and 0xB to one of its pool's, which are two from 2p on, or four from 4p on with 0xA,
+/// or eight from 8p on where GCR_EXT bits 1 to 0 are 1: the first with 8, else the one that the entry names; and with
+/// any other code to queue 0, with RSS type 0 and hash 0. Its pool is pool 0 while VT_CTL bit 0 is 0, whatever VFRE is;
+/// while it is 1, it is the frame's own, has queues, and its bit of VFRE is 1, whatever the code.
 pub fn queues_go_by_mrqc()
     ensures { QueuesGoByMrqc }
 {}
 
-/// A step of receiving is idle while CTRL bit 2 is 1 or no frame waits. The first frame is dropped where its queue is
-/// off, RXDCTL bit 25 being 0. Without a slot, RDH being RDT inside the ring, it is dropped where SRRCTL bit 28 is 1
-/// and nothing of it is written, and else the step is idle. In every other case a slot is written, or has a fault.
+/// A receive step is idle while CTRL bit 2 is 1 or the receive list is empty. The oldest frame is dropped where its
+/// queue is disabled, RXDCTL bit 25 being 0. Without a free descriptor, RDH being RDT inside the ring, it is dropped
+/// where SRRCTL bit 28 is 1 and nothing of it is written, and else the step is idle. In every other case a slot is
+/// written, or has a fault.
 pub fn receiving_has_its_reasons()
     ensures reason { ReceivedForAReason }
     ensures met { EachReasonIsMet }
 {}
 
-/// A frame leaves the list where it is written to its end, dropped, or at fault, and only there. A piece in its middle
-/// leaves it in front, with its offset moved on by what was written.
+/// A frame leaves the receive list where it is written to its end, dropped, or at fault, and only there. A piece from
+/// its middle leaves it at the front, with its offset advanced by what was written.
 pub fn frames_leave_at_their_end()
     ensures { FramesLeaveAtTheirEnd }
 {}
 
-/// A slot that is written is the one at the head: its number is RDH, its descriptor stands at the base in RDBAH and
-/// RDBAL, and its bytes go where the descriptor says, no more than SRRCTL says that a buffer has; a piece in the middle
-/// of a frame fills it.
+/// A slot that is written is the one at the head: its number is RDH, its descriptor is at the base in RDBAH and RDBAL,
+/// and its bytes go where the descriptor says, at most the buffer size in SRRCTL; a piece from the middle of a frame
+/// fills it.
 pub fn slots_are_written_at_the_head()
     ensures { SlotsAreWrittenAtHead }
 {}
 
-/// A slot that a step of receiving looks at is written where its queue is set up by RDLEN, RDH, RDT and SRRCTL, and its
-/// descriptor and the bytes of its buffer are lent. Else it has the first fault that is there: head or tail outside,
-/// the descriptor type, the buffer size, the descriptor, the buffer.
+/// A slot that a receive step processes is written where its queue is set up by RDLEN, RDH, RDT and SRRCTL, and its
+/// descriptor and the bytes of its buffer are lent. Else it has the first fault that applies: head or tail outside, the
+/// descriptor type, the buffer size, the descriptor, the buffer.
 pub fn slots_have_their_faults()
     ensures { SlotsHaveTheirFaults }
 {}
 
-/// A step of transmitting of a queue from 128 on finds no queue. One below is idle exactly where CTRL bit 2 is 1, the
-/// link is down, DMATXCTL bit 0 is 0, TXDCTL bit 25 is 0, the queue's pool is muted by VFTE, or TDH is TDT inside the
+/// A transmit step of a queue from 128 on gets the reply `NoQueue`. One below is idle exactly where CTRL bit 2 is 1,
+/// the link is down, DMATXCTL bit 0 is 0, TXDCTL bit 25 is 0, VFTE disables the queue's pool, or TDH is TDT inside the
 /// ring. Neither changes anything.
 pub fn silence_has_its_reasons()
     ensures { SilenceHasItsReasons }
 {}
 
-/// A frame that goes out is the bytes that its queue staged and those of the descriptor at the head, while HLREG0 bit
-/// 10 is 1 with zero bytes up to 60; a descriptor that doesn't end the packet has its bytes staged, a context one none.
+/// A frame that is transmitted consists of the bytes that its queue staged and those of the descriptor at the head, and
+/// while HLREG0 bit 10 is 1 of zero bytes up to 60. A descriptor that doesn't end the packet has its bytes staged, a
+/// context descriptor none.
 pub fn frames_go_out_whole()
     ensures { FramesGoOutWhole }
 {}
 
-/// A step of a side's enable of a queue from 128 on finds no queue. One below is done exactly where CTRL bit 2 is 0 and
-/// bit 25 of RXDCTL or TXDCTL isn't what is wanted, and else idle. Only one that is done changes anything.
+/// An enable step of a queue from 128 on gets the reply `NoQueue`. One below is done exactly where CTRL bit 2 is 0 and
+/// bit 25 of RXDCTL or TXDCTL isn't as asked, and else idle. Only one that is done changes anything.
 pub fn switching_has_its_reason()
     ensures { SwitchingHasItsReason }
 {}
 
-/// After a step of a side's enable that is done the side is exactly as wanted. A receive side that goes off loses the
-/// frame that it wrote in part, a transmit side its staged bytes; one that goes on loses nothing.
+/// After an enable step that is done the side is exactly as asked. A receive side that is disabled loses the frame that
+/// it wrote in part, a transmit side its staged bytes; one that is enabled loses nothing.
 pub fn switched_side_is_as_wanted()
     ensures { SwitchedSideIsAsWanted }
 {}
 
-/// A memory call answers that a block isn't lent exactly where it isn't. A block that is lent comes back with the bytes
-/// that it has then, once; a look shows 16 of them.
+/// A memory call gets the reply `NotLent` exactly where the block isn't lent. A lent block comes back with the bytes
+/// that it has then, once; a `Peek16` returns 16 of them.
 pub fn memory_calls_answer()
     ensures { MemoryCallsAnswer }
 {}
 
-/// A look right after a write of 16 bytes gives what was written; one that has no byte in common with it gives what it
-/// would have given. A block that was just lent shows its bytes, and one that is taken back has those that looks show.
+/// A `Peek16` right after a `Poke16` returns what was written; one that has no byte in common with it returns what it
+/// would have returned before. A block that was just lent shows its bytes, and one that is taken back has the bytes
+/// that reads returned.
 pub fn memory_shows_what_is_written()
     ensures poked { PokedIsPeeked }
     ensures lent { LentIsPeeked }

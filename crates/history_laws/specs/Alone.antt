@@ -5,15 +5,15 @@ use Rattle.history_laws.specs.Prelude.{lent_by, mode_in}
 use Rattle.nic_device.specs.EepromImage.Image.{blank}
 
 -- a history leaves the queue of a pass alone, from a state of the device on, which any sound device may be in: each
--- entry behind the pass's first does, while the queues are parted as the device says there, and spares all blocks that
--- the pass lends in the history
+-- entry after the pass's first does, while the queues are separated as the device says there, and spares all blocks
+-- that the pass lends in the history
 abbrev pub LeavesAloneFrom : Watched → State → List Entry → Type 0
 LeavesAloneFrom w s h =
     (before : List Entry) (e : Entry) (after : List Entry) → h ≡ before ++ e ∷ after → IsTrue (has_begun w.pass before)
     → EntryLeavesAlone w (lent_by w.pass h) (mode_in (leads_to s before).registers) e
 
--- a device of which entries tell the mode by themselves, from its state on: a reset makes no writes of an installed
--- EEPROM image, and the queues aren't parted among pools. A new device is such
+-- a device whose mode follows from the entries alone, from its state on: a reset makes no writes of an installed EEPROM
+-- image, and the queues aren't separated into pools. A new device is such
 pub record IsPlain (w : Watched) (s : State) : Type 0 where
   pub image : s.image ≡ blank
   pub mode : mode_in s.registers ≡ Off

@@ -5,7 +5,7 @@ use Rattle.history_laws.specs.Prelude.{lent_by, mode_in, mode_through, new_state
 use Rattle.device_lock.specs.{Alone.LeavesAlone, Told.first_settings, Told.limit_of, Told.settings_through}
 use Rattle.history_laws.specs.Alone.{AllAlone, IsPlain, LeavesAloneFrom}
 
--- the mode that the entries tell is the device's, from a new device on
+-- the mode computed from the entries is the device's, from a new device on
 abbrev pub ModeIsTold : Type 0
 ModeIsTold =
     (vfs fifo : ℕ) (h : List Entry) → IsSound (new_state vfs fifo) → AreEvents h →
@@ -19,8 +19,8 @@ SettingsAreTold =
     let s = leads_to (new_state vfs fifo) h in
     (told.mode ≡ mode_in s.registers) × (limit_of told.frames ≡ frame_limit s.registers)
 
--- so where entries tell the mode by themselves, a history that leaves a queue alone by the mode that they tell leaves
--- it alone from that device on
+-- so where the mode follows from the entries alone, a history that leaves a queue alone by that mode leaves it alone
+-- from that device on
 abbrev pub PlainIsLeftAlone : Type 0
 PlainIsLeftAlone =
     (w : Watched) (s : State) (h : List Entry) → IsSound s → IsPlain w s → AreEvents h → LeavesAlone w h →
@@ -30,7 +30,7 @@ PlainIsLeftAlone =
 abbrev pub NewIsPlain : Type 0
 NewIsPlain = (w : Watched) (fifo : ℕ) → IsPlain w (new_state w.vfs fifo)
 
--- a history that leaves a queue alone does so entry by entry, from any place behind the pass's first entry on
+-- a history that leaves a queue alone does so entry by entry, from any place after the pass's first entry on
 abbrev pub AloneByEntries : Type 0
 AloneByEntries =
     (w : Watched) (s : State) (before rest : List Entry) → LeavesAloneFrom w s (before ++ rest) →
@@ -43,7 +43,7 @@ BeginningIsAlone =
     (w : Watched) (s : State) (beginning rest : List Entry) → LeavesAloneFrom w s (beginning ++ rest) →
     LeavesAloneFrom w s beginning
 
--- and what is behind does, from where its beginning leads
+-- and what is after does, from where its beginning leads
 abbrev pub RestIsAlone : Type 0
 RestIsAlone =
     (w : Watched) (s : State) (before rest : List Entry) → LeavesAloneFrom w s (before ++ rest) →

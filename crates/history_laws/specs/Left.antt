@@ -147,7 +147,7 @@ SidesDo =
     (IsFalse (is_step_of dir queue e) → IsFalse (is_switch_of dir queue e) → LeavesSide dir queue s (after s e)) →
     Deed dir queue s e
 
--- a range of a descriptor and so many bytes, where there are any, are outside a block
+-- a range of a descriptor and this many bytes, where there are any, are outside a block
 pub record IsOutside (desc at len b : ℕ) : Type 0 where
   pub descriptor : Avoids b desc 16
   pub bytes : 0 < len → Avoids b at len

@@ -34,7 +34,7 @@ abbrev pub pieces : ℕ → State → Event Block → List Piece
 pieces queue s event.RxStep = pieces_told queue s.waiting (reply_to s event.RxStep)
 pieces queue s other = []
 
--- the frames that joined those out, behind them
+-- the frames that joined those out, after them
 abbrev pub frames_added : List (ℕ × List ℕ) → List (ℕ × List ℕ) → List (List ℕ)
 frames_added old new = map (λ (f : ℕ × List ℕ). f.1) (drop (length old) new)
 

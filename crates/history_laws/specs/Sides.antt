@@ -47,7 +47,7 @@ pub record IsTried (x : Side) : Type 0 where
   pub on : IsTrue x.on
   pub some : IsFalse (is_empty x.ring)
 
--- a side whose slot at the head was taken, with these bytes staged behind it
+-- a side whose slot at the head was taken, with these bytes staged after it
 abbrev pub taken : List ℕ → Side → Side
 taken staged x = record x { ring = moved_on x.ring; staged = staged }
 

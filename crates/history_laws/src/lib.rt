@@ -1,4 +1,4 @@
-//! What holds along legal histories of a shared device, and what an event that leaves a queue alone does to the queue's
+//! What holds along legal histories of a shared device, and how an event that leaves a queue alone changes the queue's
 //! sides, for the laws of a driver.
 //!
 //! Each law is the contract of a function that does nothing.
@@ -9,17 +9,17 @@ ghost use Rattle.history_laws.specs.Laws.{ModeIsTold, SettingsAreTold, NewIsPlai
 ghost use Rattle.history_laws.specs.Reports.{ReportsLieInBlocks};
 ghost use Rattle.history_laws.specs.Left.{LeftDid, SidesDo};
 
-/// The mode by which the queues are parted among pools, read off the entries of a history, is the device's own: what
-/// its register GCR_EXT says. So is the frame limit, which HLREG0 and MAXFRS say.
+/// The mode by which the queues are separated into pools, computed from the entries of a history, is the device's own:
+/// what its register GCR_EXT says. So is the frame limit, which HLREG0 and MAXFRS set.
 pub fn settings_are_told()
     ensures mode { ModeIsTold }
     ensures settings { SettingsAreTold }
 {}
 
-/// A history that leaves a queue alone, from any state of the device on, does so entry by entry, from any place behind
-/// the pass's first entry on; and what begins such a history leaves the queue alone, and what is behind does from where
-/// that leads. Where no EEPROM image is installed and the queues aren't parted, as in a new device, a history leaves a
-/// queue alone that does so by the mode which its entries tell.
+/// A history that leaves a queue alone, from any state of the device on, does so entry by entry, from any place after
+/// the pass's first entry on. A beginning of such a history leaves the queue alone, and so does the rest, from the
+/// state to which the beginning leads. Where no EEPROM image is installed and the queues aren't separated into pools,
+/// as in a new device, a history leaves a queue alone that does so by the mode computed from its entries.
 pub fn queue_is_left_alone_by_entries()
     ensures plain { PlainIsLeftAlone }
     ensures new { NewIsPlain }
@@ -33,16 +33,17 @@ pub fn histories_keep_devices_sound()
     ensures { HistoriesKeepSound }
 {}
 
-/// What a step of transmitting writes back lies in the block where it begins: the rings of a sound device lie at
-/// multiples of 128.
+/// What a transmit step writes back lies in the block where it begins: the rings of a sound device are at multiples of
+/// 128.
 #[tactic(auto, using(crate::proofs::Blocks::reports_lie))]
 pub fn reports_lie_in_their_blocks()
     ensures { ReportsLieInBlocks }
 {}
 
-/// Where of some numbers only those are lent that a driver knows to be, it stays so over every event: over one that
-/// lends none of them, over the lending of a block, which the driver knows from then on, and over one that takes a
-/// block back, which it knows no longer. And a block whose number isn't known is lent as it is asked.
+/// Take some block numbers of which only those are lent that a driver knows to be lent. This stays so over every event:
+/// over one that lends none of them, over the lending of a block, which the driver knows from then on, and over one
+/// that takes a block back, which it then no longer knows. And a block whose number isn't known is lent when it is
+/// asked.
 #[tactic(auto, using(crate::proofs::Lent::only_lent_stays, crate::proofs::Lent::anew_is_done))]
 pub fn only_known_blocks_are_lent()
     ensures stays { OnlyLentStays }
@@ -50,10 +51,11 @@ pub fn only_known_blocks_are_lent()
 {}
 
 /// An event that leaves a queue and blocks alone did one of four things to each side of the queue: it took the slot at
-/// the head of the side's ring, with a piece of the frame that waits longest or by a fetch; it shut the side by a
-/// fault; it made the side what it is wanted to be; or it did nothing there. Where it took no slot it received or sent
-/// nothing on the queue, and left each of the blocks; and the frame limit, and how the queues are parted, stay. So it
-/// is of one side, where an event of a sound device leaves that side unless it is a step of the side's own.
+/// the head of the side's ring, with a piece of the oldest frame in the receive list or by a fetch; it shut the side by
+/// a fault; it enabled or disabled the side as asked; or it did nothing there. Where it took no slot it received or
+/// sent nothing on the queue, and left each of the blocks; and the frame limit, and how the queues are separated, are
+/// unchanged. So it is of one side, where an event of a sound device leaves that side unless it is a step of the side's
+/// own.
 pub fn events_take_shut_or_switch_a_side()
     ensures left { LeftDid }
     ensures side { SidesDo }

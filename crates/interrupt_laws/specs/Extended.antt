@@ -1,5 +1,5 @@
--- CTRL_EXT keeps what is written, as a plain read/write register does; with bit 14 a write also tells functions of a
--- reset's end, in their mailboxes.
+-- CTRL_EXT stores what is written, as a plain read/write register does; with bit 14 a write also reports the end of a
+-- reset to functions, in their mailboxes.
 use Rattle.std.specs.Prelude.{ℕ, ◌≡◌, ◌≢◌, ◌<◌, IsFalse}
 use Rattle.nic_device.specs.RegTable.Place.{Names}
 use Rattle.nic_device.specs.RegTable.declared.place.Place.{Place}

@@ -108,7 +108,7 @@ CountsIn s new counters number =
     (i : ℕ) → i < 16 → read_at new (counters + 0x40 * i)
     ≡ (if number == i then one_more (read_at s (counters + 0x40 * i)) else read_at s (counters + 0x40 * i))
 
--- QPRC counts a frame that is written to its end, QPRDC one that is dropped for want of a slot, QPTC one that is sent
+-- QPRC counts a frame that is written to its end, QPRDC one that is dropped for lack of a slot, QPTC one that is sent
 pub record QueueCounts (s : State) : Type 0 where
   pub written :
       (queue slot desc at len : ℕ) → queue < 128 → reply_to s event.RxStep ≡ Wrote queue slot true desc at len

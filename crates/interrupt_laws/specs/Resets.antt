@@ -1,5 +1,5 @@
--- A function is told of a reset once: by RSTI, bit 6 of PVFMAILBOX[v], until the physical function tells that it is
--- done, and then by RSTD, bit 7, at one read.
+-- A reset is reported to a function once: by RSTI, bit 6 of PVFMAILBOX[v], until the physical function reports that it
+-- is done, and then by RSTD, bit 7, at one read.
 use Rattle.std.specs.Prelude.{ℕ, ◌≡◌, ◌<◌, ◌≤◌, ◌+◌, Bool, false, ◌&&◌, ◌||◌, List, [], ◌∷◌, ⊤, if◌then◌else◌, IsTrue, IsFalse}
 use Rattle.nic_device.specs.DmaArena.Block.{Block}
 use Rattle.nic_device.specs.RegTable.declared.place.Place.{Place}
@@ -45,13 +45,13 @@ abbrev pub AreWithoutReset : State → List (Event Block) → Type 0
 AreWithoutReset s [] = ⊤
 AreWithoutReset s (e ∷ es) = IsEvent e × IsSparing SparesDevice s e × AreWithoutReset (after s e) es
 
--- from any device on, so from a reset to the next, one read at most tells that a reset is done
+-- from any device on, so from a reset to the next, at most one read returns that a reset is done
 abbrev pub EndIsToldOnce : Type 0
 EndIsToldOnce =
     (s : State) → IsSound s → (v : ℕ) → v < 64 → (es : List (Event Block)) → AreWithoutReset s es
     → times_told s v es ≤ 1
 
--- and a write of CTRL_EXT with bit 14 tells it to each function that was told of a reset's beginning
+-- and a write of CTRL_EXT with bit 14 reports it to each function to which a reset's beginning was reported
 pub record IsToldOfTheEnd (s new : State) (v : ℕ) : Type 0 where
   pub begun : IsFalse (reads_one new (function_mail v) 6)
   pub done : reads_one new (function_mail v) 7

@@ -10,7 +10,7 @@ use Rattle.nic_device.specs.declared.event.Reply.TheVariants.{Word}
 use Rattle.device_laws.specs.Laws.{reply_to_read}
 use Rattle.interrupt_laws.specs.Names.{IsGroup, bits_in, cause_address, mask_address, auto_clear_address, auto_mask_address, general_address}
 
--- the word that a reply tells, and 0 where it tells none
+-- the word in a reply, and 0 where it has none
 abbrev pub word_in : Reply Block → ℕ
 word_in (Word word) = word
 word_in other = 0

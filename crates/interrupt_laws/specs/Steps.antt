@@ -64,7 +64,7 @@ NoneIsDue s g = (bit vector : ℕ) → ¬ IsDue s g bit vector
 abbrev pub NoneIsDueBelow : State → Group → ℕ → Type 0
 NoneIsDueBelow s g bit = (lower vector : ℕ) → lower < bit → ¬ IsDue s g lower vector
 
--- a bit that is told: its cause is cleared where the auto-clear has it, its mask where GPIE bit 30 is 1 and the
+-- a bit that is reported: its cause is cleared where the auto-clear has it, its mask where GPIE bit 30 is 1 and the
 -- auto-mask has it
 abbrev pub told_bit : State → Bit → Bit
 told_bit s b =
@@ -73,15 +73,15 @@ told_bit s b =
       mask = b.mask && not (reads_one s general_address 30 && b.auto_mask);
     }
 
--- the step sends the vector of a bit, and tells this bit alone
+-- the step sends the vector of a bit, and reports this bit alone
 pub record Tells (s : State) (g : Group) (bit vector : ℕ) : Type 0 where
   pub reply : reply_to s (event.IntStep g) ≡ Message g vector
   pub shows :
       ShowsThen s (after s (event.IntStep g)) g
       (λ other. if other == bit then told_bit s (bit_of s g other) else bit_of s g other)
 
--- without the group the step answers so, and changes nothing; with it, it is idle and changes nothing while CTRL bit 2
--- is 1 and where no bit is due, and else it tells the lowest bit that is due
+-- without the group the step replies so, and changes nothing; with it, it is idle and changes nothing while CTRL bit 2
+-- is 1 and where no bit is due, and else it reports the lowest due bit
 pub record StepsByWhatIsDue (s : State) (g : Group) : Type 0 where
   pub absent : ¬ HasGroup s g → step_of s (event.IntStep g) ≡ gives NoGroup s
   pub there : HasGroup s g → reply_to s (event.IntStep g) ≢ NoGroup

@@ -1,9 +1,8 @@
-//! What the device promises of interrupts and of registers by their names, above the definitions that the contracts of
-//! `nic_device` cite.
+//! Laws of interrupts and of registers by their names, beyond the definitions that the contracts of `nic_device` cite.
 //!
 //! Each law is the contract of a function that does nothing: what it ensures holds of `step_of`, by which
 //! `nic_device::Device::step` makes each event, in terms of the addresses and bits of the datasheet and of what reads
-//! give.
+//! return.
 #![tactic(auto)]
 
 ghost use Rattle.interrupt_laws.specs.Names.{HasLowViews, RegistersHaveAddresses};
@@ -22,26 +21,26 @@ ghost use Rattle.interrupt_laws.specs.Sending.{RequestsAreApart};
 ghost use Rattle.interrupt_laws.specs.Accesses.{WriteOfCauseSetSets, WriteOfCausesClears, ReadOfCausesClears, WriteOfMasksSets, WriteOfMaskClearClears, SetAndClearReadZero, WriteOfAutoClearIsKept, WriteOfAutoMaskIsKept, ReadsShowTheView, OtherBitsReadZero};
 
 /// The interrupt registers of the physical function and of each of 64 virtual functions are at the datasheet's
-/// addresses, and EICS, EIMS, EIMC and EIAM have low views, which show bits 15 to 0 alone.
+/// addresses, and EICS, EIMS, EIMC and EIAM have further addresses that show bits 15 to 0 alone.
 pub fn interrupt_registers_have_addresses()
     ensures whole { RegistersHaveAddresses }
     ensures low { HasLowViews }
     ensures view { ReadsShowTheView }
 {}
 
-/// A write of EICS or PVTEICS sets the causes of the bits that are written as 1, and EICS and PVTEICS read as 0.
+/// A write of EICS or PVTEICS sets the causes of the bits that are written as 1. EICS and PVTEICS read as 0.
 pub fn causes_are_set()
     ensures { WriteOfCauseSetSets }
 {}
 
-/// A write of EICR or PVTEICR clears the causes of the bits that are written as 1, and no other; a read clears all of
+/// A write of EICR or PVTEICR clears the causes of the bits that are written as 1, and no other. A read clears all of
 /// them, or with GPIE bit 5 at 1 of EICR bits 29 to 16 alone.
 pub fn causes_are_cleared()
     ensures write { WriteOfCausesClears }
     ensures read { ReadOfCausesClears }
 {}
 
-/// A write of EIMS or PVTEIMS sets masks, one of EIMC or PVTEIMC clears them, and neither changes a cause.
+/// A write of EIMS or PVTEIMS sets masks, a write of EIMC or PVTEIMC clears them, and neither changes a cause.
 pub fn masks_are_set_and_cleared()
     ensures set { WriteOfMasksSets }
     ensures clear { WriteOfMaskClearClears }
@@ -58,67 +57,69 @@ pub fn auto_words_are_kept()
     ensures mask { WriteOfAutoMaskIsKept }
 {}
 
-/// Both sides of a function's mailbox read alike who holds it, which is one of them at most, and the function reads
-/// that a reset began or that it is done, not both.
+/// Both sides of a function's mailbox read the same holder, which is one of them at most. The function reads that a
+/// reset began or that it is done, not both.
 pub fn mailboxes_are_shared()
     ensures { MailboxesAreShared }
 {}
 
 /// Word x of function v's mailbox memory is at address 0x13000 + 0x40 v + 4 x, and at the function's offset 0x200 + 4
-/// x; what is written by one of the two is read by both, until the word is written again or the device is reset.
+/// x. What is written at one of the two is read at both, until the word is written again or the device is reset.
 pub fn messages_are_shared()
     ensures numbers { MessagesHaveNumbers }
     ensures shared { MessagesAreShared }
     ensures last { MessagesLast }
 {}
 
-/// Who holds a mailbox holds it after every event but those writes that end it: for the function one of PVFMAILBOX
-/// without bit 2, one of PFMAILBOX with bit 4, and a reset of its pool or of the device; for the physical function one
-/// of PFMAILBOX without bit 3, and a reset of the device.
+/// Who holds a mailbox holds it after every event but those writes that end it: for the function a write of PVFMAILBOX
+/// without bit 2, one of PFMAILBOX with bit 4, and a reset of its pool or of the device; for the physical function a
+/// write of PFMAILBOX without bit 3, and a reset of the device.
 pub fn holders_hold_on()
     ensures function { FunctionHoldsOn }
     ensures physical { PhysicalHoldsOn }
 {}
 
-/// From one reset of the device to the next one read of PVFMAILBOX at most gives bit 7, that a reset is done; and a
+/// From one reset of the device to the next, at most one read of PVFMAILBOX returns bit 7, that a reset is done. A
 /// write of CTRL_EXT with bit 14 sets it for each function that reads bit 6, that one began, and clears bit 6.
 pub fn ends_are_told_once()
     ensures once { EndIsToldOnce }
     ensures told { EndIsTold }
 {}
 
-/// A write of PVFMAILBOX sets the request of its own function in PFMBICR with bit 0, its own acknowledgement with bit
-/// 1, and changes no other bit there.
+/// A write of PVFMAILBOX with bit 0 sets the request of its own function in PFMBICR, with bit 1 its own
+/// acknowledgement, and changes no other bit there.
 pub fn requests_are_apart()
     ensures { RequestsAreApart }
 {}
 
-/// A message step answers that there is no group exactly for a virtual function that the device hasn't or that has no
-/// pool. Else it is idle and changes nothing exactly while CTRL bit 2 is 1 or where no bit is due, and tells the lowest
-/// bit that is due, by its own number, or by the vector that IVAR_MISC has for bits 16 to 29 or for bit 30.
+/// An interrupt step gets the reply `NoGroup` exactly for a virtual function that the device doesn't have or that has
+/// no pool. Else it is idle and changes nothing exactly while CTRL bit 2 is 1 or where no bit is due; in every other
+/// case it reports the lowest due bit, by its own number, or by the vector that IVAR_MISC has for bits 16 to 29 or for
+/// bit 30.
 pub fn message_steps_tell_what_is_due()
     ensures { MessageStepsTellWhatIsDue }
 {}
 
-/// STATUS reads 0x00080000, or 0 while CTRL bit 2 is 1. LINKS reads 0x70000000 with link, else 0, also right after the
-/// link was set up or down.
+/// STATUS reads 0x00080000, or 0 while CTRL bit 2 is 1. LINKS reads 0x70000000 while the link is up, else 0, also right
+/// after the link was set up or down.
 pub fn status_and_links_are_told()
     ensures status { StatusTellsOfSteps }
     ensures links { LinksTellsTheLink }
     ensures set { LinksTellsTheLinkSet }
 {}
 
-/// A frame's end on queue q raises the cause that byte 2(q mod 2) of IVAR[q/2] names in EICR, and a report of it what
-/// the next byte names; for queue x of virtual function v with k queues the bytes are those of PVTIVAR[v*k/2 + x/2],
-/// and the cause is in PVTEICR[v]. A byte names the cause in its bits 5 to 0 where bit 7 is 1, at most 15, and 2.
+/// A frame's end on queue q raises the cause that byte 2(q mod 2) of IVAR[q/2] names in EICR, and a report of the queue
+/// the cause that the next byte names. For queue x of virtual function v with k queues the bytes are those of
+/// PVTIVAR[v*k/2 + x/2], and the cause is in PVTEICR[v]. A byte names the cause in its bits 5 to 0 where bit 7 is 1: at
+/// most 15 in EICR, at most 2 in PVTEICR[v].
 pub fn vectors_name_causes()
     ensures ivar { IvarNamesCauses }
     ensures pvtivar { PvtivarNamesCauses }
 {}
 
-/// A frame that is written to its end on queue q is counted in the QPRC, and one that is dropped for want of a slot in
-/// the QPRDC, whose number RQSMR[q/4] has in bits 8(q mod 4)+3 to 8(q mod 4); one that is sent in the QPTC whose number
-/// TQSM[q/4] has there. The other counters of these stay.
+/// A frame that is written to its end on queue q is counted in the QPRC, and one that is dropped because no descriptor
+/// was free in the QPRDC, whose number is in bits 8(q mod 4)+3 to 8(q mod 4) of RQSMR[q/4]; one that is transmitted in
+/// the QPTC whose number TQSM[q/4] has there. The other counters of these are unchanged.
 pub fn mappings_name_counters()
     ensures { MappingsNameCounters }
 {}
@@ -128,23 +129,22 @@ pub fn vfte_mutes_pools()
     ensures { VfteMutesPools }
 {}
 
-/// A mask that is set stays set through every event but a write of EIMC with the bit, an access of EICR that the
-/// auto-mask turns on the bit, a message of the group while GPIE bit 30 is 1 and the auto-mask has the bit, and a reset
+/// A mask that is set stays set through every event but a write of EIMC with the bit, an access of EICR on which the
+/// auto-mask clears the bit, a message of the group while GPIE bit 30 is 1 and the auto-mask has the bit, and a reset
 /// of the device or of the function's pool.
 pub fn masks_last()
     ensures { MasksLast }
 {}
 
 /// A write of a plain read/write register changes what no other register reads, and nothing else of the device. EIAC,
-/// EIAM and EITR are plain, and so are PVTEIAC and PVTEIAM; EITR keeps all bits, and no message step answers otherwise
-/// for it.
+/// EIAM and EITR are plain, and so are PVTEIAC and PVTEIAM; EITR stores all bits, and no interrupt step depends on it.
 pub fn plain_writes_are_alone()
     ensures alone { PlainWriteIsAlone }
     ensures plain { ArePlain }
     ensures timers { TimersHaveNoEffect }
 {}
 
-/// CTRL_EXT reads 0 in a new device, keeps all bits that are written, and a read of it changes nothing. A write of it
+/// CTRL_EXT reads 0 in a new device, stores all bits that are written, and a read of it changes nothing. A write of it
 /// changes what no other register reads but PVFMAILBOX and PFMAILBOX; without bit 14 these too read as before, and
 /// nothing else of the device changes.
 pub fn ctrl_ext_keeps_what_is_written()
@@ -152,10 +152,10 @@ pub fn ctrl_ext_keeps_what_is_written()
     ensures keeps { ExtendedKeepsWhatIsWritten }
 {}
 
-/// While VT_CTL bit 0 is 1, a frame that is let in waits, last of all, for a queue by its pool p, whose bit p mod 32 of
-/// VFRE[p/32] is 1: queue 2p with MRQC bits 3 to 0 at 8, one of the four from 4p on with 10, one of the two from 2p on
-/// with 11; but where GCR_EXT has 16 pools, 8p with 8, and one of the eight from 8p on with 10 and 11. With any code
-/// but these and 1 the queue is 0, whichever the pool.
+/// While VT_CTL bit 0 is 1, a frame that is accepted is appended to the receive list for a queue by its pool p, whose
+/// bit p mod 32 of VFRE[p/32] is 1: queue 2p with MRQC bits 3 to 0 at 8, one of the four from 4p on with 10, one of the
+/// two from 2p on with 11; but where GCR_EXT has 16 pools, 8p with 8, and one of the eight from 8p on with 10 and 11.
+/// With any code but these and 1 the queue is 0, whichever the pool.
 pub fn vfre_lets_into_pools()
     ensures { VfreLetsIntoPools }
 {}

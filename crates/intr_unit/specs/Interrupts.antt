@@ -6,7 +6,7 @@ use Rattle.intr_unit.specs.BitSet.{BitSet, no_bits, contains, bits_where, union,
 use Rattle.intr_unit.specs.BitSet.{lowest_of, IsSubset}
 use Rattle.intr_unit.specs.Group.{group_bits, bits_cleared_by_read, vector_of}
 
--- the words of a group as sets of bits, and the bits that a message told
+-- the words of a group as sets of bits, and the bits that a message reported: the told bits
 pub record Interrupts : Type 0 where
   pub group : Group
   pub causes : BitSet
@@ -49,7 +49,7 @@ of_words group causes enabled auto_clear auto_mask told =
       told = intersection told (intersection (intersection causes bits) (intersection enabled bits));
     }
 
--- these causes and masks; of these told marks those go whose cause or mask is 0
+-- these causes and masks; of these told marks those are removed whose cause or mask is 0
 abbrev pub settled : Interrupts → BitSet → BitSet → BitSet → Interrupts
 settled s causes enabled told =
     record s { causes = causes; enabled = enabled; told = intersection told (intersection causes enabled) }
@@ -104,7 +104,7 @@ is_due s misc bit =
 unfoldable pub due_bits : Interrupts → ℕ → BitSet
 due_bits s misc = bits_where (is_due s misc)
 
--- the bit that is told next: the lowest that is due
+-- the bit that is reported next: the lowest that is due
 unfoldable pub next_bit : Interrupts → ℕ → Option ℕ
 next_bit s misc = lowest_of (due_bits s misc)
 
@@ -112,7 +112,8 @@ next_bit s misc = lowest_of (due_bits s misc)
 abbrev pub next_vector : Interrupts → ℕ → Option ℕ
 next_vector s misc = option_and_then (vector_of s.group misc) (next_bit s misc)
 
--- the bit is told: its cause becomes 0 where the auto-clear has it, its mask where EIAME is 1 and the auto-mask has it
+-- the bit is reported: its cause becomes 0 where the auto-clear has it, its mask where EIAME is 1 and the auto-mask has
+-- it
 abbrev pub after_telling : Interrupts → Bool → ℕ → Interrupts
 after_telling s eiame bit =
     settled s

@@ -123,7 +123,7 @@ MaskClearsChangeBits =
       mark = λ bit. contains s.told bit;
     })
 
--- the bits once one is told: its cause becomes 0 where the auto-clear has it, its mask where EIAME is 1 and the
+-- the bits once one is reported: its cause becomes 0 where the auto-clear has it, its mask where EIAME is 1 and the
 -- auto-mask has it
 abbrev pub told_bits : Interrupts → Bool → ℕ → Bits
 told_bits s eiame chosen =
@@ -133,7 +133,7 @@ told_bits s eiame chosen =
       mark = λ bit. contains s.told bit || bit == chosen;
     }
 
--- a message tells its bit, and without a message nothing changes
+-- a message reports its bit, and without a message nothing changes
 pub record MessagesChangeBits : Type 0 where
   pub told : (s : Interrupts) (eiame : Bool) (misc vector chosen : ℕ) → IsMessageOf s misc vector chosen →
       Leaves s (after_message s eiame misc) (told_bits s eiame chosen)

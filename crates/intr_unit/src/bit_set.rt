@@ -1,4 +1,4 @@
-//! Sets of the bits of a register: the one place where words are seen as sets.
+//! Sets of the bits of a register: the only module that sees words as sets.
 
 ghost use Rattle.std.specs.Prelude.{◌≡◌, ◌<◌, IfSome};
 ghost use Rattle.intr_unit.specs.BitSet.{contains, union, intersection, difference, when, only, lowest_of};
@@ -23,7 +23,7 @@ impl Model for BitSet {
 
 #[tactic(auto, using(crate::proofs::WordLaws::word_operations), unfolding(crate::specs::BitSet::when))]
 impl BitSet {
-    /// The set without a bit.
+    /// The empty set of bits.
     pub(crate) const EMPTY: BitSet = BitSet { word: 0 };
 
     /// The set of the bits that are 1 in the word.
@@ -34,7 +34,7 @@ impl BitSet {
         BitSet { word }
     }
 
-    /// The word that is 1 at the bits of the set.
+    /// The word whose bits are 1 exactly for the members of the set.
     #[inline(always)]
     pub(crate) fn word(self) -> u32
         ensures { result ≡ self }

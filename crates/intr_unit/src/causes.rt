@@ -1,4 +1,4 @@
-//! The words of one group: its causes, masks, auto-clear and auto-mask, and the bits that were told.
+//! The registers of one interrupt group: causes, masks, auto-clear and auto-mask, and the bits that messages reported.
 
 ghost use Rattle.std.specs.Prelude.{◌≡◌, ◌<◌, IfSome};
 ghost use Rattle.intr_unit.specs.BitSet.{IsSubset};
@@ -9,10 +9,10 @@ use crate::bit_set::BitSet;
 use crate::group::Group;
 use std::marker::Model;
 
-/// The interrupts of one group.
+/// The interrupts of one group, of the physical function or of a virtual function.
 ///
-/// A message tells a bit once: it is told again only after its cause or its mask was 0. Contracts see the group, its
-/// words as sets of bits, and the set of told bits, each of which has its cause and its mask at 1.
+/// A message reports (tells) a bit once: it is reported again only after its cause or its mask was 0. Contracts see the
+/// group, its words as sets of bits, and the set of told bits, each of which has its cause and its mask at 1.
 ///
 /// Intel 82599 datasheet, sections on interrupt registers and on clearing interrupt causes. What a read of EICR clears
 /// and what the auto-mask does are this project's profile.
@@ -61,8 +61,8 @@ impl Model for Causes {
 
 #[tactic(auto, using(crate::proofs::Subsets::subsets))]
 impl Causes {
-    /// A group as a reset leaves it: all words 0, nothing told. The device's reset and, for a VF's group, that of its
-    /// pool make it anew.
+    /// A group after a reset: all words 0, nothing told. The device's reset makes all groups anew, and a pool's reset
+    /// the one of its virtual function.
     pub fn new(group: Group) -> Self
         ensures { result ≡ reset_of group }
     {
@@ -76,9 +76,9 @@ impl Causes {
         }
     }
 
-    /// A group by the words of its registers and its told bits, as [`Causes::causes`], [`Causes::enabled`],
-    /// [`Causes::auto_clear`], [`Causes::auto_mask`] and [`Causes::told`] give them. Bits that the group doesn't have
-    /// are left out, and so are told bits whose cause or mask is 0.
+    /// A group from the words of its registers and its told bits, as [`Causes::causes`], [`Causes::enabled`],
+    /// [`Causes::auto_clear`], [`Causes::auto_mask`] and [`Causes::told`] return them. Bits that the group doesn't have
+    /// are dropped, and so are told bits whose cause or mask is 0.
     pub fn of_words(
         group: Group,
         causes: u32,
@@ -102,7 +102,7 @@ impl Causes {
         }
     }
 
-    /// The group that these interrupts are of.
+    /// The function that these interrupts belong to.
     #[inline(always)]
     pub fn group(&self) -> Group
         ensures { result ≡ self.now.group }
@@ -110,7 +110,7 @@ impl Causes {
         self.group
     }
 
-    /// The word of the cause register (EICR, PVTEICR), without the effects of a read.
+    /// The word of the cause register (EICR, PVTEICR), without the side effects of a read.
     #[inline(always)]
     pub fn causes(&self) -> u32
         ensures word { result ≡ self.now.causes }
@@ -119,7 +119,7 @@ impl Causes {
         self.causes.word()
     }
 
-    /// The word of the mask register (EIMS, PVTEIMS): 1 where a cause may be told.
+    /// The word of the mask register (EIMS, PVTEIMS): 1 where a cause can be reported.
     #[inline(always)]
     pub fn enabled(&self) -> u32
         ensures { result ≡ self.now.enabled }
@@ -143,8 +143,8 @@ impl Causes {
         self.auto_mask.word()
     }
 
-    /// The bits that messages told: each has its cause and its mask at 1, and isn't told again before one of them
-    /// was 0.
+    /// The bits that messages have reported: each has its cause and its mask at 1, and isn't reported again before one
+    /// of them was 0.
     #[inline(always)]
     pub fn told(&self) -> u32
         ensures { result ≡ self.now.told }
@@ -152,9 +152,10 @@ impl Causes {
         self.told.word()
     }
 
-    /// Raises causes, as the device does (`auto` false) or a write of the set register (EICS, PVTEICS; `bits` cut by
-    /// the view, `auto` by [`Group::auto_mask_acts`]). With `auto` the masks of those of the bits that are in the
-    /// auto-mask become 1. Bits that the group doesn't have are left out.
+    /// Raises causes, as the device does (`auto` is false) or a write of the set register (EICS, PVTEICS: then `bits`
+    /// is the written word without the bits that the address doesn't show, and `auto` is by [`Group::auto_mask_acts`]).
+    /// With `auto` the masks become 1 for those bits that are in the auto-mask. Bits that the group doesn't have are
+    /// dropped.
     #[inline]
     pub fn raise(&mut self, bits: u32, auto: bool)
         ensures { self.new ≡ raised self.old bits auto }
@@ -165,9 +166,9 @@ impl Causes {
         self.settle(causes, enabled, self.told);
     }
 
-    /// Reads the cause register: answers its word and clears it, for the PF with GPIE bit 5 (`ocd`) bits 29 to 16
-    /// alone. With `auto` (by [`Group::auto_mask_acts`]) the masks of all bits of the auto-mask become 0, whatever
-    /// causes were set. `ocd` is without effect for a VF.
+    /// Reads the cause register: returns its word and clears it; for the PF with GPIE bit 5 (`ocd`) it clears bits 29
+    /// to 16 alone. With `auto` (by [`Group::auto_mask_acts`]) the masks of all bits of the auto-mask become 0,
+    /// whichever causes were set. `ocd` has no effect for a VF.
     #[inline]
     pub fn read(&mut self, ocd: bool, auto: bool) -> u32
         ensures word { result ≡ self.old.causes }
@@ -180,8 +181,9 @@ impl Causes {
         word
     }
 
-    /// Writes the cause register: the causes that are 1 in `bits` (cut by the view) become 0. With `auto` (by
-    /// [`Group::auto_mask_acts`]) the masks of those of the bits that are in the auto-mask become 0.
+    /// Writes the cause register: the causes that are 1 in `bits` become 0. With `auto` (by [`Group::auto_mask_acts`])
+    /// the masks become 0 for those bits that are in the auto-mask. `bits` is the written word without the bits that
+    /// the address doesn't show.
     #[inline]
     pub fn write_one(&mut self, bits: u32, auto: bool)
         ensures { self.new ≡ after_write_one self.old bits auto }
@@ -192,7 +194,8 @@ impl Causes {
         self.settle(causes, enabled, self.told);
     }
 
-    /// Writes the mask register (EIMS, PVTEIMS): the masks that are 1 in `bits` (cut by the view) become 1.
+    /// Writes the mask register (EIMS, PVTEIMS): the masks that are 1 in `bits` become 1. `bits` is the written word
+    /// without the bits that the address doesn't show.
     #[inline]
     pub fn mask_set(&mut self, bits: u32)
         ensures { self.new ≡ after_mask_set self.old bits }
@@ -201,7 +204,8 @@ impl Causes {
         self.settle(self.causes, self.enabled.union(bits), self.told);
     }
 
-    /// Writes the mask clear register (EIMC, PVTEIMC): the masks that are 1 in `bits` (cut by the view) become 0.
+    /// Writes the mask clear register (EIMC, PVTEIMC): the masks that are 1 in `bits` become 0. `bits` is the written
+    /// word without the bits that the address doesn't show.
     #[inline]
     pub fn mask_clear(&mut self, bits: u32)
         ensures { self.new ≡ after_mask_clear self.old bits }
@@ -210,8 +214,8 @@ impl Causes {
         self.settle(self.causes, enabled, self.told);
     }
 
-    /// Gives the auto-clear register (EIAC, PVTEIAC) a new word, as far as the group has its bits. A write through a
-    /// view keeps the other bits by giving them in `word`.
+    /// Sets the auto-clear register (EIAC, PVTEIAC) to a word, without the bits that the group doesn't have. For a
+    /// write at an address that doesn't show all bits, `word` has to contain the others as they are.
     #[inline]
     pub fn set_auto_clear(&mut self, word: u32)
         ensures { self.new ≡ with_auto_clear self.old word }
@@ -219,8 +223,8 @@ impl Causes {
         self.auto_clear = BitSet::of_word(word).intersection(self.existing());
     }
 
-    /// Gives the auto-mask register (EIAM, PVTEIAM) a new word, as far as the group has its bits. A write through a
-    /// view keeps the other bits by giving them in `word`.
+    /// Sets the auto-mask register (EIAM, PVTEIAM) to a word, without the bits that the group doesn't have. For a write
+    /// at an address that doesn't show all bits, `word` has to contain the others as they are.
     #[inline]
     pub fn set_auto_mask(&mut self, word: u32)
         ensures { self.new ≡ with_auto_mask self.old word }
@@ -228,10 +232,10 @@ impl Causes {
         self.auto_mask = BitSet::of_word(word).intersection(self.existing());
     }
 
-    /// Makes the next message: tells the lowest bit that is due and answers its vector (0 to 15), or None where no bit
-    /// is due, which changes nothing. A bit is due where its cause and its mask are 1, it isn't told, and it has a
-    /// vector by [`Group::vector_of`]. The told bit's cause becomes 0 where the auto-clear has it; its mask becomes 0
-    /// where GPIE bit 30 (`eiame`) is 1 and the auto-mask has it. `misc` is the word IVAR_MISC.
+    /// Makes the next message: reports the lowest due bit and returns its vector (0 to 15), or `None` where no bit is
+    /// due, which changes nothing. A bit is due where its cause and its mask are 1, it isn't told, and it has a vector
+    /// by [`Group::vector_of`]. The reported bit's cause becomes 0 where the auto-clear has it; its mask becomes 0
+    /// where GPIE bit 30 (`eiame`) is 1 and the auto-mask has it. `misc` is the word of IVAR_MISC.
     pub fn message(&mut self, eiame: bool, misc: u32) -> Option<u8>
         ensures vector { result ≡ next_vector self.old misc }
         ensures state { self.new ≡ after_message self.old eiame misc }
@@ -244,7 +248,7 @@ impl Causes {
         self.group.vector_of(bit, misc)
     }
 
-    /// The bit that the next message tells.
+    /// The bit that the next message reports.
     fn next_bit(&self, misc: u32) -> Option<u8>
         ensures bit { result ≡ next_bit self.now misc }
         ensures within { IfSome result (λ bit. bit < 32) }
@@ -264,7 +268,7 @@ impl Causes {
         BitSet::of_word(self.group.bits())
     }
 
-    /// Those of the bits that are in the auto-mask, where it acts.
+    /// The bits that are in the auto-mask, where it acts; else none.
     #[inline(always)]
     fn auto_masked(&self, bits: BitSet, auto: bool) -> BitSet
         ensures { result ≡ auto_masked self.now bits auto }
@@ -272,7 +276,7 @@ impl Causes {
         bits.intersection(self.auto_mask).when(auto)
     }
 
-    /// Takes these causes and masks, and of these told marks those whose cause and mask are 1.
+    /// Stores these causes and masks, and those of the told bits whose cause and mask are 1.
     #[inline(always)]
     fn settle(&mut self, causes: BitSet, enabled: BitSet, told: BitSet)
         requires causes { IsSubset causes (group_bits self.old.group) }

@@ -5,16 +5,16 @@ ghost use Rattle.intr_unit.specs.Group.{group_bits, bits_cleared_by_read, auto_m
 
 use crate::bit_set::BitSet;
 
-/// The bits of EICR and its kin.
+/// The bits of EICR and the PF's other cause and mask registers.
 const PF_BITS: u32 = 0x7FFF_FFFF;
 
-/// The bits of PVTEICR and its kin.
+/// The bits of PVTEICR and a VF's other cause and mask registers.
 const VF_BITS: u32 = 7;
 
 /// The causes of queues: bits 15 to 0 of EICR.
 const QUEUE_CAUSES: u32 = 0xFFFF;
 
-/// The other causes, link change among them: bits 29 to 16 of EICR.
+/// The other causes, such as a link status change: bits 29 to 16 of EICR.
 const OTHER_CAUSES: u32 = 0x3FFF_0000;
 
 /// The cause of the TCP timer in EICR.
@@ -32,15 +32,15 @@ const ENTRY_VALID: u8 = 7;
 /// The bits of a vector, or of the cause in a byte of IVAR or PVTIVAR.
 const NUMBER_BITS: u32 = 0x3F;
 
-/// How many vectors there are.
+/// The number of vectors: each is below this.
 const VECTORS: u8 = 16;
 
 /// A group of interrupts, with registers of its own.
 #[derive(Clone, Copy, PartialEq, Eq, Debug)]
 pub enum Group {
-    /// The physical function: EICR, EICS, EIMS, EIMC, EIAC and EIAM.
+    /// The group of the physical function: EICR, EICS, EIMS, EIMC, EIAC and EIAM.
     Pf,
-    /// The virtual function of that number: PVTEICR, PVTEICS, PVTEIMS, PVTEIMC, PVTEIAC and PVTEIAM.
+    /// The group of the virtual function of this number: PVTEICR, PVTEICS, PVTEIMS, PVTEIMC, PVTEIAC and PVTEIAM.
     Vf(u8),
 }
 
@@ -60,7 +60,7 @@ impl Group {
     }
 
     /// Whether the auto-mask acts on reads of the cause register and on writes of it and of the set register. For the
-    /// PF it does while GPIE bit 30 (EIAME, here `eiame`) is 0; for a VF always, which is this project's profile.
+    /// PF it does while GPIE bit 30 (EIAME, here `eiame`) is 0; for a VF always. The latter is this project's profile.
     #[inline(always)]
     pub fn auto_mask_acts(self, eiame: bool) -> bool
         ensures { result ≡ auto_mask_acts self eiame }
@@ -71,8 +71,8 @@ impl Group {
         }
     }
 
-    /// The causes that a queue raises by its byte of IVAR (the PF's) or PVTIVAR (a VF's), as a set of bits with one
-    /// member or none: bits 5:0 name the cause where bit 7 is 1, up to bit 15 for the PF and bit 2 for a VF.
+    /// The causes that a queue raises by its byte of IVAR (for the PF) or PVTIVAR (for a VF), as a word with one bit or
+    /// none: bits 5:0 name the cause where bit 7 is 1, up to bit 15 for the PF and bit 2 for a VF.
     ///
     /// Intel 82599 datasheet, section on interrupt causes and their allocation.
     #[tactic(auto, unfolding(crate::specs::Group::queue_causes))]
@@ -89,8 +89,8 @@ impl Group {
         }
     }
 
-    /// The vector (0 to 15) by which a bit is told, or None where it isn't routed. `misc` is the word IVAR_MISC, which
-    /// routes bits 29 to 16 and bit 30 of the PF; it is without effect for a VF.
+    /// The vector (0 to 15) by which a bit is reported, or `None` where it isn't routed. `misc` is the word of
+    /// IVAR_MISC, which routes bits 29 to 16 and bit 30 of the PF; it has no effect for a VF.
     ///
     /// Intel 82599 datasheet, section on MSI-X vectors.
     #[tactic(auto, unfolding(crate::specs::Group::vector_of))]
@@ -169,7 +169,7 @@ fn timer_vector(misc: u32) -> Option<u8>
     )
 }
 
-/// The vector, where it is valid and one of those that there are.
+/// The vector, where it is marked valid and is below 16.
 fn vector_if(valid: bool, vector: u8) -> Option<u8>
     ensures { result ≡ vector_if valid vector }
 {

@@ -1,20 +1,20 @@
-//! What a driver may rely on. Each function has no body: its clause is the law, which the prover shows.
+//! What a driver can rely on. Each function has no body: its clause is the law, which is proved.
 
 ghost use Rattle.intr_unit.specs.Laws.{SetsHoldTheirBits, MessagesTellDueBits, BitsAreToldOnce, MaskingLosesNoCause};
 ghost use Rattle.intr_unit.specs.Laws.{RaisesChangeBits, ReadsChangeBits, WritesOfOnesChangeBits, MaskSetsChangeBits, MaskClearsChangeBits, MessagesChangeBits, AutoWritesChangeBits, ToldBitsArePending};
 
-/// A set given by a test has just the bits that pass it, and a word is known by its bits.
+/// A set that a test defines has exactly the bits that pass it, and a word is determined by its bits.
 pub fn sets_hold_their_bits()
     ensures { SetsHoldTheirBits }
 {}
 
-/// Each message is of the lowest bit that has its cause and its mask at 1, isn't told and is routed; without a
+/// Each message reports the lowest bit that has its cause and its mask at 1, isn't told and is routed; without a
 /// message there is no such bit.
 pub fn messages_tell_due_bits()
     ensures { MessagesTellDueBits }
 {}
 
-/// After a message of a bit no second message of it comes before its cause or its mask was 0.
+/// After a message that reports a bit, no second message reports it before its cause or its mask was 0.
 pub fn bits_are_told_once()
     ensures { BitsAreToldOnce }
 {}
@@ -24,18 +24,19 @@ pub fn masking_loses_no_cause()
     ensures { MaskingLosesNoCause }
 {}
 
-/// A raise, bit by bit: EICS and the device set causes, and by the auto-mask masks.
+/// A raise, bit by bit: EICS and the device set causes, and where the auto-mask acts it sets masks.
 pub fn raises_change_bits()
     ensures { RaisesChangeBits }
 {}
 
 /// A read of the cause register, bit by bit: all causes are cleared, or with other-cause clearing bits 29 to 16 alone,
-/// and by the auto-mask exactly the masks that it has.
+/// and where the auto-mask acts it clears exactly the masks that it has.
 pub fn reads_change_bits()
     ensures { ReadsChangeBits }
 {}
 
-/// A write of ones to the cause register, bit by bit: these causes are cleared, and by the auto-mask masks.
+/// A write of ones to the cause register, bit by bit: these causes are cleared, and where the auto-mask acts it clears
+/// masks.
 pub fn writes_of_ones_change_bits()
     ensures { WritesOfOnesChangeBits }
 {}
@@ -46,8 +47,8 @@ pub fn mask_writes_change_bits()
     ensures clear { MaskClearsChangeBits }
 {}
 
-/// A message, bit by bit: of the told bit alone, the auto-clear clears the cause, and by EIAME the auto-mask clears
-/// the mask. Without a message nothing changes.
+/// A message, bit by bit: for the reported bit alone, the auto-clear clears the cause, and with EIAME the auto-mask
+/// clears the mask. Without a message nothing changes.
 pub fn messages_change_bits()
     ensures { MessagesChangeBits }
 {}

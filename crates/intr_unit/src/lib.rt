@@ -1,9 +1,10 @@
 //! The interrupt unit of the controller: the causes, masks and messages of one group of interrupts.
 //!
 //! A group belongs to the physical function (EICR, EIMS, EIAC, EIAM) or to one virtual function (PVTEICR, PVTEIMS,
-//! PVTEIAC, PVTEIAM). [`Causes`] keeps its words and which bits were told by a message; [`Group`] has what differs
-//! between the two kinds. Contracts see each word as a set of bits, and each call as what it leaves of these sets.
-//! [`laws`] says what a driver may rely on. Nothing here takes memory. The device core keeps one `Causes` a group.
+//! PVTEIAC, PVTEIAM). [`Causes`] stores its words and which bits a message has already reported, the told bits;
+//! [`Group`] has what differs between the two kinds. Contracts see each word as a set of bits, and define each call by
+//! what it changes in these sets. [`laws`] states what a driver can rely on. Nothing here allocates. The device core
+//! has one `Causes` for each group.
 #![tactic(auto)]
 
 mod bit_set;

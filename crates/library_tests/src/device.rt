@@ -1,4 +1,4 @@
-//! A device in hand without virtual functions.
+//! An owned device without virtual functions.
 
 use crate::outcome::{Hand, done, same};
 use nic_device::{Config, Device, Event, Image, Parts, Port, Reply};
@@ -6,12 +6,12 @@ use nic_device::{Config, Device, Event, Image, Parts, Port, Reply};
 /// What devices are made with.
 pub const CONFIG: Config = Config { vfs: 0, fifo: 64 };
 
-/// A new one.
+/// A new device with this configuration.
 pub fn device(rt: &impl Hand) -> Device {
     done(rt, Device::new(rt.alloc(), CONFIG))
 }
 
-/// What an event is answered with.
+/// The reply to an event, which must find memory.
 pub fn stepped(rt: &impl Hand, device: &mut Device, event: Event) -> Reply {
     done(rt, device.step(event))
 }
@@ -24,12 +24,12 @@ pub fn make(rt: &impl Hand, device: &mut Device, event: Event) {
     }
 }
 
-/// Writes a word.
+/// Writes a word, and checks that it is done.
 pub fn write(rt: &impl Hand, device: &mut Device, address: u32, word: u32) {
     make(rt, device, Event::Write(Port::Pf, address, word));
 }
 
-/// Sees which word an address reads.
+/// Checks which word an address reads.
 pub fn reads(rt: &impl Hand, device: &mut Device, address: u32, wanted: u32) {
     match stepped(rt, device, Event::Read(Port::Pf, address)) {
         Reply::Word(word) => same(rt, u64::from(word), u64::from(wanted)),
@@ -37,7 +37,7 @@ pub fn reads(rt: &impl Hand, device: &mut Device, address: u32, wanted: u32) {
     }
 }
 
-/// Ends one to which nothing is lent and of which no frame went out. Gives its image.
+/// Ends a device without lent memory and transmitted frames. Returns its image.
 pub fn end(rt: &impl Hand, device: Device) -> Image {
     let Parts {
         memory,

@@ -2,7 +2,7 @@
 
 use std::io::{Error, ErrorKind, Read, Result, Write};
 
-/// Gives so many newlines.
+/// A reader that returns this many newlines.
 #[derive(Drop)]
 pub struct Newlines(pub usize);
 
@@ -17,7 +17,7 @@ impl Read for Newlines {
     }
 }
 
-/// Gives a newline at each read, without end.
+/// A reader that returns a newline at each read, without end.
 #[derive(Drop)]
 pub struct Drip;
 
@@ -33,7 +33,7 @@ impl Read for Drip {
     }
 }
 
-/// Fills each buffer, without end.
+/// A reader that fills each buffer, without end.
 #[derive(Drop)]
 pub struct Flood;
 
@@ -46,7 +46,7 @@ impl Read for Flood {
     }
 }
 
-/// Gives bytes, one at each read, and fails at the read of a number, counted from 0.
+/// A reader that returns one byte at each read, and fails at the read of a number, from 0.
 #[derive(Drop)]
 pub struct FailingReader<'a> {
     pub bytes: &'a [u8],
@@ -73,7 +73,8 @@ impl<'a> Read for FailingReader<'a> {
     }
 }
 
-/// Takes so many writes and fails at the next, with an error of this kind, and counts the writes after that.
+/// A writer that accepts this many writes and fails at the next, with an error of this kind, and counts the writes
+/// after that.
 #[derive(Drop)]
 pub struct FailingWriter {
     pub taken: u32,
@@ -103,7 +104,7 @@ impl Write for FailingWriter {
     }
 }
 
-/// Takes each write, and fails where it is to write what it keeps back, with an error of this kind.
+/// A writer that accepts each write, and fails when it is flushed, with an error of this kind.
 #[derive(Drop)]
 pub struct FailingFlush(pub ErrorKind);
 

@@ -16,7 +16,7 @@ fn device_with(rt: &impl Hand, image: Image) -> Device {
     device
 }
 
-/// A reset makes the image's write of FCTRL behind those of CTRL and EERD, EEC tells the image's size, and EERD gives
+/// A reset makes the image's write of FCTRL after those of CTRL and EERD, EEC reports the image's size, and EERD reads
 /// word 0x0D, which points to the CSR section.
 #[test]
 fn an_image_is_applied_and_read(rt: HostRuntime) {

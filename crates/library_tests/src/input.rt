@@ -134,10 +134,10 @@ fn input_faults(rt: HostRuntime) {
     );
 }
 
-/// How many writes an answer takes at most.
+/// The most writes that an answer takes.
 const MOST_WRITES: u32 = 1_000;
 
-/// A writer that takes so many writes and fails at the next, with an error of this kind.
+/// A writer that takes this many writes and fails at the next, with an error of this kind.
 fn writer(taken: u32, kind: ErrorKind) -> FailingWriter {
     FailingWriter {
         taken,
@@ -150,8 +150,8 @@ fn writer(taken: u32, kind: ErrorKind) -> FailingWriter {
 /// Words, an input, and the status that it ends with.
 type Case<'w, 's, 'b> = (&'w [&'s str], &'b [u8], u8);
 
-/// The program ends with this status and no later write where a writer fails with an error of this kind, and else with
-/// the input's own. Gives whether it came to fail.
+/// Runs the program with a writer that fails with an error of this kind: it ends with this status and makes no later
+/// write, or where no write failed with the input's own status. Returns whether a write failed.
 fn fails_at(
     rt: &impl Abort,
     alloc: Global,
@@ -169,8 +169,8 @@ fn fails_at(
     writer.has_failed
 }
 
-/// A reader that gives a byte at each read, and fails, at whatever read of all, also at that of the end: nothing is
-/// answered but that.
+/// A reader that returns one byte at each read, and fails at any one read, also at that of the end: the answer is then
+/// only that failure.
 fn is_unread_at_each(rt: &impl Abort, alloc: Global, (words, input, _own): Case<'_, '_, '_>) {
     for reads in 0..=input.len() {
         let mut reader = FailingReader {
@@ -181,7 +181,7 @@ fn is_unread_at_each(rt: &impl Abort, alloc: Global, (words, input, _own): Case<
     }
 }
 
-/// A writer that fails, at whatever write of all: the status is 2, or 4 where its error is want of memory.
+/// A writer that fails, at whatever write of all: the status is 2, or 4 where its error is lack of memory.
 fn is_unwritten_at_each(rt: &impl Abort, alloc: Global, case: Case<'_, '_, '_>) {
     let pipe = (ErrorKind::BrokenPipe, 2);
     let memory = (ErrorKind::OutOfMemory, 4);
@@ -240,7 +240,7 @@ fn failing_flushes(rt: HostRuntime) {
     flush_fails(&rt, ErrorKind::OutOfMemory, 4);
 }
 
-/// What a request of a reader is answered, and whether a write failed.
+/// The answer to a request of a reader, and whether a write failed.
 fn answered<R: Read + Drop, W: Write + Drop>(
     alloc: Global,
     reader: R,
@@ -252,7 +252,7 @@ fn answered<R: Read + Drop, W: Write + Drop>(
     (answered, output.has_failed())
 }
 
-/// What is below the program tells which of reading and writing failed.
+/// The calls below the program report whether reading or writing failed.
 fn tells_failures(rt: &impl Abort, alloc: Global, request: Request, input: &[u8]) {
     let mut written = Vec::new(alloc);
     let (read, _) = answered(alloc, failing(1), &mut written, request);

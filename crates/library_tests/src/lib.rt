@@ -1,9 +1,8 @@
-//! What no table of values shows: that packet memory, and the run of a list of events, have room where memory is ample;
-//! that packet memory can go to another thread; an EEPROM's image in a device; snapshots of devices and machines; the
-//! longest texts; and reads and writes of the program that fail.
+//! Tests that no table of values can express: that calls of packet memory, and the run of a list of events, succeed
+//! where there is enough memory; that packet memory can go to another thread; an EEPROM image in a device; snapshots of
+//! devices and machines; the longest texts; and failing reads and writes of the program.
 //!
-//! What the libraries answer is tried by the tables of `conformance`, and what the program prints by those of
-//! `conformance`.
+//! The results of the libraries' calls and the output of the program are tested by the tables of `conformance`.
 #![tactic(auto)]
 
 #[cfg(test)]

@@ -1,4 +1,4 @@
-//! Answers that a test goes on with.
+//! The results with which a test goes on.
 
 use std::alloc::AllocGlobal;
 use std::process::Abort;
@@ -8,7 +8,7 @@ pub trait Hand: Abort + AllocGlobal {}
 
 impl<R: Abort + AllocGlobal> Hand for R {}
 
-/// The value of an answer that is no refusal.
+/// The value of a result that must be `Ok`.
 pub fn done<T, E>(rt: &impl Abort, answer: Result<T, E>) -> T {
     match answer {
         Ok(value) => value,
@@ -16,7 +16,7 @@ pub fn done<T, E>(rt: &impl Abort, answer: Result<T, E>) -> T {
     }
 }
 
-/// The value of an answer that isn't none.
+/// The value of an option that must be `Some`.
 pub fn some<T>(rt: &impl Abort, answer: Option<T>) -> T {
     match answer {
         Some(value) => value,
@@ -24,7 +24,7 @@ pub fn some<T>(rt: &impl Abort, answer: Option<T>) -> T {
     }
 }
 
-/// Why an answer was refused.
+/// The error of a result that must be `Err`.
 pub fn refused<T, E>(rt: &impl Abort, answer: Result<T, E>) -> E {
     match answer {
         Ok(_value) => panic!(rt; "not refused"),
@@ -32,7 +32,7 @@ pub fn refused<T, E>(rt: &impl Abort, answer: Result<T, E>) -> E {
     }
 }
 
-/// Sees that an answer is none.
+/// Checks that an option is `None`.
 pub fn none<T>(rt: &impl Abort, answer: Option<T>) {
     match answer {
         Some(_value) => panic!(rt; "not none"),
@@ -40,12 +40,12 @@ pub fn none<T>(rt: &impl Abort, answer: Option<T>) {
     }
 }
 
-/// Sees that two numbers are the same.
+/// Checks that two numbers are the same.
 pub fn same(rt: &impl Abort, told: u64, wanted: u64) {
     assert_eq!(rt; told, wanted);
 }
 
-/// Sees that something holds of what has this name.
+/// Checks that something holds of what has this name.
 pub fn holds(rt: &impl Abort, name: &str, is_so: bool) {
     assert!(rt; is_so, "{name}");
 }

@@ -11,7 +11,7 @@ use nic_device::{Device, Event, Reply};
 /// What is asked of a value that goes to another thread.
 fn can_be_sent<T: Send>() {}
 
-/// An arena of so many blocks from a number on.
+/// An arena of this many blocks from a number on.
 fn arena(rt: &impl Hand, first: u32, count: u32) -> Arena {
     done(rt, Arena::new(rt.alloc(), first, count))
 }
@@ -24,7 +24,7 @@ fn give(rt: &impl Hand, arena: &mut Arena, buf: Buf) {
     done(rt, arena.give(buf));
 }
 
-/// All its blocks are home.
+/// All its blocks are back.
 fn close(rt: &impl Hand, arena: Arena) {
     done(rt, arena.close());
 }
@@ -128,7 +128,7 @@ fn both_of(rt: &impl Hand, run: Run) -> (Buf, Buf) {
     (high, low)
 }
 
-/// With block 1 in hand, the lowest run of two is of blocks 2 and 3. It gives the highest first, and is finished once
+/// With block 1 taken, the lowest run of two is of blocks 2 and 3. It returns the highest first, and is finished once
 /// both are out.
 #[test]
 fn a_run_is_taken_and_comes_back(rt: HostRuntime) {
@@ -165,7 +165,7 @@ fn arenas_have_their_limits(rt: HostRuntime) {
     close(rt, arena(rt, 65_535, 1));
 }
 
-/// Sees which is an arena's first block, and how many of its blocks are free.
+/// Checks which is an arena's first block, and how many of its blocks are free.
 fn is_free_from(rt: &impl Hand, arena: &Arena, first: u64, free: u64) {
     same(rt, u64::from(arena.first()), first);
     same(rt, u64::from(arena.free_blocks()), free);
@@ -202,7 +202,7 @@ fn lent_once(rt: &impl Hand, memory: &mut LentMemory, buf: Buf) -> Buf {
     }
 }
 
-/// A block of another arena is handed back while the number is free here, and lent but once at a time.
+/// A block of another arena is returned while the number is free here, and lent but once at a time.
 #[test]
 fn blocks_of_another_arena_are_told(rt: HostRuntime) {
     let rt = &rt;
@@ -237,7 +237,7 @@ fn taken_back(rt: &impl Hand, device: &mut Device, block: u32) -> Buf {
     }
 }
 
-/// A device is lent a number but once at a time: the event answers with the other block, and what is lent stays.
+/// A device is lent each number only once at a time: the event returns the other block, and what is lent is unchanged.
 #[test]
 fn a_device_is_lent_a_number_once(rt: HostRuntime) {
     let rt = &rt;

@@ -15,7 +15,7 @@ type Bench = Shared<0, 64>;
 /// How many frames of its own arrive for each driver.
 const FRAMES: usize = 5;
 
-/// How often a loop looks at most.
+/// The most polls of a loop.
 const LOOKS: u32 = 10_000;
 
 /// A redirection table whose entry i has i mod 2.
@@ -47,7 +47,7 @@ fn started<N: Nic>(rt: &impl Abort, alloc: Global, nic: &mut N, queue: u16) -> P
     done(rt, Pmd::start(alloc, nic, Port::Pf, queue, 8, 1518, arena))
 }
 
-/// A frame arrives.
+/// Lets a frame arrive from the link.
 fn arrive<N: Nic>(rt: &impl Abort, alloc: Global, nic: &mut N, frame: &[u8]) {
     let bytes = done(rt, frame.to_vec(alloc));
     match done(rt, nic.call(alloc, Event::Arrive(Octets::of(bytes)))) {
@@ -100,7 +100,7 @@ fn drive<R: Abort + Wait>(
     nic.finish()
 }
 
-/// Sees that a driver received and sent its frames, and that all blocks are home.
+/// Checks that a driver received and sent its frames, and that all blocks are back.
 fn close(rt: &impl Abort, home: Home, frame: &[u8]) {
     let Home {
         arena,

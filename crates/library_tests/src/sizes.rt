@@ -1,4 +1,4 @@
-//! The longest texts.
+//! The longest texts and programs that are accepted.
 
 use crate::input::ran;
 use crate::outcome::{Hand, holds};
@@ -13,7 +13,7 @@ fn ends_so(alloc: Global, script: &str, end: &str, wanted: u8) -> bool {
     outcome == Outcome::Ended(wanted) && written.as_slice().ends_with(end.as_bytes())
 }
 
-/// A start, so many times a part, and the rest.
+/// A start, this many times a part, and the rest.
 fn repeated(
     alloc: Global,
     start: &str,
@@ -64,7 +64,7 @@ fn longest_scripts(rt: HostRuntime) -> Result<(), Fail> {
     Ok(())
 }
 
-/// The script of so many data strings.
+/// The script of this many data strings.
 fn data_strings(alloc: Global, count: u32) -> Result<String, AllocError> {
     let mut script = String::new(alloc);
     for number in 0..count {

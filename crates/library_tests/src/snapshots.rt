@@ -7,7 +7,7 @@ use dma_arena::Arena;
 use nic_device::{Device, Event, Parts, Reply, RestoreRefused, Snapshot};
 use script_asm::{Machine, assemble};
 
-/// An arena of so many blocks from block 0 on.
+/// An arena of this many blocks from block 0 on.
 fn arena(rt: &impl Hand, count: u32) -> Arena {
     done(rt, Arena::new(rt.alloc(), 0, count))
 }
@@ -38,7 +38,7 @@ fn snapshot(rt: &impl Hand) -> Snapshot {
     snapshot
 }
 
-/// Sees which of an arena's blocks are free: block 4 or not, and how many.
+/// Checks which of an arena's blocks are free: block 4 or not, and how many.
 fn are_free(rt: &impl Hand, arena: &Arena, is_four: bool, count: u64) {
     holds(rt, "whether block 4 is free", arena.is_free(4) == is_four);
     same(rt, u64::from(arena.free_blocks()), count);
@@ -55,7 +55,7 @@ fn a_device_needs_its_blocks(rt: HostRuntime) {
     done(rt, arena.close());
 }
 
-/// Sees that a device is the one of the snapshot, by CTRL_EXT and the bytes of block 4.
+/// Checks that a device is the one of the snapshot, by CTRL_EXT and the bytes of block 4.
 fn is_the_one(rt: &impl Hand, device: &mut Device) {
     holds(
         rt,

@@ -13,7 +13,7 @@ trait Team: Hand + Threads + Wait + Sync {}
 
 impl<R: Hand + Threads + Wait + Sync> Team for R {}
 
-/// The status of a run of so many workers and frames, and what it writes.
+/// The status of a run of this many workers and frames, and what it writes.
 fn run(rt: &impl Team, workers: u8, frames: u8) -> (u8, Vec<u8>) {
     let mut written = Vec::new(rt.alloc());
     let mut output = Output::of(&mut written);
@@ -21,7 +21,7 @@ fn run(rt: &impl Team, workers: u8, frames: u8) -> (u8, Vec<u8>) {
     (status, written)
 }
 
-/// Sees what is printed for so many workers and frames.
+/// Checks what is printed for this many workers and frames.
 fn prints(rt: &impl Team, workers: u8, frames: u8, text: &str) {
     let (status, written) = run(rt, workers, frames);
     holds(rt, text, written.as_slice() == text.as_bytes());
@@ -71,7 +71,7 @@ fn no_worker_and_nine_print_nothing(rt: HostRuntime) {
     }
 }
 
-/// Of one worker with one frame so many writes are taken, and the next fails.
+/// Of one worker with one frame this many writes are taken, and the next fails.
 fn summary_fails(rt: &impl Team, taken: u32) {
     let mut writer = FailingWriter {
         taken,
@@ -95,7 +95,7 @@ fn a_failed_write_ends_the_summary(rt: HostRuntime) {
     }
 }
 
-/// Sees how words end that are to read and write nothing but what is said of them.
+/// Checks how words end that are to read and write nothing but what is said of them.
 fn ends(rt: &impl Team, words: &[&str], wanted: Outcome) {
     let (written, outcome) = ran(rt.alloc(), words, &mut &b""[..]);
     holds(rt, "how they end", outcome == wanted);
@@ -103,7 +103,7 @@ fn ends(rt: &impl Team, words: &[&str], wanted: Outcome) {
     holds(rt, "what is written", written.is_empty() == is_left);
 }
 
-/// So many workers and frames are refused.
+/// This many workers and frames are refused.
 fn is_refused(rt: &impl Team, workers: &str, frames: &str) {
     let words = [
         "nicbench",

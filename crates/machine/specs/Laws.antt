@@ -1,4 +1,4 @@
--- What the definitions of the machine come to.
+-- Laws of the machine's definitions.
 use Rattle.std.specs.Prelude.{◌≡◌, ◌≢◌, ℕ, ◌+◌, ◌-◌, ◌^◌, ◌<◌, Some}
 use Rattle.nic_device.specs.Run.{state_after}
 use Rattle.nic_device.specs.State.{new_state}

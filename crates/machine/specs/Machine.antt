@@ -1,4 +1,4 @@
--- What a step of the machine does, and where so many steps lead.
+-- What a step of the machine does, and its state after n steps.
 use Rattle.std.specs.Prelude.{ℕ, zero, suc, ◌+◌, ◌*◌, ◌-◌, ◌^◌, Bool, true, false, ◌&&◌, ◌==◌, nat_lt, bit_and, List, [], ◌∷◌, ◌++◌, length, slice_get, slice_index, Option, Some, None, ⊤, if◌then◌else◌}
 use Rattle.program.specs.DmaArena.Block.{Block, zero_block}
 use Rattle.program.specs.DmaArena.Numbers.{Numbers, is_free, with_free, all_free}
@@ -26,7 +26,7 @@ use Rattle.machine.specs.declared.machine.StepAnswer.TheVariants as answer
 use Rattle.program.specs.Listing.{Listing, string_at}
 use Rattle.program.specs.declared.instruction.Instruction.{Instruction}
 
--- a machine has ended as soon as its next instruction would be the one behind the last
+-- a machine has ended as soon as its next instruction would be the one after the last
 abbrev pub status_at : Listing → ℕ → Status
 status_at program pc = if pc == length program.instructions then Ended else Running
 
@@ -164,7 +164,7 @@ events_until program config (suc n) =
     let s = machine_at program config n in
     events_until program config n ++ events_if_some program s (next_instruction program s)
 
--- what an instruction does may be refused for want of memory: to copy the block that comes back, or the frame that
+-- what an instruction does may be refused for lack of memory: to copy the block that comes back, or the frame that
 -- arrives; to lend a block that is free, and for the transmit step of a queue that isn't idle
 abbrev pub TakesSome : MachineState → Action → Type 0
 TakesSome s (Make event kept) = TakesMemory s.device event
@@ -177,6 +177,6 @@ abbrev pub NextTakesSome : Listing → MachineState → Option (Instruction ℕ 
 NextTakesSome program s None = ⊥
 NextTakesSome program s (Some instruction) = TakesSome s (action_of program instruction)
 
--- a step may be refused for want of memory
+-- a step may be refused for lack of memory
 abbrev pub StepTakesMemory : Listing → MachineState → Type 0
 StepTakesMemory program s = NextTakesSome program s (next_instruction program s)

@@ -1,4 +1,4 @@
-//! What instructions do.
+//! What each instruction does.
 
 ghost use Rattle.std.specs.Prelude.{◌≡◌, length};
 ghost use Rattle.program.specs.Listing.{IsSound};
@@ -7,49 +7,49 @@ ghost use Rattle.machine.specs.Action.{action_of, IsSoundAction};
 use nic_device::{Event, Port};
 use program::{Instruction, Program};
 
-/// What an instruction keeps in `acc` of the reply to its event.
+/// Which part of the device's reply an instruction stores in `acc`.
 #[derive(Clone, Copy)]
 pub(crate) enum Kept {
-    /// Nothing.
+    /// Nothing: `acc` keeps its word.
     Nothing,
-    /// The word that was read, a stray one too.
+    /// The word that was read, also where no register was reached.
     Word,
     /// One of the four words of the 16 bytes that were read, 0 to 3.
     Part(u8),
 }
 
-/// What an instruction does without an event.
+/// What an instruction does without the device.
 #[derive(Clone, Copy)]
 pub(crate) enum LocalAction {
-    /// The machine fails unless `acc` is this word, in the bits of this mask.
+    /// The machine fails unless `acc` equals this word in the bits of this mask.
     Expect(u32, u32),
-    /// `acc` keeps the bits of this word alone.
+    /// Clears the bits of `acc` that are 0 in this word.
     And(u32),
-    /// A jump where `acc` is this word.
+    /// Jumps to this instruction where `acc` is this word.
     JumpIfEqual(u32, u16),
-    /// A jump where `acc` is another word.
+    /// Jumps to this instruction where `acc` isn't this word.
     JumpUnlessEqual(u32, u16),
-    /// A jump.
+    /// Jumps to this instruction.
     Jump(u16),
-    /// The machine has ended.
+    /// Ends the program normally.
     Halt,
 }
 
 /// What an instruction does.
 pub(crate) enum Action {
-    /// Makes an event that moves no block, and keeps something of the reply.
+    /// Makes an event that moves no block, and stores a part of the reply in `acc`.
     Make(Event, Kept),
-    /// Takes a block of the arena, and lends it.
+    /// Takes the block of this number from the arena, and lends it.
     Lend(u16),
-    /// Takes a block back, and gives it to the arena.
+    /// Takes the block of this number back, and returns it to the arena.
     TakeBack(u16),
-    /// Lets a copy of a data string arrive.
+    /// A copy of the data string of this number arrives as a frame.
     Arrive(u16),
-    /// Makes no event.
+    /// Makes no event of the device.
     Local(LocalAction),
 }
 
-/// The 16 bytes of a data string.
+/// The 16 bytes of a data string that has as many.
 fn sixteen(string: &[u8]) -> [u8; 16]
     requires { length string.now ≡ 16 }
     ensures { result ≡ string.now }
@@ -59,7 +59,7 @@ fn sixteen(string: &[u8]) -> [u8; 16]
     bytes
 }
 
-/// What an instruction of a program does.
+/// What this instruction of a program does.
 pub(crate) fn action_of(program: &Program, instruction: Instruction) -> Action
     requires { IsSound program.now.strings (length program.now.instructions) instruction }
     ensures action { result ≡ action_of program.now instruction }

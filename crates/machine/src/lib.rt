@@ -1,8 +1,8 @@
 //! The machine that runs a program of the register-script language on a device.
 //!
-//! A `Machine` has a device and 256 blocks of packet memory, and makes one instruction a step. Contracts see it as its
-//! program, the configuration of its device and a state, and after n counted steps that state is `machine_at` n. What
-//! an instruction does stands in one table, `action_of`. The debugger and `nicbench` stand on this crate.
+//! A `Machine` has a device and 256 blocks of packet memory, and executes one instruction a step. Contracts see it as
+//! its program, the configuration of its device and a state; after n counted steps that state is `machine_at` n. One
+//! table, `action_of`, defines what each instruction does. The debugger and `nicbench` depend on this crate.
 #![tactic(auto)]
 
 mod action;

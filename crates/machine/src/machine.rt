@@ -1,4 +1,4 @@
-//! The machine.
+//! The machine: a program, its device and its packet memory.
 
 ghost use Rattle.std.specs.Prelude.{◌≡◌, ◌≢◌, ◌+◌, ◌-◌, ◌^◌, ◌<◌, ◌≤◌, ◌↔◌, ◌⊎◌, IfOk, IfErr, OnOk, OnErr, Ok};
 ghost use Rattle.std.specs.Result.{IsErrAnd};
@@ -13,51 +13,51 @@ use program::{OutOfMemory, Program};
 use std::alloc::Global;
 use std::marker::Model;
 
-/// How many blocks of packet memory a machine has: those numbered from 0 on.
+/// The number of blocks of packet memory that a machine has, numbered from 0.
 pub const BLOCKS: u32 = 256;
 
 /// Whether a machine runs.
 #[derive(Clone, Copy, Debug, PartialEq, Eq)]
 pub enum Status {
-    /// There is a next instruction.
+    /// The next step executes an instruction.
     Running,
-    /// The program has halted, or its last instruction is behind it.
+    /// The program has executed `halt` or its last instruction.
     Ended,
-    /// The instruction expected another word in `acc`.
+    /// An `expect` instruction found another word in `acc`.
     Failed {
-        /// The number of the instruction.
+        /// The number of the `expect` instruction, from 0.
         pc: u16,
-        /// What `acc` has in the bits of the mask.
+        /// The word in `acc`, in the bits of the mask.
         have: u32,
         /// The word that was expected.
         want: u32,
     },
 }
 
-/// What a step of a machine does.
+/// What a step of a machine did.
 #[derive(Debug, Drop)]
 pub enum StepAnswer {
-    /// It makes an event on the device, which replies so.
+    /// It made an event of the device, with this reply.
     Made(ReplyNote),
-    /// No event: the instruction is one of the machine's own.
+    /// It executed an instruction that makes no event.
     Local,
-    /// No event: the block to be lent isn't free in the machine's arena.
+    /// It made no event: the block to be lent isn't free in the machine's arena.
     NoBlock,
-    /// Nothing: the machine doesn't run, or has counted 2^64 - 1 steps.
+    /// Nothing: the machine has ended or failed, or has counted 2^64 - 1 steps.
     Stopped,
 }
 
-/// Why there is no machine, and the program that was passed.
+/// Why no machine was made, and the program.
 #[derive(Debug, Drop)]
 pub struct NewRefused {
-    /// Why there is no device for it.
+    /// Why no device was made for it.
     pub fault: NewFault,
     /// The program, as it was passed.
     pub program: Program,
 }
 
-/// A program, the device that it runs on with an arena of blocks 0 to 255, and how far it has run: after n counted
-/// steps a machine is `machine_at` n. It isn't dropped, but finished.
+/// A program, its device with an arena of blocks 0 to 255, and how far it has run: after n counted steps a machine is
+/// `machine_at` n. It can't be dropped: `finish` or `into_program` ends it.
 pub struct Machine {
     pub(crate) program: Program,
     pub(crate) config: Config,
@@ -82,8 +82,8 @@ impl Model for Machine {
 }
 
 impl Machine {
-    /// A machine before its first step, on a new device of this configuration. Where there is no such
-    /// device, the program comes back.
+    /// A machine before its first step, on a new device of this configuration. The error says why there is no such
+    /// device, and returns the program.
     pub fn new(alloc: Global, program: Program, config: Config) -> Result<Machine, NewRefused>
         ensures made { IfOk result
             (λ machine. machine ≡ record { program = program; config = config; state = start_of program config }) }
@@ -105,8 +105,8 @@ impl Machine {
         })
     }
 
-    /// Makes one step. A machine that doesn't run, or has counted 2^64 - 1 steps, answers `Stopped`,
-    /// counts no step and stays as it is. After `OutOfMemory` the machine is unchanged.
+    /// Executes one instruction. A machine that doesn't run, or has counted 2^64 - 1 steps, returns `Stopped`, counts
+    /// no step and stays as it is. After `OutOfMemory` the machine is unchanged, and the step can be tried again.
     pub fn step(&mut self) -> Result<StepAnswer, OutOfMemory>
         ensures answer { IfOk result (λ answer. answer ≡ (machine_step self.old.program self.old.state).answer) }
         ensures state { OnOk result
@@ -117,7 +117,7 @@ impl Machine {
         self.processor.step(&self.program)
     }
 
-    /// How many steps it has counted. The machine is the one after so many steps.
+    /// The number of counted steps. The machine's state is the one after as many steps.
     pub fn steps(&self) -> u64
         ensures count { result ≡ self.now.state.steps }
         ensures at { self.now.state ≡ machine_at self.now.program self.now.config result }
@@ -125,52 +125,53 @@ impl Machine {
         self.processor.steps
     }
 
-    /// The number of the next instruction, counted from 0; the number of instructions where the end is reached. `halt`
-    /// and an `expect` that fails leave it.
+    /// The number of the next instruction, from 0; the number of instructions where the end is reached. `halt` and an
+    /// `expect` that fails don't advance it.
     pub fn pc(&self) -> u16
         ensures { result ≡ self.now.state.pc }
     {
         self.processor.pc
     }
 
-    /// The word that was read or peeked last, a stray one too, masked by each `and` since then; 0 before.
+    /// The accumulator: the word that was last read or peeked, also from no register, with each `and` since then
+    /// applied; 0 before the first.
     pub fn acc(&self) -> u32
         ensures { result ≡ self.now.state.acc }
     {
         self.processor.acc
     }
 
-    /// Whether it runs, has ended, or has failed.
+    /// Whether the machine runs, has ended, or has failed.
     pub fn status(&self) -> Status
         ensures { result ≡ self.now.state.status }
     {
         self.processor.status
     }
 
-    /// What a read of an address through the physical function would give, without its effects. `None`
-    /// where it would be stray.
+    /// What a read of an address through the physical function would return, without the read's side effects. `None`
+    /// where there is no register.
     pub fn peek_register(&self, address: u32) -> Option<u32>
         ensures { result ≡ word_told (step_of self.now.state.device (Event.Read Port.Pf address)).reply }
     {
         self.processor.card.peek(Port::Pf, address)
     }
 
-    /// What a read of an offset through a virtual function would give, without its effects. `None` where it would be
-    /// stray.
+    /// What a read of an offset through a virtual function would return, without the read's side effects. `None` where
+    /// there is no register.
     pub fn peek_vf(&self, function: u8, offset: u32) -> Option<u32>
         ensures { result ≡ word_told (step_of self.now.state.device (Event.Read (Port.Vf function) offset)).reply }
     {
         self.processor.card.peek(Port::Vf(function), offset)
     }
 
-    /// Its program.
+    /// The program that the machine runs.
     pub fn program(&self) -> &Program
         ensures { result.now ≡ self.now.program }
     {
         &self.program
     }
 
-    /// Closes the machine, and gives its program back. Blocks that are lent are taken back.
+    /// Closes the machine, and returns its program. Its packet memory is freed, lent blocks included.
     pub fn into_program(self) -> Program
         ensures { result ≡ self.program }
     {
@@ -191,7 +192,7 @@ impl Machine {
         program
     }
 
-    /// Closes the machine. Blocks that are lent are taken back.
+    /// Closes the machine and frees its program and its packet memory, lent blocks included.
     pub fn finish(self) {
         let _program = self.into_program();
     }

@@ -1,4 +1,4 @@
-//! What steps through a program: the device with its packet memory, and where the machine is.
+//! Execution of instructions: the device with its packet memory, and the state of the machine.
 
 ghost use Rattle.std.specs.Prelude.{◌≡◌, ◌+◌, ◌-◌, ◌*◌, ◌<◌, ◌≤◌, ◌^◌, IsFalse, IfOk, IfSome, IsSome, OnOk, OnErr, length};
 ghost use Rattle.nic_device.specs.Step.{moves_block};
@@ -15,7 +15,7 @@ use nic_device::{Event, Reply, ReplyNote};
 use program::{BLOCK_BYTES, Instruction, Octets, OutOfMemory, Program};
 use std::alloc::Global;
 
-/// A machine but for its program.
+/// The state of a machine, its program excluded.
 pub(crate) struct Processor {
     pub(crate) alloc: Global,
     pub(crate) card: Card,
@@ -25,7 +25,7 @@ pub(crate) struct Processor {
     pub(crate) steps: u64,
 }
 
-/// The word that a read leaves in `acc`.
+/// The word in `acc` after a read.
 fn word_read(reply: &ReplyNote, acc: u32) -> u32
     ensures { result ≡ word_read reply.now acc }
 {
@@ -35,7 +35,7 @@ fn word_read(reply: &ReplyNote, acc: u32) -> u32
     }
 }
 
-/// One of the four words of 16 bytes, the low byte first.
+/// One of the four little-endian words of 16 bytes.
 fn word_in(bytes: &[u8; 16], word: u8) -> u32
     requires { word < 4 }
     ensures { result ≡ word_in bytes.now word }
@@ -43,7 +43,7 @@ fn word_in(bytes: &[u8; 16], word: u8) -> u32
     LittleEndian::read_u32(&bytes[4 * usize::from(word)..])
 }
 
-/// The word that a peek leaves in `acc`.
+/// The word in `acc` after a peek.
 fn word_peeked(word: u8, reply: &ReplyNote, acc: u32) -> u32
     requires { word < 4 }
     ensures { result ≡ word_peeked word reply.now acc }
@@ -54,7 +54,7 @@ fn word_peeked(word: u8, reply: &ReplyNote, acc: u32) -> u32
     }
 }
 
-/// What is in `acc` after a reply, of which so much is kept.
+/// The word in `acc` after a reply of which this part is stored.
 fn acc_after(kept: Kept, reply: &ReplyNote, acc: u32) -> u32
     requires { IsPart kept }
     ensures { result ≡ acc_after kept reply.now acc }
@@ -66,7 +66,7 @@ fn acc_after(kept: Kept, reply: &ReplyNote, acc: u32) -> u32
     }
 }
 
-/// Whether a machine runs whose next instruction is of this number.
+/// Whether a machine runs when this instruction is next.
 fn status_at(program: &Program, pc: u16) -> Status
     ensures { result ≡ status_at program.now pc }
 {
@@ -78,7 +78,7 @@ fn status_at(program: &Program, pc: u16) -> Status
 }
 
 impl Processor {
-    /// Before the first step of a program.
+    /// The state before the first step of a program.
     pub(crate) fn new(alloc: Global, card: Card, program: &Program) -> Processor
         ensures { state_of result ≡ state_with card 0 0 (status_at program.now 0) 0 }
     {
@@ -108,7 +108,7 @@ impl Processor {
         program.instruction(self.pc)
     }
 
-    /// Counts a step, after which this instruction is next.
+    /// Counts a step, and makes this instruction the next.
     fn move_to(&mut self, program: &Program, pc: u16)
         requires { self.old.steps < 2 ^ 64 - 1 }
         ensures { state_of self.new ≡ moved_to program.now (state_of self.old) pc }
@@ -118,7 +118,7 @@ impl Processor {
         self.steps += 1;
     }
 
-    /// Counts a step, and goes on to the next instruction.
+    /// Counts a step, and advances to the next instruction.
     fn move_on(&mut self, program: &Program)
         requires inside { self.old.pc < 4096 }
         requires counts { self.old.steps < 2 ^ 64 - 1 }
@@ -127,7 +127,7 @@ impl Processor {
         self.move_to(program, self.pc + 1);
     }
 
-    /// Counts a step, with which the machine stops.
+    /// Counts a step, and stops the machine with this status.
     fn stop_as(&mut self, status: Status)
         requires { self.old.steps < 2 ^ 64 - 1 }
         ensures { state_of self.new ≡ stopped_as (state_of self.old) status }
@@ -136,7 +136,7 @@ impl Processor {
         self.steps += 1;
     }
 
-    /// Does what makes no event.
+    /// Executes an action that makes no event.
     fn act(&mut self, program: &Program, action: LocalAction)
         requires inside { self.old.pc < 4096 }
         requires counts { self.old.steps < 2 ^ 64 - 1 }
@@ -180,7 +180,7 @@ impl Processor {
         }
     }
 
-    /// Makes an event that moves no block, and goes on.
+    /// Makes an event that moves no block, and advances.
     fn make(
         &mut self,
         program: &Program,
@@ -206,7 +206,7 @@ impl Processor {
         Ok(StepAnswer::Made(reply))
     }
 
-    /// Lends a block, and goes on.
+    /// Lends a block, and advances.
     fn lend(&mut self, program: &Program, block: u16) -> Result<StepAnswer, OutOfMemory>
         requires inside { self.old.pc < 4096 }
         requires counts { self.old.steps < 2 ^ 64 - 1 }
@@ -230,7 +230,7 @@ impl Processor {
         }
     }
 
-    /// Takes a block back, and goes on.
+    /// Takes a block back, and advances.
     fn take_back(&mut self, program: &Program, block: u16) -> Result<StepAnswer, OutOfMemory>
         requires inside { self.old.pc < 4096 }
         requires counts { self.old.steps < 2 ^ 64 - 1 }
@@ -248,7 +248,7 @@ impl Processor {
         Ok(StepAnswer::Made(reply))
     }
 
-    /// Lets a copy of a data string arrive as a frame, and goes on.
+    /// A copy of a data string arrives as a frame; advances.
     fn arrive(&mut self, program: &Program, number: u16) -> Result<StepAnswer, OutOfMemory>
         requires inside { self.old.pc < 4096 }
         requires counts { self.old.steps < 2 ^ 64 - 1 }
@@ -264,7 +264,7 @@ impl Processor {
         self.make(program, Event::Arrive(Octets::of(frame)), Kept::Nothing)
     }
 
-    /// Does what an instruction says.
+    /// Executes an instruction's action, and advances.
     fn execute(&mut self, program: &Program, action: Action) -> Result<StepAnswer, OutOfMemory>
         requires sound { IsSoundAction program.now action }
         requires inside { self.old.pc < 4096 }
@@ -286,7 +286,7 @@ impl Processor {
         }
     }
 
-    /// One step.
+    /// Executes the next instruction, as `Machine::step`.
     #[tactic(auto, unfolding(crate::specs::Machine::machine_step))]
     pub(crate) fn step(&mut self, program: &Program) -> Result<StepAnswer, OutOfMemory>
         ensures answer { IfOk result (λ answer. answer ≡ (machine_step program.now (state_of self.old)).answer) }

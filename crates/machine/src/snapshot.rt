@@ -1,4 +1,4 @@
-//! Snapshots of a machine, and machines that are restored from them.
+//! Snapshots of a machine, and machines restored from them.
 
 ghost use Rattle.std.specs.Prelude.{◌≡◌, IfOk};
 ghost use Rattle.machine.specs.Machine.{machine_at};
@@ -11,7 +11,7 @@ use program::{OutOfMemory, Program};
 use std::alloc::Global;
 use std::marker::Model;
 
-/// A machine as plain data: its program, and where it is. It can be dropped.
+/// A machine as plain data: its program, and its state. It can be dropped.
 #[derive(Drop)]
 pub struct MachineSnapshot {
     alloc: Global,
@@ -47,7 +47,7 @@ impl Model for MachineSnapshot {
 }
 
 impl MachineSnapshot {
-    /// How many steps the machine had counted.
+    /// The number of steps that the machine had counted.
     pub fn steps(&self) -> u64
         ensures count { result ≡ self.now.state.steps }
         ensures at { self.now.state ≡ machine_at self.now.program self.now.config result }
@@ -57,7 +57,7 @@ impl MachineSnapshot {
 }
 
 impl Machine {
-    /// A snapshot of the machine, which stays as it is.
+    /// A snapshot of the machine, which stays unchanged. `OutOfMemory` where there is no memory for it.
     pub fn snapshot(&self) -> Result<MachineSnapshot, OutOfMemory>
         ensures { IfOk result (λ snapshot. snapshot ≡ self.now) }
     {
@@ -80,7 +80,7 @@ impl Machine {
         })
     }
 
-    /// The machine of a snapshot once more, with packet memory of its own.
+    /// A machine in the snapshot's state, with packet memory of its own. `OutOfMemory` where there is no memory for it.
     pub fn restore(snapshot: &MachineSnapshot) -> Result<Machine, OutOfMemory>
         ensures { IfOk result (λ machine. machine ≡ snapshot.now) }
     {

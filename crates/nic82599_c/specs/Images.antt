@@ -22,7 +22,7 @@ abbrev pub load_status : Option LoadFault → ℕ
 load_status None = 0
 load_status (Some fault) = load_fault_status fault
 
--- the status of a fault of a text, and the line or the index that it tells
+-- the status of a fault of a text, and the line or the index in it
 abbrev pub text_fault_status : AsmFault → ℕ
 text_fault_status (text.Syntax line) = 97
 text_fault_status (text.TwoValues index) = 98
@@ -48,7 +48,7 @@ abbrev pub content_line : Result Content AsmFault → ℕ
 content_line (Ok content) = 0
 content_line (Err fault) = line_of fault
 
--- the status of bytes that are to be a text, and the line or the index that is told
+-- the status of bytes that are to be a text, and the line or the index that is reported
 abbrev pub text_status : List ℕ → ℕ
 text_status bytes = if is_utf8 bytes then content_status (sound_content bytes) else 102
 

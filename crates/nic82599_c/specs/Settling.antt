@@ -37,7 +37,7 @@ place_of (step.Transmit queue) = queue
 place_of step.Receive = 0
 place_of (step.Interrupt group) = group
 
--- what is told of a step
+-- the report of a step
 abbrev pub named : Told → Step → Told
 named told s = record told { step = number_of s; of = place_of s }
 
@@ -58,7 +58,7 @@ round_of queues =
     (((enables queues ++ step.Eeprom ∷ []) ++ of_each step.Transmit queues) ++ step.Receive ∷ [])
     ++ of_each step.Interrupt 64
 
--- how far a settling is: the card, what was told of it, and how it ended, 0 while it goes on
+-- how far a settling is: the card, what was reported, and how it ended, 0 while it goes on
 pub record Course : Type 0 where
   pub card : Holdings
   pub told : List Told
@@ -68,7 +68,7 @@ pub record Course : Type 0 where
 abbrev pub is_quiet : ℕ → Bool
 is_quiet status = status == 2 || status == 18 || status == 19
 
--- a step is made, and told where it did something
+-- a step is made, and reported where it did something
 abbrev pub step_made : Course → Step → Course
 step_made c s =
     if is_quiet (status_of (reply_to c.card.device (event_of s)))
@@ -88,24 +88,24 @@ unfoldable pub walked : ℕ → Course → List Step → Course
 walked room c [] = c
 walked room c (s ∷ rest) = walked room (stepped room c s) rest
 
--- where a round leads: the end where it ended or told nothing, and else to the next round
+-- where a round leads: the end where it ended or reported nothing, and else to the next round
 abbrev pub is_over : ℕ → ℕ → ℕ → Bool
 is_over ended before after = if ended == 0 then before == after else true
 
 abbrev pub is_last : Course → Course → Bool
 is_last before after = is_over after.ended (length before.told) (length after.told)
 
--- so many rounds at most
+-- at most this many rounds
 unfoldable pub rounds : ℕ → ℕ → List Step → Course → Course
 rounds zero room steps c = record c { ended = 38 }
 rounds (suc more) room steps c =
     if is_last c (walked room c steps) then walked room c steps else rounds more room steps (walked room c steps)
 
--- a settling, with an array of so many entries: each round but the last fills one at least
+-- a settling, with an array of this many entries: each round but the last fills one at least
 abbrev pub settled : ℕ → ℕ → Holdings → Course
 settled queues room card = rounds room room (round_of queues) (record { card = card; told = []; ended = 0 })
 
--- a course, of which the first entries of an array tell
+-- a course, of which the first entries of an array report
 abbrev pub course : Holdings → List Told → ℕ → ℕ → Course
 course card told count ended = record { card = card; told = take count told; ended = ended }
 
@@ -119,7 +119,7 @@ pub record Stops (room : ℕ) (steps : List Step) (before after : Course) : Type
   pub leads : after ≡ walked room before done
   pub wants : TakesMemory after.card.device (event_of step)
 
--- of so many rounds at most, one stops so, behind some that went on
+-- of this many rounds at most, one stops so, after some that went on
 unfoldable pub StopsIn : ℕ → ℕ → List Step → Course → Course → Type 0
 StopsIn zero room steps before after = ⊥
 StopsIn (suc more) room steps before after =

@@ -1,10 +1,10 @@
--- The statuses of calls that make no event, or one whose reply isn't told.
+-- The statuses of calls that make no event, or one whose reply isn't reported.
 use Rattle.std.specs.Prelude.{ℕ, Bool, Option, Some, None, if◌then◌else◌}
 use Rattle.nic_device.specs.DmaArena.Memory.{has_block}
 use Rattle.nic_device.specs.DmaArena.Numbers.{is_free}
 use Rattle.card.specs.Card.{Holdings}
 
--- whether a word is told
+-- whether a word is returned
 abbrev pub peek_status : Option ℕ → ℕ
 peek_status (Some word) = 0
 peek_status None = 1

@@ -1,4 +1,4 @@
--- How a reply of the device is told in C's numbers.
+-- How a reply of the device is encoded in C's numbers.
 use Rattle.std.specs.Prelude.{ℕ, ◌+◌, ◌-◌, ◌==◌, Bool, List, ◌++◌, drop, length, Option, Some, None, if◌then◌else◌}
 use Rattle.nic_device.specs.DmaArena.Block.{Block}
 use Rattle.nic_device.specs.declared.event.Reply.{Reply}
@@ -40,7 +40,7 @@ word_of (reply.Word word) = word
 word_of (reply.Stray word) = word
 word_of other = 0
 
--- nothing is told
+-- a report all of whose fields are 0
 abbrev pub nothing : Told
 nothing = record {
   desc = 0;
@@ -83,7 +83,7 @@ number_of_fault fault.Legacy = 6
 number_of_fault fault.TooLong = 7
 number_of_fault fault.UnknownType = 8
 
--- the bus address that a fault tells
+-- the bus address in a fault
 abbrev pub bus_of_fault : RingFault → ℕ
 bus_of_fault (fault.NotLent bus) = bus
 bus_of_fault other = 0
@@ -105,7 +105,7 @@ with_back told None = told
 abbrev pub bit_of : Bool → ℕ
 bit_of b = if b then 1 else 0
 
--- what a reply tells beside its status
+-- the report of a reply, its status excluded
 abbrev pub fields_of : Reply Block → Told
 fields_of (reply.Dropped why) = record nothing { why = number_of_why why }
 fields_of (reply.Wrote queue slot end desc at len) = record nothing {
@@ -124,7 +124,7 @@ fields_of (reply.Message group vector) = record nothing { group = number_of_grou
 fields_of (reply.Frame queue bytes) = record nothing { queue = queue; len = length bytes }
 fields_of other = nothing
 
--- what a reply tells
+-- the report of a reply
 abbrev pub told_of : Reply Block → Told
 told_of r = record (fields_of r) { status = status_of r }
 

@@ -1,4 +1,4 @@
-//! The bytes of packet memory, over the bus.
+//! Access to packet memory by bus address.
 
 ghost use Rattle.std.specs.Prelude.{◌≡◌, true, false, length};
 ghost use Rattle.nic_device.specs.DmaArena.Memory.{is_lent, read_at};
@@ -8,7 +8,8 @@ ghost use Rattle.nic82599_c.specs.Statuses.{bus_status};
 use crate::handle::Handle;
 use crate::status::{DONE, NOT_LENT};
 
-/// Reads bytes of packet memory from a bus address on, also across blocks: all of them, or NOT_LENT.
+/// Reads bytes of packet memory from a bus address on; the range may span blocks. DONE, or NOT_LENT where one of them
+/// isn't lent: then `bytes` stays unchanged.
 #[unsafe(no_mangle)]
 pub extern "C" fn nic_dma_read(nic: &mut Handle, bus: u64, bytes: &mut [u8]) -> u8
     ensures status { result ≡ bus_status (is_lent nic.old.card.device.memory bus (length bytes.old)) }
@@ -23,7 +24,8 @@ pub extern "C" fn nic_dma_read(nic: &mut Handle, bus: u64, bytes: &mut [u8]) -> 
     }
 }
 
-/// Writes bytes of packet memory from a bus address on, also across blocks: all of them, or NOT_LENT.
+/// Writes bytes of packet memory from a bus address on; the range may span blocks. DONE, or NOT_LENT where one of them
+/// isn't lent: then nothing is written.
 #[unsafe(no_mangle)]
 pub extern "C" fn nic_dma_write(nic: &mut Handle, bus: u64, bytes: &[u8]) -> u8
     ensures status { result ≡ bus_status (is_lent nic.old.card.device.memory bus (length bytes.now)) }

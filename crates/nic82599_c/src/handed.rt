@@ -1,7 +1,7 @@
-//! Where C gets the pointers to a card that was made and to one that was kept.
+//! Out-parameters through which C receives the pointers to a new card and to a snapshot.
 //!
-//! A struct with type parameters can't be passed to C, so each has a struct of its own. Each owns nothing, or what a
-//! box of its value does, and one proof holds of both, as of any such struct (`proofs/OutForm.antt`).
+//! A struct with type parameters can't be passed to C, so each type has a struct of its own. Each owns nothing, or what
+//! a box of its value does; one proof covers all such structs (`proofs/OutForm.antt`).
 
 ghost use Rattle.std.specs.Coded.{coded_option};
 ghost use Rattle.std.specs.Prelude.{◌≡◌, Option, Some};
@@ -17,8 +17,8 @@ use card::{Card, Kept};
 use std::alloc::Global;
 use std::marker::Model;
 
-/// Where C has the pointer of a handle, or none yet. In C it is a struct with one pointer, or that pointer. A handle
-/// that it has is lost where another one is put there.
+/// The place where C receives a handle's pointer, which is empty at first. In C it is a struct with one pointer, or
+/// that pointer. A handle that is still in it is leaked when another one is stored.
 #[repr(C)]
 #[derive(Drop)]
 pub struct HandleOut {
@@ -27,7 +27,7 @@ pub struct HandleOut {
     pub ghost card: { Option Card } by { coded_option card_row.coded },
 }
 
-/// The same of a handle of a card that is kept.
+/// The place where C receives the pointer of a snapshot's handle, as `HandleOut`.
 #[repr(C)]
 #[derive(Drop)]
 pub struct KeptHandleOut {
@@ -45,7 +45,7 @@ impl Model for KeptHandleOut {
 }
 
 impl HandleOut {
-    /// With the handle of the card in a box of these parts.
+    /// An out-parameter with the handle of the card in a box of these parts.
     pub fn of(parts: Parts<Card, Global>) -> HandleOut
         ensures { result.card ≡ Some parts.value }
     {
@@ -58,7 +58,7 @@ impl HandleOut {
 }
 
 impl KeptHandleOut {
-    /// With the handle of the kept card in a box of these parts.
+    /// An out-parameter with the handle of the kept card in a box of these parts.
     pub fn of(parts: Parts<Kept, Global>) -> KeptHandleOut
         ensures { result.kept ≡ Some parts.value }
     {

@@ -1,7 +1,7 @@
-//! What C holds of a card, and of a card that is kept: pointers that it never follows.
+//! C's handles of a card and of a snapshot: pointers that C never follows.
 //!
-//! A struct with type parameters can't be passed to C, so each has a struct of its own. Both own what a box of their
-//! value does, and one proof holds of both, as of any such struct (`proofs/HandleForm.antt`).
+//! A struct with type parameters can't be passed to C, so each type has a struct of its own. Both own what a box of
+//! their value does; one proof covers all such structs (`proofs/HandleForm.antt`).
 
 ghost use Rattle.std.specs.Prelude.{◌≡◌};
 ghost use Rattle.card.specs.contracts.card.Card.{the_row as card_row};
@@ -15,13 +15,13 @@ use card::{Card, Kept};
 use std::alloc::Global;
 use std::marker::Model;
 
-/// What the pointer seems to lead to.
+/// What the pointer points to as C sees it: an opaque type.
 #[repr(C)]
 pub struct Opaque {
     byte: u8,
 }
 
-/// A card on the heap. In C it is a struct with one pointer.
+/// A handle of a card on the heap. In C it is a struct with one pointer.
 #[repr(C)]
 pub struct Handle {
     ptr: *mut Opaque,
@@ -29,7 +29,7 @@ pub struct Handle {
     pub ghost card: { Card } by { card_row.coded },
 }
 
-/// A kept card on the heap. In C it is a struct with one pointer.
+/// A handle of a kept card on the heap. In C it is a struct with one pointer.
 #[repr(C)]
 pub struct KeptHandle {
     ptr: *mut Opaque,
@@ -50,7 +50,7 @@ impl Handle {
     ghost use Rattle.nic82599_c.specs.contracts.handle.Handle.{the_row as handle_row};
     ghost use types.Logic.{sem};
 
-    /// The parts of the box that it was made of.
+    /// The parts of the box that the handle was made of.
     pub fn into_parts(self) -> Parts<Card, Global>
         ensures { result.value ≡ self.card }
     {
@@ -61,7 +61,7 @@ impl Handle {
         }
     }
 
-    /// The card. The handle has in the end the card that was last written here.
+    /// Borrows the card. In the end the handle has the card that was last written here.
     pub fn lend(&mut self) -> &mut Card
         ensures* writes_back { sem 𝓛 (lends handle_row card_row (λ h w. record h { card = w }) self.entry result) }
         ensures value { result.now ≡ self.old.card }
@@ -75,7 +75,7 @@ impl KeptHandle {
     ghost use Rattle.nic82599_c.specs.contracts.handle.KeptHandle.{the_row as handle_row};
     ghost use types.Logic.{sem};
 
-    /// The parts of the box that it was made of.
+    /// The parts of the box that the handle was made of.
     pub fn into_parts(self) -> Parts<Kept, Global>
         ensures { result.value ≡ self.kept }
     {
@@ -86,7 +86,7 @@ impl KeptHandle {
         }
     }
 
-    /// The kept card. The handle has in the end the one that was last written here.
+    /// Borrows the kept card. In the end the handle has the one that was last written here.
     pub fn lend(&mut self) -> &mut Kept
         ensures* writes_back { sem 𝓛 (lends handle_row kept_row (λ h w. record h { kept = w }) self.entry result) }
         ensures value { result.now ≡ self.old.kept }

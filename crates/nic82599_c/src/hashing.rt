@@ -1,4 +1,4 @@
-//! The RSS hash.
+//! The RSS hash function for C.
 
 ghost use Rattle.std.specs.Prelude.{◌≡◌, ◌<◌, ◌≤◌, length};
 ghost use Rattle.nic_device.specs.RssHash.Toeplitz.{toeplitz_hash};
@@ -6,18 +6,19 @@ ghost use Rattle.nic_device.specs.RssHash.Toeplitz.{toeplitz_hash};
 use crate::status::{DONE, NO_ROOM};
 use nic_device::{Key, hash};
 
-/// How many bytes are hashed at most.
+/// The most bytes that can be hashed.
 const INPUT_BYTES: usize = 36;
 
-/// The 40 bytes of a key.
+/// The 40 bytes of an RSS key, as RSSRK holds them.
 #[repr(C)]
 #[derive(Drop)]
 pub struct KeyBytes {
-    /// The bytes, in order.
+    /// The bytes of the key, in order.
     pub bytes: [u8; 40],
 }
 
-/// The RSS hash of an input by a key: DONE, or NO_ROOM where the input has more than 36 bytes.
+/// Computes the RSS hash of an input, of at most 36 bytes, with a key. DONE, or NO_ROOM where the input is longer: then
+/// `word` stays unchanged.
 #[unsafe(no_mangle)]
 pub extern "C" fn nic_hash(key: &KeyBytes, input: &[u8], word: &mut u32) -> u8
     ensures done { length input.now ≤ 36 → result ≡ DONE }

@@ -1,4 +1,4 @@
-//! EEPROM images.
+//! EEPROM images, from their bytes or from a text.
 
 ghost use Rattle.std.specs.Prelude.{◌≡◌, ◌≢◌, ℕ, List, None, IsOkAnd};
 ghost use Rattle.nic_device.specs.EepromImage.Bytes.{bytes_of};
@@ -16,16 +16,16 @@ use card::Card;
 use nic_device::{AsmFault, LoadFault, assemble, load};
 use std::alloc::Global;
 
-/// The statuses of an image that is refused are this and the number of the fault.
+/// The base of the statuses for a refused image: this plus the fault's number.
 pub const IMAGE: u8 = 64;
 
-/// The statuses of a text that is refused are this and the number of the fault.
+/// The base of the statuses for a refused text: this plus the fault's number.
 pub const TEXT: u8 = 96;
 
-/// The text isn't UTF-8.
+/// The fault's number where the text isn't UTF-8.
 pub const NOT_UTF8: u8 = 6;
 
-/// The status that tells why bytes are no image.
+/// The status for the reason why bytes aren't an image.
 fn status_of_load(fault: LoadFault) -> u8
     ensures { result ≡ load_fault_status fault }
 {
@@ -39,7 +39,7 @@ fn status_of_load(fault: LoadFault) -> u8
     }
 }
 
-/// The status that tells why a text means no image.
+/// The status for the reason why a text isn't an image.
 fn status_of_text(fault: AsmFault) -> u8
     ensures { result ≡ text_fault_status fault }
 {
@@ -53,7 +53,7 @@ fn status_of_text(fault: AsmFault) -> u8
     }
 }
 
-/// The line or the index that a fault of a text tells, 0 without one.
+/// The line or the index in a fault of a text, 0 where it has none.
 fn line_of(fault: AsmFault) -> u64
     ensures { result ≡ line_of fault }
 {
@@ -64,8 +64,8 @@ fn line_of(fault: AsmFault) -> u64
     }
 }
 
-/// Puts the EEPROM image into the device whose file the bytes are: DONE, IMAGE and the number of the fault, or
-/// OUT_OF_MEMORY. What is refused leaves the old image.
+/// Installs the EEPROM image whose file these bytes are. DONE, IMAGE plus the number of the fault, or OUT_OF_MEMORY. A
+/// refusal leaves the old image installed.
 #[unsafe(no_mangle)]
 pub extern "C" fn nic_install_image(alloc: Global, nic: &mut Handle, bytes: &[u8]) -> u8
     ensures status { result ≢ OUT_OF_MEMORY → result ≡ load_status (file_fault bytes.now) }
@@ -83,7 +83,7 @@ pub extern "C" fn nic_install_image(alloc: Global, nic: &mut Handle, bytes: &[u8
     }
 }
 
-/// Puts the image that a text means into the card.
+/// Installs the image that a text describes.
 fn install_text(alloc: Global, card: &mut Card, text: &str, line: &mut u64) -> u8
     ensures status { result ≢ OUT_OF_MEMORY → result ≡ content_status (sound_content text.now) }
     ensures line { result ≢ OUT_OF_MEMORY → line.new ≡ content_line (sound_content text.now) }
@@ -105,9 +105,8 @@ fn install_text(alloc: Global, card: &mut Card, text: &str, line: &mut u64) -> u
     }
 }
 
-/// Puts the EEPROM image into the device that the text means: DONE, TEXT and the number of the fault, or
-/// OUT_OF_MEMORY. What is refused leaves the old image, and puts the line or the index that the fault tells into
-/// `line`, 0 without one.
+/// Installs the EEPROM image that a text describes. DONE, TEXT plus the number of the fault, or OUT_OF_MEMORY. A
+/// refusal leaves the old image installed, and sets `line` to the fault's line or index, 0 where it has none.
 #[unsafe(no_mangle)]
 pub extern "C" fn nic_install_text(
     alloc: Global,

@@ -1,11 +1,11 @@
-//! The device for C: a static library of the calls that `nic82599.h` declares.
+//! The device for C: a static library of the functions that `nic82599.h` declares.
 //!
-//! What C holds is a `Handle`: a pointer to a `Card`, which is a device and an arena of packet memory whose blocks are
-//! free or lent; or, of a snapshot, a `KeptHandle`: a pointer to a card that is `Kept` as plain data. It gets them by a
-//! `HandleOut` and a `KeptHandleOut`. Each call is total: it tests every number, a refusal is a status and changes
-//! nothing, and nothing is asked of a caller but that its pointers are what their types say. What a call answers, tells
-//! and leaves is said by the device's own definition of the event that it makes (`nic_device/specs/Step.antt`);
-//! `specs/` says how a reply is told in C's numbers.
+//! C holds a card by a `Handle`: a pointer to a `Card`, which is a device and an arena of packet memory whose blocks
+//! are free or lent. It holds a snapshot by a `KeptHandle`: a pointer to a card that is `Kept` as plain data. It
+//! receives them through a `HandleOut` and a `KeptHandleOut`. Each call is total: it tests every number, a refusal is a
+//! status and changes nothing, and callers only have to pass pointers that are what their types say. What a call
+//! returns, reports and changes is given by the device's own definition of the event that it makes
+//! (`nic_device/specs/Step.antt`); `specs/` defines how a reply is encoded in C's numbers.
 #![tactic(auto)]
 
 mod bus;

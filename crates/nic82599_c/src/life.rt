@@ -1,4 +1,4 @@
-//! A card is made, and ends.
+//! Making and freeing a card.
 
 ghost use Rattle.std.specs.Prelude.{◌≡◌, ◌≢◌, Some};
 ghost use Rattle.card.specs.Card.{new_card};
@@ -12,7 +12,7 @@ use card::Card;
 use nic_device::{BLOCK_NUMBERS, Config, MAX_FIFO, MAX_VFS};
 use std::alloc::Global;
 
-/// What a new card answers where there is memory.
+/// The status of making a card, if there is enough memory.
 fn new_status(vfs: u8, fifo: u16, blocks: u32) -> u8
     ensures { result ≡ new_status vfs fifo blocks }
 {
@@ -28,10 +28,10 @@ fn new_status(vfs: u8, fifo: u16, blocks: u32) -> u8
     DONE
 }
 
-/// A new card: a device after its reset with so many virtual functions, at most 63, and a receive list of `fifo`
-/// frames, 1 to 4,096; and 1 to 65,536 blocks of packet memory, none of them lent. Its pointer is put into `device`.
+/// Makes a card: a device after its reset, with `vfs` virtual functions, 0 to 63, and a receive list of `fifo` frames,
+/// 1 to 4,096; and `blocks` blocks of packet memory, 1 to 65,536, none of them lent. Stores its pointer in `device`.
 ///
-/// BAD_BLOCKS, TOO_MANY_VFS, BAD_FIFO and OUT_OF_MEMORY, in this order; then `device` stays as it is.
+/// Errors, in this order: BAD_BLOCKS, TOO_MANY_VFS, BAD_FIFO and OUT_OF_MEMORY. They leave `device` unchanged.
 #[unsafe(no_mangle)]
 pub extern "C" fn nic_new(
     alloc: Global,
@@ -61,7 +61,7 @@ pub extern "C" fn nic_new(
     }
 }
 
-/// Ends the card: its device is dismantled, its blocks go home, and all memory is given back.
+/// Frees the card, with its device and all of its packet memory.
 #[unsafe(no_mangle)]
 pub extern "C" fn nic_free(nic: Handle) {
     drop(nic);

@@ -1,4 +1,4 @@
-//! Packet memory: which blocks are lent.
+//! Lending blocks of packet memory to the device, and taking them back.
 
 ghost use Rattle.std.specs.Prelude.{◌≡◌, ◌≢◌, ◌<◌, ℕ};
 ghost use Rattle.nic_device.specs.DmaArena.Numbers.{count_of};
@@ -8,8 +8,8 @@ ghost use Rattle.nic82599_c.specs.Statuses.{lend_status, take_status};
 use crate::handle::Handle;
 use crate::status::{DONE, NO_BLOCK, NOT_LENT, OUT_OF_MEMORY};
 
-/// Lends a free block to the device; its bytes are 0. DONE, NO_BLOCK where no block of this number is free, or
-/// OUT_OF_MEMORY.
+/// Lends a free block to the device, with all bytes 0. DONE; NO_BLOCK where no block of this number is free; or
+/// OUT_OF_MEMORY, which changes nothing.
 #[unsafe(no_mangle)]
 pub extern "C" fn nic_lend(nic: &mut Handle, block: u32) -> u8
     ensures status { result ≢ OUT_OF_MEMORY → result ≡ lend_status nic.old.card block }
@@ -37,8 +37,8 @@ pub extern "C" fn nic_take(nic: &mut Handle, block: u32) -> u8
     }
 }
 
-/// Lends each block that is free, in order. DONE, or OUT_OF_MEMORY, where those below the first one that found no
-/// memory are lent.
+/// Lends all free blocks, in order. DONE, or OUT_OF_MEMORY: then the blocks below the first one without memory are
+/// lent.
 #[unsafe(no_mangle)]
 pub extern "C" fn nic_lend_all(nic: &mut Handle) -> u8
     ensures status { result ≢ OUT_OF_MEMORY → result ≡ DONE }

@@ -1,4 +1,4 @@
-//! Accesses to registers.
+//! Reads and writes of registers.
 
 ghost use Rattle.std.specs.Prelude.{◌≡◌, ℕ, unwrap_or};
 ghost use Rattle.nic_device.specs.Step.{reply_to, word_told};
@@ -11,7 +11,7 @@ use crate::status::{DONE, STRAY};
 use card::Card;
 use nic_device::{Event, Port};
 
-/// The status of an access.
+/// The status of a register access.
 fn access_status(stray: bool) -> u8
     ensures read { (word : ℕ) → result ≡ status_of (reply_of_read word stray) }
     ensures write { result ≡ status_of (reply_of_write stray) }
@@ -19,7 +19,7 @@ fn access_status(stray: bool) -> u8
     if stray { STRAY } else { DONE }
 }
 
-/// Reads a register at a port.
+/// Reads a register at a port, with the read's side effects.
 fn read(card: &mut Card, port: Port, number: u32, word: &mut u32) -> u8
     ensures status { result ≡ status_of (reply_to card.old.device (Event.Read port number)) }
     ensures word { word.new ≡ word_of (reply_to card.old.device (Event.Read port number)) }
@@ -38,7 +38,7 @@ fn write(card: &mut Card, port: Port, number: u32, word: u32) -> u8
     access_status(card.write(port, number, word))
 }
 
-/// Looks at a register at a port.
+/// Reads a register at a port without the read's side effects.
 fn peek(card: &Card, port: Port, number: u32, word: &mut u32) -> u8
     ensures status { result ≡ peek_status (word_told (reply_to card.now.device (Event.Read port number))) }
     ensures word { word.new ≡ unwrap_or (word_told (reply_to card.now.device (Event.Read port number))) word.old }
@@ -52,7 +52,8 @@ fn peek(card: &Card, port: Port, number: u32, word: &mut u32) -> u8
     }
 }
 
-/// Reads a register of the physical function by its address. DONE and the word, or STRAY and what a driver would see.
+/// Reads a register of the physical function by its address in bytes. DONE and the word, or STRAY and the word that a
+/// driver would read.
 #[unsafe(no_mangle)]
 pub extern "C" fn nic_read32(nic: &mut Handle, address: u32, word: &mut u32) -> u8
     ensures status { result ≡ status_of (reply_to nic.old.card.device (Event.Read Port.Pf address)) }
@@ -62,7 +63,7 @@ pub extern "C" fn nic_read32(nic: &mut Handle, address: u32, word: &mut u32) -> 
     read(nic.lend(), Port::Pf, address, word)
 }
 
-/// Writes a register of the physical function by its address. DONE, or STRAY.
+/// Writes a register of the physical function by its address in bytes. DONE, or STRAY.
 #[unsafe(no_mangle)]
 pub extern "C" fn nic_write32(nic: &mut Handle, address: u32, word: u32) -> u8
     ensures status { result ≡ status_of (reply_to nic.old.card.device (Event.Write Port.Pf address word)) }
@@ -71,8 +72,8 @@ pub extern "C" fn nic_write32(nic: &mut Handle, address: u32, word: u32) -> u8
     write(nic.lend(), Port::Pf, address, word)
 }
 
-/// Reads a register of a virtual function by its offset. DONE and the word, or STRAY and what a driver would see, also
-/// of a function that isn't there.
+/// Reads a register of a virtual function by its offset in bytes. DONE and the word, or STRAY and the word that a
+/// driver would read, also for a function that doesn't exist.
 #[unsafe(no_mangle)]
 pub extern "C" fn nic_vf_read32(nic: &mut Handle, vf: u8, offset: u32, word: &mut u32) -> u8
     ensures status { result ≡ status_of (reply_to nic.old.card.device (Event.Read (Port.Vf vf) offset)) }
@@ -82,7 +83,7 @@ pub extern "C" fn nic_vf_read32(nic: &mut Handle, vf: u8, offset: u32, word: &mu
     read(nic.lend(), Port::Vf(vf), offset, word)
 }
 
-/// Writes a register of a virtual function by its offset. DONE, or STRAY.
+/// Writes a register of a virtual function by its offset in bytes. DONE, or STRAY.
 #[unsafe(no_mangle)]
 pub extern "C" fn nic_vf_write32(nic: &mut Handle, vf: u8, offset: u32, word: u32) -> u8
     ensures status { result ≡ status_of (reply_to nic.old.card.device (Event.Write (Port.Vf vf) offset word)) }
@@ -91,7 +92,7 @@ pub extern "C" fn nic_vf_write32(nic: &mut Handle, vf: u8, offset: u32, word: u3
     write(nic.lend(), Port::Vf(vf), offset, word)
 }
 
-/// What `nic_read32` would give, without its effects. STRAY leaves `word` as it is.
+/// What `nic_read32` would read, without its side effects. DONE and the word, or STRAY: then `word` stays unchanged.
 #[unsafe(no_mangle)]
 pub extern "C" fn nic_peek32(nic: &mut Handle, address: u32, word: &mut u32) -> u8
     ensures status { result ≡ peek_status (word_told (reply_to nic.old.card.device (Event.Read Port.Pf address))) }
@@ -102,7 +103,7 @@ pub extern "C" fn nic_peek32(nic: &mut Handle, address: u32, word: &mut u32) -> 
     peek(nic.lend(), Port::Pf, address, word)
 }
 
-/// What `nic_vf_read32` would give, without its effects. STRAY leaves `word` as it is.
+/// What `nic_vf_read32` would read, without its side effects. DONE and the word, or STRAY: then `word` stays unchanged.
 #[unsafe(no_mangle)]
 pub extern "C" fn nic_vf_peek32(nic: &mut Handle, vf: u8, offset: u32, word: &mut u32) -> u8
     ensures status { result ≡ peek_status (word_told (reply_to nic.old.card.device (Event.Read (Port.Vf vf) offset))) }

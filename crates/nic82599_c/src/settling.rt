@@ -1,4 +1,4 @@
-//! The device's steps, made round by round until there is nothing to do.
+//! The device's own steps, made in rounds until there is nothing left to do.
 
 ghost use Rattle.std.specs.Prelude.{◌≡◌, ◌≢◌, ◌<◌, ◌≤◌, length};
 ghost use Rattle.nic_device.specs.Step.{TakesMemory};
@@ -13,32 +13,31 @@ use arrayvec::ArrayVec;
 use card::Card;
 use nic_device::{Dir, Event, MAX_VFS, QUEUES};
 
-/// How many groups of interrupts there are: that of the physical function, and those of the virtual functions.
+/// The number of interrupt groups: that of the physical function, and those of the virtual functions.
 const GROUPS: u8 = MAX_VFS + 1;
 
-/// How many steps a round has at most: three of each queue, that of the EEPROM, one of receiving, and one of each
-/// group.
+/// The most steps in a round: three for each queue, one for the EEPROM, one receive step, and one for each group.
 const STEPS: usize = 450;
 
 /// A step of the device.
 #[derive(Clone, Copy, Debug, PartialEq, Eq, Default)]
 enum Step {
-    /// A queue's receive side becomes what it is wanted to be.
+    /// An enable step of the receive side of a queue.
     RxEnable(u16),
-    /// A queue's transmit side becomes what it is wanted to be.
+    /// An enable step of the transmit side of a queue.
     TxEnable(u16),
-    /// The EEPROM gives a word.
+    /// An EEPROM step, which completes a read that EERD asks for.
     #[default]
     Eeprom,
-    /// One descriptor of a transmit queue.
+    /// A transmit step of a queue.
     Transmit(u16),
-    /// One descriptor for the frame that waits longest.
+    /// A receive step, which writes one piece of a frame.
     Receive,
-    /// The next message of a group: 0 the physical function, v + 1 virtual function v.
+    /// An interrupt step of a group: 0 is the physical function, v + 1 virtual function v.
     Interrupt(u8),
 }
 
-/// The event of a step.
+/// The event that makes a step.
 fn event_of(step: Step) -> Event
     ensures { result ≡ event_of step }
 {
@@ -52,7 +51,7 @@ fn event_of(step: Step) -> Event
     }
 }
 
-/// What is told of a step: also its number, and that of its queue or group.
+/// The report of a step, with the step's number and its queue or group.
 fn named(told: Told, step: Step) -> Told
     ensures { result ≡ named told step }
 {
@@ -74,7 +73,7 @@ fn is_quiet(status: u8) -> bool
     status == IDLE || status == NO_QUEUE || status == NO_GROUP
 }
 
-/// The steps of a round.
+/// The steps of a round, for this many queues.
 #[tactic(auto, unfolding(crate::specs::Settling::enables, crate::specs::Settling::of_each))]
 fn round_of(queues: u16) -> ArrayVec<Step, STEPS>
     requires { queues ≤ 128 }
@@ -96,8 +95,8 @@ fn round_of(queues: u16) -> ArrayVec<Step, STEPS>
     steps
 }
 
-/// Makes a step, and tells of it where it did something. MORE where the array is full, before the step; OUT_OF_MEMORY
-/// where it found none, which wasn't made; else DONE.
+/// Makes a step, and reports it where it did something. MORE, before the step, where the array is full; OUT_OF_MEMORY
+/// where there was none, and the step wasn't made; else DONE.
 fn make(card: &mut Card, step: Step, told: &mut [Told], count: &mut usize) -> u8
     requires { count.old ≤ length told.old }
     ensures room { length told.new ≡ length told.old }
@@ -123,7 +122,7 @@ fn make(card: &mut Card, step: Step, told: &mut [Told], count: &mut usize) -> u8
     }
 }
 
-/// Makes steps in order, as far as there is room for them. OUT_OF_MEMORY before the first that found none.
+/// Makes steps in order, as far as there is room for their reports. OUT_OF_MEMORY before the first that found none.
 fn walk(card: &mut Card, steps: &[Step], told: &mut [Told], count: &mut usize) -> u8
     requires { count.old ≤ length told.old }
     ensures room { length told.new ≡ length told.old }
@@ -144,7 +143,7 @@ fn walk(card: &mut Card, steps: &[Step], told: &mut [Told], count: &mut usize) -
     DONE
 }
 
-/// Whether a round is the last, by how it ended and how many entries were told before it and after it.
+/// Whether a round is the last, by its status and the number of reports before and after it.
 fn is_over(ended: u8, before: usize, after: usize) -> bool
     ensures { result ≡ is_over ended before after }
 {
@@ -171,13 +170,13 @@ fn rounds(card: &mut Card, steps: &[Step], told: &mut [Told], count: &mut usize)
     MORE
 }
 
-/// Makes all steps that do something, round by round: for each queue below `queues`, at most 128, its receive enable
-/// and its transmit enable; the EEPROM; for each such queue one transmit step; one receive step; the interrupts of each
-/// group. What happened stands in the first `count` entries of `told`.
+/// Makes all steps of the device that do something, in rounds: for each queue below `queues`, 0 to 128, its receive
+/// enable and its transmit enable step; the EEPROM step; for each such queue a transmit step; a receive step; and an
+/// interrupt step of each group. The first `count` entries of `told` report what happened.
 ///
-/// DONE after a round that did nothing; MORE where the array is full; OUT_OF_MEMORY where a transmit step found none:
-/// the steps before it are made and told, and it isn't made. NO_QUEUE, and nothing is done, where `queues` is above
-/// 128.
+/// DONE after a round that did nothing. MORE where the array is full: there may be more to do. OUT_OF_MEMORY where a
+/// transmit step found none: the steps before it are made and reported, and it isn't made. NO_QUEUE where `queues` is
+/// above 128: then nothing is done.
 #[unsafe(no_mangle)]
 pub extern "C" fn nic_settle(
     nic: &mut Handle,

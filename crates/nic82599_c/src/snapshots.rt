@@ -1,4 +1,4 @@
-//! A card is kept, and a card becomes as it was kept.
+//! Snapshots of a card.
 
 ghost use Rattle.std.specs.Prelude.{◌≡◌, ◌≢◌, Some};
 
@@ -9,11 +9,11 @@ use crate::status::{DONE, OUT_OF_MEMORY};
 use std::alloc::Global;
 use std::mem;
 
-/// Keeps the card as it is: its device, with the bytes of the blocks that are lent to it and each frame that waits, is
-/// staged or went out, and which blocks are free. The card stays as it is. The pointer to what is kept is put into
+/// Makes a snapshot of the card: its device, with the bytes of the lent blocks, the receive list, the staged bytes and
+/// the transmitted frames, and which blocks are free. The card stays unchanged. Stores the snapshot's pointer in
 /// `kept`.
 ///
-/// DONE, or OUT_OF_MEMORY, where `kept` stays as it is.
+/// DONE, or OUT_OF_MEMORY, which leaves `kept` unchanged.
 #[unsafe(no_mangle)]
 pub extern "C" fn nic_snapshot(alloc: Global, nic: &mut Handle, kept: &mut KeptHandleOut) -> u8
     ensures status { result ≢ OUT_OF_MEMORY → result ≡ DONE }
@@ -33,10 +33,10 @@ pub extern "C" fn nic_snapshot(alloc: Global, nic: &mut Handle, kept: &mut KeptH
     }
 }
 
-/// Makes the card what was kept, with packet memory of its own, and ends the former one. What is kept stays, and may
-/// be of another card.
+/// Replaces the card by one in the snapshot's state, with packet memory of its own, and frees the former one. The
+/// snapshot stays, and may be of another card.
 ///
-/// DONE, or OUT_OF_MEMORY, where the card stays as it is.
+/// DONE, or OUT_OF_MEMORY, which leaves the card unchanged.
 #[unsafe(no_mangle)]
 pub extern "C" fn nic_restore(alloc: Global, nic: &mut Handle, kept: &mut KeptHandle) -> u8
     ensures status { result ≢ OUT_OF_MEMORY → result ≡ DONE }
@@ -51,7 +51,7 @@ pub extern "C" fn nic_restore(alloc: Global, nic: &mut Handle, kept: &mut KeptHa
     DONE
 }
 
-/// Ends what is kept, and gives its memory back.
+/// Frees the snapshot and its memory.
 #[unsafe(no_mangle)]
 pub extern "C" fn nic_free_snapshot(kept: KeptHandle) {
     drop(kept);

@@ -1,39 +1,39 @@
-//! What the calls answer, as numbers.
+//! The statuses that the calls return, as numbers.
 
-/// The event is made.
+/// The event was made.
 pub const DONE: u8 = 0;
 
-/// The access met no register.
+/// The access met no register of the device.
 pub const STRAY: u8 = 1;
 
-/// There was nothing to do.
+/// There was nothing to do, and nothing changed.
 pub const IDLE: u8 = 2;
 
-/// A frame was dropped.
+/// A frame was dropped; `why` in the report says why.
 pub const DROPPED: u8 = 3;
 
-/// A piece of a frame was written.
+/// A receive step wrote a piece of a frame.
 pub const WROTE: u8 = 4;
 
-/// The head of a transmit queue moved on, and no frame went out.
+/// A transmit step moved the queue's head, and no frame was sent.
 pub const ADVANCED: u8 = 5;
 
-/// A frame went out.
+/// A transmit step sent a frame.
 pub const SENT: u8 = 6;
 
-/// A slot couldn't be processed.
+/// A descriptor couldn't be processed; `why` in the report says why.
 pub const FAULT: u8 = 7;
 
-/// A message was sent.
+/// An MSI-X message was sent.
 pub const MESSAGE: u8 = 8;
 
-/// A frame was collected.
+/// A transmitted frame was collected.
 pub const FRAME: u8 = 9;
 
 /// A block that the access needs isn't lent.
 pub const NOT_LENT: u8 = 16;
 
-/// A block of this number is lent already. No call is answered so, since the arena has each block once.
+/// A block of this number is already lent. No call returns it, since the arena has each block once.
 pub const TWICE: u8 = 17;
 
 /// There is no queue of this number.
@@ -42,22 +42,22 @@ pub const NO_QUEUE: u8 = 18;
 /// There is no group of this virtual function.
 pub const NO_GROUP: u8 = 19;
 
-/// The bus address is no multiple of 16. No call is answered so, since none asks for one.
+/// The bus address is no multiple of 16. No call returns it, since none needs such an address.
 pub const MISALIGNED: u8 = 20;
 
-/// There is no memory for it.
+/// There is no memory for the call.
 pub const OUT_OF_MEMORY: u8 = 32;
 
-/// The room is shorter than what would be put there, or the input longer than what is taken.
+/// The caller's buffer is too short for the result, or the input is too long.
 pub const NO_ROOM: u8 = 33;
 
-/// More than 63 virtual functions.
+/// There would be more than 63 virtual functions.
 pub const TOO_MANY_VFS: u8 = 34;
 
-/// A receive list of no frames, or of more than 4,096.
+/// The receive list would hold no frames, or more than 4,096.
 pub const BAD_FIFO: u8 = 35;
 
-/// No block, or more than 65,536.
+/// There would be no blocks, or more than 65,536.
 pub const BAD_BLOCKS: u8 = 36;
 
 /// No block of this number is free.

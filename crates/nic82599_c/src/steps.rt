@@ -1,4 +1,4 @@
-//! Steps of the device.
+//! The device's own steps.
 
 ghost use Rattle.std.specs.Prelude.{◌≡◌, ◌≢◌, IsFalse};
 ghost use Rattle.nic_device.specs.Step.{reply_to, moves_block, TakesMemory};
@@ -11,7 +11,7 @@ use crate::told::{Told, group_of, status_of, told_of};
 use card::Card;
 use nic_device::{Dir, Event};
 
-/// Makes an event that moves no block, and tells of it.
+/// Makes an event that moves no block, and reports the reply in `told`.
 pub(crate) fn tell(card: &mut Card, event: Event, told: &mut Told) -> u8
     requires { IsFalse (moves_block event) }
     ensures status { result ≢ OUT_OF_MEMORY → result ≡ status_of (reply_to card.old.device event) }
@@ -29,7 +29,7 @@ pub(crate) fn tell(card: &mut Card, event: Event, told: &mut Told) -> u8
     }
 }
 
-/// The device writes on at the frame that waits longest, one descriptor: WROTE, DROPPED, FAULT or IDLE.
+/// A receive step: writes one piece of the oldest frame in the receive list. WROTE, DROPPED, FAULT or IDLE.
 #[unsafe(no_mangle)]
 pub extern "C" fn nic_rx_step(nic: &mut Handle, told: &mut Told) -> u8
     ensures status { result ≡ status_of (reply_to nic.old.card.device Event.RxStep) }
@@ -39,7 +39,8 @@ pub extern "C" fn nic_rx_step(nic: &mut Handle, told: &mut Told) -> u8
     tell(nic.lend(), Event::RxStep, told)
 }
 
-/// The device fetches one descriptor of a transmit queue: ADVANCED, SENT, FAULT, IDLE, NO_QUEUE or OUT_OF_MEMORY.
+/// A transmit step: fetches one descriptor of a queue, 0 to 127. ADVANCED, SENT, FAULT, IDLE, NO_QUEUE or
+/// OUT_OF_MEMORY, which changes nothing.
 #[unsafe(no_mangle)]
 pub extern "C" fn nic_tx_step(nic: &mut Handle, queue: u16, told: &mut Told) -> u8
     ensures status { result ≢ OUT_OF_MEMORY → result ≡ status_of (reply_to nic.old.card.device (Event.TxStep queue)) }
@@ -51,7 +52,8 @@ pub extern "C" fn nic_tx_step(nic: &mut Handle, queue: u16, told: &mut Told) -> 
     tell(nic.lend(), Event::TxStep(queue), told)
 }
 
-/// The device makes a queue's transmit side, or else its receive side, what it is wanted to be: DONE, IDLE or NO_QUEUE.
+/// An enable step: the transmit side of a queue, or where `transmit` is false its receive side, goes on or off as its
+/// enable bit asks. DONE, IDLE or NO_QUEUE.
 #[unsafe(no_mangle)]
 pub extern "C" fn nic_queue_step(
     nic: &mut Handle,
@@ -67,7 +69,7 @@ pub extern "C" fn nic_queue_step(
     tell(nic.lend(), Event::QueueStep(dir, queue), told)
 }
 
-/// The EEPROM gives the word that is asked for: DONE or IDLE.
+/// An EEPROM step: the word that EERD asks for is ready. DONE or IDLE.
 #[unsafe(no_mangle)]
 pub extern "C" fn nic_eeprom_step(nic: &mut Handle, told: &mut Told) -> u8
     ensures status { result ≡ status_of (reply_to nic.old.card.device Event.EepromStep) }
@@ -77,8 +79,8 @@ pub extern "C" fn nic_eeprom_step(nic: &mut Handle, told: &mut Told) -> u8
     tell(nic.lend(), Event::EepromStep, told)
 }
 
-/// The device sends the next message of a group of interrupts, 0 the physical function, v + 1 virtual function v:
-/// MESSAGE, IDLE or NO_GROUP.
+/// An interrupt step: sends the next due message of a group of interrupts: 0 is the physical function, v + 1 virtual
+/// function v. MESSAGE, IDLE or NO_GROUP.
 #[unsafe(no_mangle)]
 pub extern "C" fn nic_int_step(nic: &mut Handle, group: u8, told: &mut Told) -> u8
     ensures status { result ≡ status_of (reply_to nic.old.card.device (Event.IntStep (group_of group))) }

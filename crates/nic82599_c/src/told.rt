@@ -1,4 +1,4 @@
-//! What an event told, in a struct of C.
+//! The report of an event, as a struct of C.
 
 ghost use Rattle.std.specs.Prelude.{◌≡◌};
 ghost use Rattle.nic82599_c.specs.Told.{status_of, nothing, number_of_why, number_of_fault, bus_of_fault};
@@ -8,41 +8,42 @@ use crate::status;
 use dma_ring::RingFault;
 use nic_device::{Group, Reply, ReplyNote, Why};
 
-/// What an event told. A field that it doesn't tell is 0.
+/// The report of an event. Fields that don't apply are 0.
 #[repr(C)]
 #[derive(Clone, Copy, Debug, PartialEq, Eq)]
 pub struct Told {
     /// The bus address of the descriptor that was written back.
     pub desc: u64,
-    /// The bus address of the first byte that was written, or of what was written back.
+    /// The bus address of the first byte that was written, or of the write-back.
     pub at: u64,
-    /// How many bytes were written, or the frame has.
+    /// How many bytes were written, or the frame's length in bytes.
     pub len: u64,
-    /// The bus address that isn't lent.
+    /// The bus address that isn't lent, in a fault.
     pub bus: u64,
-    /// The queue.
+    /// The number of the queue, 0 to 127.
     pub queue: u16,
-    /// The slot of its ring.
+    /// The index of the descriptor in the queue's ring.
     pub slot: u16,
-    /// The group of interrupts that the message is of: 0 the physical function, v + 1 virtual function v.
+    /// The interrupt group of the message: 0 is the physical function, v + 1 virtual function v.
     pub group: u16,
-    /// In a settling, the queue or group that was stepped.
+    /// Of `nic_settle`, the queue or group that was stepped.
     pub of: u16,
-    /// The status of the event.
+    /// The status that the event's own call would return.
     pub status: u8,
-    /// In a settling, which step it was.
+    /// Of `nic_settle`, the kind of step: 0 receive enable, 1 transmit enable, 2 EEPROM, 3 transmit, 4 receive, 5
+    /// interrupt.
     pub step: u8,
     /// 1 where the frame ends with this piece.
     pub end: u8,
-    /// 1 where something was written back, at `at`.
+    /// 1 where a write-back was made, at `at`.
     pub back: u8,
-    /// Why a frame was dropped or a slot couldn't be processed, from 1 on.
+    /// Why a frame was dropped or a descriptor couldn't be processed, from 1 on.
     pub why: u8,
-    /// The vector of the message.
+    /// The MSI-X vector of the message.
     pub vector: u8,
 }
 
-/// Nothing is told.
+/// A report all of whose fields are 0.
 const NOTHING: Told = Told {
     desc: 0,
     at: 0,
@@ -78,7 +79,7 @@ fn number_of_why(why: Why) -> u8
     }
 }
 
-/// The number of a fault.
+/// The number of a reason why a descriptor couldn't be processed.
 fn number_of_fault(fault: RingFault) -> u8
     ensures { result ≡ number_of_fault fault }
 {
@@ -94,7 +95,7 @@ fn number_of_fault(fault: RingFault) -> u8
     }
 }
 
-/// The bus address that a fault tells, 0 without one.
+/// The bus address in a fault, 0 where it has none.
 fn bus_of_fault(fault: RingFault) -> u64
     ensures { result ≡ bus_of_fault fault }
 {
@@ -105,7 +106,7 @@ fn bus_of_fault(fault: RingFault) -> u64
     }
 }
 
-/// The number of a group: 0 the physical function, v + 1 virtual function v.
+/// The number of an interrupt group: 0 is the physical function, v + 1 virtual function v.
 fn number_of_group(group: Group) -> u16
     ensures { result ≡ number_of_group group }
 {
@@ -115,7 +116,7 @@ fn number_of_group(group: Group) -> u16
     }
 }
 
-/// The group of a number.
+/// The interrupt group of this number.
 pub(crate) fn group_of(number: u8) -> Group
     ensures { result ≡ group_of number }
 {
@@ -126,7 +127,7 @@ pub(crate) fn group_of(number: u8) -> Group
     }
 }
 
-/// What is told of an address that was written back, or not.
+/// The report with the address of a write-back, where one was made.
 fn with_back(told: Told, back: Option<u64>) -> Told
     ensures { result ≡ with_back told back }
 {
@@ -163,7 +164,7 @@ pub(crate) fn status_of(reply: &ReplyNote) -> u8
     }
 }
 
-/// A slot of a queue, and a length, are told.
+/// A report of a descriptor's index in a queue's ring, and a length.
 fn placed(queue: u16, slot: u16, len: usize) -> Told
     ensures { result ≡ record nothing { queue = queue; slot = slot; len = len } }
 {
@@ -175,7 +176,7 @@ fn placed(queue: u16, slot: u16, len: usize) -> Told
     }
 }
 
-/// What a reply tells beside its status.
+/// The report of a reply, its status excluded.
 fn fields_of(reply: &ReplyNote) -> Told
     ensures { result ≡ fields_of reply.now }
 {
@@ -216,7 +217,7 @@ fn fields_of(reply: &ReplyNote) -> Told
     }
 }
 
-/// What a reply tells.
+/// The report of a reply, with its status.
 pub(crate) fn told_of(reply: &ReplyNote) -> Told
     ensures { result ≡ told_of reply.now }
 {

@@ -1,4 +1,4 @@
-//! Frames from and to the link, without their check sequence.
+//! Frames from and to the link, without frame check sequence.
 
 ghost use Rattle.std.specs.Prelude.{◌≡◌, ◌≢◌, ◌<◌, ◌≤◌, length};
 ghost use Rattle.nic_device.specs.Link.{next_out_of};
@@ -14,7 +14,8 @@ use card::Card;
 use nic_device::{Event, Octets, Reply};
 use std::alloc::Global;
 
-/// A frame arrives from the link: DONE, DROPPED or OUT_OF_MEMORY.
+/// A frame arrives from the link, without its frame check sequence. DONE where it joins the receive list, DROPPED, or
+/// OUT_OF_MEMORY, which changes nothing.
 #[unsafe(no_mangle)]
 pub extern "C" fn nic_arrive(alloc: Global, nic: &mut Handle, frame: &[u8], told: &mut Told) -> u8
     ensures status { result ≢ OUT_OF_MEMORY
@@ -31,7 +32,7 @@ pub extern "C" fn nic_arrive(alloc: Global, nic: &mut Handle, frame: &[u8], told
     }
 }
 
-/// How many bytes the frame has that `nic_collect` would give. 0 without one.
+/// The length in bytes of the frame that `nic_collect` would return. 0 where there is none.
 #[unsafe(no_mangle)]
 pub extern "C" fn nic_next_out(nic: &mut Handle) -> usize
     ensures next { result ≡ next_out_of nic.old.card.device.out }
@@ -40,7 +41,7 @@ pub extern "C" fn nic_next_out(nic: &mut Handle) -> usize
     nic.lend().next_out()
 }
 
-/// Collects the oldest frame that went out, where the room has as many bytes.
+/// Collects the oldest transmitted frame, where it fits the room.
 #[tactic(auto, using(crate::proofs::Frames::frame_fits))]
 fn collect(card: &mut Card, room: &mut [u8], told: &mut Told) -> u8
     ensures fits { next_out_of card.old.device.out ≤ length room.old
@@ -70,8 +71,8 @@ fn collect(card: &mut Card, room: &mut [u8], told: &mut Told) -> u8
     }
 }
 
-/// Collects the oldest frame that went out: FRAME, with its bytes at the start of `room`, or IDLE. Where the room is
-/// shorter than the frame, NO_ROOM, and the frame stays.
+/// Collects the oldest transmitted frame. FRAME, with its bytes at the start of `room`; IDLE where there is none; or
+/// NO_ROOM where `room` is shorter than the frame, which stays.
 #[unsafe(no_mangle)]
 pub extern "C" fn nic_collect(nic: &mut Handle, room: &mut [u8], told: &mut Told) -> u8
     ensures fits { next_out_of nic.old.card.device.out ≤ length room.old
@@ -89,7 +90,7 @@ pub extern "C" fn nic_collect(nic: &mut Handle, room: &mut [u8], told: &mut Told
     collect(nic.lend(), room, told)
 }
 
-/// The link goes up or down: DONE, or IDLE where it is so already.
+/// Sets the link up or down. DONE, or IDLE where it is so already.
 #[unsafe(no_mangle)]
 pub extern "C" fn nic_link(nic: &mut Handle, up: bool) -> u8
     ensures status { result ≡ status_of (reply_to nic.old.card.device (Event.Link up)) }

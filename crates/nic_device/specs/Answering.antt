@@ -56,7 +56,7 @@ may_receive (reply.Wrote queue slot end desc at len) = true
 may_receive (reply.Fault queue fault) = true
 may_receive other = false
 
--- a step of a transmit queue tells of that queue
+-- the reply to a transmit step names the step's queue
 abbrev pub may_transmit : ℕ → Reply Block → Bool
 may_transmit own reply.NoQueue = true
 may_transmit own reply.Idle = true

@@ -15,7 +15,7 @@ use Rattle.nic_device.specs.declared.event.Reply.TheVariants.{Done, Dropped}
 use Rattle.nic_device.specs.declared.event.Why.{Why}
 use Rattle.nic_device.specs.declared.event.Why.TheVariants.{LinkDown, Off, Short, Long, Filter, NoPool, PoolOff, Full}
 
--- a frame that was let in: it waits for its queue, and nothing of it is written
+-- a frame that was accepted: it waits for its queue, and nothing of it is written
 abbrev pub let_in : List ℕ → Target → Waiting
 let_in frame t = record { frame = frame; queue = t.queue; hash = t.hash; rss = t.rss; offset = 0 }
 
@@ -27,7 +27,7 @@ with_count s counter = record s { registers = counted s.registers counter 0 }
 abbrev pub missed : State → State
 missed s = record s { registers = device_raised (counted s.registers Mpc 0) missed_cause }
 
--- a frame joins those that wait, of which there may be so many, and is counted as received or as missed
+-- a frame is appended to the receive list, unless that is full, and is counted as received or as missed
 abbrev pub joined : State → List ℕ → Target → Outcome
 joined s frame t =
     if nat_lt (length s.waiting) s.fifo
@@ -45,9 +45,9 @@ abbrev pub sorted_in : State → List ℕ → Result Target Unwanted → Outcome
 sorted_in s frame (Ok t) = joined s frame t
 sorted_in s frame (Err why) = gives (Dropped (why_unwanted why)) s
 
--- a frame arrives: it is dropped while the link is down or receiving is off, where it has fewer than 60 bytes, where it
--- is above the limit, where its destination or its pool isn't let in, or where the list of waiting frames is full; else
--- it waits, last of all
+-- a frame arrives: it is dropped while the link is down or reception is disabled, where it has fewer than 60 bytes,
+-- where it is longer than the limit, where its destination or its pool isn't accepted, or where the receive list is
+-- full; else it is appended to the receive list
 abbrev pub arrived : State → List ℕ → Outcome
 arrived s frame =
     if s.link then (

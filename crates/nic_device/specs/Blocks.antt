@@ -4,7 +4,7 @@ use Rattle.std.specs.FinMap as map
 use Rattle.rx_ring.specs.DmaArena.Memory.{Memory, has_block}
 use Rattle.rx_ring.specs.DmaArena.Numbers.{Numbers, is_own, is_free}
 
--- the memory that copies of blocks stand for
+-- the memory that these are copies of
 abbrev pub memory_of : List (ℕ × List ℕ) → Memory
 memory_of copies = map.from_entries copies
 

@@ -18,13 +18,13 @@ abbrev pub pokes : ℕ → List ℕ → ℕ → List (Event Block)
 pokes a bytes zero = []
 pokes a bytes (suc n) = event.Poke16 a (take 16 bytes) ∷ pokes (a + 16) (drop 16 bytes) n
 
--- the bytes that replies tell, one after another
+-- the bytes in replies, one after another
 abbrev pub bytes_told : List (Reply Block) → List ℕ
 bytes_told [] = []
 bytes_told (reply.Bytes bytes ∷ replies) = bytes ++ bytes_told replies
 bytes_told (other ∷ replies) = bytes_told replies
 
--- n peeks in order change nothing, and tell these bytes
+-- n peeks in order change nothing, and return these bytes
 pub record PeeksTell (s : State) (a n : ℕ) (bytes : List ℕ) : Type 0 where
   pub state : state_after s (peeks a n) ≡ s
   pub told : bytes_told (replies_of s (peeks a n)) ≡ bytes

@@ -30,8 +30,8 @@ use Rattle.nic_device.specs.declared.named.Named.{Named}
 use Rattle.nic_device.specs.declared.named.Named.TheVariants.{Nothing, Register}
 use Rattle.nic_device.specs.declared.event.Reply.TheVariants.{Wrote, Advanced, Sent}
 
--- what may change: something in the registers, the bytes of lent blocks, under which numbers blocks are lent, the
--- staged bytes of queues, the frames that wait, the frames out, and the link
+-- what may change: something in the registers, the bytes of lent blocks, which block numbers are lent, the staged bytes
+-- of queues, the receive list, the transmitted frames, and the link
 pub record Reach : Type 0 where
   pub registers : Footprint
   pub blocks : ℕ → Bool
@@ -96,13 +96,13 @@ abbrev pub below_reset_reach : Mode → Place → ℕ → Reach
 below_reset_reach mode p word =
     if asks_pool_reset (row_of p.row).kind word then pool_reach mode p.index else in_registers (of_write p)
 
--- a write of a word to a register, or to nothing, as the queues are parted among pools
+-- a write of a word to a register, or to nothing, as the queues are separated into pools
 abbrev pub write_reach : Mode → Named → ℕ → Reach
 write_reach mode (Nothing seen) word = nowhere
 write_reach mode (Register p view) word =
     if asks_reset (row_of p.row).kind word then reset_reach else below_reset_reach mode p word
 
--- whether a block has some of so many bytes from an address on
+-- whether a block has some of this many bytes from an address on
 abbrev pub has_some_of : ℕ → ℕ → ℕ → Bool
 has_some_of number address len = nat_lt (2048 * number) (address + len) && nat_lt address (2048 * number + 2048)
 
@@ -137,7 +137,7 @@ function_counts =
 abbrev pub counts_and_causes : Footprint
 counts_and_causes = either (either counters function_counts) any_pending
 
--- a step of receiving: the receive side that the first frame waits for, and where its bytes go
+-- a receive step: the receive side of the queue that the oldest frame is for, and where its bytes go
 abbrev pub receive_reach : List Waiting → Reply Block → Reach
 receive_reach [] reply = nowhere
 receive_reach (w ∷ others) reply = record nowhere {
@@ -152,7 +152,7 @@ told_back (Advanced queue slot back) = back
 told_back (Sent queue len back) = back
 told_back other = None
 
--- the blocks with some of so many bytes that are written back, where they are
+-- the blocks with some of this many bytes that are written back, where they are
 abbrev pub back_into : Option ℕ → ℕ → ℕ → Bool
 back_into (Some back) len number = has_some_of number back len
 back_into None len number = false

@@ -3,7 +3,7 @@ use Rattle.std.specs.Prelude.{ℕ, List}
 use Rattle.nic_device.specs.declared.holding.Parts.{Parts}
 use Rattle.nic_device.specs.declared.holding.Parts.TheVariants.{Own, Common}
 
--- the block's number, how many zero bytes it has behind those that are kept, and these
+-- the block's number, how many zero bytes it has after those that are kept, and these
 pub record Held : Type 0 where
   pub number : ℕ
   pub zeros : ℕ

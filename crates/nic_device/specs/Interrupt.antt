@@ -17,7 +17,7 @@ use Rattle.nic_device.specs.Outcome.{Outcome, gives}
 use Rattle.nic_device.specs.declared.event.Reply.{Reply}
 use Rattle.nic_device.specs.declared.event.Reply.TheVariants.{Idle, NoGroup, Message}
 
--- the causes that the device raises by itself: a frame missed for want of room, a fault, a change of the link
+-- the causes that the device raises by itself: a frame missed for lack of room, a fault, a change of the link
 abbrev pub missed_cause : ℕ
 missed_cause = 2 ^ 17
 

@@ -25,7 +25,7 @@ at_location located_as.Absent = Nothing 0xFFFFFFFF
 at_location located_as.Hole = Nothing 0
 at_location (located_as.Register p) = Register p 0xFFFFFFFF
 
--- what a number names at a port, as the queues are parted among pools
+-- what a number names at a port, as the queues are separated into pools
 abbrev pub named : State → Port → ℕ → Named
 named s Pf address = at_place (place_among runs address) (view_among runs address)
 named s (Vf v) offset = at_location (located (mode_in s.registers) s.vfs v offset)

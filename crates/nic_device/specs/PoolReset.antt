@@ -10,7 +10,7 @@ use Rattle.register_file.specs.PoolReset.{pool_reset}
 use Rattle.register_file.specs.Pools.{mode_in}
 use Rattle.nic_device.specs.State.{State, Waiting}
 
--- the staged bytes, of which so many queues from the first on have none
+-- the staged bytes, of which this many queues from the first on have none
 abbrev pub unstaged : List (List ℕ) → (first count : ℕ) → List (List ℕ)
 unstaged staged first zero = staged
 unstaged staged first (suc count) = slice_set (unstaged staged first count) (first + count) []
@@ -20,12 +20,12 @@ abbrev pub pool_unstaged : List (List ℕ) → Option (ℕ × ℕ) → List (Lis
 pool_unstaged staged None = staged
 pool_unstaged staged (Some queues) = unstaged staged queues.0 queues.1
 
--- the frames that wait for other queues than those of a pool, in their order
+-- the frames of the receive list for other queues than those of a pool, in their order
 abbrev pub others_waiting : Mode → ℕ → List Waiting → List Waiting
 others_waiting mode v waiting = filter (λ w. not (has_queue mode v w.queue)) waiting
 
--- a reset of a pool: its registers, the frames that wait for its queues, and their staged bytes. The frames of other
--- pools, lent memory, frames out and the link stay.
+-- a reset of a pool: its registers, the frames of the receive list for its queues, and their staged bytes. The frames
+-- of other pools, lent memory, transmitted frames and the link are unchanged.
 abbrev pub with_pool_reset : State → ℕ → State
 with_pool_reset s v =
     let mode = mode_in s.registers in

@@ -1,4 +1,4 @@
--- One step of receiving: the frame that waits longest is written on, one descriptor at a time.
+-- A receive step: the next piece of the oldest frame in the receive list is written, which takes one descriptor.
 use Rattle.std.specs.Prelude.{ℕ, ◌+◌, ◌==◌, Bool, ◌&&◌, not, List, [], ◌∷◌, drop, Result, Ok, Err, if◌then◌else◌}
 use Rattle.rx_ring.specs.DmaRing.declared.ring.Ring.{Ring}
 use Rattle.rx_ring.specs.DmaRing.declared.fault.RingFault.{RingFault}
@@ -26,7 +26,7 @@ use Rattle.nic_device.specs.declared.event.Why.TheVariants.{QueueOff, NoSlot}
 abbrev pub is_empty : Ring → Bool
 is_empty ring = not (is_outside ring) && ring.head == ring.tail
 
--- what descriptors tell of a frame: its RSS type and hash, and what its bytes are
+-- what descriptors report of a frame: its RSS type and hash, and what its bytes are
 abbrev pub packet_of : Waiting → Packet
 packet_of w =
     let flow = flow_of w.frame in
@@ -43,7 +43,7 @@ packet_of w =
 abbrev pub rest_of : Waiting → Rest
 rest_of w = record { bytes = drop w.offset w.frame; first = told_of (packet_of w) }
 
--- the registers after a frame of a queue was dropped for want of a slot, and after one was written to its end, which
+-- the registers after a frame of a queue was dropped for lack of a slot, and after one was written to its end, which
 -- counts for the queue and for its virtual function
 abbrev pub slotless_counted : Registers → ℕ → Registers
 slotless_counted r queue = counted r Qprdc (counter_of r Rx queue)
@@ -59,14 +59,15 @@ piece_done r vfs queue f =
     if f.end then raised_by (frame_counted (with_head r Rx queue f.head) vfs queue) vfs Rx queue
     else with_head r Rx queue f.head
 
--- the queue has no slot: a frame of which nothing is written is dropped where the queue drops, any other waits on
+-- the queue has no free descriptor: a frame of which nothing is written is dropped where drop enable is set, any other
+-- stays
 abbrev pub without_slot : State → Waiting → List Waiting → Outcome
 without_slot s w others =
     if drops s.registers w.queue && w.offset == 0
     then gives (Dropped NoSlot) (record s { registers = slotless_counted s.registers w.queue; waiting = others })
     else gives Idle s
 
--- the frames that wait after a piece of the first was written
+-- the receive list after a piece of the first frame was written
 abbrev pub after_piece : Waiting → List Waiting → Filled → List Waiting
 after_piece w others f = if f.end then others else record w { offset = w.offset + f.len } ∷ others
 
@@ -94,7 +95,7 @@ frame_received s w others q =
     if q.on then (if is_empty q.ring then without_slot s w others else slot_filled s w others q)
     else gives (Dropped QueueOff) (record s { waiting = others })
 
--- the frames that wait, of which the first is received
+-- the receive list, of which the first frame is received
 abbrev pub first_received : State → List Waiting → Outcome
 first_received s [] = gives Idle s
 first_received s (w ∷ others) = frame_received s w others (receive_queue_of s.registers w.queue)

@@ -15,7 +15,7 @@ use Rattle.nic_device.specs.declared.event.Event.{Event}
 use Rattle.nic_device.specs.declared.event.Event.TheVariants as event
 use Rattle.nic_device.specs.declared.event.Reply.TheVariants.{Idle}
 
--- no frame waits
+-- the receive list is empty
 abbrev pub none_waits : List Waiting → Bool
 none_waits [] = true
 none_waits (w ∷ others) = false
@@ -24,7 +24,7 @@ none_waits (w ∷ others) = false
 abbrev pub is_settled : State → Dir → ℕ → Bool
 is_settled s dir queue = beq (is_wanted s.registers dir queue) (is_on s.registers dir queue)
 
--- both sides of a queue below 128 are what they are wanted to be, it sends nothing as things stand, and no frame waits
+-- both sides of a queue below 128 are as their enable bits ask, it can't send now, and the receive list is empty
 abbrev pub is_at_rest : State → ℕ → Bool
 is_at_rest s queue =
     nat_lt queue 128 && (is_settled s Rx queue && (is_settled s Tx queue

@@ -30,8 +30,9 @@ pub record AreBlocks (m : Memory) : Type 0 where
 abbrev pub IsTypeNumber : ℕ → Type 0
 IsTypeNumber number = (type : RssType) × (code_of type ≡ number)
 
--- a frame that waits: it has 60 bytes at least and no more than the longest frame limit, of which some are left to
--- write; its queue is below 128, its RSS type is one that there is, and its hash is a word, 0 where the type is 0
+-- a frame in the receive list: it has at least 60 bytes and no more than the longest frame limit, of which some are
+-- left to write; its queue is below 128, its RSS type is one that there is, and its hash is a word, 0 where the type is
+-- 0
 pub record IsWaiting (w : Waiting) : Type 0 where
   pub bytes : AreBytes w.frame
   pub least : 60 ≤ length w.frame
@@ -42,12 +43,12 @@ pub record IsWaiting (w : Waiting) : Type 0 where
   pub hash : w.hash < 2 ^ 32
   pub unhashed : w.rss ≡ 0 → w.hash ≡ 0
 
--- a frame that waits, of which nothing is written
+-- a frame in the receive list, of which nothing is written
 pub record IsUnbegun (w : Waiting) : Type 0 where
   pub waits : IsWaiting w
   pub none : w.offset ≡ 0
 
--- of the frames that wait only the first may be written in part
+-- of the frames in the receive list only the first may be written in part
 abbrev pub AreWaiting : List Waiting → Type 0
 AreWaiting [] = ⊤
 AreWaiting (w ∷ others) = IsWaiting w × All IsUnbegun others
@@ -76,10 +77,10 @@ pub record IsOut (sent : ℕ × List ℕ) : Type 0 where
   pub bytes : AreBytes sent.1
   pub short : length sent.1 ≤ 65535
 
--- what every event keeps: the registers are sound and the lent blocks whole; only the first of the frames that wait is
--- begun, on a receive side that is on, and no more wait than the receive list takes; each queue stages no more than a
--- frame, and on a transmit side that is off nothing; each frame out is of a queue; the image is one, and there are no
--- more virtual functions than a device can have
+-- what every event keeps: the registers are sound and the lent blocks whole; only the first frame of the receive list
+-- is partly written, on a receive side that is enabled, and the list isn't longer than its capacity; each queue stages
+-- no more than a frame, and nothing while its transmit side is disabled; each transmitted frame is of a queue; the
+-- image is one, and there are no more virtual functions than a device can have
 pub record IsSound (s : State) : Type 0 where
   pub registers : AreSound s.registers
   pub blocks : AreBlocks s.memory

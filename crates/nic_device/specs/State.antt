@@ -6,7 +6,7 @@ use Rattle.rx_ring.specs.DmaArena.Memory.{Memory}
 use Rattle.eeprom_image.specs.Image.{blank}
 use Rattle.register_file.specs.Registers.{Registers, registers_code, reset_registers}
 
--- a frame that waits to be received: its bytes, its queue, its hash and RSS type, and how many of its bytes are written
+-- a frame in the receive list: its bytes, its queue, its hash and RSS type, and how many of its bytes are written
 pub record Waiting : Type 0 where
   pub frame : List ℕ
   pub queue : ℕ
@@ -25,9 +25,9 @@ waiting_code =
     (λ p. record { frame = p.0; queue = p.1.0; hash = p.1.1.0; rss = p.1.1.1.0; offset = p.1.1.1.1 })
     (λ _. refl)
 
--- a device: its registers, the memory that is lent to it, the frames that wait to be received, the bytes that each
--- transmit queue has staged, the frames that went out and were not collected yet, each with its queue, the oldest
--- first, whether the link is up, the words of the EEPROM's image, and its configuration
+-- a device: its registers, the memory that is lent to it, the receive list, the bytes that each transmit queue has
+-- staged, the transmitted frames that weren't collected yet, each with its queue, the oldest first, whether the link is
+-- up, the words of the EEPROM image, and its configuration
 pub record State : Type 0 where
   pub registers : Registers
   pub memory : Memory
@@ -82,7 +82,7 @@ new_state vfs fifo = record {
   fifo = fifo;
 }
 
--- what a reset clears, before it takes from the image: the registers, the enables that were asked for, the frames that
--- wait and the staged bytes. Lent memory, frames out, the link and the image stay.
+-- what a reset clears, before it writes registers from the image: the registers, the enables that were asked for, the
+-- receive list and the staged bytes. Lent memory, transmitted frames, the link and the image are unchanged.
 abbrev pub cleared : State → State
 cleared s = record s { registers = reset_registers; waiting = []; staged = none_staged }

@@ -41,7 +41,7 @@ after s e = (step_of s e).state
 abbrev pub reply_to : State → Event Block → Reply Block
 reply_to s e = (step_of s e).reply
 
--- an event may be refused for want of memory: lending and arriving where they would be done, and a transmit step of a
+-- an event may be refused for lack of memory: lending and arriving where they would be done, and a transmit step of a
 -- queue that isn't idle. No other event is
 abbrev pub TakesMemory : State → Event Block → Type 0
 TakesMemory s (event.Lend block) = (lent s block).reply ≡ reply.Done
@@ -50,12 +50,12 @@ TakesMemory s (event.TxStep queue) =
     ((transmitted s queue).reply ≢ reply.NoQueue) × ((transmitted s queue).reply ≢ reply.Idle)
 TakesMemory s other = ⊥
 
--- the word that a reply tells, where the access met a register
+-- the word in a reply, where the access met a register
 abbrev pub word_told : Reply Block → Option ℕ
 word_told (reply.Word word) = Some word
 word_told other = None
 
--- the block that an event lends, and the one that a reply hands out
+-- the block that an event lends, and the one that a reply returns
 abbrev pub lent_block : Event Block → Option Block
 lent_block (event.Lend block) = Some block
 lent_block other = None
@@ -74,7 +74,7 @@ moves_block other = false
 abbrev pub hands_out : Reply Block → Bool
 hands_out r = is_some (handed_block r)
 
--- whether a reply tells of a slot that couldn't be processed
+-- whether a reply reports a descriptor that couldn't be processed
 abbrev pub is_fault : Reply Block → Bool
 is_fault (reply.Fault queue fault) = true
 is_fault other = false

@@ -10,7 +10,7 @@ use Rattle.nic_device.specs.State.{State, Waiting}
 use Rattle.nic_device.specs.Outcome.{Outcome, gives}
 use Rattle.nic_device.specs.declared.event.Reply.TheVariants.{Done, Idle, NoQueue}
 
--- the frames that wait, without the first where a part of it is written on this queue. Only the first can be
+-- the receive list, without the first frame where a part of it is written on this queue. Only the first can be
 abbrev pub without_part : ℕ → List Waiting → List Waiting
 without_part queue [] = []
 without_part queue (w ∷ others) = if w.queue == queue && not (w.offset == 0) then others else w ∷ others

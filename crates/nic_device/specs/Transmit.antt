@@ -31,7 +31,7 @@ staged_by s queue = slice_index_or s.staged queue []
 abbrev pub sending_of : Registers → TransmitQueue → Sending
 sending_of r q = record { limit = frame_limit r; pad = pads r; writeback = q.writeback }
 
--- what is told of a fetched slot: the frame that went out, or that the head moved on
+-- the reply to a fetched slot: the frame that was sent, or that the head advanced
 abbrev pub fetched_reply : ℕ → Fetched → Option (List ℕ) → Reply Block
 fetched_reply queue f (Some frame) = Sent queue (length frame) f.back
 fetched_reply queue f None = Advanced queue f.slot f.back
@@ -73,7 +73,7 @@ slot_fetched s queue q =
     let fetched = fetch_of s.memory (staged_by s queue) q.ring (sending_of s.registers q) in
     slot_done s queue fetched.answer fetched.memory fetched.staged
 
--- while frames are parted among pools, a queue is muted where its pool's bit of VFTE is 0
+-- while frames are distributed among pools, a queue is muted where its pool's bit of VFTE is 0
 abbrev pub is_muted_pool : Registers → Option ℕ → Bool
 is_muted_pool r None = false
 is_muted_pool r (Some pool) = not (is_pool_on r Tx pool)

@@ -1,7 +1,7 @@
 -- Bytes up to the last that isn't 0.
 use Rattle.std.specs.Prelude.{ℕ, zero, suc, List, [], ◌∷◌}
 
--- how many bytes are kept of a byte and of those behind it, of which so many are kept
+-- how many bytes are kept of a byte and of those after it, of which this many are kept
 abbrev pub kept_with : ℕ → ℕ → ℕ
 kept_with (suc kept) byte = suc (suc kept)
 kept_with zero zero = 0

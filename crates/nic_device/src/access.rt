@@ -1,4 +1,4 @@
-//! Register accesses.
+//! Reads and writes of registers, and the device reset that a write asks for.
 
 ghost use Rattle.std.specs.Prelude.{◌≡◌, ◌<◌, [], length, replicate};
 ghost use Rattle.register_file.specs.RegTable.Rows.{row_of};
@@ -15,7 +15,7 @@ use register_file::{Place, Surroundings, asks_pool_reset, asks_reset};
 use tx_ring::Staged;
 
 impl Engine {
-    /// Reads by a number of a port.
+    /// Reads a register by its number at a port, with the read's side effects.
     #[inline(always)]
     pub(crate) fn read(&mut self, port: Port, number: u32) -> Reply
         ensures reply { result ≡ (register_read self.old port number).reply }
@@ -30,7 +30,7 @@ impl Engine {
         }
     }
 
-    /// What a read would give, without its effects. `None` where it would be stray.
+    /// What a read would return, without its side effects. `None` where there is no register.
     pub(crate) fn peek(&self, port: Port, number: u32) -> Option<u32>
         ensures { result ≡ word_told (register_read self.now port number).reply }
     {
@@ -40,7 +40,7 @@ impl Engine {
         }
     }
 
-    /// Writes by a number of a port.
+    /// Writes a register by its number at a port.
     #[inline(always)]
     pub(crate) fn write(&mut self, port: Port, number: u32, word: u32) -> Reply
         ensures reply { result ≡ (register_written self.old port number word).reply }
@@ -55,8 +55,8 @@ impl Engine {
         }
     }
 
-    /// Writes a place through an address that shows the bits of `view`. A write that asks for a reset does nothing
-    /// else.
+    /// Writes a register's place through an address that shows the bits of `view`. A write that asks for a reset does
+    /// nothing else.
     #[inline(always)]
     fn write_place(&mut self, place: Place, view: u32, word: u32)
         requires { place.index < (row_of place.row).count }
@@ -83,7 +83,7 @@ impl Engine {
         }
     }
 
-    /// What lies around the registers.
+    /// What registers report of the rest of the device: the link and the EEPROM's size.
     #[inline(always)]
     pub(crate) fn around(&self) -> Surroundings
         ensures { result ≡ around self.now }
@@ -94,7 +94,7 @@ impl Engine {
         }
     }
 
-    /// Resets the device, and then makes the register writes of the EEPROM's image.
+    /// Resets the device, and then makes the register writes that the EEPROM image contains.
     #[inline(never)]
     fn reset(&mut self)
         ensures { self.new ≡ reset self.old }
@@ -103,7 +103,7 @@ impl Engine {
         self.apply_image();
     }
 
-    /// What a reset clears.
+    /// Clears the registers, the receive list and all staged bytes.
     fn clear(&mut self)
         ensures { self.new ≡ cleared self.old }
     {
@@ -113,7 +113,7 @@ impl Engine {
     }
 }
 
-/// Drops all staged bytes.
+/// Drops the staged bytes of all queues.
 fn clear_all(staged: &mut [Staged])
     ensures { staged.new ≡ replicate (length staged.old) [] }
 {

@@ -11,11 +11,11 @@ use register_file::{Group, RowId};
 use rx_filter::{Target, Unwanted, sort};
 use rx_ring::Octets;
 
-/// How many bytes a frame has at least, its frame check sequence left out.
+/// The fewest bytes of a frame, frame check sequence excluded.
 const SHORTEST_FRAME: usize = 60;
 
 impl Engine {
-    /// A frame arrives.
+    /// Receives a frame from the link: counts it, and drops it or appends it to the receive list.
     #[inline(never)]
     pub(crate) fn arrive(&mut self, frame: Octets) -> Result<Reply, OutOfMemory<Event>>
         ensures reply { IfOk result (λ reply. reply ≡ (arrived self.old frame).reply) }
@@ -45,7 +45,7 @@ impl Engine {
         }
     }
 
-    /// A frame joins those that wait, or finds no room.
+    /// Appends a frame to the receive list, or counts it as missed where the list is full.
     fn join(&mut self, frame: Octets, target: Target) -> Result<Reply, OutOfMemory<Event>>
         requires { target.queue < 128 }
         ensures reply { IfOk result (λ reply. reply ≡ (joined self.old frame target).reply) }
@@ -69,7 +69,7 @@ impl Engine {
     }
 }
 
-/// Why a frame that goes to no queue is dropped.
+/// The reason for which a frame is dropped that filters and pools don't accept.
 fn why_unwanted(why: Unwanted) -> Why
     ensures { result ≡ why_unwanted why }
 {

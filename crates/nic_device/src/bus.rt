@@ -1,4 +1,4 @@
-//! Ranges of the bus, read and written at once: for a program that has the device in hand.
+//! Ranges of the bus, read and written at once: for a program that owns the device.
 
 ghost use Rattle.std.specs.Prelude.{◌≡◌, ◌*◌, ◌%◌, ℕ, true, false, length};
 ghost use Rattle.rx_ring.specs.DmaArena.Memory.{is_lent, read_at, write_at};
@@ -8,10 +8,10 @@ use crate::device::Device;
 use crate::engine::Engine;
 
 impl Device {
-    /// Fills the slice with the bytes of packet memory from a bus address on, also across blocks. `false`, and the
-    /// slice stays as it is, exactly where one of the bytes isn't in a lent block.
+    /// Fills the slice with the bytes of packet memory from a bus address on; the range may span blocks. Returns
+    /// `false`, and leaves the slice unchanged, exactly where one of the bytes isn't in a lent block.
     ///
-    /// From a multiple of 16 on, 16 n bytes are those that n events `Peek16` in order tell.
+    /// From a multiple of 16 on, 16 n bytes are those that n events `Peek16` in order return.
     pub fn dma_read(&self, bus: u64, bytes: &mut [u8]) -> bool
         ensures lent { result ≡ is_lent self.now.memory bus (length bytes.old) }
         ensures read { result ≡ true → bytes.new ≡ read_at self.now.memory bus (length bytes.old) }
@@ -22,10 +22,10 @@ impl Device {
         self.engine.read_range(bus, bytes)
     }
 
-    /// Writes the bytes of the slice into packet memory from a bus address on, also across blocks: all of them, or
-    /// none. `false`, and nothing changes, exactly where one of them wouldn't be in a lent block.
+    /// Writes the bytes of the slice to packet memory from a bus address on; the range may span blocks. Returns
+    /// `false`, and changes nothing, exactly where one of the bytes wouldn't be in a lent block.
     ///
-    /// From a multiple of 16 on, 16 n bytes leave what n events `Poke16` in order leave.
+    /// From a multiple of 16 on, writing 16 n bytes leaves what n events `Poke16` in order leave.
     pub fn dma_write(&mut self, bus: u64, bytes: &[u8]) -> bool
         ensures lent { result ≡ is_lent self.old.memory bus (length bytes.now) }
         ensures written { result ≡ true → self.new ≡
@@ -39,7 +39,7 @@ impl Device {
 }
 
 impl Engine {
-    /// Fills the slice with the bytes from a bus address on, where all are lent.
+    /// Fills the slice with the bytes from a bus address on, where all of them are lent.
     fn read_range(&self, bus: u64, bytes: &mut [u8]) -> bool
         ensures lent { result ≡ is_lent self.now.memory bus (length bytes.old) }
         ensures read { result ≡ true → bytes.new ≡ read_at self.now.memory bus (length bytes.old) }
@@ -52,7 +52,7 @@ impl Engine {
         true
     }
 
-    /// Writes the bytes of the slice from a bus address on, where all would be in lent blocks.
+    /// Writes the bytes of the slice from a bus address on, where all of them are lent.
     fn write_range(&mut self, bus: u64, bytes: &[u8]) -> bool
         ensures lent { result ≡ is_lent self.old.memory bus (length bytes.now) }
         ensures written { result ≡ true → self.new ≡

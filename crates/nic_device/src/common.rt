@@ -1,4 +1,4 @@
-//! Notes of blocks that have their bytes in common.
+//! Notes of blocks that share their bytes.
 
 ghost use Rattle.std.specs.Prelude.{◌≡◌, IfOk, IfSome, IsTrue};
 
@@ -8,26 +8,27 @@ use rx_ring::{Buf, Octets};
 use std::alloc::{AllocError, Global};
 use std::sync::Arc;
 
-/// For how many blocks it is remembered what was kept of them: those whose numbers differ by this share a place.
+/// For how many blocks the last note's bytes are remembered. Blocks whose numbers are equal modulo this share a place.
 const PLACES: usize = 256;
 
-/// What was kept of blocks as they were noted last. A driver takes a block, lends it and takes it again, mostly as it
-/// was: the notes have its bytes in common then, which are written once.
+/// The bytes of the last notes of blocks. A driver that takes a block, lends it and takes it again mostly finds it as
+/// it was: then the notes share one copy of its bytes.
 #[derive(Debug, Drop)]
 pub struct Notes {
     last: Vec<Option<Arc<Octets>>>,
 }
 
 impl Notes {
-    /// Nothing was noted yet. It takes no memory.
+    /// Remembers no bytes yet. It takes no memory.
     pub fn new(alloc: Global) -> Notes {
         Notes {
             last: Vec::new(alloc),
         }
     }
 
-    /// The note of a block. Where the block of its place was noted with the same bytes before, both notes have them in
-    /// common.
+    /// The note of a block. It shares the bytes of the last note at the block's place where they are equal.
+    ///
+    /// `AllocError` where there is no memory for a new copy of the bytes.
     pub fn of(&mut self, alloc: Global, buf: &Buf) -> Result<Note, AllocError>
         ensures { IfOk result (λ note. note ≡ buf.now) }
     {
@@ -50,7 +51,7 @@ impl Notes {
         }
     }
 
-    /// What was kept at a place, where it is these bytes.
+    /// The bytes that are remembered at a place, where they are equal to these.
     fn last_at(&self, place: usize, bytes: &[u8]) -> Option<Arc<Octets>>
         ensures { IfSome result (λ last. last.value ≡ bytes.now) }
     {
@@ -66,7 +67,7 @@ impl Notes {
         }
     }
 
-    /// Remembers what was kept at a place, where there is memory.
+    /// Remembers these bytes at a place, where there is memory.
     fn keep(&mut self, alloc: Global, place: usize, common: &Arc<Octets>) {
         if self.last.len() < PLACES {
             self.last = places(alloc);
@@ -79,14 +80,14 @@ impl Notes {
     }
 }
 
-/// Whether both are the same bytes.
+/// Whether both slices are equal.
 fn are_same(one: &[u8], other: &[u8]) -> bool
     ensures { IsTrue result → one.now ≡ other.now }
 {
     one == other
 }
 
-/// Places where nothing is remembered; none where there is no memory for them.
+/// Places at which nothing is remembered. Empty where there is no memory for them.
 fn places(alloc: Global) -> Vec<Option<Arc<Octets>>> {
     let mut places = Vec::new(alloc);
     if places.reserve(PLACES).is_ok() {

@@ -2,26 +2,26 @@ ghost use Rattle.std.specs.Prelude.{◌≡◌};
 
 use std::alloc::AllocError;
 
-/// How many frames the receive list takes at most.
+/// The most frames that a receive list can hold.
 pub const MAX_FIFO: u16 = 4096;
 
-/// What a device is made with, and keeps.
+/// The configuration of a device, fixed for its life.
 #[derive(Clone, Copy, PartialEq, Eq, Debug)]
 pub struct Config {
-    /// How many virtual functions there are: 0 to `MAX_VFS`.
+    /// The number of virtual functions: 0 to `MAX_VFS`.
     pub vfs: u8,
-    /// How many arrived frames wait at most: 1 to `MAX_FIFO`.
+    /// The capacity of the receive list in frames: 1 to `MAX_FIFO`.
     pub fifo: u16,
 }
 
-/// Why there is no device.
+/// Why no device was made. Nothing was allocated.
 #[derive(Clone, Copy, PartialEq, Eq, Debug)]
 pub enum NewFault {
-    /// More than `MAX_VFS` virtual functions.
+    /// There would be more than `MAX_VFS` virtual functions.
     TooManyVfs,
-    /// A receive list of no frames, or of more than `MAX_FIFO`.
+    /// The receive list would hold no frames, or more than `MAX_FIFO`.
     Fifo,
-    /// No memory for the registers.
+    /// There is no memory for the registers.
     OutOfMemory,
 }
 

@@ -1,4 +1,4 @@
-//! Copies of lent blocks, and memory that is lent again with the bytes of the copies.
+//! Copies of lent blocks, and blocks that are lent again with the bytes of their copies.
 
 ghost use Rattle.std.specs.Prelude.{◌≡◌, ◌<◌, ◌≤◌, ℕ, true, false, length, Some, None, IfOk, OnOk, OnErr};
 ghost use Rattle.std.specs.FinMap as map;
@@ -11,7 +11,7 @@ use std::alloc::{AllocError, Global};
 use std::collections::VecDeque;
 use std::marker::Model;
 
-/// Copies of blocks by their numbers, the lowest first. Contracts see them as the memory that they stand for.
+/// Copies of blocks by number, the lowest first. Contracts see them as the memory that they are copies of.
 #[derive(Drop)]
 pub(crate) struct Blocks {
     copies: Vec<(u32, Octets)>,
@@ -51,7 +51,7 @@ impl Blocks {
         })
     }
 
-    /// The lowest of the blocks that isn't free in the arena. `None` where all are free.
+    /// The lowest block number that isn't free in the arena. `None` where all are free.
     pub(crate) fn lowest_taken(&self, arena: &Arena) -> Option<u32>
         ensures { TellsTaken arena.now self.now result }
     {
@@ -68,8 +68,8 @@ impl Blocks {
         lowest
     }
 
-    /// Takes blocks of these numbers out of the arena, where all are free, and lends them with the copied bytes.
-    /// Without memory for that the arena is as it was.
+    /// Takes the blocks of these numbers out of the arena, where all are free, and lends them with the copied bytes.
+    /// Without memory for that the arena is unchanged.
     pub(crate) fn lent(&self, alloc: Global, arena: &mut Arena) -> Result<LentMemory, AllocError>
         requires free { AreFree arena.old self.now }
         requires whole { IsWhole self.now }
@@ -153,7 +153,7 @@ fn lend_copy(
     }
 }
 
-/// Gives a block back to the arena that it was taken from.
+/// Returns a block to the arena that it was taken from.
 fn give_back(arena: &mut Arena, buf: Buf)
     requires own { is_own arena.old buf.number ≡ true }
     requires away { is_free arena.old buf.number ≡ false }
@@ -165,7 +165,7 @@ fn give_back(arena: &mut Arena, buf: Buf)
     }
 }
 
-/// Ends lent memory, and gives all of its blocks back to the arena that they were taken from.
+/// Ends lent memory, and returns all of its blocks to the arena that they were taken from.
 fn give_all_back(mut memory: LentMemory, arena: &mut Arena)
     requires { AreAway arena.old memory }
     ensures { (before : Numbers) → HaveLeft before arena.old memory → arena.new ≡ before }

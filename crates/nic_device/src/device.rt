@@ -15,9 +15,10 @@ use rx_ring::{BLOCK_BYTES, LentMemory, Octets};
 use std::alloc::Global;
 use std::marker::Model;
 
-/// The device. It can't be dropped, since packet memory is lent to it: it is dismantled in the end.
+/// An Intel 82599 with its lent packet memory. It can't be dropped, since packet memory is lent to it: `dismantle` ends
+/// it and returns the memory.
 ///
-/// It is sound between two events: `stays_sound` says so.
+/// Between two events it is sound: `stays_sound` says so.
 pub struct Device {
     pub(crate) engine: Engine,
 }
@@ -35,19 +36,21 @@ impl Model for Device {
     ghost invariant = { λ d. IsSound d.engine };
 }
 
-/// What is left of a device that was dismantled.
+/// What a device leaves when it is dismantled.
 pub struct Parts {
-    /// The memory that was lent to it.
+    /// The blocks that were lent to it.
     pub memory: LentMemory,
-    /// The frames that went out and were not collected, the oldest first, each with its queue.
+    /// The transmitted frames that weren't collected, the oldest first, each with its transmit queue, 0 to 127.
     pub frames: Vec<(u8, Octets)>,
-    /// The image that was in it.
+    /// The EEPROM image that was installed.
     pub image: Image,
 }
 
 impl Device {
-    /// A device after its reset, with no memory lent, the link up and a blank EEPROM image. A refused configuration is
-    /// told before memory is asked for.
+    /// A device after its reset, with no memory lent, the link up and a blank EEPROM image.
+    ///
+    /// Errors: `TooManyVfs` where there are more than `MAX_VFS` virtual functions, `Fifo` where the receive list is
+    /// empty or longer than `MAX_FIFO`, and `OutOfMemory`. A refused configuration takes no memory.
     pub fn new(alloc: Global, config: Config) -> Result<Self, NewFault>
         ensures made { IfOk result (λ device. device ≡ new_state config.vfs config.fifo) }
         ensures fits { OnOk result ((config.vfs ≤ MAX_VFS) × ¬ IsBadFifo config.fifo) }
@@ -64,8 +67,8 @@ impl Device {
         Ok(Device { engine })
     }
 
-    /// Puts an EEPROM image into the device, and hands back the former one. EEC and EERD see the new one at once; what
-    /// it writes to registers is written by each reset from then on.
+    /// Installs an EEPROM image, and returns the former one. EEC and EERD see the new one at once; the register writes
+    /// that it contains are made by each later reset.
     pub fn install(&mut self, image: Image) -> Image
         ensures former { result ≡ self.old.image }
         ensures installed { self.new ≡ record self.old { image = image } }
@@ -74,8 +77,9 @@ impl Device {
         self.engine.install(image)
     }
 
-    /// Makes one event. An event that finds no memory comes back, and the device is as it was. Only these can find
-    /// none: a block that would be lent, a frame that would be let in, and a transmit step of a queue that isn't idle.
+    /// Makes one event. An event for which there is no memory comes back in the error, and the device is unchanged.
+    /// Only these can lack memory: `Lend` of a block that isn't lent, `Arrive` of a frame that would be accepted, and
+    /// `TxStep` of a queue that isn't idle.
     pub fn step(&mut self, event: Event) -> Result<Reply, OutOfMemory<Event>>
         ensures reply { IfOk result (λ reply. reply ≡ (step_of self.old event).reply) }
         ensures state { OnOk result (self.new ≡ (step_of self.old event).state) }
@@ -88,8 +92,8 @@ impl Device {
         self.engine.step(event)
     }
 
-    /// Whatever happened before, the device is sound: its registers, its lent blocks, the frames that wait and the
-    /// staged bytes have the shape and the ranges that `IsSound` lists. It does nothing.
+    /// States that the device is sound, whatever happened before: its registers, its lent blocks, the receive list and
+    /// the staged bytes have the shape and the ranges that `IsSound` lists. It does nothing.
     pub fn stays_sound(&self)
         ensures { IsSound self.now }
     {
@@ -97,8 +101,8 @@ impl Device {
     }
 
     #[tactic(auto, unfolding(crate::specs::Step::step_of))]
-    /// What a read of an address of the physical function would give, without its effects. `None` where it would be
-    /// stray.
+    /// What a read of an address of the physical function would return, without the read's side effects. `None` where
+    /// there is no register.
     pub fn peek_register(&self, address: u32) -> Option<u32>
         ensures { result ≡ word_told (step_of self.now (Event.Read Port.Pf address)).reply }
     {
@@ -106,15 +110,15 @@ impl Device {
     }
 
     #[tactic(auto, unfolding(crate::specs::Step::step_of))]
-    /// What a read of an offset of virtual function v would give, without its effects. `None` where it would be stray:
-    /// at a hole, and of a function that the device doesn't have or that has no pool.
+    /// What a read of an offset of virtual function v would return, without the read's side effects. `None` where there
+    /// is no register: at a hole, and for a function that the device doesn't have or that has no pool.
     pub fn peek_vf(&self, v: u8, offset: u32) -> Option<u32>
         ensures { result ≡ word_told (step_of self.now (Event.Read (Port.Vf v) offset)).reply }
     {
         self.engine.peek(Port::Vf(v), offset)
     }
 
-    /// How many bytes the frame has that `Collect` would give. 0 without one.
+    /// The length in bytes of the frame that `Collect` would return. 0 where there is none.
     pub fn next_out(&self) -> usize
         ensures { result ≡ next_out_of self.now.out }
     {
@@ -125,7 +129,7 @@ impl Device {
         }
     }
 
-    /// How many bytes of the reply to an event its note copies at most, so that room is made before the event.
+    /// The most bytes that the note of the reply to an event can copy, so that room can be made before the event.
     pub fn note_room(&self, event: &Event) -> usize
         ensures room { result ≡ note_room self.now event.now }
         ensures enough { note_length (step_of self.now event.now).reply ≤ result }
@@ -135,7 +139,7 @@ impl Device {
         self.room_of(event)
     }
 
-    /// The room for what each event moves or collects.
+    /// Computes `note_room`: a whole block for an event that moves one, the next frame's length for `Collect`, else 0.
     fn room_of(&self, event: &Event) -> usize
         ensures { result ≡ note_room self.now event.now }
     {
@@ -149,7 +153,7 @@ impl Device {
         }
     }
 
-    /// Ends the device. The lent memory, the frames that went out and the image come back; the rest is gone.
+    /// Ends the device. Returns the lent memory, the transmitted frames and the image; all other state is lost.
     pub fn dismantle(self) -> Parts
         ensures memory { result.memory ≡ self.memory }
         ensures frames { result.frames.items ≡ self.out }

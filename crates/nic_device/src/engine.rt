@@ -13,7 +13,7 @@ use std::collections::VecDeque;
 use std::marker::Model;
 use tx_ring::Staged;
 
-/// What a device is made of, and how it makes each event: `Device` keeps it sound. It can't be dropped, since packet
+/// The parts of a device, and how it makes each event; `Device` keeps it sound. It can't be dropped, since packet
 /// memory is lent to it: it is dismantled in the end.
 pub(crate) struct Engine {
     pub(crate) registers: Box<RegisterFile>,
@@ -72,7 +72,7 @@ impl Engine {
     }
 
     #[tactic(auto, unfolding(crate::specs::Step::step_of))]
-    /// Makes one event. What a driver does most is told apart first.
+    /// Makes one event. Register accesses, which are the most frequent, are handled first.
     #[inline(always)]
     pub(crate) fn step(&mut self, event: Event) -> Result<Reply, OutOfMemory<Event>>
         ensures reply { IfOk result (λ reply. reply ≡ (step_of self.old event).reply) }
@@ -89,7 +89,7 @@ impl Engine {
     }
 
     #[tactic(auto, unfolding(crate::specs::Step::step_of))]
-    /// The same, of whatever event.
+    /// Makes an event of any kind, in a function of its own so that `step` stays small.
     #[inline(never)]
     fn step_any(&mut self, event: Event) -> Result<Reply, OutOfMemory<Event>>
         ensures reply { IfOk result (λ reply. reply ≡ (step_of self.old event).reply) }
@@ -117,7 +117,7 @@ impl Engine {
     }
 }
 
-/// For each queue no staged bytes.
+/// Staged bytes for 128 transmit queues, all empty.
 fn none_staged(alloc: Global) -> Result<Vec<Staged>, AllocError>
     ensures { IfOk result (λ staged. staged.items ≡ none_staged) }
 {

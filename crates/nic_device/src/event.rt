@@ -10,16 +10,17 @@ use std::marker::Model;
 /// The function of the card that a register access comes through.
 #[derive(Clone, Copy, PartialEq, Eq, Debug)]
 pub enum Port {
-    /// The physical function: a register's number is its address in the register table.
+    /// The physical function. A register's number is its address in the register table, a byte offset.
     Pf,
-    /// A virtual function: a register's number is its offset among the function's own.
+    /// A virtual function, by its number from 0. A register's number is its byte offset in the function's own register
+    /// space.
     Vf(u8),
 }
 
 impl Port {
     ghost use Rattle.nic_device.specs.Sound.{IsPort};
 
-    /// Each port is one that a driver can use. It does nothing.
+    /// States that each port is one that a driver can use. It does nothing.
     fn is_of_a_driver(&self)
         ensures { IsPort self.now }
     {
@@ -32,47 +33,58 @@ impl Port {
     }
 }
 
-/// What happens to the device. Registers are words of 32 bits, and their address is a byte offset into the register
-/// space. A bus address is that of a byte of packet memory.
+/// What happens to the device: an access by the driver, or a step of the device itself. Registers are words of 32 bits,
+/// and their address is a byte offset into the register space. A bus address is that of a byte of packet memory. While
+/// CTRL bit 2 disables bus mastering, the device's own steps are `Idle`.
 ///
-/// `B` is what stands for a packet buffer: the buffer itself, which can't be dropped, or in a note what it holds.
+/// `B` is the type of a packet buffer: the buffer itself, which can't be dropped, or in a note a copy of what it holds.
 #[derive(Debug, Drop)]
 pub enum Event<B = Buf> {
-    /// A read of a register, by the number that it has at the port.
+    /// A read of a register, by its number at the port. The reply is `Word`, or `Stray` where there is no register.
     Read(Port, u32),
-    /// A write of a register: its number at the port, and the word.
+    /// A write of a register: the port, the register's number there, and the word of 32 bits. The reply is `Done`, or
+    /// `Stray` where there is no register.
     Write(Port, u32, u32),
-    /// A block of packet memory is lent, under its number.
+    /// Lends a block of packet memory to the device, under the block's number. The reply is `Done`, or `Twice` with the
+    /// block.
     Lend(B),
-    /// The block of this number is taken back.
+    /// Takes back the lent block of this number. The reply is `Buf`, or `NotLent`.
     Take(u32),
-    /// A driver reads 16 bytes of lent memory, at a bus address that is a multiple of 16.
+    /// A driver reads 16 bytes of lent memory at a bus address. The reply is `Bytes`, `Misaligned` where the address is
+    /// no multiple of 16, or `NotLent`.
     Peek16(u32),
-    /// A driver writes 16 bytes of lent memory, at a bus address that is a multiple of 16.
+    /// A driver writes 16 bytes of lent memory at a bus address. The reply is `Done`, `Misaligned` where the address is
+    /// no multiple of 16, or `NotLent`.
     Poke16(u32, [u8; 16]),
-    /// A frame arrives from the link, without its frame check sequence.
+    /// A frame arrives from the link: its bytes without the frame check sequence. The reply is `Done` where it joins
+    /// the receive list, else `Dropped`.
     Arrive(Octets),
-    /// The device writes on at the frame that waits longest: one descriptor.
+    /// A receive step: the device writes one piece of the oldest frame in the receive list, which takes one descriptor
+    /// of its queue. The reply is `Wrote`, `Dropped`, `Fault`, or `Idle` where there is no frame or no free descriptor.
     RxStep,
-    /// The device fetches one descriptor of a transmit queue, below 128.
+    /// A transmit step of a queue, 0 to 127: the device fetches one descriptor. The reply is `Advanced`, `Sent`,
+    /// `Fault`, `Idle` where the queue can't send, or `NoQueue`.
     TxStep(u16),
-    /// The device sends the next message of a group of interrupts, where one is due.
+    /// An interrupt step: the device sends the next due MSI-X message of a group of interrupts. The reply is `Message`,
+    /// `Idle` where none is due, or `NoGroup`.
     IntStep(Group),
-    /// The device makes a side of a queue, below 128, what it is wanted to be: on or off.
+    /// An enable step: a side of a queue, 0 to 127, goes on or off as its enable bit in RXDCTL or TXDCTL asks. The
+    /// reply is `Done`, `Idle` where the side already is as asked, or `NoQueue`.
     QueueStep(Dir, u16),
-    /// The EEPROM gives the word that EERD asks for, where it asks for one.
+    /// An EEPROM step: the word that EERD asks for is ready in EERD. The reply is `Done`, or `Idle` where none is asked
+    /// for.
     EepromStep,
-    /// The link goes up (true) or down.
+    /// The link goes up (`true`) or down (`false`). The reply is `Done`, or `Idle` where the link is so already.
     Link(bool),
-    /// The oldest frame that went out is collected.
+    /// Collects the oldest transmitted frame. The reply is `Frame`, or `Idle` where there is none.
     Collect,
 }
 
 impl Event {
     ghost use Rattle.nic_device.specs.Sound.{AreBytes, IsEvent};
 
-    /// Each event is one that a driver can make: the numbers, words and bytes in it have the ranges of their types, and
-    /// a block that it lends is whole. It does nothing.
+    /// States that each event is one that a driver can make: its numbers, words and bytes have the ranges of their
+    /// types, and a block that it lends is whole. It does nothing.
     pub fn is_of_a_driver(&self)
         ensures { IsEvent self.now }
     {
@@ -121,7 +133,7 @@ impl Event {
         }
     }
 
-    /// Lets an event go: the block that it would have lent.
+    /// Drops an event. Returns the block that it would have lent, where it is a `Lend`.
     pub fn into_buf(self) -> Option<Buf>
         ensures { result ≡ lent_block self }
     {
@@ -135,7 +147,7 @@ impl Event {
         }
     }
 
-    /// Each byte is below 256. It does nothing.
+    /// States that each byte is below 256. It does nothing.
     fn are_bytes(bytes: &[u8])
         ensures { AreBytes bytes.now }
     {
@@ -143,116 +155,120 @@ impl Event {
     }
 }
 
-/// Why a frame that came from the link is dropped.
+/// Why a received frame is dropped.
+///
+/// Intel 82599 datasheet, sections on packet filtering and on receive queue assignment.
 #[derive(Clone, Copy, PartialEq, Eq, Debug)]
 pub enum Why {
     /// The link is down.
     LinkDown,
-    /// Receiving is off.
+    /// Reception is disabled: bit 0 of RXCTRL, receive enable, is 0.
     Off,
-    /// The frame has fewer than 60 bytes.
+    /// The frame has fewer than 60 bytes, frame check sequence excluded. RUC counts it.
     Short,
-    /// The frame is above the frame limit.
+    /// The frame is longer than the frame limit that MAXFRS and HLREG0 set. ROC counts it.
     Long,
-    /// The frame's destination isn't let in.
+    /// No filter accepts the frame's destination address.
     Filter,
-    /// There is no pool for the frame.
+    /// No pool is selected for the frame, or its pool has no queues.
     NoPool,
-    /// The frame's pool takes no frames.
+    /// The frame's pool has reception disabled: its bit of VFRE is 0.
     PoolOff,
-    /// As many frames wait as the receive list takes.
+    /// The receive list is full. MPC counts the frame.
     Full,
-    /// The frame's queue is off.
+    /// The frame's receive queue is disabled.
     QueueOff,
-    /// The frame's queue has no slot, and drops what finds none.
+    /// The frame's receive queue has no free descriptor and drop enable is set in SRRCTL. QPRDC counts the frame.
     NoSlot,
 }
 
-/// What the device answers to an event.
+/// What the device replies to an event.
 #[derive(Debug, Drop)]
 pub enum Reply<B = Buf> {
-    /// The word read.
+    /// The word of 32 bits that a read returned.
     Word(u32),
-    /// The access meets no register; a read would see this word.
+    /// The access met no register. A read returns this word.
     Stray(u32),
-    /// The event is made.
+    /// The event was made, and there is nothing more to report.
     Done,
-    /// The 16 bytes read.
+    /// The 16 bytes that `Peek16` read.
     Bytes([u8; 16]),
-    /// The block taken back, with the bytes that it has now.
+    /// The block that was taken back, with the bytes that it has now.
     Buf(B),
-    /// A block of this number is lent already: the one that came, as it was.
+    /// A block of this number is already lent. The block that was to be lent comes back unchanged.
     Twice(B),
-    /// A block that the access needs isn't lent.
+    /// The access needs a block that isn't lent. Nothing changed.
     NotLent,
-    /// The bus address is no multiple of 16.
+    /// The bus address is no multiple of 16. Nothing changed.
     Misaligned,
-    /// There is no queue of this number.
+    /// There is no queue of this number: it isn't below 128. Nothing changed.
     NoQueue,
-    /// There is no group of this virtual function.
+    /// The device or its mode has no interrupt group of this virtual function. Nothing changed.
     NoGroup,
-    /// There was nothing to do.
+    /// There was nothing to do, and nothing changed.
     Idle,
-    /// A frame was dropped.
+    /// A frame was dropped, for this reason.
     Dropped(Why),
-    /// A piece of a frame was written.
+    /// A receive step wrote one piece of a frame, and its descriptor back.
     Wrote {
-        /// The receive queue, below 128.
+        /// The receive queue, 0 to 127.
         queue: u16,
-        /// The slot of its ring.
+        /// The index of the descriptor in the queue's ring.
         slot: u16,
-        /// The frame ends with this piece.
+        /// Whether the frame ends with this piece.
         end: bool,
-        /// The bus address of the descriptor that was written back.
+        /// The bus address of the descriptor, 16 bytes.
         desc: u64,
-        /// The bus address of the first byte that was written.
+        /// The bus address of the first byte that was written of the frame.
         at: u64,
-        /// How many bytes were written there.
+        /// How many bytes of the frame were written there.
         len: usize,
     },
-    /// The head of a transmit queue moved on, and no frame went out.
+    /// A transmit step fetched one descriptor and moved the queue's head. No frame was sent.
     Advanced {
-        /// The transmit queue, below 128.
+        /// The transmit queue, 0 to 127.
         queue: u16,
-        /// The slot of its ring that was fetched.
+        /// The index of the fetched descriptor in the queue's ring.
         slot: u16,
-        /// The bus address that was written back, where something was.
+        /// The bus address of the write-back, the descriptor's or the head's. `None` where nothing was written back.
         back: Option<u64>,
     },
-    /// A frame went out.
+    /// A transmit step fetched the last descriptor of a frame and sent the frame.
     Sent {
-        /// The transmit queue, below 128.
+        /// The transmit queue, 0 to 127.
         queue: u16,
-        /// How many bytes it has, its padding included.
+        /// The frame's length in bytes, padding included.
         len: usize,
-        /// The bus address that was written back, where something was.
+        /// The bus address of the write-back, the descriptor's or the head's. `None` where nothing was written back.
         back: Option<u64>,
     },
-    /// A slot couldn't be processed: its side of the queue is off, and not wanted on.
+    /// A descriptor couldn't be processed. The side of the queue that it belongs to is disabled, and has to be enabled
+    /// again.
     Fault {
-        /// The queue, below 128.
+        /// The queue, 0 to 127.
         queue: u16,
-        /// Why.
+        /// What was wrong with the ring or the descriptor.
         fault: RingFault,
     },
-    /// A message was sent.
+    /// An MSI-X message was sent.
     Message {
-        /// The group of interrupts that it is of.
+        /// The interrupt group whose message it is.
         group: Group,
-        /// Its vector, below 16.
+        /// The MSI-X vector within the group, below 16.
         vector: u8,
     },
-    /// A frame that went out.
+    /// The oldest transmitted frame, which is collected with this reply.
     Frame {
-        /// The transmit queue that sent it, below 128.
+        /// The transmit queue that sent it, 0 to 127.
         queue: u16,
-        /// Its bytes, its padding included.
+        /// The frame's bytes, padding included and without frame check sequence.
         bytes: Octets,
     },
 }
 
-/// What a packet buffer holds, in a note. Contracts see it as they see the buffer, by its number and its bytes, so that
-/// an event and its note are one. It keeps the bytes up to the last that isn't 0, and how many zero bytes follow.
+/// A copy of what a packet buffer holds, which can be dropped. Contracts see it as they see the buffer, by its number
+/// and its bytes, so that an event and its note are equal. It stores the bytes up to the last that isn't 0, and how
+/// many zero bytes follow.
 #[derive(Debug, Drop)]
 pub struct Note {
     holding: Holding,
@@ -274,7 +290,7 @@ impl Model for Note {
 }
 
 impl Note {
-    /// The note that holds this. The last of the bytes that are kept isn't 0.
+    /// A note of these contents. The last of the stored bytes isn't 0.
     pub(crate) fn new(holding: Holding) -> Note
         requires { kept_len holding.kept ≡ length holding.kept }
         ensures { result
@@ -283,7 +299,7 @@ impl Note {
         Note { holding }
     }
 
-    /// The block's number.
+    /// The number of the noted block.
     pub fn number(&self) -> u32
         ensures { result ≡ self.now.number }
     {
@@ -297,14 +313,14 @@ impl Note {
         self.holding.kept()
     }
 
-    /// How many zero bytes the block has behind these.
+    /// How many zero bytes follow these in the block.
     pub fn zeros(&self) -> u32
         ensures { result ≡ length self.now.bytes - kept_len self.now.bytes }
     {
         u32::from(self.holding.zeros())
     }
 
-    /// Whether both are notes of one block: its number and its bytes.
+    /// Whether both are notes of equal blocks, by number and bytes.
     pub fn same(&self, other: &Note) -> bool
         ensures { IsTrue result ↔ (self.now ≡ other.now) }
     {
@@ -312,12 +328,12 @@ impl Note {
     }
 }
 
-/// An event as a note tells it: the same, with what a packet buffer holds in its place.
+/// A copy of an event that can be kept and dropped: a note in place of a packet buffer.
 pub type EventNote = Event<Note>;
 
-/// A reply as a note tells it: the same, with what a packet buffer holds in its place.
+/// A copy of a reply that can be kept and dropped: a note in place of a packet buffer.
 pub type ReplyNote = Reply<Note>;
 
-/// An event that found no memory. It wasn't made, and comes back as it was passed.
+/// An event for which there was no memory. It wasn't made, and comes back as it was passed.
 #[derive(Debug, Drop)]
 pub struct OutOfMemory<E>(pub E);

@@ -1,4 +1,4 @@
-//! What a note holds of a block: the bytes are its own, or other notes have them too.
+//! The contents of a note: its bytes are its own, or shared with other notes.
 
 ghost use Rattle.std.specs.Prelude.{◌≡◌, ◌↔◌, IsTrue};
 
@@ -7,17 +7,17 @@ use std::alloc::Global;
 use std::marker::Model;
 use std::sync::Arc;
 
-/// The number of a block, how many zero bytes it has behind those that are kept, and these. The numbers stand here,
-/// where they take no room of their own.
+/// The block's number, how many zero bytes follow the stored ones, and the stored bytes. The two numbers are in each
+/// variant so that they take no room of their own.
 #[derive(Debug, Drop)]
 enum Parts {
-    /// The bytes are this note's alone.
+    /// The bytes belong to this note alone.
     Own(u16, u16, Octets),
-    /// Other notes may have the same bytes.
+    /// The bytes may be shared with other notes.
     Common(u16, u16, Arc<Octets>),
 }
 
-/// What a note holds. Contracts see its numbers and its bytes, and not whose these are.
+/// The contents of a note. Contracts see its numbers and its bytes, not whether the bytes are shared.
 #[derive(Debug, Drop)]
 pub(crate) struct Holding {
     parts: Parts,
@@ -32,8 +32,8 @@ impl Model for Holding {
 }
 
 impl Holding {
-    /// Bytes of this note's own, up to the last that isn't 0, of the block of this number, and how many zero bytes it
-    /// has behind them.
+    /// Contents with bytes of their own: the bytes of the block of this number up to the last that isn't 0, and how
+    /// many zero bytes follow.
     pub(crate) fn own(number: u16, kept: Octets, zeros: u16) -> Holding
         ensures { result ≡ record { number = number; zeros = zeros; kept = kept } }
     {
@@ -42,7 +42,7 @@ impl Holding {
         }
     }
 
-    /// The same, with bytes that other notes may have too.
+    /// Contents with bytes that other notes may share.
     pub(crate) fn common(number: u16, kept: Arc<Octets>, zeros: u16) -> Holding
         ensures { result ≡ record { number = number; zeros = zeros; kept = kept.value } }
     {
@@ -51,7 +51,7 @@ impl Holding {
         }
     }
 
-    /// The block's number.
+    /// The number of the noted block.
     pub(crate) fn number(&self) -> u16
         ensures { result ≡ self.now.number }
     {
@@ -61,7 +61,7 @@ impl Holding {
         }
     }
 
-    /// How many zero bytes the block has behind those that are kept.
+    /// How many zero bytes of the block follow the stored ones.
     pub(crate) fn zeros(&self) -> u16
         ensures { result ≡ self.now.zeros }
     {
@@ -71,7 +71,7 @@ impl Holding {
         }
     }
 
-    /// The bytes that are kept.
+    /// The stored bytes, in order.
     pub(crate) fn kept(&self) -> &[u8]
         ensures { result.now ≡ self.now.kept }
     {
@@ -81,7 +81,7 @@ impl Holding {
         }
     }
 
-    /// Whether both hold the same.
+    /// Whether both have equal contents.
     pub(crate) fn same(&self, other: &Holding) -> bool
         ensures { IsTrue result ↔ (self.now ≡ other.now) }
     {

@@ -1,4 +1,4 @@
-//! Interrupts: what queues and the device raise, and messages.
+//! Interrupts: the causes that queues and the device raise, and MSI-X messages.
 
 ghost use Rattle.std.specs.Prelude.{◌≡◌, ◌<◌, IfSome};
 ghost use Rattle.register_file.specs.RegTable.Rows.{row_of};
@@ -11,14 +11,14 @@ use crate::event::Reply;
 use register_file::{Group, Mode, RegisterFile, RowId, pool_of, queues_of};
 use rx_ring::Dir;
 
-/// EICR: a frame was missed for want of room.
+/// EICR, receive miss: a frame was dropped because the receive list was full.
 pub(crate) const RECEIVE_MISS: u32 = 0x0002_0000;
 
-/// EICR: a slot met a fault.
+/// EICR, PCI exception: a descriptor couldn't be processed.
 pub(crate) const PCI_EXCEPTION: u32 = 0x0004_0000;
 
 impl Engine {
-    /// How the queues are parted among pools.
+    /// How the queues are distributed to pools.
     pub(crate) fn mode(&self) -> Mode
         ensures { result ≡ mode_in self.now.registers }
     {
@@ -26,7 +26,7 @@ impl Engine {
     }
 }
 
-/// The virtual function that a queue is of: that of its pool, where the device has it.
+/// The virtual function that a queue belongs to: that of its pool, where the device has it.
 #[tactic(auto, using(crate::proofs::Functions::few_pools), unfolding(crate::specs::Interrupt::function_of_queue))]
 pub(crate) fn function_of_queue(registers: &RegisterFile, vfs: u8, queue: u16) -> Option<u8>
     ensures function { result ≡ function_of_queue registers.now vfs queue }
@@ -38,7 +38,7 @@ pub(crate) fn function_of_queue(registers: &RegisterFile, vfs: u8, queue: u16) -
     }
 }
 
-/// The group that a queue raises in.
+/// The interrupt group in which a queue raises its causes.
 fn group_of_queue(registers: &RegisterFile, vfs: u8, queue: u16) -> Group
     ensures group { result ≡ group_of_queue registers.now vfs queue }
     ensures small { index_of result < 64 }
@@ -49,7 +49,7 @@ fn group_of_queue(registers: &RegisterFile, vfs: u8, queue: u16) -> Group
     }
 }
 
-/// A frame of a virtual function, where there is one, is counted in a row of what is counted of functions.
+/// Counts a frame of a virtual function, where there is one, in this row of counters per function.
 pub(crate) fn count_function(registers: &mut RegisterFile, function: Option<u8>, row: RowId)
     requires small { IfSome function (λ v. v < 64) }
     requires rows { (row_of row).count ≡ 64 }
@@ -62,7 +62,7 @@ pub(crate) fn count_function(registers: &mut RegisterFile, function: Option<u8>,
 }
 
 #[tactic(auto, unfolding(crate::specs::Interrupt::raised_by))]
-/// A side of a queue raises its cause.
+/// Raises the cause of a side of a queue.
 pub(crate) fn raise_by(registers: &mut RegisterFile, vfs: u8, dir: Dir, queue: u16)
     requires { queue < 128 }
     ensures { registers.new ≡ raised_by registers.old vfs dir queue }
@@ -71,7 +71,7 @@ pub(crate) fn raise_by(registers: &mut RegisterFile, vfs: u8, dir: Dir, queue: u
     registers.raise_queue(group, dir, queue);
 }
 
-/// A slot met a fault: its side of the queue is off and not wanted on, and the cause of faults is raised.
+/// Disables a side of a queue whose descriptor couldn't be processed, and raises the PCI exception cause.
 pub(crate) fn fail_side(registers: &mut RegisterFile, dir: Dir, queue: u16)
     requires { queue < 128 }
     ensures { registers.new ≡ side_failed registers.old dir queue }
@@ -81,7 +81,7 @@ pub(crate) fn fail_side(registers: &mut RegisterFile, dir: Dir, queue: u16)
 }
 
 impl Engine {
-    /// The next message of a group is sent.
+    /// An interrupt step: sends the next due message of a group.
     #[inline(never)]
     pub(crate) fn send_message(&mut self, group: Group) -> Reply
         ensures reply { result ≡ (interrupted self.old group).reply }
@@ -99,7 +99,7 @@ impl Engine {
         }
     }
 
-    /// Whether there is a group: that of the physical function always, that of a virtual function where the device has
+    /// Whether a group exists: that of the physical function always; that of a virtual function where the device has
     /// the function and the mode has a pool for it.
     fn has_group(&self, group: Group) -> bool
         ensures { result ≡ has_group self.now group }

@@ -1,4 +1,4 @@
-//! Memory calls.
+//! Lending and taking back blocks, and 16-byte reads and writes of lent memory.
 
 ghost use Rattle.std.specs.Prelude.{◌≡◌, IfOk, IfErr, OnOk, OnErr};
 ghost use Rattle.nic_device.specs.Lending.{lent, taken, peeked, poked};
@@ -7,11 +7,11 @@ use crate::engine::Engine;
 use crate::event::{Event, OutOfMemory, Reply};
 use rx_ring::{Buf, LendRefused};
 
-/// A driver looks at memory by so many bytes, and at their multiples.
+/// The size in bytes of a `Peek16` or `Poke16`. Their addresses are multiples of it.
 const PEEK_BYTES: u32 = 16;
 
 impl Engine {
-    /// Lends a block.
+    /// Lends a block to the device.
     #[inline(never)]
     pub(crate) fn lend(&mut self, buf: Buf) -> Result<Reply, OutOfMemory<Event>>
         ensures reply { IfOk result (λ reply. reply ≡ (lent self.old buf).reply) }
@@ -27,7 +27,7 @@ impl Engine {
         }
     }
 
-    /// Takes a block back.
+    /// Takes a lent block back.
     #[inline(never)]
     pub(crate) fn take(&mut self, number: u32) -> Reply
         ensures reply { result ≡ (taken self.old number).reply }

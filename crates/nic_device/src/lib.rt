@@ -1,13 +1,16 @@
-//! The device core of the bench: the Intel 82599 behind its registers, one event at a time.
+//! The device core of the bench: the Intel 82599 as a driver sees it through its registers, one event at a time.
 //!
-//! A `Device` is seen by contracts as a `State`: its registers, the memory that is lent to it, the frames that wait to
-//! be received, the bytes that its transmit queues have staged, the frames that went out, whether the link is up, and
-//! the EEPROM's image, which `Device::install` puts in. `Device::step` makes one `Event` and answers a `Reply`, both by
-//! the definition `step_of`; `Device::run` makes a list of events, and `Device::peek_register`, `Device::peek_vf` and
-//! `Device::next_out` look without touching. Between two events a device is sound, as `Device::stays_sound` says:
-//! `Engine` has the parts and makes the events. The definitions stand in `specs/`, one file for each family of events,
-//! and the code beside them under the same name. The script machine, the debugger, the lock and the driver stand on
-//! this crate.
+//! A `Device` is seen by contracts as a `State`: its registers, the memory that is lent to it, the frames in the
+//! receive list, the bytes that its transmit queues have staged, the transmitted frames that weren't collected, whether
+//! the link is up, and the EEPROM image, which `Device::install` replaces. `Device::step` makes one `Event` and returns
+//! a `Reply`, both by the definition `step_of`; `Device::run` makes a list of events; `Device::peek_register`,
+//! `Device::peek_vf` and `Device::next_out` look without side effects. Between two events a device is sound, as
+//! `Device::stays_sound` says. `Engine` holds the parts and makes the events. The definitions are in `specs/`, one file
+//! for each family of events, and the code has files of the same names. The script machine, the debugger, the lock and
+//! the driver depend on this crate.
+//!
+//! Source: Intel 82599 datasheet, sections on the receive and transmit functions, on interrupts, on virtualization and
+//! on the device registers.
 #![tactic(auto)]
 
 mod access;

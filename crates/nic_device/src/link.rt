@@ -1,4 +1,4 @@
-//! The link, and the frames that went out on it.
+//! The link, and the frames that were transmitted on it.
 
 ghost use Rattle.std.specs.Prelude.{◌≡◌};
 ghost use Rattle.nic_device.specs.Link.{link_set, collected};
@@ -7,11 +7,11 @@ use crate::engine::Engine;
 use crate::event::Reply;
 use register_file::Group;
 
-/// EICR: the link went up or down.
+/// EICR, link status change: the link went up or down.
 const LINK_CHANGE: u32 = 0x0010_0000;
 
 impl Engine {
-    /// The link goes up or down, which raises its cause.
+    /// Sets the link up or down. A change raises the link status change cause.
     #[inline(never)]
     pub(crate) fn set_link(&mut self, up: bool) -> Reply
         ensures reply { result ≡ (link_set self.old up).reply }
@@ -25,7 +25,7 @@ impl Engine {
         Reply::Done
     }
 
-    /// The oldest frame out is collected.
+    /// Collects the oldest transmitted frame.
     #[inline(never)]
     pub(crate) fn collect(&mut self) -> Reply
         ensures reply { result ≡ (collected self.old).reply }

@@ -1,5 +1,5 @@
-//! Notes: an event and a reply as they can be kept, with what a packet buffer holds in its place. Contracts see an
-//! event and its note as one, and so a reply and its note.
+//! Notes: copies of events and replies that can be kept, with a note in place of a packet buffer. Contracts see an
+//! event and its note as equal, and so a reply and its note.
 
 ghost use Rattle.std.specs.Prelude.{◌≡◌, ◌-◌, ◌≤◌, ◌↔◌, IsTrue, IfOk, [], length, take, false};
 ghost use Rattle.std.specs.Vec.{vec_capacity};
@@ -16,8 +16,8 @@ use std::alloc::{AllocError, Global};
 use std::sync::Arc;
 
 impl Note {
-    /// The note of a block of packet memory. What it keeps of the block's bytes is copied into a vector that has room
-    /// for all; the room that is left is given back.
+    /// The note of a block of packet memory. The bytes that it stores are copied into an empty vector with a capacity
+    /// of at least 2048 bytes; spare capacity is freed.
     pub fn of(buf: &Buf, room: Vec<u8>) -> Note
         requires empty { room.items ≡ [] }
         requires room { 2048 ≤ vec_capacity room }
@@ -27,7 +27,7 @@ impl Note {
         Note::with_kept(buf, kept_in(buf), room)
     }
 
-    /// The same, where it is known how many bytes the note keeps, and the vector has room for them.
+    /// The note of a block of which `kept` bytes are stored. The vector is empty and has room for them.
     pub(crate) fn with_kept(buf: &Buf, kept: usize, room: Vec<u8>) -> Note
         requires kept { kept ≡ kept_len buf.now.bytes }
         requires empty { room.items ≡ [] }
@@ -38,7 +38,7 @@ impl Note {
         Note::with_own(buf, kept, fitted(&bytes[..kept], room))
     }
 
-    /// The same with these bytes, which are those that the note keeps.
+    /// The note of a block with these as its own stored bytes: the block's first `kept` bytes.
     pub(crate) fn with_own(buf: &Buf, kept: usize, bytes: Octets) -> Note
         requires kept { kept ≡ kept_len buf.now.bytes }
         requires bytes { bytes ≡ take kept buf.now.bytes }
@@ -48,7 +48,7 @@ impl Note {
         Note::new(Holding::own(buf.block() as u16, bytes, zeros))
     }
 
-    /// The same with bytes that other notes may have too.
+    /// The note of a block with these as its stored bytes, which other notes may share.
     pub(crate) fn with_common(buf: &Buf, kept: usize, bytes: Arc<Octets>) -> Note
         requires kept { kept ≡ kept_len buf.now.bytes }
         requires bytes { bytes.value ≡ take kept buf.now.bytes }
@@ -59,7 +59,7 @@ impl Note {
     }
 }
 
-/// How many zero bytes a block has behind those that its note keeps.
+/// How many zero bytes of a block follow the ones that its note stores.
 fn zeros_behind(buf: &Buf, kept: usize) -> u16
     requires { kept ≡ kept_len buf.now.bytes }
     ensures { result ≡ length buf.now.bytes - kept }
@@ -68,7 +68,7 @@ fn zeros_behind(buf: &Buf, kept: usize) -> u16
     (bytes.len() - kept) as u16
 }
 
-/// A copy of the bytes, in a vector that has room for them. The room that is left is given back.
+/// A copy of the bytes in this vector, which has room for them. Spare capacity is freed.
 fn fitted(bytes: &[u8], room: Vec<u8>) -> Octets
     requires empty { room.items ≡ [] }
     requires room { length bytes.now ≤ vec_capacity room }
@@ -80,7 +80,7 @@ fn fitted(bytes: &[u8], room: Vec<u8>) -> Octets
 }
 
 impl Event {
-    /// The note of an event.
+    /// The note of an event. `AllocError` where there is no memory for the copy of a block or a frame.
     pub fn note(&self, alloc: Global) -> Result<EventNote, AllocError>
         ensures { IfOk result (λ note. note ≡ self.now) }
     {
@@ -111,7 +111,7 @@ impl Event {
 }
 
 impl Event<Note> {
-    /// Whether both are notes of one event.
+    /// Whether both are notes of equal events.
     pub fn same(&self, other: &EventNote) -> bool
         ensures { IsTrue result ↔ (self.now ≡ other.now) }
     {
@@ -145,7 +145,8 @@ impl Event<Note> {
 }
 
 impl Reply {
-    /// How many bytes of the reply its note copies: those of a block up to the last that isn't 0, or of a frame.
+    /// How many bytes the note of the reply copies: those of a block up to the last that isn't 0, or those of a frame.
+    /// 0 for other replies.
     pub fn note_length(&self) -> usize
         ensures { result ≡ note_length self.now }
     {
@@ -156,7 +157,7 @@ impl Reply {
         }
     }
 
-    /// The note of a reply.
+    /// The note of a reply. `AllocError` where there is no memory for the copy of a block or a frame.
     pub fn note(&self, alloc: Global) -> Result<ReplyNote, AllocError>
         ensures { IfOk result (λ note. note ≡ self.now) }
     {
@@ -164,7 +165,8 @@ impl Reply {
         Ok(self.note_in(room))
     }
 
-    /// The note of a reply. What it copies goes into a vector that has room for it, so that no memory is asked for.
+    /// The note of a reply. What it copies goes into an empty vector that has room for it, so that it allocates
+    /// nothing.
     pub fn note_in(&self, room: Vec<u8>) -> ReplyNote
         requires empty { room.items ≡ [] }
         requires room { note_length self.now ≤ vec_capacity room }
@@ -173,7 +175,7 @@ impl Reply {
         self.note_of_length(self.note_length(), room)
     }
 
-    /// The same, where it is known how many bytes the note copies: `note_length` tells.
+    /// The note of a reply, as `note_in`, where the caller already has the result of `note_length`.
     pub fn note_of_length(&self, length: usize, room: Vec<u8>) -> ReplyNote
         requires length { length ≡ note_length self.now }
         requires empty { room.items ≡ [] }
@@ -233,7 +235,8 @@ impl Reply {
         }
     }
 
-    /// The note of a reply that hands out no block, else that block. It copies nothing.
+    /// Turns a reply that contains no block into its note. A block that it contains is returned in the error. It copies
+    /// nothing.
     pub fn into_note(self) -> Result<ReplyNote, Buf>
         ensures note { IfOk result (λ note. note ≡ self) }
         ensures block { result_err result ≡ handed_block self }
@@ -273,7 +276,7 @@ impl Reply {
         })
     }
 
-    /// Lets a reply go: the block that it hands out.
+    /// Drops a reply. Returns the block that it contains, where it is a `Buf` or a `Twice`.
     pub fn into_buf(self) -> Option<Buf>
         ensures { result ≡ handed_block self }
     {
@@ -282,7 +285,7 @@ impl Reply {
 }
 
 impl Reply<Note> {
-    /// Whether both are notes of one reply.
+    /// Whether both are notes of equal replies.
     pub fn same(&self, other: &ReplyNote) -> bool
         ensures { IsTrue result ↔ (self.now ≡ other.now) }
     {

@@ -1,4 +1,4 @@
-//! A device without packet memory, as plain data.
+//! The state of a device without packet memory, as plain data.
 
 ghost use Rattle.std.specs.Prelude.{◌≡◌, ◌++◌, length, IfOk, OnOk};
 ghost use Rattle.std.specs.FinMap as map;
@@ -14,7 +14,7 @@ use std::collections::VecDeque;
 use std::marker::Model;
 use tx_ring::Staged;
 
-/// All of a device but its packet memory. Contracts see it as a state in which no block is lent.
+/// The state of a device without its packet memory. Contracts see it as a state in which no block is lent.
 #[derive(Drop)]
 pub(crate) struct Rest {
     registers: Box<RegisterFile>,
@@ -76,7 +76,7 @@ impl Engine {
 }
 
 impl Rest {
-    /// The same once more.
+    /// A second copy. `AllocError` where there is no memory for it.
     pub(crate) fn copy(&self) -> Result<Rest, AllocError>
         ensures { IfOk result (λ rest. rest ≡ self.now) }
     {
@@ -145,7 +145,7 @@ fn copied_bytes(alloc: Global, bytes: &Octets) -> Result<Octets, AllocError>
     Ok(Octets::of(copy))
 }
 
-/// Copies of the frames that wait.
+/// Copies of the frames in the receive list, in order.
 fn copied_waiting(
     alloc: Global,
     waiting: &VecDeque<Waiting>,
@@ -159,7 +159,7 @@ fn copied_waiting(
     Ok(VecDeque::from_vec(copies))
 }
 
-/// Adds copies of frames that wait.
+/// Appends copies of frames of the receive list.
 fn add_waiting(
     copies: &mut Vec<Waiting>,
     alloc: Global,
@@ -173,7 +173,7 @@ fn add_waiting(
     Ok(())
 }
 
-/// Copies of the staged bytes of each queue.
+/// Copies of the staged bytes of each transmit queue.
 fn copied_staged(alloc: Global, staged: &[Staged]) -> Result<Vec<Staged>, AllocError>
     ensures { IfOk result (λ copies. copies.items ≡ staged.now) }
 {
@@ -184,7 +184,7 @@ fn copied_staged(alloc: Global, staged: &[Staged]) -> Result<Vec<Staged>, AllocE
     Ok(copies)
 }
 
-/// Copies of the frames that went out.
+/// Copies of the transmitted frames, in order.
 fn copied_out(
     alloc: Global,
     out: &VecDeque<(u8, Octets)>,
@@ -198,7 +198,7 @@ fn copied_out(
     Ok(VecDeque::from_vec(copies))
 }
 
-/// Adds copies of frames that went out.
+/// Appends copies of transmitted frames.
 fn add_out(
     copies: &mut Vec<(u8, Octets)>,
     alloc: Global,

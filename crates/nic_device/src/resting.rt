@@ -13,7 +13,7 @@ use register_file::QUEUES;
 use rx_ring::Dir;
 
 impl Engine {
-    /// Whether a side of a queue is what it is wanted to be.
+    /// Whether a side of a queue is as its enable bit asks.
     fn is_settled(&self, dir: Dir, queue: u16) -> bool
         requires { queue < 128 }
         ensures { result ≡ is_settled self.now dir queue }
@@ -21,14 +21,14 @@ impl Engine {
         self.registers.is_wanted(dir, queue) == self.registers.is_on(dir, queue)
     }
 
-    /// Whether no frame waits.
+    /// Whether the receive list is empty.
     fn none_waits(&self) -> bool
         ensures { result ≡ none_waits self.now.waiting }
     {
         self.waiting.front().is_none()
     }
 
-    /// Whether a queue is at rest: `Device::is_at_rest` says what that is.
+    /// Computes `Device::is_at_rest`, where the device's parts are visible.
     fn is_at_rest(&self, queue: u16) -> bool
         ensures { result ≡ is_at_rest self.now queue }
     {
@@ -39,28 +39,28 @@ impl Engine {
             && self.none_waits()
     }
 
-    /// Whether a side of a queue is as it is wanted to be, so that its step does nothing.
+    /// Whether a side of a queue is as its enable bit asks, so that its step is idle.
     fn is_side_idle(&self, dir: Dir, queue: u16) -> bool
         ensures { IsTrue result → IsIdle self.now (Event.QueueStep dir queue) }
     {
         queue < QUEUES && self.is_settled(dir, queue)
     }
 
-    /// Whether a queue sends nothing as things stand, so that its step does nothing.
+    /// Whether a queue can't send now, so that its transmit step is idle.
     fn is_sending_idle(&self, queue: u16) -> bool
         ensures { IsTrue result → IsIdle self.now (Event.TxStep queue) }
     {
         queue < QUEUES && self.is_silent(queue)
     }
 
-    /// Whether no frame waits, so that a step of the receive side does nothing.
+    /// Whether the receive list is empty, so that a receive step is idle.
     fn is_receiving_idle(&self) -> bool
         ensures { IsTrue result → IsIdle self.now Event.RxStep }
     {
         self.none_waits()
     }
 
-    /// The note of an idle device step: `Device::idle_note` says what that is.
+    /// Computes `Device::idle_note`, where the device's parts are visible.
     fn idle_note(&self, event: &Event) -> Option<EventNote>
         ensures note { IfSome result (λ note. note ≡ event.now) }
         ensures idle { IfSome result (λ note. IsIdle self.now event.now) }
@@ -79,8 +79,8 @@ impl Engine {
 }
 
 impl Device {
-    /// Whether a queue is at rest: both of its sides are what they are wanted to be, it sends nothing as things stand,
-    /// and no frame waits. The device steps of such a queue are idle, and change nothing.
+    /// Whether a queue is at rest: both of its sides are as their enable bits ask, it can't send now, and the receive
+    /// list is empty. The device steps of such a queue are idle, and change nothing.
     pub fn is_at_rest(&self, queue: u16) -> bool
         ensures told { result ≡ is_at_rest self.now queue }
         ensures idle { IsTrue result → Rests self.now queue }
@@ -88,9 +88,9 @@ impl Device {
         let engine = &self.engine;
         engine.is_at_rest(queue)
     }
-    /// The note of a device step that would do nothing as things stand: of a side of a queue that is what it is wanted
-    /// to be, of a queue that sends nothing, or of the receive side while no frame waits. None for any other event. It
-    /// takes no memory.
+    /// The note of a device step that would be idle now: of a side of a queue that is as its enable bit asks, of a
+    /// queue that can't send, or of the receive side while the receive list is empty. `None` for any other event. It
+    /// allocates nothing.
     pub fn idle_note(&self, event: &Event) -> Option<EventNote>
         ensures note { IfSome result (λ note. note ≡ event.now) }
         ensures idle { IfSome result (λ note. IsIdle self.now event.now) }

@@ -8,17 +8,17 @@ use crate::device::Device;
 use crate::event::{Event, OutOfMemory, Reply};
 use std::alloc::Global;
 
-/// A run that stopped before an event.
+/// A run of events that stopped early, for lack of memory.
 pub struct RunStop {
-    /// The replies to the events that were made.
+    /// The replies to the events that were made, in order.
     pub replies: Vec<Reply>,
-    /// The events that were not made, in their order: the refused one first.
+    /// The events that weren't made, in order. The first is the one that was refused.
     pub rest: Vec<Event>,
 }
 
 impl Device {
-    /// Makes the events in their order, and stops before the first one that finds no memory. Where there is no room
-    /// for the replies it stops before the first event.
+    /// Makes the events in order, and returns their replies. It stops before the first event for which there is no
+    /// memory; where there is no memory for the list of replies, it stops before the first event.
     pub fn run(&mut self, alloc: Global, mut events: Vec<Event>) -> Result<Vec<Reply>, RunStop>
         ensures replies { IfOk result (λ replies. replies.items ≡ replies_of self.old events.items) }
         ensures state { OnOk result (self.new ≡ state_after self.old events.items) }

@@ -1,4 +1,4 @@
-//! Snapshots of a device, and devices that are restored from them.
+//! Snapshots of a device, and devices restored from them.
 
 ghost use Rattle.std.specs.Prelude.{◌≡◌, IfOk, IfErr, OnOk, OnErr};
 ghost use Rattle.rx_ring.specs.DmaArena.Memory.{IsWhole};
@@ -13,9 +13,9 @@ use rx_ring::Arena;
 use std::alloc::AllocError;
 use std::marker::Model;
 
-/// The state of a device as plain data: its registers, the bytes of the blocks that are lent to it, the frames that
-/// wait, the staged bytes, the frames that went out, the link and the image. It can be dropped, and its blocks are
-/// none of an arena's.
+/// The state of a device as plain data: its registers, the bytes of the blocks that are lent to it, the receive list,
+/// the staged bytes, the transmitted frames, the link and the image. It can be dropped: its blocks are copies, and
+/// belong to no arena.
 #[derive(Drop)]
 pub struct Snapshot {
     rest: Rest,
@@ -35,17 +35,17 @@ impl Model for Snapshot {
     ghost invariant = { λ s. IsSound (record s.rest { memory = s.blocks }) };
 }
 
-/// Why a device isn't restored.
+/// Why a device isn't restored. The arena is unchanged.
 #[derive(Clone, Copy, PartialEq, Eq, Debug)]
 pub enum RestoreRefused {
-    /// A block that was lent isn't free in the arena: the lowest such block.
+    /// This block was lent and isn't free in the arena. It is the lowest such block.
     NotFree(u32),
     /// There is no memory for the device.
     OutOfMemory,
 }
 
 impl Device {
-    /// A snapshot of the device, which stays as it is.
+    /// A snapshot of the device, which stays unchanged. `AllocError` where there is no memory for it.
     pub fn snapshot(&self) -> Result<Snapshot, AllocError>
         ensures { IfOk result (λ snapshot. snapshot ≡ self.now) }
     {
@@ -54,10 +54,11 @@ impl Device {
         Ok(Snapshot { rest, blocks })
     }
 
-    /// A device in the snapshot's state. The blocks that are lent to it leave the arena: each must be free there.
+    /// A device in the snapshot's state. The blocks that are lent to it are taken out of the arena: each must be free
+    /// there.
     ///
-    /// `NotFree` with the lowest block that isn't free in the arena, a block that it doesn't have among these, else
-    /// `OutOfMemory`. Both leave the arena as it was.
+    /// Errors: `NotFree` with the lowest block that isn't free in the arena (it may not be among the arena's blocks at
+    /// all), else `OutOfMemory`. Both leave the arena as it was.
     pub fn restore(snapshot: &Snapshot, arena: &mut Arena) -> Result<Device, RestoreRefused>
         ensures restored { IfOk result (λ device. device ≡ snapshot.now) }
         ensures left { OnOk result (HaveLeft arena.old arena.new snapshot.now.memory) }
@@ -72,7 +73,7 @@ impl Device {
 }
 
 impl Snapshot {
-    /// A device in the snapshot's state, where all blocks that are lent to it are free in the arena.
+    /// A device in the snapshot's state, where all blocks to be lent to it are free in the arena.
     fn restored(&self, arena: &mut Arena) -> Result<Device, RestoreRefused>
         requires { AreFree arena.old self.now.memory }
         ensures restored { IfOk result (λ device. device ≡ self.now) }

@@ -1,4 +1,4 @@
-//! Steps of a queue's enable.
+//! Steps that enable or disable a side of a queue.
 
 ghost use Rattle.std.specs.Prelude.{◌≡◌, ◌<◌};
 ghost use Rattle.nic_device.specs.Switching.{queue_switched, side_switched, emptied, without_part};
@@ -11,7 +11,7 @@ use rx_ring::Dir;
 use std::collections::VecDeque;
 
 impl Engine {
-    /// One step of a side's enable.
+    /// An enable step: a side of a queue goes on or off as its enable bit asks.
     #[inline(never)]
     pub(crate) fn switch_queue(&mut self, dir: Dir, queue: u16) -> Reply
         ensures reply { result ≡ (queue_switched self.old dir queue).reply }
@@ -29,7 +29,7 @@ impl Engine {
         Reply::Done
     }
 
-    /// A side becomes what it is wanted to be.
+    /// Puts a side into the state that its enable bit asks for.
     fn switch_side(&mut self, dir: Dir, queue: u16)
         requires { queue < 128 }
         ensures { self.new ≡ side_switched self.old dir queue }
@@ -40,7 +40,8 @@ impl Engine {
         self.registers.switch(dir, queue);
     }
 
-    /// Drops what a side that goes off loses.
+    /// Drops what a side loses when it is disabled: the partly written frame of a receive side, the staged bytes of a
+    /// transmit side.
     fn empty_side(&mut self, dir: Dir, queue: u16)
         requires { queue < 128 }
         ensures { self.new ≡ emptied self.old dir queue }
@@ -52,7 +53,7 @@ impl Engine {
     }
 }
 
-/// Drops the first frame where a part of it is written on this queue.
+/// Drops the first frame of the receive list where it is for this queue and partly written.
 fn drop_part(waiting: &mut VecDeque<Waiting>, queue: u16)
     ensures { waiting.new.items ≡ without_part queue waiting.old.items }
 {

@@ -1,4 +1,4 @@
-//! Bytes up to the last that isn't 0.
+//! The length of bytes up to the last that isn't 0.
 
 ghost use Rattle.std.specs.Prelude.{◌≡◌, ℕ, ◌+◌, ◌<◌, ◌≤◌, length, slice_index, true};
 ghost use Rattle.nic_device.specs.Trimming.{kept_len};
@@ -6,10 +6,10 @@ ghost use Rattle.nic_device.specs.Trimming.{kept_len};
 use rx_ring::Buf;
 use std::simd::prelude::*;
 
-/// How many bytes are looked at together.
+/// How many bytes are compared with 0 at once.
 const TOGETHER: usize = 64;
 
-/// How many bytes of a block there are up to the last that isn't 0.
+/// The length of a block's bytes up to the last that isn't 0.
 pub(crate) fn kept_in(buf: &Buf) -> usize
     ensures { result ≡ kept_len buf.now.bytes }
 {
@@ -17,7 +17,7 @@ pub(crate) fn kept_in(buf: &Buf) -> usize
     kept_before(bytes, buf.zeros_from())
 }
 
-/// The same of bytes that are 0 from a place on.
+/// The length of bytes up to the last that isn't 0, where all from `from` on are known to be 0.
 fn kept_before(bytes: &[u8], from: usize) -> usize
     requires within { from ≤ length bytes.now }
     requires zeros { (k : ℕ) → from ≤ k → slice_index bytes.now k ≡ 0 }
@@ -30,7 +30,7 @@ fn kept_before(bytes: &[u8], from: usize) -> usize
     end
 }
 
-/// A place from which on all bytes are 0, found by looking at many of them together, where they are so from another on.
+/// An index from which on all bytes are 0, at most `from`, found by whole groups of `TOGETHER` bytes.
 fn zeros_begin(bytes: &[u8], from: usize) -> usize
     requires within { from ≤ length bytes.now }
     requires zeros { (k : ℕ) → from ≤ k → slice_index bytes.now k ≡ 0 }
@@ -44,7 +44,7 @@ fn zeros_begin(bytes: &[u8], from: usize) -> usize
     end
 }
 
-/// Whether the 64 bytes from a place on are all 0.
+/// Whether the 64 bytes from index `first` on are all 0.
 fn are_zeros(bytes: &[u8], first: usize) -> bool
     requires { first + 64 ≤ length bytes.now }
     ensures { result ≡ true → (k : ℕ) → first ≤ k → k < first + 64 → slice_index bytes.now k ≡ 0 }

@@ -1,4 +1,4 @@
-//! A frame that waits to be received.
+//! A frame in the receive list.
 
 ghost use Rattle.std.specs.Prelude.{◌≡◌, ◌<◌, ◌≤◌, ◌+◌, ◌*◌, ◌^◌, ◌==◌, not, length, IfOk};
 ghost use Rattle.rx_ring.specs.Item.{rest_of};
@@ -12,9 +12,8 @@ use rx_ring::{Item, Octets, Packet, packet_word};
 use std::alloc::{AllocError, Global};
 use std::marker::Model;
 
-/// A frame that waits to be received: its bytes, its queue, its hash with the type, and how many of its bytes are
-/// written. Beside them stands the first half that all its descriptors get, so that it is classified once and not for
-/// each.
+/// A frame in the receive list: its bytes, its receive queue, its RSS hash and type, how many of its bytes are written,
+/// and the first half of the descriptors that are written back for it, so that it is classified once and not for each.
 #[derive(Drop)]
 pub(crate) struct Waiting {
     frame: Octets,
@@ -49,7 +48,7 @@ impl Model for Waiting {
 }
 
 impl Waiting {
-    /// A frame that was let in, for a queue below 128.
+    /// A frame that was accepted for a queue below 128, with nothing written yet.
     pub(crate) fn let_in(frame: Octets, target: Target) -> Waiting
         requires { target.queue < 128 }
         ensures { result ≡ let_in frame target }
@@ -65,7 +64,7 @@ impl Waiting {
         }
     }
 
-    /// The same frame once more, as far as it is written.
+    /// A copy of the frame, with as much of it written. `AllocError` where there is no memory for it.
     pub(crate) fn copy(&self, alloc: Global) -> Result<Waiting, AllocError>
         ensures { IfOk result (λ waiting. waiting ≡ self.now) }
     {
@@ -80,7 +79,7 @@ impl Waiting {
         })
     }
 
-    /// The frame's queue.
+    /// The frame's receive queue, 0 to 127.
     pub(crate) fn queue(&self) -> u16
         ensures queue { result ≡ self.now.queue }
         ensures small { result < 128 }
@@ -88,14 +87,14 @@ impl Waiting {
         self.queue
     }
 
-    /// Whether a part of the frame is written.
+    /// Whether a piece of the frame is written.
     pub(crate) fn is_begun(&self) -> bool
         ensures { result ≡ not (self.now.offset == 0) }
     {
         self.offset != 0
     }
 
-    /// What is left to write of it.
+    /// The frame with what is left to write of it.
     pub(crate) fn item(&self) -> Item<'_>
         ensures rest { rest_of result ≡ rest_of_waiting self.now }
         ensures offset { result.offset ≤ length result.frame.now }
@@ -108,7 +107,7 @@ impl Waiting {
         }
     }
 
-    /// The frame after so many more of its bytes are written.
+    /// The frame after `len` more of its bytes are written.
     pub(crate) fn written(self, len: usize) -> Waiting
         requires { self.offset + len ≤ length self.frame }
         ensures { result ≡ record self { offset = self.offset + len } }
@@ -132,7 +131,7 @@ impl Waiting {
     }
 }
 
-/// What descriptors tell of a frame that was let in.
+/// What the descriptors report of an accepted frame.
 fn packet(frame: &[u8], target: &Target) -> Packet
     ensures { result ≡ packet_of (let_in frame.now target.now) }
 {

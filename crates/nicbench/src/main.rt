@@ -22,7 +22,7 @@ fn main(rt: HostRuntime) -> ExitCode {
     ExitCode::from(status)
 }
 
-/// Says that there is no memory for the words or the writer, and gives the status.
+/// Reports that there is no memory for the words or the writer, and returns the status.
 fn refused_for_memory<R: Print>(rt: &R) -> u8 {
     match println!(rt; "refused OutOfMemory") {
         Ok(()) => NO_MEMORY,
@@ -30,8 +30,8 @@ fn refused_for_memory<R: Print>(rt: &R) -> u8 {
     }
 }
 
-/// Runs the bench on the process's words, standard input and standard output. How it ends. After a failed write nothing
-/// is written, nor what the buffer still has.
+/// Runs the bench on the process's words, standard input and standard output, and returns how it ended. After a failed
+/// write nothing more is written, not even what is buffered.
 fn run(rt: &HostRuntime) -> io::Result<Outcome> {
     let alloc = rt.alloc();
     let words: Vec<String> = env::args(rt)?.collect(alloc)?;
@@ -44,7 +44,7 @@ fn run(rt: &HostRuntime) -> io::Result<Outcome> {
     }
 }
 
-/// Runs workers on threads, prints what they tell on standard output, and gives the status.
+/// Runs workers on threads, prints their summary on standard output, and returns the status.
 fn run_threads<R: Print + Threads + Wait + Sync>(
     rt: &R,
     alloc: Global,

@@ -1,8 +1,8 @@
-//! The poll-mode driver, whole: a driver of one queue, the ways to a device, and workers that drive queues of one
+//! The poll-mode driver: a driver of one queue, the ways to access a device, and workers that drive queues of one
 //! device on threads of their own.
 //!
-//! It declares nothing, and passes on two crates: `pmd_driver` has the driver of one queue with what it stands on, and
-//! `workers` the workers.
+//! This crate declares nothing, and re-exports two crates: `pmd_driver` has the driver of one queue with what it needs,
+//! and `workers` has the workers.
 #![tactic(auto)]
 
 pub use pmd_driver::{

@@ -17,13 +17,13 @@ pub record AreParts (all : List Fields) (strings : List (List ℕ)) : Type 0 whe
   pub widths : AllByRecursion HaveWidths all
 
 -- an object of whatever fields and data strings, within the limits, is read: no fault of the header or of the length is
--- told; its instructions alone decide
+-- reported; only its instructions can be at fault
 abbrev pub InstructionsDecide : Type 0
 InstructionsDecide =
     (all : List Fields) (strings : List (List ℕ)) → AreParts all strings →
     read_of (laid_out all strings) ≡ program_of all strings
 
--- where the fields of an instruction are faulty, and all before mean an instruction, that fault is told, with its
+-- where the fields of an instruction are faulty, and all before encode an instruction, that fault is reported, with its
 -- number
 abbrev pub FirstFaultDecides : Type 0
 FirstFaultDecides =

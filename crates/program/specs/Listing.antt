@@ -27,7 +27,7 @@ abbrev pub IsGroup : Group → Type 0
 IsGroup Pf = ⊤
 IsGroup (Vf function) = IsFunction function
 
--- what an instruction names is there, among these data strings and so many instructions: what is poked has 16 bytes,
+-- what an instruction names is there, among these data strings and this many instructions: what is poked has 16 bytes,
 -- what arrives has a number, one of four words is peeked, virtual functions are below 63, and a jump goes to an
 -- instruction or to the end; numbers of blocks and queues have 16 bits
 abbrev pub IsSound : List (List ℕ) → ℕ → Instruction ℕ ℕ → Type 0

@@ -1,4 +1,4 @@
--- An instruction with what its names stand for.
+-- An instruction with numbers in place of its names.
 use Rattle.std.specs.Prelude.{◌≡◌, ⊤, Result, Ok, Err}
 use Rattle.std.specs.Fn.{FnOnceReturnsAt}
 use denote.Ref.{Bor}
@@ -15,7 +15,7 @@ abbrev pub ◌then◌ : {A B E : Type 0} → Result A E → (A → Result B E) �
 Ok x then f = f x
 Err e then f = Err e
 
--- a call answers what a function gives at the value behind its reference
+-- a call returns what a function gives at the value that its reference refers to
 abbrev pub AnswersBy : {F X R : Type 0} → Once F (Bor X × Unit {0}) R → F → (X → R) → Type 0
 AnswersBy {X = X} {R = R} calls f given = (x : X) (r : R) → FnOnceReturnsAt calls f x r → r ≡ given x
 
@@ -45,7 +45,7 @@ try_map label string (JumpUnlessEqual word name) = label name then λ pc. Ok (Ju
 try_map label string (Jump name) = label name then λ pc. Ok (Jump pc)
 try_map label string Halt = Ok Halt
 
--- it is one of those behind the instruction to transmit that name neither where they jump nor a data string
+-- it is one of those after the instruction to transmit that name neither a jump target nor a data string
 abbrev pub IsLaterNameless : {L D : Type 0} → Instruction L D → Type 0
 IsLaterNameless (IntStep group) = ⊤
 IsLaterNameless (QueueStep direction queue) = ⊤

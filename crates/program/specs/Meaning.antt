@@ -60,7 +60,7 @@ instruction_in f =
 abbrev pub unless : Bool → FieldFault → Option FieldFault
 unless fits fault = if fits then None else Some fault
 
--- what an instruction names that isn't there, among these data strings and so many instructions
+-- what an instruction names that isn't there, among these data strings and this many instructions
 abbrev pub fault_in : List (List ℕ) → ℕ → Instruction ℕ ℕ → Option FieldFault
 fault_in strings count (Write address word) = None
 fault_in strings count (Read address) = None
@@ -98,6 +98,6 @@ spelled_so strings count f (Some instruction) =
     if same_fields (fields_of instruction) f then unless_faulty instruction (fault_in strings count instruction)
     else Err Operand
 
--- the instruction that the fields mean, among these data strings and so many instructions
+-- the instruction that the fields mean, among these data strings and this many instructions
 abbrev pub meaning : List (List ℕ) → ℕ → Fields → Result (Instruction ℕ ℕ) FieldFault
 meaning strings count f = spelled_so strings count f (instruction_in f)

@@ -29,11 +29,11 @@ abbrev pub header : ℕ → ℕ → ℕ → List ℕ
 header count strings total =
     magic_and_version ++ to_le_bytes w16 count ++ to_le_bytes w16 strings ++ to_le_bytes w16 0 ++ to_le_bytes w32 total
 
--- a data string, behind its length
+-- a data string, after its length
 abbrev pub bytes_of_string : List ℕ → List ℕ
 bytes_of_string string = to_le_bytes w16 (length string) ++ string
 
--- the fields of the instructions, and the data strings, behind a header
+-- the fields of the instructions, and the data strings, after a header
 unfoldable pub laid_out : List Fields → List (List ℕ) → List ℕ
 laid_out all strings =
     let body = flat_map bytes_of_fields all ++ flat_map bytes_of_string strings in
@@ -63,13 +63,13 @@ counts_in bytes =
     && nat_le (16 + 12 * number16_at bytes 6) (length bytes)
     then Ok (record { count = number16_at bytes 6; strings = number16_at bytes 8 }) else Err Length
 
--- the same, behind magic and version
+-- the counts in a header, or the header's first fault
 unfoldable pub header_in : List ℕ → Result Header ObjectFault
 header_in bytes =
     if not (starts_with eqb bytes magic) then Err Magic
     else if not (starts_with eqb bytes magic_and_version) then Err Version else counts_in bytes
 
--- a first data string of 1 to 16,384 bytes behind its length, and the bytes behind it
+-- a first data string of 1 to 16,384 bytes after its length, and the bytes after it
 unfoldable pub string_in : List ℕ → Option (List ℕ × List ℕ)
 string_in bytes =
     let size = number16_at bytes 0 in
@@ -80,14 +80,14 @@ string_in bytes =
 abbrev pub before_strings : List ℕ → Option (List (List ℕ)) → Option (List (List ℕ))
 before_strings string more = option_map (λ strings. string ∷ strings) more
 
--- so many data strings, which are all of the bytes
+-- this many data strings, which are all of the bytes
 unfoldable pub strings_in : ℕ → List ℕ → Option (List (List ℕ))
 strings_in zero [] = Some []
 strings_in zero (byte ∷ bytes) = None
 strings_in (suc count) bytes =
     elim (string_in bytes) [ None ↦ None | Some string ↦ before_strings string.0 (strings_in count string.1) ]
 
--- the fields of so many instructions
+-- the fields of this many instructions
 unfoldable pub all_fields_in : ℕ → List ℕ → List Fields
 all_fields_in zero bytes = []
 all_fields_in (suc count) bytes = fields_in bytes ∷ all_fields_in count (drop 12 bytes)
@@ -121,7 +121,7 @@ program_of all strings =
     meanings strings (length all) 0 all then λ instructions.
     Ok (record { strings = strings; instructions = instructions })
 
--- the data strings behind so many instructions
+-- the data strings after this many instructions
 abbrev pub strings_behind : ℕ → ℕ → List ℕ → Result (List (List ℕ)) ObjectFault
 strings_behind count strings bytes = ok_or (strings_in strings (drop (16 + 12 * count) bytes)) Length
 

@@ -1,4 +1,4 @@
-//! The faults of an object.
+//! Why bytes aren't a program's object.
 
 ghost use Rattle.std.specs.Prelude.{◌≡◌};
 ghost use Rattle.program.specs.Object.{fault_at};
@@ -7,31 +7,31 @@ use crate::meaning::FieldFault;
 use std::alloc::{AllocError, AllocFailed};
 use thiserror::Error;
 
-/// Why bytes are no program's object: the first of these decides, and of the instructions the first faulty one.
-/// Instructions are numbered from 0. Bytes that are missing are wrong.
+/// Why bytes aren't a program's object. The first of these that applies is returned, and of several faulty instructions
+/// the first. Instructions are numbered from 0. Missing bytes count as wrong ones.
 #[derive(Clone, Copy, Debug, PartialEq, Eq, Error)]
 pub enum ObjectFault {
     /// The first four bytes aren't `NBSC`.
     #[error("no object")]
     Magic,
-    /// The next two aren't version 1, the low byte first.
+    /// The next two bytes aren't version 1, little-endian.
     #[error("an object of another version")]
     Version,
-    /// The header is cut off, its field before the length isn't 0, its length isn't that of the bytes, the instructions
-    /// and data strings aren't all of them, or they are beyond a limit.
+    /// The header is cut off, its reserved field before the length isn't 0, its length isn't the number of bytes, the
+    /// instructions and data strings don't fill it, or their counts exceed a limit.
     #[error("an object of another length")]
     Length,
-    /// An instruction has no operation of the language.
+    /// The instruction of this number has an unknown operation.
     #[error("instruction {0}: no such operation")]
     Opcode(u16),
-    /// An instruction has a field out of its range, one that isn't used and not 0, or names no data string that it can
-    /// use.
+    /// The instruction of this number has a field out of its range, an unused field that isn't 0, or a data string that
+    /// doesn't exist or doesn't fit.
     #[error("instruction {0}: a wrong operand")]
     Operand(u16),
-    /// An instruction jumps beyond the end.
+    /// The instruction of this number jumps beyond the end of the program.
     #[error("instruction {0}: a jump beyond the end")]
     Target(u16),
-    /// There is no memory for the program. It may stand in place of any answer.
+    /// There is no memory for the program. It may be returned in place of any other result.
     #[error("out of memory")]
     OutOfMemory,
 }
@@ -57,7 +57,7 @@ impl<T: Drop> From<AllocFailed<T>> for ObjectFault {
 }
 
 impl FieldFault {
-    /// The fault of the object, where the instruction has this number.
+    /// The fault of the object whose instruction of this number has the fault.
     pub(crate) fn at(self, pc: u16) -> ObjectFault
         ensures { result ≡ fault_at pc self }
     {

@@ -1,4 +1,4 @@
-//! The fields of an instruction in an object, and their twelve bytes.
+//! The fields of an instruction in an object, and their encoding in twelve bytes.
 
 ghost use Rattle.std.specs.Prelude.{◌≡◌, ◌≤◌, ◌++◌, length, OnOk};
 ghost use Rattle.program.specs.Encoding.{fields_of, same_fields, HaveWidths};
@@ -10,7 +10,7 @@ use dma_ring::Dir;
 use intr_unit::Group;
 use std::alloc::AllocError;
 
-/// How many bytes an instruction has in an object.
+/// The size in bytes of an instruction in an object.
 pub(crate) const INSTRUCTION_BYTES: usize = 12;
 
 /// The fields of an instruction. Those that its operation doesn't use are 0.
@@ -18,17 +18,18 @@ pub(crate) const INSTRUCTION_BYTES: usize = 12;
 pub(crate) struct Fields {
     /// The operation: 1 to 22.
     pub(crate) op: u8,
-    /// Which kind of it: a word of four, a group's or a queue's kind, or the state of the link.
+    /// The variant of the operation: the word that a peek keeps, the kind of a group or a queue side, or the link's
+    /// state.
     pub(crate) sub: u8,
     /// A short number: of a block, a queue, a virtual function, a data string or an instruction.
     pub(crate) x: u16,
-    /// The first word: an address, an offset, or a word.
+    /// The first word: an address, an offset or a register's word.
     pub(crate) a: u32,
-    /// The second word.
+    /// The second word: a register's word or a mask.
     pub(crate) b: u32,
 }
 
-/// The fields of an operation with one short number, which has kinds.
+/// The fields of an operation with a variant and one short number.
 fn of_kind(op: u8, sub: u8, x: u16) -> Fields
     ensures { result ≡ record { op = op; sub = sub; x = x; a = 0; b = 0 } }
 {
@@ -41,7 +42,7 @@ fn of_kind(op: u8, sub: u8, x: u16) -> Fields
     }
 }
 
-/// The fields of an operation with a short number and two words.
+/// The fields of an operation with one short number and two words.
 fn of_words(op: u8, x: u16, a: u32, b: u32) -> Fields
     ensures { result ≡ record { op = op; sub = 0; x = x; a = a; b = b } }
 {
@@ -55,7 +56,7 @@ fn of_words(op: u8, x: u16, a: u32, b: u32) -> Fields
 }
 
 impl Fields {
-    /// The fields of an instruction: the table of the operations.
+    /// The fields of an instruction: the encoding table of the operations.
     pub(crate) fn of(instruction: Instruction) -> Fields
         ensures fields { result ≡ fields_of instruction }
         ensures widths { HaveWidths (fields_of instruction) }
@@ -98,7 +99,7 @@ impl Fields {
         }
     }
 
-    /// Whether all fields are the same.
+    /// Whether all fields are equal.
     pub(crate) fn are(self, other: Fields) -> bool
         ensures { result ≡ same_fields self other }
     {
@@ -109,7 +110,7 @@ impl Fields {
             && self.b == other.b
     }
 
-    /// The fields in the first twelve bytes.
+    /// Decodes the fields in the first twelve bytes.
     pub(crate) fn in_bytes(bytes: &[u8]) -> Fields
         requires { 12 ≤ length bytes.now }
         ensures { result ≡ fields_in bytes.now }
@@ -123,7 +124,7 @@ impl Fields {
         }
     }
 
-    /// Adds the twelve bytes.
+    /// Appends the twelve bytes of the fields.
     pub(crate) fn put(self, out: &mut Vec<u8>) -> Result<(), AllocError>
         ensures { OnOk result (out.new.items ≡ out.old.items ++ bytes_of_fields self) }
     {

@@ -1,4 +1,4 @@
-//! Instructions.
+//! The instructions of the register-script language.
 
 ghost use Rattle.std.specs.Prelude.{◌≡◌, Ok, Result};
 ghost use Rattle.program.specs.Mapped.{AnswersBy, IsLaterNameless, IsNameless, try_map, without_names};
@@ -7,74 +7,74 @@ use dma_ring::Dir;
 use intr_unit::Group;
 use std::alloc::AllocError;
 
-/// One step of a program, or of a text that is read.
+/// One instruction of a program, or of a script text while it is assembled.
 ///
-/// `L` is where a jump goes, and `D` which data string is meant: in a program the number of an instruction, and the
-/// number of a data string. Addresses and words have 32 bits, numbers of blocks and queues 16. Each instruction that
-/// reads leaves a word in `acc`, which starts at 0.
+/// `L` is the type of a jump's target, and `D` that of a data string: in a program both are numbers, of an instruction
+/// and of a data string, from 0. Addresses and words have 32 bits, numbers of blocks and queues 16. Reads and peeks
+/// leave a word in the accumulator `acc`, which starts as 0.
 #[derive(Copy, Debug, Drop, PartialEq, Eq)]
 pub enum Instruction<L = u16, D = u16> {
-    /// `w`: writes a register through the physical function: an address, and the word.
+    /// `w`: writes a register through the physical function: the address, and the word.
     Write(u32, u32),
-    /// `r`: reads a register through the physical function, at an address, into `acc`.
+    /// `r`: reads the register at an address through the physical function into `acc`.
     Read(u32),
     /// `vw`: writes a register through a virtual function.
     VfWrite {
         /// The number of the virtual function, 0 to 62.
         function: u8,
-        /// The offset in the registers of the virtual function.
+        /// The byte offset in the function's register space.
         offset: u32,
-        /// The word.
+        /// The word that is written.
         word: u32,
     },
     /// `vr`: reads a register through a virtual function into `acc`.
     VfRead {
         /// The number of the virtual function, 0 to 62.
         function: u8,
-        /// The offset in the registers of the virtual function.
+        /// The byte offset in the function's register space.
         offset: u32,
     },
-    /// `lend`: takes a block of the machine's arena, and lends it to the device.
+    /// `lend`: takes the block of this number from the machine's arena, and lends it to the device.
     Lend(u16),
-    /// `unlend`: takes a block back from the device, and gives it to the arena.
+    /// `unlend`: takes the block of this number back from the device, and returns it to the arena.
     Unlend(u16),
-    /// `poke`: writes 16 bytes of lent memory: a bus address, and the data string that has them.
+    /// `poke`: writes 16 bytes of lent memory: the bus address, and the data string of 16 bytes.
     Poke(u32, D),
-    /// `peek`: reads 16 bytes of lent memory: a bus address, and which of their four words goes into `acc`, 0 to 3.
+    /// `peek`: reads 16 bytes of lent memory: the bus address, and which of their four words goes into `acc`, 0 to 3.
     Peek(u32, u8),
-    /// `arrive`: the bytes of a data string arrive as a frame.
+    /// `arrive`: the bytes of a data string arrive from the link as a frame.
     Arrive(D),
-    /// `rx`: one receive step.
+    /// `rx`: makes one receive step of the device.
     RxStep,
-    /// `tx`: one transmit step of a queue.
+    /// `tx`: makes one transmit step of a queue.
     TxStep(u16),
-    /// `int`: the next message of a group of interrupts: that of the physical function, or of a virtual function, whose
-    /// number is at most 62.
+    /// `int`: sends the next message of a group of interrupts: that of the physical function, or that of a virtual
+    /// function, 0 to 62.
     IntStep(Group),
-    /// `qstep`: one direction of a queue goes on or off, as its register wants it.
+    /// `qstep`: one side of a queue goes on or off as its enable bit asks.
     QueueStep(Dir, u16),
-    /// `eestep`: a read of the EEPROM that was asked for is done.
+    /// `eestep`: completes the EEPROM read that EERD asks for.
     EepromStep,
-    /// `link`: whether there is link from now on.
+    /// `link`: sets the link up (`true`) or down (`false`).
     Link(bool),
-    /// `collect`: the oldest frame that went out is taken.
+    /// `collect`: takes the oldest transmitted frame out.
     Collect,
-    /// `expect`: the program fails unless `acc`, in the bits of the mask, is the word that is wanted.
+    /// `expect`: the program fails unless `acc` equals the wanted word in the bits of the mask.
     Expect {
         /// The word that is wanted.
         want: u32,
-        /// The bits that count.
+        /// The bits that are compared.
         mask: u32,
     },
-    /// `and`: `acc` keeps the bits of this word alone.
+    /// `and`: clears the bits of `acc` that are 0 in this word.
     And(u32),
-    /// `jeq`: jumps where `acc` is this word.
+    /// `jeq`: jumps to the target where `acc` is this word.
     JumpIfEqual(u32, L),
-    /// `jne`: jumps where `acc` is another word.
+    /// `jne`: jumps to the target where `acc` isn't this word.
     JumpUnlessEqual(u32, L),
-    /// `jmp`: jumps.
+    /// `jmp`: jumps to the target.
     Jump(L),
-    /// `halt`: the program ends.
+    /// `halt`: ends the program.
     Halt,
 }
 
@@ -91,8 +91,8 @@ impl<L: Copy, D: Copy> Clone for Instruction<L, D> {
 }
 
 impl<L, D> Instruction<L, D> {
-    /// The same instruction, with what `label` gives for where it jumps, and `string` for its data string; or the error
-    /// that one gives. Neither is called where the instruction names no such thing.
+    /// The instruction with `label` applied to its jump target and `string` applied to its data string, or the error
+    /// that one of them returns. Neither is called where the instruction has no such operand.
     pub fn try_map<M, N, E, F, G>(&self, label: F, string: G) -> Result<Instruction<M, N>, E>
     where
         F: FnOnce(&L) -> Result<M, E> + Drop,
@@ -118,7 +118,7 @@ impl<L, D> Instruction<L, D> {
         }
     }
 
-    /// The same instruction, which names neither where it jumps nor a data string.
+    /// An instruction that has neither a jump target nor a data string, for other types of these.
     fn nameless<M, N>(&self) -> Instruction<M, N>
         requires { IsNameless self.now }
         ensures { without_names self.now ≡ Ok result }
@@ -145,7 +145,7 @@ impl<L, D> Instruction<L, D> {
         }
     }
 
-    /// The same, of the later ones.
+    /// The second half of `nameless`: for the instructions after `tx`.
     fn later_nameless<M, N>(&self) -> Instruction<M, N>
         requires { IsLaterNameless self.now }
         ensures { without_names self.now ≡ Ok result }

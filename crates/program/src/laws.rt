@@ -1,13 +1,13 @@
-//! What objects promise as a whole. Each law is the contract of a function that does nothing.
+//! Laws of objects. Each law is the contract of a function that does nothing.
 
 ghost use Rattle.program.specs.Laws.{InstructionsDecide, FirstFaultDecides, ObjectsReadBack};
 
-/// Bytes that are laid out as an object, with whatever fields, have no fault but that of an instruction.
+/// Bytes that are laid out as an object, whatever the fields, have no other fault than one of an instruction.
 pub fn instructions_decide()
     ensures { InstructionsDecide }
 {}
 
-/// The first faulty instruction of an object decides, and it is told with its number.
+/// The first faulty instruction of an object is reported, with its number.
 pub fn first_fault_decides()
     ensures { FirstFaultDecides }
 {}

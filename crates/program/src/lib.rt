@@ -1,9 +1,9 @@
-//! Programs of the register-script language: their instructions and their data strings, and their byte form.
+//! Programs of the register-script language: instructions and data strings, and their byte form.
 //!
-//! An [`Instruction`] is one type over what a jump goes to and what a data string is called: a text has names for
-//! both, and a program has numbers. A [`Program`] is what contracts see as a `Listing`, and `IsListing` says what each
-//! one is: its limits, and that what an instruction names is there. `script_text` makes programs of texts, and the
-//! machine runs them. An object is a program's byte form: [`Program::to_bytes`] writes it, and [`read`] reads it.
+//! An [`Instruction`] is generic over jump targets and data strings: a script text has names for both, a program has
+//! numbers. Contracts see a [`Program`] as a `Listing`, and `IsListing` states what holds of each: its limits, and that
+//! whatever an instruction refers to exists. `script_text` assembles programs from texts, and the machine runs them. An
+//! object is a program's byte form: [`Program::to_bytes`] writes it, and [`read`] reads it.
 #![tactic(auto)]
 
 mod fault;

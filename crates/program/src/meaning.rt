@@ -1,4 +1,4 @@
-//! What the fields of an instruction mean.
+//! Decoding an instruction's fields.
 
 ghost use Rattle.std.specs.Prelude.{◌≡◌, length, IfOk};
 ghost use Rattle.program.specs.Listing.{IsSound, string_at};
@@ -11,25 +11,25 @@ use dma_ring::Dir;
 use intr_unit::Group;
 use vf_map::MAX_VFS;
 
-/// What may be wrong with the fields of an instruction, the fault that is told first standing first.
+/// What can be wrong with an instruction's fields, in the order in which it is reported.
 #[derive(Clone, Copy)]
 pub(crate) enum FieldFault {
     /// There is no such operation.
     Opcode,
-    /// A field is out of its range, or isn't used and not 0.
+    /// A field is out of its range, an unused field isn't 0, or the data string doesn't exist or doesn't fit.
     Operand,
-    /// A jump goes beyond the end.
+    /// A jump goes beyond the end of the program.
     Target,
 }
 
-/// The low byte.
+/// The lower 8 bits of a short number.
 fn low_byte(x: u16) -> u8
     ensures { result ≡ low_byte x }
 {
     (x % 256) as u8
 }
 
-/// The group of interrupts of a kind and a number.
+/// The group of interrupts with this kind and number.
 fn group_of(sub: u8, x: u16) -> Group
     ensures { result ≡ group_of sub x }
 {
@@ -40,14 +40,14 @@ fn group_of(sub: u8, x: u16) -> Group
     }
 }
 
-/// The direction of a kind.
+/// The side of a queue with this kind.
 fn direction_of(sub: u8) -> Dir
     ensures { result ≡ direction_of sub }
 {
     if sub == 0 { Dir::Rx } else { Dir::Tx }
 }
 
-/// The instruction that the operation says, with the fields that it uses. `None` where there is no such operation.
+/// The instruction with this operation and the fields that it uses. `None` where there is no such operation.
 fn instruction_in(fields: Fields) -> Option<Instruction>
     ensures { result ≡ instruction_in fields }
 {
@@ -86,14 +86,14 @@ fn instruction_in(fields: Fields) -> Option<Instruction>
     }
 }
 
-/// The fault, unless there is none.
+/// The fault, unless the condition holds.
 fn unless(fits: bool, fault: FieldFault) -> Option<FieldFault>
     ensures { result ≡ unless fits fault }
 {
     if fits { None } else { Some(fault) }
 }
 
-/// How many bytes a data string has: none where there is no string of this number.
+/// The length in bytes of the data string of this number. 0 where there is none.
 fn bytes_of(strings: &[Octets], number: u16) -> usize
     ensures { result ≡ length (string_at strings.now number) }
 {
@@ -103,7 +103,7 @@ fn bytes_of(strings: &[Octets], number: u16) -> usize
     }
 }
 
-/// What an instruction names that isn't there, among these data strings and so many instructions.
+/// What an instruction refers to that doesn't exist, among these data strings and `count` instructions.
 fn fault_in(strings: &[Octets], count: u16, instruction: Instruction) -> Option<FieldFault>
     ensures { result ≡ fault_in strings.now count instruction }
 {
@@ -139,7 +139,7 @@ fn fault_in(strings: &[Octets], count: u16, instruction: Instruction) -> Option<
     }
 }
 
-/// The instruction that the fields mean, among these data strings and so many instructions.
+/// The instruction that the fields encode, among these data strings and `count` instructions.
 pub(crate) fn meaning(
     strings: &[Octets],
     count: u16,

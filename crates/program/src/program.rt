@@ -1,4 +1,4 @@
-//! Programs.
+//! Programs: data strings and instructions within the limits of the language.
 
 ghost use Rattle.std.specs.Prelude.{◌≡◌, ◌≤◌, length, slice_get, IfSome, IfOk, Ok};
 ghost use Rattle.program.specs.Listing.{IsSound, IsListing, string_at};
@@ -10,20 +10,20 @@ use dma_arena::Octets;
 use std::alloc::{AllocError, Global};
 use std::marker::Model;
 
-/// How many instructions a program may have.
+/// The most instructions that a program can have.
 pub const INSTRUCTION_LIMIT: usize = 4096;
 
-/// How many data strings a program may have.
+/// The most data strings that a program can have.
 pub const DATA_LIMIT: usize = 1024;
 
-/// How many bytes a data string may have. It has at least one.
+/// The most bytes that a data string can have. It has at least one.
 pub const DATA_BYTES: usize = 16384;
 
-/// A program: its data strings and its instructions, both in their order.
+/// A program: its data strings and its instructions, both in order.
 ///
-/// There are at most 4,096 instructions and 1,024 data strings of 1 to 16,384 bytes. What an instruction names is
-/// there: a data string, which has 16 bytes where it is poked, a virtual function below 63, one of four words, and
-/// an instruction, or the end, where it jumps.
+/// There are at most 4,096 instructions, and at most 1,024 data strings of 1 to 16,384 bytes. Whatever an instruction
+/// refers to exists: a data string, which has 16 bytes where it is poked, a virtual function below 63, one of four
+/// words, and the instruction, or the end, that it jumps to.
 #[derive(Debug, Drop)]
 pub struct Program {
     strings: Vec<Octets>,
@@ -52,7 +52,7 @@ impl Program {
         }
     }
 
-    /// The same program once more.
+    /// A copy of the program. `AllocError` where there is no memory for it.
     pub fn copy(&self, alloc: Global) -> Result<Program, AllocError>
         ensures { IfOk result (λ program. program ≡ self.now) }
     {
@@ -64,7 +64,7 @@ impl Program {
         })
     }
 
-    /// How many instructions there are.
+    /// The number of instructions, at most 4,096.
     pub fn instructions(&self) -> u16
         ensures count { result ≡ length self.now.instructions }
         ensures limit { result ≤ INSTRUCTION_LIMIT }
@@ -72,7 +72,7 @@ impl Program {
         self.instructions.len() as u16
     }
 
-    /// The instruction of this number. `None` from the number of instructions on.
+    /// The instruction of this number, from 0. `None` from the number of instructions on.
     pub fn instruction(&self, pc: u16) -> Option<Instruction>
         ensures found { result ≡ slice_get self.now.instructions pc }
         ensures sound { IfSome result (IsSound self.now.strings (length self.now.instructions)) }
@@ -96,7 +96,7 @@ impl Program {
         &self.strings
     }
 
-    /// The bytes of the data string of this number: none from the number of data strings on.
+    /// The bytes of the data string of this number, from 0. Empty from the number of data strings on.
     pub fn string(&self, number: u16) -> &[u8]
         ensures { result.now ≡ string_at self.now.strings number }
     {
@@ -106,8 +106,9 @@ impl Program {
         }
     }
 
-    /// The object of the program: its header, its instructions in twelve bytes each, and its data strings behind their
-    /// lengths, each number with its low byte first. Reading it gives the same program.
+    /// The object of the program: its header, its instructions in twelve bytes each, and its data strings, each after
+    /// its length; numbers are little-endian. [`read`] reads it back as the same program. `AllocError` where there is
+    /// no memory for it.
     pub fn to_bytes(&self, alloc: Global) -> Result<Vec<u8>, AllocError>
         ensures exact { IfOk result (λ bytes. bytes.items ≡ object_of self.now) }
         ensures reads_back { IfOk result (λ bytes. read_of bytes.items ≡ Ok self.now) }

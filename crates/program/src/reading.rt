@@ -1,4 +1,4 @@
-//! From an object's bytes to the program.
+//! Decodes an object's bytes into a program.
 
 ghost use Rattle.std.specs.Prelude.{◌≡◌, ◌+◌, ◌*◌, ◌≤◌, ◌++◌, ◌∷◌, [], length, drop, IfOk, Ok};
 ghost use Rattle.std.specs.Option.{option_map, ok_or};
@@ -19,23 +19,23 @@ use crate::program::{DATA_BYTES, DATA_LIMIT, INSTRUCTION_LIMIT, Program};
 use dma_arena::Octets;
 use std::alloc::Global;
 
-/// How many bytes the header has.
+/// The size of an object's header in bytes.
 pub(crate) const HEADER_BYTES: usize = 16;
 
-/// The first four bytes.
+/// The first four bytes of an object: `NBSC`.
 const MAGIC: [u8; 4] = [0x4e, 0x42, 0x53, 0x43];
 
 /// The first six bytes of an object of version 1.
 pub(crate) const MAGIC_AND_VERSION: [u8; 6] = [0x4e, 0x42, 0x53, 0x43, 1, 0];
 
-/// How many instructions and data strings an object has.
+/// The counts of instructions and data strings in an object's header.
 #[derive(Clone, Copy)]
 pub(crate) struct Header {
     count: u16,
     strings: u16,
 }
 
-/// How many instructions and data strings there are, where a header and the instructions fit the bytes.
+/// The counts in the header, where the header and the instructions fit the bytes.
 fn counts_in(bytes: &[u8]) -> Result<Header, ObjectFault>
     ensures value { result ≡ counts_in bytes.now }
     ensures fits { IfOk result (Fits bytes.now) }
@@ -58,7 +58,7 @@ fn counts_in(bytes: &[u8]) -> Result<Header, ObjectFault>
     }
 }
 
-/// What the header says, or the first fault of it.
+/// The counts in the header, or its first fault.
 #[tactic(auto, unfolding(crate::specs::Object::header_in))]
 fn header_in(bytes: &[u8]) -> Result<Header, ObjectFault>
     ensures value { result ≡ header_in bytes.now }
@@ -73,7 +73,7 @@ fn header_in(bytes: &[u8]) -> Result<Header, ObjectFault>
     counts_in(bytes)
 }
 
-/// The first data string, and the bytes behind it. `None` where they have none of 1 to 16,384 bytes.
+/// The first data string, and the bytes after it. `None` where no data string of 1 to 16,384 bytes is there.
 #[tactic(auto, unfolding(crate::specs::Object::string_in))]
 fn split_string(bytes: &[u8]) -> Option<(&[u8], &[u8])>
     ensures { option_map (λ split. (split.0.now, split.1.now)) result ≡ string_in bytes.now }
@@ -97,7 +97,7 @@ fn copy_of(alloc: Global, string: &[u8]) -> Result<Octets, ObjectFault>
     Ok(Octets::of(bytes))
 }
 
-/// So many data strings, which are all of the bytes.
+/// `count` data strings, which fill the bytes.
 fn strings_in(alloc: Global, count: u16, bytes: &[u8]) -> Result<Vec<Octets>, ObjectFault>
     ensures { Gives (λ strings. strings.items) result (ok_or (strings_in count bytes.now) ObjectFault.Length) }
 {
@@ -117,7 +117,7 @@ fn strings_in(alloc: Global, count: u16, bytes: &[u8]) -> Result<Vec<Octets>, Ob
     }
 }
 
-/// The instruction of this number, which the first twelve bytes are.
+/// Decodes the first twelve bytes, the instruction of number `pc`.
 fn instruction_at(
     strings: &[Octets],
     count: u16,
@@ -134,7 +134,7 @@ fn instruction_at(
     }
 }
 
-/// So many instructions, which the bytes begin with.
+/// Decodes `count` instructions at the beginning of the bytes.
 fn instructions_in(
     alloc: Global,
     strings: &[Octets],
@@ -157,7 +157,7 @@ fn instructions_in(
     Ok(instructions)
 }
 
-/// The data strings behind the instructions.
+/// The data strings after the instructions.
 fn strings_behind(alloc: Global, bytes: &[u8], header: Header) -> Result<Vec<Octets>, ObjectFault>
     requires { 16 + 12 * header.count ≤ length bytes.now }
     ensures { Gives (λ strings. strings.items) result (strings_behind header.count header.strings bytes.now) }
@@ -167,7 +167,7 @@ fn strings_behind(alloc: Global, bytes: &[u8], header: Header) -> Result<Vec<Oct
     strings_in(alloc, header.strings, behind)
 }
 
-/// The instructions behind the header.
+/// The instructions after the header.
 fn instructions_behind(
     alloc: Global,
     bytes: &[u8],
@@ -184,10 +184,10 @@ fn instructions_behind(
     instructions_in(alloc, strings, header.count, behind)
 }
 
-/// The program whose object the bytes are, or their first fault.
+/// Decodes an object into its program, or returns its first fault.
 ///
-/// What it takes is the object of the program that it gives, byte for byte. It takes time linear in the number of
-/// bytes. `OutOfMemory` may stand in place of any answer.
+/// The bytes that it accepts are exactly the object of the program that it returns. It takes time linear in the number
+/// of bytes. `OutOfMemory` may be returned in place of any other result.
 #[tactic(auto, unfolding(crate::specs::Object::read_of))]
 pub fn read(alloc: Global, bytes: &[u8]) -> Result<Program, ObjectFault>
     ensures exact { Gives (λ program. program) result (read_of bytes.now) }

@@ -1,4 +1,4 @@
-//! From a program to its object's bytes.
+//! Encodes a program as its object's bytes.
 
 ghost use Rattle.std.specs.Prelude.{◌≡◌, ◌≤◌, ◌<◌, ◌^◌, ◌++◌, length, map, IfOk, OnOk};
 ghost use Rattle.std.specs.List.{flat_map, AllByRecursion};
@@ -13,7 +13,7 @@ use crate::reading::{HEADER_BYTES, MAGIC_AND_VERSION};
 use dma_arena::Octets;
 use std::alloc::{AllocError, Global};
 
-/// Adds the header: how many instructions and data strings there are, and how many bytes in all.
+/// Appends the header: the counts of instructions and data strings, and the number of bytes in all.
 fn put_header(out: &mut Vec<u8>, count: u16, strings: u16, total: u32) -> Result<(), AllocError>
     ensures { OnOk result (out.new.items ≡ out.old.items ++ header count strings total) }
 {
@@ -25,7 +25,7 @@ fn put_header(out: &mut Vec<u8>, count: u16, strings: u16, total: u32) -> Result
     Ok(())
 }
 
-/// Adds the fields of instructions, in order.
+/// Appends instructions, in order.
 fn put_instructions(out: &mut Vec<u8>, instructions: &[Instruction]) -> Result<(), AllocError>
     ensures bytes { OnOk result
         (out.new.items ≡ out.old.items ++ flat_map bytes_of_fields (map fields_of instructions.now)) }
@@ -37,7 +37,7 @@ fn put_instructions(out: &mut Vec<u8>, instructions: &[Instruction]) -> Result<(
     Ok(())
 }
 
-/// Adds a data string, behind its length.
+/// Appends a data string after its length.
 fn put_string(out: &mut Vec<u8>, string: &[u8]) -> Result<(), AllocError>
     requires { length string.now ≤ 16384 }
     ensures { OnOk result (out.new.items ≡ out.old.items ++ bytes_of_string string.now) }
@@ -48,7 +48,7 @@ fn put_string(out: &mut Vec<u8>, string: &[u8]) -> Result<(), AllocError>
     Ok(())
 }
 
-/// Adds data strings, in order.
+/// Appends data strings, in order.
 fn put_strings(out: &mut Vec<u8>, strings: &[Octets]) -> Result<(), AllocError>
     requires { AllByRecursion IsDataString strings.now }
     ensures { OnOk result (out.new.items ≡ out.old.items ++ flat_map bytes_of_string strings.now) }
@@ -59,7 +59,7 @@ fn put_strings(out: &mut Vec<u8>, strings: &[Octets]) -> Result<(), AllocError>
     Ok(())
 }
 
-/// What stands behind the header: the instructions, and then the data strings.
+/// What follows the header: the instructions, and then the data strings.
 fn body(
     alloc: Global,
     strings: &[Octets],
@@ -76,7 +76,7 @@ fn body(
     Ok(body)
 }
 
-/// The object of these data strings and instructions, which are a program's.
+/// The object of these data strings and instructions, which form a program.
 #[tactic(auto, unfolding(crate::specs::Object::laid_out))]
 pub(crate) fn object(
     alloc: Global,

@@ -1,4 +1,4 @@
-//! `nic_device`: the device.
+//! `nic_device`: the device, its configuration and its parts.
 
 use crate::typed::is;
 use nic_device::{

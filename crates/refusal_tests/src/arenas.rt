@@ -76,7 +76,7 @@ struct Lending {
 }
 
 impl Lending {
-    /// Block 15 with bytes, beside block 0 which is lent: the table of lent blocks has no place for its number yet.
+    /// Block 15 with bytes, while block 0 is lent: the table of lent blocks has no place for its number yet.
     fn new<R: Abort>(rt: &R, alloc: Global) -> Lending {
         let mut arena = done(rt, Arena::new(alloc, 0, 16));
         let mut memory = LentMemory::new(alloc);

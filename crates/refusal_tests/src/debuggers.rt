@@ -1,4 +1,4 @@
-//! The debugger.
+//! The commands of the debugger.
 
 use crate::machines::{Building, CONFIG, OfProgram, program};
 use crate::outcome::done;
@@ -10,7 +10,7 @@ use std::alloc::Global;
 use std::process::Abort;
 use std::sync::Wait;
 
-/// What a command is answered: the number of steps and the accumulator.
+/// The result of a command: the number of steps and the accumulator.
 fn view<R: Abort>(rt: &R, debugger: &mut Debugger, command: Command) -> u64 {
     let view = done(rt, debugger.exec(command));
     with(with(START, view.steps), u64::from(view.acc))

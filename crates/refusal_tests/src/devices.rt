@@ -1,4 +1,4 @@
-//! Events of a device in hand, and a run of several.
+//! Events of an owned device, and a run of several.
 
 use crate::outcome::{done, none, put, some};
 use crate::sums::{START, end_device, with, with_device, with_event};
@@ -8,7 +8,7 @@ use std::alloc::Global;
 use std::process::Abort;
 use std::sync::Wait;
 
-/// Registers, by address and word, that let frames in and give queue 0 a ring of eight slots for each direction: one in
+/// Registers, by address and word, that accept frames and give queue 0 a ring of eight slots for each direction: one in
 /// the first bytes of block 0, the other from its byte 1,024 on. Slot 0 of each is the device's.
 #[rattlefmt::skip]
 const WRITES: [(u32, u32); 11] = [
@@ -25,10 +25,10 @@ const WRITES: [(u32, u32); 11] = [
     (0x06018, 1),            // TDT
 ];
 
-/// Names block 1.
+/// A receive descriptor whose buffer is block 1.
 const POSTED: [u8; 16] = [0, 8, 0, 0, 0, 0, 0, 0, 0, 0, 0, 0, 0, 0, 0, 0];
 
-/// Names a frame of 60 bytes in block 2, which is told of.
+/// A transmit descriptor of a frame of 60 bytes in block 2, which asks for a report.
 const OUTGOING: [u8; 16] = [0, 16, 0, 0, 0, 0, 0, 0, 60, 0, 0x30, 0x2B, 0, 0, 15, 0];
 
 /// A frame of 60 bytes.
@@ -77,7 +77,7 @@ fn lending<R: Abort>(rt: &R, arena: &mut Arena, block: u32) -> Event {
     Event::Lend(buf)
 }
 
-/// What an event was answered with, as a number.
+/// The reply to an event, as a number.
 pub fn number_of<R: Abort>(rt: &R, reply: Reply) -> u64 {
     match reply {
         Reply::Done => 1,
@@ -206,7 +206,7 @@ impl Running {
         }
     }
 
-    /// Puts replies behind those before.
+    /// Puts replies after those before.
     fn note<R: Abort>(&mut self, rt: &R, replies: Vec<Reply>) {
         let mut replies = replies;
         replies.reverse();

@@ -24,7 +24,7 @@ pub const PLAIN: Setup = Setup {
     frame: 1518,
 };
 
-/// A new device in hand.
+/// A new device, which the test owns.
 fn direct<R: Abort>(rt: &R, alloc: Global) -> Direct {
     let device = done(rt, Device::new(alloc, Config { vfs: 0, fifo: 64 }));
     Direct::new(alloc, device, 0)
@@ -78,7 +78,7 @@ fn a_device_is_set_up(rt: HostRuntime) {
     );
 }
 
-/// Sees that a driver's call was refused for want of memory.
+/// Checks that a driver's call was refused for lack of memory.
 fn is_for_memory<R: Abort>(rt: &R, fault: PmdFault) {
     match fault {
         PmdFault::Call(CallFault::OutOfMemory(())) => {}
@@ -86,7 +86,7 @@ fn is_for_memory<R: Abort>(rt: &R, fault: PmdFault) {
     }
 }
 
-/// The arena of a driver that came home and lost no block.
+/// The arena of a driver that stopped and lost no block.
 pub fn arena_of<R: Abort>(rt: &R, home: Home) -> Arena {
     let Home {
         arena,
@@ -98,8 +98,8 @@ pub fn arena_of<R: Abort>(rt: &R, home: Home) -> Arena {
     arena
 }
 
-/// The same arena, all of whose blocks are free: each is taken and given in its turn, so that the next ones that are
-/// taken are the same, whatever was taken and given before.
+/// An arena all of whose blocks are free, in a fixed order: each is taken and given in its turn, so that the next ones
+/// that are taken don't depend on what was taken and given before.
 fn in_turn<R: Abort>(rt: &R, arena: Arena) -> Arena {
     let mut arena = arena;
     for block in 0..32 {
@@ -150,7 +150,7 @@ impl Driving {
         driving
     }
 
-    /// Lets a frame arrive, or gives it a packet to send, by the call.
+    /// Lets a frame arrive, or adds a packet to send, as the call needs.
     fn ready<R: Abort>(&mut self, rt: &R, alloc: Global) {
         let mut pmd = some(rt, self.pmd.take());
         match self.kind {
@@ -227,7 +227,7 @@ impl Driving {
         }
     }
 
-    /// Nothing is outstanding behind it.
+    /// Nothing is outstanding after it.
     fn reap<R: Abort>(&mut self, rt: &R, alloc: Global, pmd: &mut Pmd) -> bool {
         match pmd.reap(alloc, &mut self.nic) {
             Ok(reaped) => reaped.idle,
@@ -265,7 +265,7 @@ impl Driving {
         made
     }
 
-    /// Releases a packet in hand, has what was accepted go out, and stops.
+    /// Releases a received packet, has what was accepted transmitted, and stops.
     fn settle<R: Abort>(&mut self, rt: &R, alloc: Global) {
         let mut pmd = some(rt, self.pmd.take());
         if let Some(packet) = self.packet.take() {

@@ -14,7 +14,7 @@ use std::sync::Wait;
 /// An image with a word and a register write.
 const EEPROM: &str = "size 128\nword 0 5\ncsr 0x05080 0x00000400\n";
 
-/// What is made.
+/// The kinds of values that are made.
 #[derive(Clone, Copy)]
 enum Kind {
     Arena,
@@ -61,7 +61,7 @@ fn sum_of_device<R: Abort>(rt: &R, device: Device) -> u64 {
     sum
 }
 
-/// Two blocks.
+/// An arena of two blocks.
 fn arena<R: Abort>(rt: &R, alloc: Global) -> Option<u64> {
     match Arena::new(alloc, 4, 2) {
         Ok(arena) => Some(end_arena(rt, START, arena)),

@@ -1,6 +1,6 @@
-//! Want of memory: each call that may be refused for it, with one of its growths refused.
+//! Lack of memory: each call that may be refused for it, with one of its growths refused.
 //!
-//! A test makes one call, in front of which it prints `call` and behind it `end`. Where the call was refused it sees
+//! A test makes one call, in front of which it prints `call` and after it `end`. Where the call was refused it checks
 //! that nothing changed and that what was moved in is back, and makes it again: then all ends as it does where nothing
 //! was refused. By itself no growth is refused here; `dev/refusals` runs each test once for each growth of its call,
 //! which is refused then.

@@ -1,4 +1,4 @@
-//! The calls that were made of a device in hand, one by one and as a history.
+//! The calls that were made of an owned device, one by one and as a history.
 
 use crate::devices::number_of;
 use crate::outcome::{done, none, put, some};
@@ -51,7 +51,7 @@ fn with_calls(sum: u64, calls: &Calls) -> u64 {
 }
 
 impl Listing {
-    /// Three writes, with idle steps before each and behind the last.
+    /// Three writes, with idle steps before each and after the last.
     fn new<R: Abort>(rt: &R, alloc: Global) -> Listing {
         let mut device = done(rt, Device::new(alloc, Config { vfs: 0, fifo: 64 }));
         let mut calls = Calls::new(alloc);
@@ -120,7 +120,7 @@ fn the_calls_are_listed(rt: HostRuntime) {
     );
 }
 
-/// Calls that are to be told as a history: all of one pass, or by marks.
+/// Calls that are to be returned as a history: all of one pass, or by marks.
 struct Telling {
     is_marked: bool,
     calls: Option<Vec<Call>>,
@@ -131,7 +131,7 @@ struct Telling {
 const MARKS: [bool; 3] = [true, false, true];
 
 impl Telling {
-    /// Three writes.
+    /// The calls of three writes.
     fn new<R: Abort>(rt: &R, alloc: Global, is_marked: bool) -> Telling {
         let mut calls = Vec::new(alloc);
         for word in 1..4u32 {

@@ -15,15 +15,15 @@ pub type Bench = Shared<0, 64>;
 
 /// A shared device of one pass.
 pub struct Opened {
-    /// The device.
+    /// The shared device of the pass.
     pub bench: Bench,
-    /// Its pass.
+    /// The one pass of the device.
     pub pass: Pass,
-    /// Blocks for it.
+    /// The blocks for its calls.
     pub arena: Arena,
 }
 
-/// A shared device that lets frames in.
+/// A shared device that accepts frames.
 pub fn open_bench<R: Abort + Wait>(rt: &R, alloc: Global) -> Opened {
     let (bench, mut passes) = done(rt, Bench::new(alloc, 7, 1, 100));
     let mut pass = some(rt, passes.pop());

@@ -9,7 +9,7 @@ use std::alloc::Global;
 use std::process::Abort;
 use std::sync::Wait;
 
-/// Steps that lend a block, take it back, let a frame in and receive it.
+/// Steps that lend a block, take it back, accept a frame and receive it.
 const SCRIPT: &str = "data f 000102030405060708090a0b0c0d0e0f000102030405060708090a0b0c0d0e0f\
 000102030405060708090a0b0c0d0e0f000102030405060708090a0b
 data d 00080000000000000000000000000000
@@ -38,7 +38,7 @@ pub fn program<R: Abort>(rt: &R, alloc: Global) -> Program {
     done(rt, assemble(alloc, SCRIPT))
 }
 
-/// A sum with a machine in it, as its reader sees it.
+/// A sum with a machine in it, by what its public calls return.
 pub fn with_machine(sum: u64, machine: &Machine) -> u64 {
     let sum = with(with(sum, machine.steps()), u64::from(machine.pc()));
     let mut sum = with(sum, u64::from(machine.acc()));
@@ -53,10 +53,10 @@ pub fn with_machine(sum: u64, machine: &Machine) -> u64 {
 
 /// What is made of a program.
 pub trait OfProgram {
-    /// Makes it.
+    /// Makes the value from a program. A refusal returns the program.
     fn of(alloc: Global, program: Program) -> Result<Self, NewRefused>;
 
-    /// Goes on to the script's end, and gives a sum of what was seen there.
+    /// Runs to the script's end, and returns a sum of what was seen there.
     fn to_end<R: Abort>(self, rt: &R) -> u64;
 }
 
@@ -125,7 +125,7 @@ fn a_machine_is_made(rt: HostRuntime) {
     );
 }
 
-/// A machine that has made so many steps of the script.
+/// A machine that has made this many steps of the script.
 pub fn machine_after<R: Abort>(rt: &R, alloc: Global, steps: u32) -> Machine {
     let mut machine = match Machine::new(alloc, program(rt, alloc), CONFIG) {
         Ok(machine) => machine,
@@ -175,7 +175,7 @@ impl Trial for Stepping {
     }
 }
 
-/// The step behind so many others.
+/// The step after this many others.
 fn steps<R: Abort + Wait + Print>(rt: &R, alloc: Global, steps: u32) {
     let subject = Stepping {
         machine: machine_after(rt, alloc, steps),

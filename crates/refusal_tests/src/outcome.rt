@@ -1,9 +1,9 @@
-//! Answers that a test goes on with.
+//! The results with which a test goes on.
 
 use std::mem;
 use std::process::Abort;
 
-/// The value of an answer that is no refusal.
+/// The value of a result that must be `Ok`.
 pub fn done<T, E>(rt: &impl Abort, answer: Result<T, E>) -> T {
     match answer {
         Ok(value) => value,
@@ -11,7 +11,7 @@ pub fn done<T, E>(rt: &impl Abort, answer: Result<T, E>) -> T {
     }
 }
 
-/// The value of an answer that isn't none.
+/// The value of an option that must be `Some`.
 pub fn some<T>(rt: &impl Abort, answer: Option<T>) -> T {
     match answer {
         Some(value) => value,
@@ -19,7 +19,7 @@ pub fn some<T>(rt: &impl Abort, answer: Option<T>) -> T {
     }
 }
 
-/// Why an answer was refused.
+/// The error of a result that must be `Err`.
 pub fn refused<T, E>(rt: &impl Abort, answer: Result<T, E>) -> E {
     match answer {
         Ok(_value) => panic!(rt; "not refused"),
@@ -32,7 +32,7 @@ pub fn put<T>(rt: &impl Abort, at: &mut Option<T>, value: T) {
     none(rt, mem::replace(at, Some(value)));
 }
 
-/// Sees that an answer is none.
+/// Checks that an option is `None`.
 pub fn none<T>(rt: &impl Abort, answer: Option<T>) {
     match answer {
         Some(_value) => panic!(rt; "not none"),

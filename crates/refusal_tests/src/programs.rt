@@ -15,7 +15,7 @@ const SCRIPT: &str = "data f 0102030405060708090a0b0c0d0e0f10\nagain:\npoke 0x80
 const OBJECT: &[u8] = b"NBSC\x01\x00\x02\x00\x00\x00\x00\x00\x28\x00\x00\x00\
 \x01\x00\x00\x00\x18\x00\x00\x00\x00\x00\x00\x10\x02\x00\x00\x00\x18\x00\x00\x00\x00\x00\x00\x00";
 
-/// What is made.
+/// The kinds of values that are made.
 #[derive(Clone, Copy)]
 enum Kind {
     Program,

@@ -43,7 +43,7 @@ pub fn with_arena(sum: u64, arena: &Arena) -> u64 {
     sum
 }
 
-/// A sum with an event in it that is still in hand.
+/// A sum with an event in it that wasn't made.
 pub fn with_event(sum: u64, event: &Option<Event>) -> u64 {
     match event {
         Some(Event::Lend(buf)) => with_buf(with(sum, 2), buf),

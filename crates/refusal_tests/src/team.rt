@@ -1,4 +1,4 @@
-//! Workers on threads.
+//! Workers that run on threads.
 
 use crate::devices::frame;
 use crate::drivers::{PLAIN, arena_of};
@@ -41,7 +41,7 @@ fn jobs<R: Abort>(rt: &R, alloc: Global, passes: Vec<Pass>) -> Vec<Job> {
     jobs
 }
 
-/// Two frames.
+/// The two frames that arrive.
 fn frames<R: Abort>(rt: &R, alloc: Global) -> Vec<Vec<u8>> {
     let mut frames = Vec::new(alloc);
     for _frame in 0..2 {
@@ -80,7 +80,7 @@ fn run_team<R: Abort + Threads + Wait + Sync + Print>(
     }
 }
 
-/// Whether a worker came to its end. Else it ended for want of memory, or of a thread.
+/// Whether a worker came to its end. Else it ended for lack of memory, or of a thread.
 fn is_whole<R: Abort>(rt: &R, fault: Option<WorkerFault>) -> bool {
     match fault {
         None => true,
@@ -90,7 +90,7 @@ fn is_whole<R: Abort>(rt: &R, fault: Option<WorkerFault>) -> bool {
     }
 }
 
-/// Brings a worker's blocks home, and sees that none is lost.
+/// Ends a worker's driver, and checks that none of its blocks is lost.
 fn bring_home<R: Abort + Wait>(
     rt: &R,
     alloc: Global,
@@ -111,7 +111,7 @@ fn bring_home<R: Abort + Wait>(
     pass
 }
 
-/// Sees how the workers ended, and closes the shared device.
+/// Checks how the workers ended, and closes the shared device.
 fn settle<R: Abort + Wait>(rt: &R, alloc: Global, bench: Bench, ran: Ran, host: Pass) {
     let Ran { mut ends, fed } = ran;
     let (mut passes, mut all, mut packets) = (Vec::new(alloc), true, 0);

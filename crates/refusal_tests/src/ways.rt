@@ -12,8 +12,8 @@ use std::alloc::Global;
 use std::process::Abort;
 use std::sync::Wait;
 
-/// Makes the event of a call over a way to a device, and adds the answer to a sum. False where it was refused for want
-/// of memory: then it is put back.
+/// Makes the event of a call through a way to access a device, and adds the reply to a sum. `false` where it was
+/// refused for lack of memory: then the event is put back.
 fn called<R: Abort, N: Nic>(
     rt: &R,
     alloc: Global,
@@ -34,9 +34,9 @@ fn called<R: Abort, N: Nic>(
     }
 }
 
-/// A way to a device in hand.
+/// A way to an owned device.
 trait Ends: Nic {
-    /// Gives back the device, with a sum that has what else was answered in it.
+    /// Returns the device, and a sum that includes the other replies.
     fn ended<R: Abort>(self, rt: &R, sum: u64) -> (Device, u64);
 }
 
@@ -77,7 +77,7 @@ impl Ends for Direct {
     }
 }
 
-/// A block that is lent over a device in hand.
+/// A block that is lent over an owned device.
 fn direct<R: Abort>(rt: &R, alloc: Global) -> InHand<Direct> {
     let (device, mut arena) = ready(rt, alloc);
     let event = Some(to_lend(rt, &mut arena));

@@ -18,7 +18,7 @@ AddressesAreAligned = (address : ℕ) (p : Place) → Names address p → addres
 abbrev pub IsApart : Run → Run → Type 0
 IsApart r s = (address : ℕ) (p q : Place) → HasPlaceAt r address p → HasPlaceAt s address q → ⊥
 
--- any two runs of the table are apart, those of different rows and those of one row
+-- any two runs of the table are disjoint, those of different rows and those of one row
 abbrev pub RunsAreApart : Type 0
 RunsAreApart = AllPairs IsApart runs
 

@@ -9,17 +9,17 @@ use crate::dispatch::aligned;
 use crate::place::Place;
 use crate::rows::RowId;
 
-/// What an access of an address meets.
+/// What an access at an address reaches.
 #[derive(Clone, Copy, PartialEq, Eq, Debug)]
 pub struct Access {
-    /// The word.
+    /// The register that is accessed.
     pub place: Place,
-    /// The bits of the word that show at the address: 0xFFFF where it is a view of bits 15:0, else 0xFFFFFFFF.
+    /// A mask of the bits that show at the address: 0xFFFF where it shows bits 15:0 alone, else 0xFFFFFFFF.
     pub view: u32,
 }
 
-/// The place that an address names, with the bits that show there: both by one dispatch on the address. `None` exactly
-/// where no place has the address; an address that is no multiple of 4 names none.
+/// The place at an address, a byte offset into the register space, with the bits that show there. `None` exactly where
+/// no register has the address; an address that is no multiple of 4 has none.
 #[inline(always)]
 pub fn resolve(address: u32) -> Option<Access>
     ensures value { result ≡ access_at address }
@@ -30,7 +30,7 @@ pub fn resolve(address: u32) -> Option<Access>
     at(address)
 }
 
-/// The same, as the table alone says it.
+/// The access at an address, by the definition alone: `resolve` states what else holds of it.
 #[tactic(auto, using(crate::proofs::Views::no_part_of_a_word))]
 #[inline(always)]
 fn at(address: u32) -> Option<Access>
@@ -42,7 +42,7 @@ fn at(address: u32) -> Option<Access>
     aligned(address)
 }
 
-/// The access at an offset from the first of a row's addresses, which go by 4.
+/// The access at an offset from the first address of a row whose addresses are 4 bytes apart.
 #[inline(always)]
 pub(crate) fn words(row: RowId, first_index: u16, offset: u32) -> Option<Access>
     requires near { offset < 0x10000 }
@@ -52,7 +52,7 @@ pub(crate) fn words(row: RowId, first_index: u16, offset: u32) -> Option<Access>
     seen(row, first_index + (offset / 4) as u16, 0xFFFF_FFFF)
 }
 
-/// The same at addresses that show bits 15:0 alone.
+/// The access at such an offset, where the addresses show bits 15:0 alone.
 #[inline(always)]
 pub(crate) fn low_words(row: RowId, first_index: u16, offset: u32) -> Option<Access>
     requires near { offset < 0x10000 }
@@ -62,7 +62,7 @@ pub(crate) fn low_words(row: RowId, first_index: u16, offset: u32) -> Option<Acc
     seen(row, first_index + (offset / 4) as u16, 0xFFFF)
 }
 
-/// The access at an offset from the first of a row's addresses, which go by 8.
+/// The access at an offset from the first address of a row whose addresses are 8 bytes apart.
 #[inline(always)]
 pub(crate) fn pairs(row: RowId, first_index: u16, offset: u32) -> Option<Access>
     requires near { offset < 0x10000 }
@@ -72,7 +72,7 @@ pub(crate) fn pairs(row: RowId, first_index: u16, offset: u32) -> Option<Access>
     seen(row, first_index + (offset / 8) as u16, 0xFFFF_FFFF)
 }
 
-/// The access at an offset from the first of a row's addresses, which go by 64.
+/// The access at an offset from the first address of a row whose addresses are 64 bytes apart.
 #[inline(always)]
 pub(crate) fn queues(row: RowId, first_index: u16, offset: u32) -> Option<Access>
     requires near { offset < 0x10000 }

@@ -1,25 +1,26 @@
-/// Which part of the device a register belongs to.
+/// The part of the device that a register belongs to.
 #[derive(Clone, Copy, PartialEq, Eq, Debug)]
 pub enum Bank {
-    /// The device as a whole: what it is told, and what it tells of itself.
+    /// The device as a whole: its settings and its state.
     Device,
-    /// What the device counts.
+    /// The statistics counters of the device.
     Counters,
-    /// The receive side of a queue, whose number is the register's index.
+    /// The receive side of a queue. The register's index is the queue's number, 0 to 127.
     Receive,
-    /// The transmit side of a queue, whose number is the register's index.
+    /// The transmit side of a queue. The register's index is the queue's number, 0 to 127.
     Transmit,
     /// The interrupts of the physical function.
     Interrupts,
-    /// The interrupts of a virtual function, whose number is the register's index.
+    /// The interrupts of a virtual function. The register's index is the function's number.
     VfInterrupts,
-    /// A pool, whose number is the register's index.
+    /// A pool of queues. The register's index is the pool's number.
     Pool,
-    /// What is counted of a virtual function, whose number is the register's index.
+    /// The statistics counters of a virtual function. The register's index is the function's number.
     VfCounters,
-    /// The interrupt vectors of queues of virtual functions; which queues, the mode and the register's index say.
+    /// The interrupt vectors of the virtual functions' queues. The mode of pools and the register's index say which
+    /// queues.
     Vectors,
-    /// The memory through which the physical function and the virtual functions send messages: 16 words for each
+    /// The mailbox memory, for messages between the physical function and the virtual functions: 16 words for each
     /// virtual function.
     Messages,
 }

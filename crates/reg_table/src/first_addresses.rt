@@ -25,7 +25,7 @@ macro_rules! run {
     };
 }
 
-/// Each row's, in the order of the table: first address, stride, how many, further address.
+/// The first addresses of each row, in the table's order: first address, stride, count, further address.
 #[rattlefmt::skip]
 static FIRST_ADDRESSES: [FirstAddresses; 80] = [
     run!(0x00000,  4,    1, 0x00000), // Ctrl
@@ -110,7 +110,7 @@ static FIRST_ADDRESSES: [FirstAddresses; 80] = [
     run!(0x13000,  4, 1024, 0x00000), // Pfmbmem
 ];
 
-/// Where the first addresses of a row lie.
+/// The first addresses of a row's indices.
 pub(crate) fn first_of(row: RowId) -> FirstAddresses
     ensures value { result ≡ first_of row }
     ensures near { IsTrue (is_near result) }

@@ -1,12 +1,11 @@
-//! The register table of the Intel 82599: which address names which word, and what an access of it does.
+//! The register table of the Intel 82599: which register an address belongs to, and what an access of it does.
 //!
-//! A row is a register name with its indices; a place is one word, a row and an index; an address names at most one
-//! place. `resolve` is the map from addresses to places, with the bits of the word that show there, that the device
-//! core reads and writes by: one dispatch on ranges of addresses, with no search. The other calls tell what the table
-//! says of an address, of a place and of a row. The table itself stands in `specs/Rows.antt` and `specs/Runs.antt`,
-//! and again as the code's own in `rows.rt`, `dispatch.rt` and `first_addresses.rt`; `dev/register_table.py` writes
-//! all of them from one list. No call takes memory. The device core, the script assembler and the driver stand on
-//! this crate.
+//! A row is a register name with its indices. A place is one register of 32 bits: a row and an index. An address
+//! belongs to one place at most. `resolve` maps an address to its place and to the bits that show there, by one
+//! dispatch on ranges of addresses without a search; the device core reads and writes through it. The other calls look
+//! up an address, a place or a row in the table. The table itself is in `specs/Rows.antt` and `specs/Runs.antt`, and
+//! again as code in `rows.rt`, `dispatch.rt` and `first_addresses.rt`; `dev/register_table.py` writes all of them from
+//! one list. No call allocates. The device core, the script assembler and the driver depend on this crate.
 //!
 //! Source: Intel 82599 datasheet, section on programming interface, with this project's profile of masks and initial
 //! values (docs/REGISTERS.md).

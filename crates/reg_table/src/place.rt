@@ -8,17 +8,17 @@ use crate::access::resolve;
 use crate::first_addresses::first_of;
 use crate::rows::RowId;
 
-/// One word of the device.
+/// One register of 32 bits, by its row and index.
 #[derive(Clone, Copy, PartialEq, Eq, PartialOrd, Ord, Debug)]
 pub struct Place {
-    /// The register.
+    /// The row of registers of one name.
     pub row: RowId,
-    /// Which of the row's registers: below the row's count.
+    /// The index within the row: below the row's count.
     pub index: u16,
 }
 
-/// The place that an address names. `None` exactly where no place has the address; an address that is no multiple of 4
-/// names none.
+/// The place of an address, a byte offset into the register space. `None` exactly where no register has the address; an
+/// address that is no multiple of 4 has none.
 pub fn place_of(address: u32) -> Option<Place>
     ensures value { result ≡ place_among runs address }
     ensures exact { (p : Place) → (result ≡ Some p) ↔ Names address p }
@@ -31,7 +31,7 @@ pub fn place_of(address: u32) -> Option<Place>
     }
 }
 
-/// The bits of the word that show at an address: 0xFFFF where it is a view of bits 15:0, else 0xFFFFFFFF.
+/// A mask of the bits that show at an address: 0xFFFF where it shows bits 15:0 alone, else 0xFFFFFFFF.
 pub fn view_of(address: u32) -> u32
     ensures value { result ≡ view_among runs address }
     ensures low { (result ≡ 0xFFFF) ↔ IsLow address }
@@ -43,7 +43,7 @@ pub fn view_of(address: u32) -> u32
     }
 }
 
-/// The first address of a place, in the table's order. All bits of the word show there.
+/// The first address of a place, in the table's order. All 32 bits of the register show there.
 pub fn addr_of(place: Place) -> u32
     requires { place.index < (row_of place.row).count }
     ensures first { address_among runs place ≡ Some result }

@@ -7,7 +7,7 @@ use crate::bank::Bank;
 use crate::kind::Kind;
 use crate::rows::{ROWS, RowId, entry_of};
 
-/// What the table says of a row.
+/// The table's entry of one row.
 #[derive(Clone, Copy)]
 pub(crate) struct Entry {
     pub(crate) name: &'static str,
@@ -18,7 +18,7 @@ pub(crate) struct Entry {
     pub(crate) reset: u32,
 }
 
-/// How many indices the row has: they are 0 to one less.
+/// The number of registers in the row. Their indices begin at 0.
 #[inline(always)]
 pub fn count_of(row: RowId) -> u16
     ensures { result ≡ (row_of row).count }
@@ -26,7 +26,7 @@ pub fn count_of(row: RowId) -> u16
     entry_of(row).count
 }
 
-/// What an access of the row does.
+/// What reads and writes of the row's registers do.
 #[inline(always)]
 pub fn kind_of(row: RowId) -> Kind
     ensures { result ≡ (row_of row).kind }
@@ -34,7 +34,7 @@ pub fn kind_of(row: RowId) -> Kind
     entry_of(row).kind
 }
 
-/// Which part of the device the row belongs to.
+/// The part of the device that the row's registers belong to.
 #[inline(always)]
 pub fn bank_of(row: RowId) -> Bank
     ensures { result ≡ (row_of row).bank }
@@ -42,7 +42,7 @@ pub fn bank_of(row: RowId) -> Bank
     entry_of(row).bank
 }
 
-/// The bits that a write can change.
+/// A mask of the bits that a write can change.
 #[inline(always)]
 pub fn mask_of(row: RowId) -> u32
     ensures { result ≡ (row_of row).mask }
@@ -50,21 +50,21 @@ pub fn mask_of(row: RowId) -> u32
     entry_of(row).mask
 }
 
-/// The word at each index of the row after a reset.
+/// The word of each of the row's registers after a reset.
 pub fn reset_of(row: RowId) -> u32
     ensures { result ≡ (row_of row).reset }
 {
     entry_of(row).reset
 }
 
-/// The row's name, as the datasheet and scripts spell it: capitals, digits and `_`.
+/// The row's name, as the datasheet and scripts spell it, in capitals, digits and `_`.
 pub fn name_of(row: RowId) -> &'static str
     ensures { result.now ≡ (row_of row).name }
 {
     entry_of(row).name
 }
 
-/// Every row, in the table's order: the row numbered k stands at k.
+/// All rows, in the table's order: the row with number k is at index k.
 #[tactic(auto, unfolding(crate::specs::Rows::rows))]
 pub fn all_rows() -> &'static [RowId]
     ensures { result.now ≡ rows }
@@ -72,7 +72,7 @@ pub fn all_rows() -> &'static [RowId]
     &ROWS
 }
 
-/// The row with this name, letter by letter. `None` where no row has it.
+/// The row with this name, compared letter by letter. `None` where no row has it.
 pub fn row_named(name: &str) -> Option<RowId>
     ensures value { result ≡ row_with_name name.now }
     ensures exact { (row : RowId) → (result ≡ Some row) ↔ ((row_of row).name ≡ name.now) }

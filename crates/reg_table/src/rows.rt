@@ -8,168 +8,168 @@ use crate::kind::Kind;
 use crate::row::Entry;
 use std::fmt;
 
-/// A row of the register table: the registers of one name.
+/// A row of the register table: all registers of one name, under the datasheet's name.
 #[derive(Clone, Copy, PartialEq, Eq, PartialOrd, Ord)]
 pub enum RowId {
-    /// Device control.
+    /// CTRL: device control, one register.
     Ctrl,
-    /// Device status.
+    /// STATUS: device status, one register.
     Status,
-    /// Extended device control.
+    /// CTRL_EXT: extended device control, one register.
     CtrlExt,
-    /// LED control.
+    /// LEDCTL: LED control, one register.
     Ledctl,
-    /// Control of a virtual function.
+    /// PVFCTRL: control of a virtual function, index 0 to 63.
     Pvfctrl,
-    /// Mailbox interrupt causes of 16 virtual functions.
+    /// PFMBICR: mailbox interrupt causes of 16 virtual functions, index 0 to 3.
     Pfmbicr,
-    /// Mailbox interrupt mask of 32 virtual functions.
+    /// PFMBIMR: mailbox interrupt mask of 32 virtual functions, index 0 to 1.
     Pfmbimr,
-    /// Extended interrupt cause.
+    /// EICR: extended interrupt cause, one register.
     Eicr,
-    /// Extended interrupt cause set.
+    /// EICS: extended interrupt cause set, one register.
     Eics,
-    /// Extended interrupt auto clear.
+    /// EIAC: extended interrupt auto clear, one register.
     Eiac,
-    /// Extended interrupt throttle.
+    /// EITR: extended interrupt throttle, index 0 to 127.
     Eitr,
-    /// Extended interrupt mask set.
+    /// EIMS: extended interrupt mask set, one register.
     Eims,
-    /// Extended interrupt mask clear.
+    /// EIMC: extended interrupt mask clear, one register.
     Eimc,
-    /// Extended interrupt auto mask.
+    /// EIAM: extended interrupt auto mask, one register.
     Eiam,
-    /// General purpose interrupt enable.
+    /// GPIE: general purpose interrupt enable, one register.
     Gpie,
-    /// Interrupt vector allocation.
+    /// IVAR: interrupt vector allocation, index 0 to 63.
     Ivar,
-    /// Interrupt vector allocation of other causes.
+    /// IVAR_MISC: interrupt vector allocation of other causes, one register.
     IvarMisc,
-    /// Interrupt cause of a virtual function.
+    /// PVTEICR: interrupt cause of a virtual function, index 0 to 63.
     Pvteicr,
-    /// Interrupt cause set of a virtual function.
+    /// PVTEICS: interrupt cause set of a virtual function, index 0 to 63.
     Pvteics,
-    /// Interrupt mask set of a virtual function.
+    /// PVTEIMS: interrupt mask set of a virtual function, index 0 to 63.
     Pvteims,
-    /// Interrupt mask clear of a virtual function.
+    /// PVTEIMC: interrupt mask clear of a virtual function, index 0 to 63.
     Pvteimc,
-    /// Extended interrupt auto clear of a virtual function.
+    /// PVTEIAC: extended interrupt auto clear of a virtual function, index 0 to 63.
     Pvteiac,
-    /// Mailbox of a virtual function, seen by the physical function.
+    /// PFMAILBOX: mailbox of a virtual function, seen by the physical function, index 0 to 63.
     Pfmailbox,
-    /// Mailbox of a virtual function.
+    /// PVFMAILBOX: mailbox of a virtual function, index 0 to 63.
     Pvfmailbox,
-    /// Extended interrupt auto mask of a virtual function.
+    /// PVTEIAM: extended interrupt auto mask of a virtual function, index 0 to 63.
     Pvteiam,
-    /// Interrupt vector allocation of a virtual function's mailbox.
+    /// PVTIVAR_MISC: interrupt vector allocation of a virtual function's mailbox, index 0 to 63.
     PvtivarMisc,
-    /// Receive descriptor base address, low part.
+    /// RDBAL: receive descriptor base address, low part, index 0 to 127.
     Rdbal,
-    /// Receive descriptor base address, high part.
+    /// RDBAH: receive descriptor base address, high part, index 0 to 127.
     Rdbah,
-    /// Receive descriptor length in bytes.
+    /// RDLEN: receive descriptor length in bytes, index 0 to 127.
     Rdlen,
-    /// Receive descriptor head.
+    /// RDH: receive descriptor head, index 0 to 127.
     Rdh,
-    /// Split receive control of a queue.
+    /// SRRCTL: split receive control of a queue, index 0 to 127.
     Srrctl,
-    /// Receive descriptor tail.
+    /// RDT: receive descriptor tail, index 0 to 127.
     Rdt,
-    /// Receive descriptor control.
+    /// RXDCTL: receive descriptor control, index 0 to 127.
     Rxdctl,
-    /// Good frames received by a virtual function.
+    /// VFGPRC: good frames received by a virtual function, index 0 to 63.
     Vfgprc,
-    /// Frames received, in one of 16 counters of queues.
+    /// QPRC: frames received, in one of 16 counters of queues, index 0 to 15.
     Qprc,
-    /// Frames dropped for want of a slot, in one of 16 counters of queues.
+    /// QPRDC: frames dropped for want of a slot, in one of 16 counters of queues, index 0 to 15.
     Qprdc,
-    /// Receive queue statistics mapping.
+    /// RQSMR: receive queue statistics mapping, index 0 to 31.
     Rqsmr,
-    /// Receive DMA control.
+    /// RDRXCTL: receive DMA control, one register.
     Rdrxctl,
-    /// Receive control.
+    /// RXCTRL: receive control, one register.
     Rxctrl,
-    /// Frames missed for want of room.
+    /// MPC: frames missed for want of room, one register.
     Mpc,
-    /// Good frames received.
+    /// GPRC: good frames received, one register.
     Gprc,
-    /// Good frames transmitted.
+    /// GPTC: good frames transmitted, one register.
     Gptc,
-    /// Frames received that are too short.
+    /// RUC: frames received that are too short, one register.
     Ruc,
-    /// Frames received that are too long.
+    /// ROC: frames received that are too long, one register.
     Roc,
-    /// MAC highlander control 0.
+    /// HLREG0: MAC highlander control 0, one register.
     Hlreg0,
-    /// Maximum frame size.
+    /// MAXFRS: maximum frame size, one register.
     Maxfrs,
-    /// Auto-negotiation control.
+    /// AUTOC: auto-negotiation control, one register.
     Autoc,
-    /// Link status.
+    /// LINKS: link status, one register.
     Links,
-    /// DMA transmit control.
+    /// DMATXCTL: DMA transmit control, one register.
     Dmatxctl,
-    /// Receive checksum control.
+    /// RXCSUM: receive checksum control, one register.
     Rxcsum,
-    /// Filter control.
+    /// FCTRL: filter control, one register.
     Fctrl,
-    /// Multicast control.
+    /// MCSTCTRL: multicast control, one register.
     Mcstctrl,
-    /// Virtualization control.
+    /// VT_CTL: virtualization control, one register.
     VtCtl,
-    /// Receive enable of the pools.
+    /// VFRE: receive enable of the pools, index 0 to 1.
     Vfre,
-    /// Transmit enable of the pools.
+    /// VFTE: transmit enable of the pools, index 0 to 1.
     Vfte,
-    /// Multicast table array.
+    /// MTA: multicast table array, index 0 to 127.
     Mta,
-    /// Receive address, low part.
+    /// RAL: receive address, low part, index 0 to 127.
     Ral,
-    /// Receive address, high part.
+    /// RAH: receive address, high part, index 0 to 127.
     Rah,
-    /// Multiple receive queues command.
+    /// MRQC: multiple receive queues command, one register.
     Mrqc,
-    /// Redirection table.
+    /// RETA: redirection table, index 0 to 31.
     Reta,
-    /// Receive side scaling random key.
+    /// RSSRK: receive side scaling random key, index 0 to 9.
     Rssrk,
-    /// Transmit descriptor base address, low part.
+    /// TDBAL: transmit descriptor base address, low part, index 0 to 127.
     Tdbal,
-    /// Transmit descriptor base address, high part.
+    /// TDBAH: transmit descriptor base address, high part, index 0 to 127.
     Tdbah,
-    /// Transmit descriptor length in bytes.
+    /// TDLEN: transmit descriptor length in bytes, index 0 to 127.
     Tdlen,
-    /// Transmit descriptor head.
+    /// TDH: transmit descriptor head, index 0 to 127.
     Tdh,
-    /// Transmit descriptor tail.
+    /// TDT: transmit descriptor tail, index 0 to 127.
     Tdt,
-    /// Transmit descriptor control.
+    /// TXDCTL: transmit descriptor control, index 0 to 127.
     Txdctl,
-    /// Transmit head write-back address, low part.
+    /// TDWBAL: transmit head write-back address, low part, index 0 to 127.
     Tdwbal,
-    /// Transmit head write-back address, high part.
+    /// TDWBAH: transmit head write-back address, high part, index 0 to 127.
     Tdwbah,
-    /// Frames transmitted, in one of 16 counters of queues.
+    /// QPTC: frames transmitted, in one of 16 counters of queues, index 0 to 15.
     Qptc,
-    /// Multiple transmit queues command.
+    /// MTQC: multiple transmit queues command, one register.
     Mtqc,
-    /// Good frames transmitted by a virtual function.
+    /// VFGPTC: good frames transmitted by a virtual function, index 0 to 63.
     Vfgptc,
-    /// Transmit queue statistics mapping.
+    /// TQSM: transmit queue statistics mapping, index 0 to 31.
     Tqsm,
-    /// Pool select of the receive addresses.
+    /// MPSAR: pool select of the receive addresses, index 0 to 255.
     Mpsar,
-    /// Packet split receive type of a pool.
+    /// PSRTYPE: packet split receive type of a pool, index 0 to 63.
     Psrtype,
-    /// EEPROM control and size.
+    /// EEC: EEPROM control and size, one register.
     Eec,
-    /// EEPROM read.
+    /// EERD: EEPROM read, one register.
     Eerd,
-    /// Extended PCIe control.
+    /// GCR_EXT: extended PCIe control, one register.
     GcrExt,
-    /// Interrupt vector allocation of a virtual function.
+    /// PVTIVAR: interrupt vector allocation of a virtual function, index 0 to 63.
     Pvtivar,
-    /// Mailbox memory, 16 words for each virtual function.
+    /// PFMBMEM: mailbox memory, 16 words for each virtual function, index 0 to 1023.
     Pfmbmem,
 }
 
@@ -270,7 +270,7 @@ macro_rules! entry {
     };
 }
 
-/// What the table says of each row, in its order: name, number of indices, kind, bank, mask, word after a reset.
+/// The entry of each row, in the table's order: name, number of indices, kind, bank, mask, word after a reset.
 #[rattlefmt::skip]
 static ENTRIES: [Entry; 80] = [
     entry!("CTRL",            1, Ctrl, Device, 0xFBFF_FFF7, 0x0000_0000),
@@ -355,7 +355,7 @@ static ENTRIES: [Entry; 80] = [
     entry!("PFMBMEM",      1024, Rw, Messages, 0xFFFF_FFFF, 0x0000_0000),
 ];
 
-/// What the table says of the rows, in its order.
+/// The entries of all rows, in the table's order.
 #[inline(always)]
 #[tactic(auto, unfolding(crate::specs::Rows::rows))]
 fn entries() -> &'static [Entry]
@@ -364,7 +364,7 @@ fn entries() -> &'static [Entry]
     &ENTRIES
 }
 
-/// What the table says of a row.
+/// The table's entry of a row.
 #[inline(always)]
 pub(crate) fn entry_of(row: RowId) -> Entry
     ensures { row_in result ≡ row_of row }

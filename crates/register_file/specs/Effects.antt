@@ -18,8 +18,8 @@ use Rattle.register_file.specs.declared.owner.Owner.{Owner}
 use Rattle.register_file.specs.declared.surroundings.Surroundings.{Surroundings}
 use Rattle.register_file.specs.declared.owner.Owner.TheVariants as owner
 
--- what a row that is calculated reads as: STATUS tells whether the device makes steps, LINKS whether the link is up,
--- and EEC in bits 14 to 11 the size of the EEPROM's image. No other row is calculated.
+-- what a calculated row reads as: STATUS reports whether the device makes steps, LINKS whether the link is up, and EEC
+-- in bits 14 to 11 the size of the EEPROM image. No other row is calculated.
 abbrev pub calculated : RowId → Registers → Surroundings → ℕ
 calculated row.Status r around = if is_stopped r then 0 else 0x00080000
 calculated row.Links r around = if around.link then 0x70000000 else 0

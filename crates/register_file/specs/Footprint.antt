@@ -10,7 +10,8 @@ use Rattle.dma_ring.specs.declared.dir.Dir.{Dir}
 use Rattle.register_file.specs.declared.owner.Owner.{Owner}
 use Rattle.register_file.specs.declared.owner.Owner.TheVariants as owner
 
--- what of the registers may change: bits of the words at places, which sides are wanted on, and what is told of groups
+-- what of the registers may change: bits of the words at places, which sides are asked to be enabled, and the told bits
+-- of groups
 pub record Footprint : Type 0 where
   pub bits : Place → ℕ → Bool
   pub wanted : Dir → ℕ → Bool

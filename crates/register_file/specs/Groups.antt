@@ -32,7 +32,7 @@ abbrev pub index_of : Group → ℕ
 index_of Pf = 0
 index_of (Vf v) = v
 
--- the bits of a group that a message told
+-- the bits of a group that a message reported
 abbrev pub told_by : Registers → Group → ℕ
 told_by r Pf = r.told_pf
 told_by r (Vf v) = slice_index r.told_vf v

@@ -40,11 +40,11 @@ taken mail word =
 abbrev pub physical_wrote : (mail word : ℕ) → ℕ
 physical_wrote mail word = set_if (has_bit 0 word) 4 (set_if (has_bit 1 word) 5 (taken (released mail word) word))
 
--- after a read by the function, which is told once what was sent and that a reset is done
+-- after a read by the function, to which it is reported once what was sent and that a reset is done
 abbrev pub told_once : ℕ → ℕ
 told_once mail = bit_cleared 4 (bit_cleared 5 (bit_cleared 7 mail))
 
--- once a reset is done: a function that was told of its beginning is told of its end
+-- once a reset is done: a function that read that it began reads that it is done
 abbrev pub reset_told : ℕ → ℕ
 reset_told mail = if has_bit 6 mail then bit_set 7 (bit_cleared 6 mail) else mail
 
@@ -96,14 +96,14 @@ physical_writes r v word = function_told (with_mail r v (physical_wrote (mail_of
 abbrev pub holders : Registers → ℕ → ℕ
 holders r v = bit_and (mail_of r v) 0xC
 
--- the registers once all functions are told that a reset is done
+-- the registers once it is reported to all functions that a reset is done
 abbrev pub done_told : Registers → ℕ → Registers
 done_told r v = with_mail r v (reset_told (mail_of r v))
 
 unfoldable pub resets_told : Registers → Registers
 resets_told r = fold done_told r (range_with_len 0 64)
 
--- what a read of a function's mailbox may change: of its word, what it tells once
+-- what a read of a function's mailbox may change: of its word, the bits that report once
 abbrev pub by_mail_read : ℕ → Footprint
 by_mail_read v = the_bits (place Pvfmailbox v) (λ bit. bit == 4 || bit == 5 || bit == 7)
 
@@ -127,7 +127,7 @@ by_physical v =
     either (the_bits (place Pvfmailbox v) (λ bit. bit == 2 || bit == 3 || bit == 4 || bit == 5))
     (the_bits (place Pvteicr v) (λ bit. bit == 0 || bit == 1 || bit == 2))
 
--- what telling all functions of a reset may: of each mailbox's word whether a reset began and is done
+-- what reporting a reset to all functions may change: of each mailbox's word whether a reset began and is done
 abbrev pub by_telling : Footprint
 by_telling =
     record nothing { bits = λ p bit. number_of Pvfmailbox == number_of p.row && (bit == 6 || bit == 7) }

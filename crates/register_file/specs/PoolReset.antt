@@ -94,7 +94,7 @@ vectors_reset r index = rows_reset r vector_renewals index
 abbrev pub function_reset : Registers → ℕ → Registers
 function_reset r v = with_told (rows_reset r function_renewals v) (Vf v) 0
 
--- so many queues after a reset, and their vectors
+-- this many queues after a reset, and their vectors
 abbrev pub queues_reset : Registers → Option (ℕ × ℕ) → Registers
 queues_reset r None = r
 queues_reset r (Some queues) =

@@ -9,7 +9,7 @@ use Rattle.register_file.specs.Registers.{Registers, word_of}
 use Rattle.dma_ring.specs.declared.dir.Dir.{Dir}
 use Rattle.dma_ring.specs.declared.dir.Dir.TheVariants.{Rx, Tx}
 
--- how GCR_EXT parts the queues among pools
+-- how GCR_EXT separates the queues into pools
 abbrev pub mode_in : Registers → Mode
 mode_in r = mode_of (word_of r GcrExt 0)
 

@@ -7,8 +7,8 @@ use Rattle.register_file.specs.Columns.{place}
 use Rattle.dma_ring.specs.declared.dir.Dir.{Dir}
 use Rattle.dma_ring.specs.declared.dir.Dir.TheVariants.{Rx, Tx}
 
--- the words of the registers, of each queue whether its receive side and its transmit side are wanted on, and the bits
--- that messages told of the physical function's causes and of those of each virtual function
+-- the words of the registers, for each queue whether its receive side and its transmit side are asked to be enabled,
+-- and the bits that messages reported of the physical function's causes and of those of each virtual function
 pub record Registers : Type 0 where
   pub words : Words
   pub wanted_rx : List Bool
@@ -32,7 +32,7 @@ registers_code =
     })
     (λ _. refl)
 
--- after a reset every register has its reset value, no side of a queue is wanted on, and no bit is told
+-- after a reset every register has its reset value, no side of a queue is asked to be enabled, and no bit is told
 abbrev pub reset_registers : Registers
 reset_registers =
     record {

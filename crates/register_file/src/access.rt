@@ -1,4 +1,4 @@
-//! Register accesses, by the kind of the row.
+//! Register accesses by the kind of the row.
 
 ghost use Rattle.std.specs.Prelude.{◌≡◌, ◌<◌, IfSome, IsTrue, bit_and};
 ghost use Rattle.reg_table.specs.Rows.{row_of};
@@ -15,22 +15,22 @@ use intr_unit::Group;
 use reg_table::{Kind, Place, RowId, kind_of, mask_of};
 use register_bits::{Ctrl, CtrlExt, Pvfctrl, Rxdctl, has_flag};
 
-/// EERD: the bits that a write takes. The others become 0.
+/// EERD: the bits that a write stores. The others become 0.
 const EERD_TAKES: u32 = 0x0000_FFFD;
 
-/// What STATUS reads while the device makes steps.
+/// STATUS while bus mastering is enabled.
 const STATUS_MASTER: u32 = 0x0008_0000;
 
-/// What LINKS reads while the link is up.
+/// LINKS while the link is up.
 const LINKS_UP: u32 = 0x7000_0000;
 
-/// EEC: the EEPROM is there and can be read.
+/// EEC: the EEPROM is present and can be read.
 const EEPROM_PRESENT: u32 = 0x0000_0300;
 
-/// EEC: where the size of the EEPROM's image begins.
+/// EEC: the lowest bit of the field of the EEPROM's size.
 const EEPROM_SIZE: u32 = 0x0000_0800;
 
-/// Whether a write of a word to a place asks for a reset of the device, and so does nothing else.
+/// Whether a write of this word to a place asks for a reset of the device, and so does nothing else.
 #[inline(always)]
 pub fn asks_reset(place: Place, word: u32) -> bool
     ensures { result ≡ asks_reset (row_of place.row).kind word }
@@ -56,7 +56,8 @@ pub fn asks_reset(place: Place, word: u32) -> bool
     }
 }
 
-/// Whether a write of a word to a place asks for a reset of the pool with the place's index, and so does nothing else.
+/// Whether a write of this word to a place asks for a reset of the pool with the place's index, and so does nothing
+/// else.
 #[inline(always)]
 pub fn asks_pool_reset(place: Place, word: u32) -> bool
     ensures { result ≡ asks_pool_reset (row_of place.row).kind word }
@@ -82,7 +83,7 @@ pub fn asks_pool_reset(place: Place, word: u32) -> bool
     }
 }
 
-/// The group whose interrupts a place is of, if it is of one.
+/// The interrupt group that a place belongs to, if any.
 fn group_of(place: Place) -> Option<Group>
     requires { place.index < (row_of place.row).count }
     ensures group { result ≡ group_in (owner_of place) }
@@ -100,8 +101,8 @@ fn group_of(place: Place) -> Option<Group>
 }
 
 impl RegisterFile {
-    /// The word that a read of a place gives, before the address cuts it, with no effect of the read; `around` is what
-    /// lies around the registers. The index is below the row's count.
+    /// The word that a read of a place returns, before the address masks it, without the read's side effects. `around`
+    /// is the state of the link and the EEPROM. The index must be below the row's count.
     pub fn peek(&self, around: Surroundings, place: Place) -> u32
         requires { place.index < (row_of place.row).count }
         ensures { result ≡ read_word (row_of place.row).kind self.now around place }
@@ -125,8 +126,9 @@ impl RegisterFile {
         }
     }
 
-    /// Reads a place: the word before the address cuts it; `around` is what lies around the registers. A counter starts
-    /// again from 0, a read of causes clears them, and nothing else changes. The index is below the row's count.
+    /// Reads a place: returns the word before the address masks it. `around` is the state of the link and the EEPROM. A
+    /// counter restarts from 0, a read of causes clears them, and nothing else changes. The index must be below the
+    /// row's count.
     #[inline(always)]
     pub fn read(&mut self, around: Surroundings, place: Place) -> u32
         requires { place.index < (row_of place.row).count }
@@ -167,8 +169,8 @@ impl RegisterFile {
         }
     }
 
-    /// Writes a place through an address that shows the bits of `view`, where the write asks for no reset, of the
-    /// device or a pool. The index is below the row's count.
+    /// Writes a place through an address that shows the bits of `view`, where the write asks for no reset of the device
+    /// or of a pool. The index must be below the row's count.
     #[inline(always)]
     pub fn write(&mut self, place: Place, view: u32, word: u32)
         requires { place.index < (row_of place.row).count }
@@ -207,7 +209,7 @@ impl RegisterFile {
         }
     }
 
-    /// Writes a register of a ring, which a side that is on keeps as it is.
+    /// Writes a register of a ring. It has no effect while the ring's side is enabled.
     #[inline(always)]
     fn write_held(&mut self, place: Place, view: u32, word: u32)
         requires index { place.index < (row_of place.row).count }
@@ -219,7 +221,7 @@ impl RegisterFile {
         }
     }
 
-    /// Writes an enable word: it asks the side to be on, or not, by one bit for receive and transmit.
+    /// Writes an enable register (RXDCTL, TXDCTL): its bit 25 asks the side to be enabled or disabled.
     fn write_enable(&mut self, place: Place, view: u32, word: u32)
         requires index { place.index < (row_of place.row).count }
         requires kind { (row_of place.row).kind ≡ Enable }
@@ -229,7 +231,7 @@ impl RegisterFile {
         self.ask(owner_of(place), has_flag(word, Rxdctl::ENABLE));
     }
 
-    /// Writes the extended device control word: with bit 14 it tells all functions that a reset is done.
+    /// Writes the extended device control register: with bit 14 it reports to all functions that a reset is done.
     fn write_extended(&mut self, place: Place, view: u32, word: u32)
         requires index { place.index < (row_of place.row).count }
         requires kind { (row_of place.row).kind ≡ Ctrlext }
@@ -241,7 +243,7 @@ impl RegisterFile {
         }
     }
 
-    /// Clears the bits of a word that are 1 in what is written.
+    /// Clears the bits of a word that are 1 in the written one.
     fn clear_ones(&mut self, place: Place, bits: u32)
         requires index { place.index < (row_of place.row).count }
         requires kind { (row_of place.row).kind ≡ W1c }
@@ -251,7 +253,7 @@ impl RegisterFile {
         self.set_word(place.row, place.index, word & !bits);
     }
 
-    /// Whether what an owner has is in use: a side's ring is while the side is on.
+    /// Whether the registers of an owner are in use: those of a side's ring are while the side is enabled.
     #[inline(always)]
     fn is_running(&self, owner: Owner) -> bool
         requires { IsThere owner }
@@ -268,7 +270,7 @@ impl RegisterFile {
         }
     }
 
-    /// Asks an owner to be on, or not: a side can be.
+    /// Asks an owner to be enabled or disabled: only a side of a queue can be.
     fn ask(&mut self, owner: Owner, wanted: bool)
         requires { IsThere owner }
         ensures { self.new ≡ asked self.old owner wanted }
@@ -284,7 +286,7 @@ impl RegisterFile {
         }
     }
 
-    /// What a calculated row reads as.
+    /// The word of a calculated row.
     fn calculated(&self, around: Surroundings, row: RowId) -> u32
         ensures { result ≡ calculated row self.now around }
     {
@@ -296,7 +298,7 @@ impl RegisterFile {
         }
     }
 
-    /// Stores a word: of it, the bits of the row's mask that the address shows.
+    /// Stores the bits of a word that the row's mask has and the address shows.
     #[inline(always)]
     fn store(&mut self, place: Place, view: u32, word: u32)
         requires index { place.index < (row_of place.row).count }

@@ -1,6 +1,6 @@
-//! Registers that belong to no queue and to no group of interrupts, and don't lie among the cells.
+//! Registers that belong to no queue and to no group of interrupts, and aren't in `Cells`.
 
-/// The registers of one word that a reset doesn't clear.
+/// Registers of which there is one, and which a reset doesn't set to 0.
 #[derive(Clone, Copy)]
 pub(crate) struct Settings {
     pub(crate) rdrxctl: u32,
@@ -9,14 +9,14 @@ pub(crate) struct Settings {
     pub(crate) dmatxctl: u32,
 }
 
-/// The redirection table, and a register of each pool.
+/// The redirection table, and the registers of which each pool has one.
 #[derive(Clone, Copy)]
 pub(crate) struct Tables {
     pub(crate) reta: [u32; 32],
     pub(crate) psrtype: [u32; 64],
 }
 
-/// The counters of the virtual functions.
+/// The statistics counters of the virtual functions.
 #[derive(Clone, Copy)]
 pub(crate) struct Counters {
     pub(crate) vfgprc: [u32; 64],
@@ -24,7 +24,7 @@ pub(crate) struct Counters {
 }
 
 impl Settings {
-    /// The words after a reset.
+    /// The registers as a reset leaves them.
     pub(crate) const AT_RESET: Settings = Settings {
         rdrxctl: 0x0000_0008,
         hlreg0: 0x0000_0403,
@@ -34,7 +34,7 @@ impl Settings {
 }
 
 impl Tables {
-    /// The words after a reset.
+    /// The registers as a reset leaves them.
     pub(crate) const AT_RESET: Tables = Tables {
         reta: [0; 32],
         psrtype: [0; 64],
@@ -42,7 +42,7 @@ impl Tables {
 }
 
 impl Counters {
-    /// The words after a reset.
+    /// The counters as a reset leaves them.
     pub(crate) const AT_RESET: Counters = Counters {
         vfgprc: [0; 64],
         vfgptc: [0; 64],

@@ -13,7 +13,7 @@ pub(crate) fn has_bit(word: u32, bit: u32) -> bool
     (word >> bit) % 2 == 1
 }
 
-/// The word with a bit below 32 set.
+/// The word with this bit, below 32, set.
 #[inline(always)]
 pub(crate) fn bit_set(word: u32, bit: u32) -> u32
     requires { bit < 32 }
@@ -22,7 +22,7 @@ pub(crate) fn bit_set(word: u32, bit: u32) -> u32
     word | (1 << bit)
 }
 
-/// The old word, with the bits of a mask taken from the new one.
+/// The old word with the bits of a mask taken from the new one.
 #[inline(always)]
 pub(crate) fn mixed(mask: u32, old: u32, new: u32) -> u32
     ensures { result ≡ mixed mask old new }

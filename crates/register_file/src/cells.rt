@@ -5,87 +5,87 @@ ghost use Rattle.register_file.specs.Cells.{cells_of, with_cell};
 
 use reg_table::RowId;
 
-/// The registers that a reset clears: a single one in a field, a row in an array.
+/// The registers that a reset sets to 0, 32 bits each: a single register in a field, a row of several in an array.
 #[derive(Clone, Copy)]
 pub(crate) struct Cells {
-    /// Device control.
+    /// CTRL: device control, one register.
     pub(crate) ctrl: u32,
-    /// Extended device control.
+    /// CTRL_EXT: extended device control, one register.
     pub(crate) ctrl_ext: u32,
-    /// LED control.
+    /// LEDCTL: LED control, one register.
     pub(crate) ledctl: u32,
-    /// Mailbox interrupt causes of 16 virtual functions.
+    /// PFMBICR: mailbox interrupt causes of 16 virtual functions, index 0 to 3.
     pub(crate) pfmbicr: [u32; 4],
-    /// Extended interrupt throttle.
+    /// EITR: extended interrupt throttle, index 0 to 127.
     pub(crate) eitr: [u32; 128],
-    /// General purpose interrupt enable.
+    /// GPIE: general purpose interrupt enable, one register.
     pub(crate) gpie: u32,
-    /// Interrupt vector allocation.
+    /// IVAR: interrupt vector allocation, index 0 to 63.
     pub(crate) ivar: [u32; 64],
-    /// Interrupt vector allocation of other causes.
+    /// IVAR_MISC: interrupt vector allocation of other causes, one register.
     pub(crate) ivar_misc: u32,
-    /// Interrupt vector allocation of a virtual function's mailbox.
+    /// PVTIVAR_MISC: interrupt vector allocation of a virtual function's mailbox, index 0 to 63.
     pub(crate) pvtivar_misc: [u32; 64],
-    /// Frames received, in one of 16 counters of queues.
+    /// QPRC: frames received, in one of 16 counters of queues, index 0 to 15.
     pub(crate) qprc: [u32; 16],
-    /// Frames dropped for want of a slot, in one of 16 counters of queues.
+    /// QPRDC: frames dropped for want of a slot, in one of 16 counters of queues, index 0 to 15.
     pub(crate) qprdc: [u32; 16],
-    /// Receive queue statistics mapping.
+    /// RQSMR: receive queue statistics mapping, index 0 to 31.
     pub(crate) rqsmr: [u32; 32],
-    /// Receive control.
+    /// RXCTRL: receive control, one register.
     pub(crate) rxctrl: u32,
-    /// Frames missed for want of room.
+    /// MPC: frames missed for want of room, one register.
     pub(crate) mpc: u32,
-    /// Good frames received.
+    /// GPRC: good frames received, one register.
     pub(crate) gprc: u32,
-    /// Good frames transmitted.
+    /// GPTC: good frames transmitted, one register.
     pub(crate) gptc: u32,
-    /// Frames received that are too short.
+    /// RUC: frames received that are too short, one register.
     pub(crate) ruc: u32,
-    /// Frames received that are too long.
+    /// ROC: frames received that are too long, one register.
     pub(crate) roc: u32,
-    /// Auto-negotiation control.
+    /// AUTOC: auto-negotiation control, one register.
     pub(crate) autoc: u32,
-    /// Receive checksum control.
+    /// RXCSUM: receive checksum control, one register.
     pub(crate) rxcsum: u32,
-    /// Filter control.
+    /// FCTRL: filter control, one register.
     pub(crate) fctrl: u32,
-    /// Multicast control.
+    /// MCSTCTRL: multicast control, one register.
     pub(crate) mcstctrl: u32,
-    /// Virtualization control.
+    /// VT_CTL: virtualization control, one register.
     pub(crate) vt_ctl: u32,
-    /// Receive enable of the pools.
+    /// VFRE: receive enable of the pools, index 0 to 1.
     pub(crate) vfre: [u32; 2],
-    /// Transmit enable of the pools.
+    /// VFTE: transmit enable of the pools, index 0 to 1.
     pub(crate) vfte: [u32; 2],
-    /// Multicast table array.
+    /// MTA: multicast table array, index 0 to 127.
     pub(crate) mta: [u32; 128],
-    /// Receive address, low part.
+    /// RAL: receive address, low part, index 0 to 127.
     pub(crate) ral: [u32; 128],
-    /// Receive address, high part.
+    /// RAH: receive address, high part, index 0 to 127.
     pub(crate) rah: [u32; 128],
-    /// Multiple receive queues command.
+    /// MRQC: multiple receive queues command, one register.
     pub(crate) mrqc: u32,
-    /// Frames transmitted, in one of 16 counters of queues.
+    /// QPTC: frames transmitted, in one of 16 counters of queues, index 0 to 15.
     pub(crate) qptc: [u32; 16],
-    /// Multiple transmit queues command.
+    /// MTQC: multiple transmit queues command, one register.
     pub(crate) mtqc: u32,
-    /// Transmit queue statistics mapping.
+    /// TQSM: transmit queue statistics mapping, index 0 to 31.
     pub(crate) tqsm: [u32; 32],
-    /// Pool select of the receive addresses.
+    /// MPSAR: pool select of the receive addresses, index 0 to 255.
     pub(crate) mpsar: [u32; 256],
-    /// EEPROM read.
+    /// EERD: EEPROM read, one register.
     pub(crate) eerd: u32,
-    /// Extended PCIe control.
+    /// GCR_EXT: extended PCIe control, one register.
     pub(crate) gcr_ext: u32,
-    /// Interrupt vector allocation of a virtual function.
+    /// PVTIVAR: interrupt vector allocation of a virtual function, index 0 to 63.
     pub(crate) pvtivar: [u32; 64],
-    /// Mailbox memory, 16 words for each virtual function.
+    /// PFMBMEM: mailbox memory, 16 words for each virtual function, index 0 to 1023.
     pub(crate) pfmbmem: [u32; 1024],
 }
 
 impl Cells {
-    /// The words after a reset.
+    /// All registers as a reset leaves them: 0.
     pub(crate) const AT_RESET: Cells = Cells {
         ctrl: 0,
         ctrl_ext: 0,

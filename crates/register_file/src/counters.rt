@@ -1,4 +1,4 @@
-//! What is counted.
+//! The statistics counters of frames.
 
 ghost use Rattle.std.specs.Prelude.{◌≡◌, ◌<◌};
 ghost use Rattle.reg_table.specs.Rows.{row_of};
@@ -9,17 +9,17 @@ use crate::register_file::RegisterFile;
 use dma_ring::Dir;
 use reg_table::{RowId, bump};
 
-/// RQSMR and TQSM: how many bits of a word say the counter of one queue.
+/// RQSMR and TQSM: the number of bits in a word that name the counter of one queue.
 const COUNTER_BITS: u32 = 8;
 
-/// RQSMR and TQSM: how many queues a word says the counters of.
+/// RQSMR and TQSM: the number of queues in a word.
 const QUEUES_IN_A_WORD: u16 = 4;
 
-/// How many counters of each kind queues are counted in.
+/// The number of counters of each kind for queues.
 const COUNTERS: u32 = 16;
 
 impl RegisterFile {
-    /// Counts one more in a row of counters at an index below the row's count. The largest word, 0xFFFFFFFF, stays.
+    /// Counts up in a row of counters at an index below the row's count. The largest word, 0xFFFFFFFF, stays.
     #[inline(always)]
     pub fn count(&mut self, row: RowId, index: u16)
         requires index { index < (row_of row).count }
@@ -30,8 +30,7 @@ impl RegisterFile {
         self.set_word(row, index, bump(word));
     }
 
-    /// Counts one more in a row of read-only counters at an index below the row's count. After the largest word,
-    /// 0xFFFFFFFF, comes 0.
+    /// Counts up in a row of read-only counters at an index below the row's count. 0xFFFFFFFF is followed by 0.
     pub fn count_wrapping(&mut self, row: RowId, index: u16)
         requires index { index < (row_of row).count }
         requires counter { (row_of row).kind ≡ Ro }
@@ -41,8 +40,8 @@ impl RegisterFile {
         self.set_word(row, index, word.wrapping_add(1));
     }
 
-    /// Which of the 16 counters, 0 to 15, a side of a queue below `QUEUES` counts in: RQSMR says it of a receive side
-    /// and TQSM of a transmit side.
+    /// The counter, 0 to 15, in which a side of a queue below `QUEUES` counts: by RQSMR for a receive side, by TQSM for
+    /// a transmit side.
     pub fn counter(&self, dir: Dir, queue: u16) -> u16
         requires { queue < 128 }
         ensures counter { result ≡ counter_of self.now dir queue }
@@ -54,7 +53,7 @@ impl RegisterFile {
     }
 }
 
-/// The row that says in which counters the frames of a side's queues are counted.
+/// The row that assigns the queues' sides to counters.
 #[inline(always)]
 fn mapping_row(dir: Dir) -> RowId
     ensures { result ≡ mapping_row dir }

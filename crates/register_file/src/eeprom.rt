@@ -1,4 +1,4 @@
-//! EERD: what is asked of the EEPROM, and what it answered.
+//! EERD: reads of the EEPROM, and their answers.
 
 ghost use Rattle.std.specs.Prelude.{◌≡◌, ◌<◌, IfSome};
 ghost use Rattle.register_file.specs.Eeprom.{eeprom_asked, eeprom_answered};
@@ -7,17 +7,17 @@ use crate::register_file::RegisterFile;
 use reg_table::RowId;
 use register_bits::{Eerd, has_flag};
 
-/// EERD: where the index of the word that is asked for begins, and how many indices there are.
+/// EERD: the lowest bit of the index of the word that is asked for, and the number of indices.
 const INDEX: u32 = 0x0000_0004;
 
 const INDICES: u32 = 0x4000;
 
-/// EERD: where the word begins.
+/// EERD: the lowest bit of the word that was read.
 const DATA: u32 = 0x0001_0000;
 
 impl RegisterFile {
     /// The index, below 16,384, of the word that EERD asks the EEPROM for: bits 15 to 2, where bit 0, START, is 1.
-    /// None where it asks for none.
+    /// `None` where it asks for none.
     pub fn eeprom_asked(&self) -> Option<u16>
         ensures asked { result ≡ eeprom_asked self.now }
         ensures range { IfSome result (λ index. index < 16384) }
@@ -30,7 +30,7 @@ impl RegisterFile {
         }
     }
 
-    /// Answers EERD: it has the index that it had, DONE and this word, and asks no more.
+    /// Stores the EEPROM's answer in EERD: the index stays, the word is set, DONE becomes 1 and START 0.
     pub fn answer_eeprom(&mut self, word: u16)
         ensures { self.new ≡ eeprom_answered self.old word }
     {

@@ -1,4 +1,4 @@
-//! The groups of interrupts, each kept in place.
+//! The interrupts of all groups, changed in place.
 
 ghost use Rattle.std.specs.Prelude.{◌≡◌, ◌<◌, length};
 ghost use Rattle.intr_unit.specs.Interrupts.{reset_of, raised, after_read, after_write_one, after_mask_set, after_mask_clear, with_auto_clear, with_auto_mask, next_vector, after_message};
@@ -9,8 +9,8 @@ ghost use Rattle.register_file.specs.AllGroups.{IsOwn, at_group, with_group, all
 use intr_unit::{Causes, Group};
 use std::marker::Model;
 
-/// The interrupts of the physical function and of each virtual function. In every call the number of a virtual
-/// function is below 64.
+/// The interrupts of the physical function and of each virtual function. In every call the number of a virtual function
+/// is below 64.
 #[derive(Drop)]
 pub(crate) struct Groups {
     pf: Causes,
@@ -28,7 +28,7 @@ impl Model for Groups {
 }
 
 impl Groups {
-    /// Every group as a reset leaves it.
+    /// All groups as a reset leaves them.
     pub(crate) fn new() -> Self
         ensures { result ≡ all_reset }
     {
@@ -42,7 +42,7 @@ impl Groups {
         }
     }
 
-    /// The same groups once more.
+    /// A copy of all groups.
     pub(crate) fn copy(&self) -> Self
         ensures { result ≡ self.now }
     {
@@ -52,7 +52,7 @@ impl Groups {
         }
     }
 
-    /// Makes the group of a virtual function anew, as a reset leaves it.
+    /// Resets the group of a virtual function.
     pub(crate) fn renew(&mut self, v: u8)
         requires { v < 64 }
         ensures { self.new ≡ with_group self.old (Vf v) (reset_of (Vf v)) }
@@ -60,7 +60,7 @@ impl Groups {
         self.vf[usize::from(v)] = Causes::new(Group::Vf(v));
     }
 
-    /// The interrupts of a group, which are consistent, and whose words are of 32 bits.
+    /// The interrupts of a group, which are consistent, and whose words have 32 bits.
     #[inline(always)]
     pub(crate) fn of(&self, group: Group) -> &Causes
         requires { index_of group < 64 }
@@ -81,7 +81,7 @@ impl Groups {
         }
     }
 
-    /// Raises causes of a group, with or without its auto-mask.
+    /// Raises causes of a group, with or without its auto-mask (`Causes::raise`).
     pub(crate) fn raise(&mut self, group: Group, bits: u32, auto: bool)
         requires { index_of group < 64 }
         ensures { self.new ≡ with_group self.old group (raised (at_group self.old group) bits auto) }
@@ -92,7 +92,7 @@ impl Groups {
         }
     }
 
-    /// Reads the causes of a group.
+    /// Reads the cause register of a group, for the side effects (`Causes::read`).
     pub(crate) fn read(&mut self, group: Group, ocd: bool, auto: bool)
         requires { index_of group < 64 }
         ensures { self.new ≡ with_group self.old group (after_read (at_group self.old group) ocd auto) }
@@ -103,7 +103,7 @@ impl Groups {
         };
     }
 
-    /// Writes ones to the causes of a group.
+    /// Writes ones to the cause register of a group (`Causes::write_one`).
     pub(crate) fn write_one(&mut self, group: Group, bits: u32, auto: bool)
         requires { index_of group < 64 }
         ensures { self.new ≡ with_group self.old group (after_write_one (at_group self.old group) bits auto) }
@@ -114,7 +114,7 @@ impl Groups {
         }
     }
 
-    /// Sets masks of a group.
+    /// Sets masks of a group (`Causes::mask_set`).
     pub(crate) fn mask_set(&mut self, group: Group, bits: u32)
         requires { index_of group < 64 }
         ensures { self.new ≡ with_group self.old group (after_mask_set (at_group self.old group) bits) }
@@ -125,7 +125,7 @@ impl Groups {
         }
     }
 
-    /// Clears masks of a group.
+    /// Clears masks of a group (`Causes::mask_clear`).
     pub(crate) fn mask_clear(&mut self, group: Group, bits: u32)
         requires { index_of group < 64 }
         ensures { self.new ≡ with_group self.old group (after_mask_clear (at_group self.old group) bits) }
@@ -136,7 +136,7 @@ impl Groups {
         }
     }
 
-    /// Gives the auto-clear register of a group a new word, as far as the group has its bits.
+    /// Sets the auto-clear register of a group, without the bits that the group doesn't have.
     pub(crate) fn set_auto_clear(&mut self, group: Group, word: u32)
         requires { index_of group < 64 }
         ensures { self.new ≡ with_group self.old group (with_auto_clear (at_group self.old group) word) }
@@ -147,7 +147,7 @@ impl Groups {
         }
     }
 
-    /// Gives the auto-mask register of a group a new word, as far as the group has its bits.
+    /// Sets the auto-mask register of a group, without the bits that the group doesn't have.
     pub(crate) fn set_auto_mask(&mut self, group: Group, word: u32)
         requires { index_of group < 64 }
         ensures { self.new ≡ with_group self.old group (with_auto_mask (at_group self.old group) word) }
@@ -158,7 +158,7 @@ impl Groups {
         }
     }
 
-    /// Makes a group's next message: answers its vector, or None where no bit is due.
+    /// Makes a group's next message: returns its vector, or `None` where no bit is due.
     pub(crate) fn message(&mut self, group: Group, eiame: bool, misc: u32) -> Option<u8>
         requires { index_of group < 64 }
         ensures vector { result ≡ next_vector (at_group self.old group) misc }
@@ -171,7 +171,7 @@ impl Groups {
     }
 }
 
-/// A group's words are of 32 bits, and it is consistent. It does nothing.
+/// States that a group's words have 32 bits, and that it is consistent. It does nothing.
 #[inline(always)]
 fn has_own_words(causes: &Causes)
     ensures { IsOwn causes.now.group causes.now }

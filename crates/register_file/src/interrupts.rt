@@ -1,4 +1,4 @@
-//! The interrupts of groups, in their registers.
+//! Interrupts: accesses of the groups' registers, and causes that queues raise.
 
 ghost use Rattle.std.specs.Prelude.{◌≡◌, ◌<◌};
 ghost use Rattle.intr_unit.specs.BitSet.{IsSubset};
@@ -13,14 +13,15 @@ use intr_unit::Group;
 use reg_table::RowId;
 use register_bits::{Gpie, has_flag};
 
-/// IVAR and PVTIVAR: how many bits of a word say the cause of one side of a queue.
+/// IVAR and PVTIVAR: the number of bits in a word that name the cause of one side of a queue.
 const ENTRY_BITS: u32 = 8;
 
-/// IVAR and PVTIVAR: how many queues a word says the causes of, each with a byte for receive and then one for transmit.
+/// IVAR and PVTIVAR: the number of queues in a word, each with a byte for receive and then one for transmit.
 const QUEUES_IN_A_WORD: u16 = 2;
 
 impl RegisterFile {
-    /// The device raises causes of a group, those that are 1 in `bits`. The number of a virtual function is below 64.
+    /// Raises causes of a group, as the device does: those that are 1 in `bits`. The number of a virtual function must
+    /// be below 64.
     pub fn raise(&mut self, group: Group, bits: u32)
         requires { index_of group < 64 }
         ensures { self.new ≡ causes_raised self.old group bits }
@@ -29,8 +30,8 @@ impl RegisterFile {
         self.groups.raise(group, bits, false);
     }
 
-    /// A side of a queue below `QUEUES` raises in a group the cause that its byte of IVAR, or in a virtual function's
-    /// group of PVTIVAR, names, if that is valid. The number of a virtual function is below 64.
+    /// Raises the cause of a side of a queue below `QUEUES` in a group: the cause in its byte of IVAR, or in a virtual
+    /// function's group of PVTIVAR, where the byte is valid. The number of a virtual function must be below 64.
     pub fn raise_queue(&mut self, group: Group, dir: Dir, queue: u16)
         requires queue { queue < 128 }
         requires group { index_of group < 64 }
@@ -40,8 +41,8 @@ impl RegisterFile {
         self.raise(group, causes);
     }
 
-    /// Makes a group's next message: answers its vector, 0 to 15, or None where no bit is due. The number of a virtual
-    /// function is below 64.
+    /// Makes a group's next message: returns its vector, 0 to 15, or `None` where no bit is due. The number of a
+    /// virtual function must be below 64.
     pub fn message(&mut self, group: Group) -> Option<u8>
         requires { index_of group < 64 }
         ensures vector { result ≡ message_of self.old group }
@@ -53,7 +54,7 @@ impl RegisterFile {
         self.groups.message(group, eiame, misc)
     }
 
-    /// What a read of a group's causes leaves.
+    /// The side effects of a read of a group's cause register.
     pub(crate) fn read_causes(&mut self, group: Group)
         requires { index_of group < 64 }
         ensures { self.new ≡ group_read self.old group }
@@ -64,7 +65,7 @@ impl RegisterFile {
         self.groups.read(group, ocd, auto);
     }
 
-    /// A write of a group's causes: those that are 1 in `bits` become 0.
+    /// Writes a group's cause register: the causes that are 1 in `bits` become 0.
     pub(crate) fn write_causes(&mut self, group: Group, bits: u32)
         requires { index_of group < 64 }
         ensures { self.new ≡ causes_written self.old group bits }
@@ -74,7 +75,7 @@ impl RegisterFile {
         self.groups.write_one(group, bits, auto);
     }
 
-    /// A write of a group's masks: those that are 1 in `bits` become 1.
+    /// Writes a group's mask register: the masks that are 1 in `bits` become 1.
     pub(crate) fn set_masks(&mut self, group: Group, bits: u32)
         requires { index_of group < 64 }
         ensures { self.new ≡ masks_set self.old group bits }
@@ -83,7 +84,7 @@ impl RegisterFile {
         self.groups.mask_set(group, bits);
     }
 
-    /// A write of the register that sets a group's causes: those that are 1 in `bits` become 1.
+    /// Writes a group's cause set register: the causes that are 1 in `bits` become 1.
     pub(crate) fn set_causes(&mut self, group: Group, bits: u32)
         requires { index_of group < 64 }
         ensures { self.new ≡ causes_set self.old group bits }
@@ -93,7 +94,7 @@ impl RegisterFile {
         self.groups.raise(group, bits, auto);
     }
 
-    /// A write of the register that clears a group's masks: those that are 1 in `bits` become 0.
+    /// Writes a group's mask clear register: the masks that are 1 in `bits` become 0.
     pub(crate) fn clear_masks(&mut self, group: Group, bits: u32)
         requires { index_of group < 64 }
         ensures { self.new ≡ masks_cleared self.old group bits }
@@ -122,28 +123,28 @@ impl RegisterFile {
         self.groups.set_auto_mask(group, word);
     }
 
-    /// Whether a read of EICR clears the other causes alone: GPIE bit 5 is 1.
+    /// Whether a read of EICR clears the other causes alone: GPIE bit 5 (OCD) is 1.
     fn clears_others(&self) -> bool
         ensures { result ≡ clears_others self.now }
     {
         has_flag(self.word(RowId::Gpie, 0), Gpie::OCD)
     }
 
-    /// Whether the auto-mask is for messages: GPIE bit 30 is 1.
+    /// Whether the auto-mask acts on messages: GPIE bit 30 (EIAME) is 1.
     fn masks_by_message(&self) -> bool
         ensures { result ≡ masks_by_message self.now }
     {
         has_flag(self.word(RowId::Gpie, 0), Gpie::EIAME)
     }
 
-    /// Whether the auto-mask of a group acts on accesses.
+    /// Whether the auto-mask of a group acts on register accesses.
     fn auto_masks(&self, group: Group) -> bool
         ensures { result ≡ auto_masks self.now group }
     {
         group.auto_mask_acts(self.masks_by_message())
     }
 
-    /// The byte of IVAR or PVTIVAR that says what a side of a queue below `QUEUES` raises in a group.
+    /// The byte of IVAR or PVTIVAR with the cause that a side of a queue below `QUEUES` raises in a group.
     fn vector_entry(&self, group: Group, dir: Dir, queue: u16) -> u8
         requires { queue < 128 }
         ensures { result ≡ vector_entry self.now group dir queue }
@@ -157,7 +158,7 @@ impl RegisterFile {
     }
 }
 
-/// The row whose bytes say what queues raise in a group.
+/// The row of a group's bytes of queue causes.
 fn vector_row(group: Group) -> RowId
     ensures { result ≡ vector_row group }
 {

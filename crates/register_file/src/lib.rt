@@ -1,18 +1,18 @@
-//! The registers of the Intel 82599, as the device core keeps them: their words, which queues are wanted on, and
-//! which interrupt causes messages told.
+//! The registers of the Intel 82599, as the device core stores them: their words, which sides of queues are asked to be
+//! enabled, and which interrupt causes messages have reported.
 //!
-//! A `RegisterFile` is seen by contracts as `Registers`: for each row the words at its indices, and for each queue
-//! the enables that were asked for. `read` and `write` are an access of a place by the kind of its row: a write
-//! changes what its kind lets through, a read of a counter starts it again from 0, and accesses of a group's
-//! interrupts go through `intr_unit`, by the words of its registers. `peek` is the word of a read without its
-//! effect, and `word` the word as it was stored. The other calls are what the device core asks of a queue (its
-//! ring, whether it is on, its counter), of a pool (its queues, whether it is on) and of single bits, and how it
-//! moves a head, switches a queue, counts, answers what was asked of the EEPROM, and resets a pool. What calculated
-//! registers tell of the link and the EEPROM is passed in as `Surroundings`. The definitions stand in `specs/`. What
-//! a reset clears is kept in `Cells`, a single register in a field and a row in an array of its own. The sides of the
-//! queues, the groups of interrupts, which change in place, the hash key, and what a reset of a pool or of all registers
-//! sets in its own way have structs of their own; `cell` and `set_word` say which row lies where. Nothing here takes
-//! memory. What the registers promise as a whole is in `register_laws`.
+//! Contracts see a `RegisterFile` as `Registers`: for each row the words at its indices, and for each queue the enables
+//! that were asked for. `read` and `write` access a place by the kind of its row: a write changes the bits that the
+//! kind allows, a read of a counter restarts it from 0, and accesses of a group's interrupts go through `intr_unit`, by
+//! the words of its registers. `peek` returns the word of a read without its side effects, and `word` the word as it is
+//! stored. The other calls are what the device core needs to know of a queue (its ring, whether it is enabled, its
+//! counter), of a pool (its queues, whether it is enabled) and of single bits, and how it moves a head, enables a side
+//! of a queue, counts, answers a read of the EEPROM, and resets a pool. The state of the link and the size of the
+//! EEPROM, which calculated registers report, are passed in as `Surroundings`. The definitions are in `specs/`. `Cells`
+//! stores what a reset sets to 0, a single register in a field and a row in an array. The sides of the queues, the
+//! groups of interrupts, the hash key, and what a reset of a pool or of all registers sets in its own way have structs
+//! of their own; `cell` and `set_word` map each row to its field. Nothing here allocates. Laws of the registers as a
+//! whole are in `register_laws`.
 //!
 //! Source: Intel 82599 datasheet, sections on the device registers.
 #![tactic(auto)]

@@ -13,7 +13,7 @@ use intr_unit::Group;
 use reg_table::RowId;
 use register_bits::{Pfmailbox, Pvfmailbox, has_flag, with_flag, without_flag};
 
-/// The words of the mailboxes that a reset doesn't clear.
+/// The registers of the mailboxes that a reset doesn't set to 0.
 #[derive(Clone, Copy)]
 pub(crate) struct Mailboxes {
     pub(crate) pfmbimr: [u32; 2],
@@ -21,27 +21,29 @@ pub(crate) struct Mailboxes {
 }
 
 impl Mailboxes {
-    /// The words after a reset: each function is to be told that a reset began, and each may ask the physical function.
+    /// The registers as a reset leaves them: RSTI, reset in progress, is set for each function, and no function is
+    /// masked.
     pub(crate) const AT_RESET: Mailboxes = Mailboxes {
         pfmbimr: [0xFFFF_FFFF; 2],
         pvfmailbox: [Pvfmailbox::RSTI.0; 64],
     };
 }
 
-/// Who holds a mailbox: VFU and PFU.
+/// The bits that say who holds a mailbox: VFU and PFU.
 const HOLDERS: u32 = Pvfmailbox::VFU.0 | Pvfmailbox::PFU.0;
 
-/// EICR: the cause of the mailboxes.
+/// EICR: the cause of mailbox events.
 const MAILBOX_CAUSE: u32 = 0x0008_0000;
 
-/// PFMBICR: how many functions a word has the requests of, in its lower half, and the acknowledgements.
+/// PFMBICR: the number of functions in a word, their requests in its lower half, and their acknowledgements in its
+/// upper half.
 const FUNCTIONS_ASKING: u16 = 16;
 
-/// PFMBIMR: how many functions a word has a mask of.
+/// PFMBIMR: the number of functions whose mask bits are in a word.
 const FUNCTIONS_MASKED: u16 = 32;
 
 impl RegisterFile {
-    /// Who holds the mailbox of a function below 64: bit 2 the function, bit 3 the physical function.
+    /// Who holds the mailbox of a function below 64: bit 2 is the function, bit 3 the physical function.
     pub(crate) fn holders(&self, v: u16) -> u32
         requires { v < 64 }
         ensures { result ≡ holders self.now v }
@@ -49,7 +51,7 @@ impl RegisterFile {
         self.word(RowId::Pvfmailbox, v) & HOLDERS
     }
 
-    /// What a read of the mailbox of a function below 64 by that function leaves.
+    /// The side effects of a read of its mailbox by a function below 64.
     pub(crate) fn end_mail_read(&mut self, v: u16)
         requires { v < 64 }
         ensures { self.new ≡ mail_read self.old v }
@@ -58,7 +60,7 @@ impl RegisterFile {
         self.set_word(RowId::Pvfmailbox, v, told_once(mail));
     }
 
-    /// A function below 64 writes its mailbox.
+    /// A function below 64 writes its mailbox register, PVFMAILBOX.
     pub(crate) fn function_writes(&mut self, v: u16, word: u32)
         requires { v < 64 }
         ensures { self.new ≡ function_writes self.old v word }
@@ -69,7 +71,7 @@ impl RegisterFile {
         self.tell_physical(v, word);
     }
 
-    /// The physical function writes the mailbox of a function below 64.
+    /// The physical function writes its register of the mailbox of a function below 64, PFMAILBOX.
     pub(crate) fn physical_writes(&mut self, v: u16, word: u32)
         requires { v < 64 }
         ensures { self.new ≡ physical_writes self.old v word }
@@ -79,7 +81,7 @@ impl RegisterFile {
         self.tell_function(v, word);
     }
 
-    /// Tells each function that a reset is done, where it was told that one began.
+    /// Reports to each function that a reset is done, where a reset in progress was reported to it.
     #[tactic(auto, unfolding(crate::specs::Mailbox::resets_told))]
     pub(crate) fn tell_resets(&mut self)
         ensures { self.new ≡ resets_told self.old }
@@ -87,7 +89,7 @@ impl RegisterFile {
         self.tell_resets_of(64);
     }
 
-    /// Tells the functions below a number.
+    /// Reports a done reset to the functions below a number.
     fn tell_resets_of(&mut self, count: u8)
         requires { count < 65 }
         ensures { self.new ≡ fold done_told self.old (range_with_len 0 count) }
@@ -105,7 +107,7 @@ impl RegisterFile {
         self.set_word(RowId::Pvfmailbox, v, reset_told(mail));
     }
 
-    /// Adds what a function asks of the physical function.
+    /// Adds to PFMBICR what a function sends to the physical function.
     fn add_requests(&mut self, v: u16, word: u32)
         requires { v < 64 }
         ensures { self.new ≡ with_requests self.old v word }
@@ -115,7 +117,7 @@ impl RegisterFile {
         self.set_word(RowId::Pfmbicr, at, asked | requests(v, word));
     }
 
-    /// Raises the physical function's cause of mailboxes, where a function sends and isn't masked.
+    /// Raises the physical function's mailbox cause, where a function sends and isn't masked.
     fn tell_physical(&mut self, v: u16, word: u32)
         requires { v < 64 }
         ensures { self.new ≡ physical_told self.old v word }
@@ -126,7 +128,7 @@ impl RegisterFile {
         }
     }
 
-    /// Raises the cause that a function has of its mailbox, where the physical function sends.
+    /// Raises the mailbox cause of a function, where the physical function sends.
     fn tell_function(&mut self, v: u16, word: u32)
         requires { v < 64 }
         ensures { self.new ≡ function_told self.old v word }
@@ -138,7 +140,7 @@ impl RegisterFile {
         }
     }
 
-    /// Sets causes of a group, which are bits that the group has.
+    /// Raises causes of a group, which are bits that the group has.
     fn set_cause(&mut self, group: Group, bits: u32)
         requires there { index_of group < 64 }
         requires bits { IsSubset bits (group_bits group) }
@@ -149,7 +151,7 @@ impl RegisterFile {
     }
 }
 
-/// A mailbox's word after a write by the function.
+/// The word of a mailbox after a write by the function.
 fn function_wrote(mail: u32, word: u32) -> u32
     ensures { result ≡ function_wrote mail word }
 {
@@ -162,7 +164,7 @@ fn function_wrote(mail: u32, word: u32) -> u32
     }
 }
 
-/// After a write by the physical function.
+/// The word of a mailbox after a write by the physical function.
 fn physical_wrote(mail: u32, word: u32) -> u32
     ensures { result ≡ physical_wrote mail word }
 {
@@ -171,7 +173,7 @@ fn physical_wrote(mail: u32, word: u32) -> u32
     with_status(has_flag(word, Pfmailbox::STS), acknowledged)
 }
 
-/// With an acknowledgement of the physical function, where it sends one.
+/// The word with an acknowledgement by the physical function, where it sends one.
 fn with_acknowledgement(is_sent: bool, mail: u32) -> u32
     ensures { result ≡ set_if is_sent 5 mail }
 {
@@ -182,7 +184,7 @@ fn with_acknowledgement(is_sent: bool, mail: u32) -> u32
     }
 }
 
-/// With a status of the physical function, where it sends one.
+/// The word with a status by the physical function, where it sends one.
 fn with_status(is_sent: bool, mail: u32) -> u32
     ensures { result ≡ set_if is_sent 4 mail }
 {
@@ -215,7 +217,7 @@ fn taken(mail: u32, word: u32) -> u32
     }
 }
 
-/// After a read by the function.
+/// The word of a mailbox after a read by the function: bits that report once are cleared.
 fn told_once(mail: u32) -> u32
     ensures { result ≡ told_once mail }
 {
@@ -226,7 +228,7 @@ fn told_once(mail: u32) -> u32
     )
 }
 
-/// Once a reset is done.
+/// The word of a mailbox after a done reset was reported: RSTD in place of RSTI.
 fn reset_told(mail: u32) -> u32
     ensures { result ≡ reset_told mail }
 {
@@ -237,14 +239,15 @@ fn reset_told(mail: u32) -> u32
     }
 }
 
-/// Whether a written word sends something to the other side. The physical function's STS and ACK are the same bits.
+/// Whether a written word sends something to the other side. The physical function's STS and ACK are the same bits as
+/// the function's REQ and ACK.
 fn sends(word: u32) -> bool
     ensures { result ≡ sends word }
 {
     has_flag(word, Pvfmailbox::REQ) || has_flag(word, Pvfmailbox::ACK)
 }
 
-/// The bits of PFMBICR that a write of function v sets.
+/// The bits of PFMBICR that a write of its mailbox by function v sets.
 fn requests(v: u16, word: u32) -> u32
     ensures { result ≡ requests v word }
 {

@@ -1,4 +1,4 @@
-//! Whose register a place is.
+//! Which part of the device a register belongs to.
 
 ghost use Rattle.std.specs.Prelude.{◌≡◌, ◌<◌};
 ghost use Rattle.reg_table.specs.Rows.{row_of};
@@ -8,29 +8,29 @@ use dma_ring::Dir;
 use intr_unit::Group;
 use reg_table::{Bank, Place, bank_of};
 
-/// How many words of the mailbox memory a function has.
+/// The number of words of mailbox memory that each function has.
 const MESSAGE_WORDS: u16 = 16;
 
-/// Whose a register is.
+/// The part of the device that a register belongs to.
 #[derive(Clone, Copy, PartialEq, Eq, Debug)]
 pub enum Owner {
     /// The device as a whole.
     Device,
-    /// What the device counts.
+    /// The statistics counters of the device.
     Counters,
-    /// A side of a queue.
+    /// A side of the queue of this number, 0 to 127.
     Side(Dir, u16),
     /// A group of interrupts.
     Group(Group),
-    /// A pool.
+    /// The pool of this number, 0 to 63.
     Pool(u16),
-    /// What is counted of a virtual function.
+    /// The statistics counters of the virtual function of this number.
     VfCounters(u16),
-    /// A word of the vectors of queues of virtual functions.
+    /// The word of this index in PVTIVAR, the vectors of the virtual functions' queues.
     Vectors(u16),
 }
 
-/// Whose register a place is, by its row's bank and its index, which is below the row's count.
+/// The owner of a place, by its row's bank and its index, which is below the row's count.
 #[inline(always)]
 pub fn owner_of(place: Place) -> Owner
     requires { place.index < (row_of place.row).count }

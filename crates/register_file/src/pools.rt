@@ -1,4 +1,4 @@
-//! Pools of queues, and the reset of one.
+//! Pools of queues, and the reset of a pool.
 
 ghost use Rattle.std.specs.Prelude.{◌≡◌, ◌+◌, ◌<◌, ◌≤◌, fold};
 ghost use Rattle.std.specs.List.{range_with_len};
@@ -16,24 +16,24 @@ use reg_table::RowId;
 use register_bits::Pvfmailbox;
 use vf_map::{Mode, mode_of, queues_of};
 
-/// VFRE and VFTE: how many pools a word has a bit of.
+/// VFRE and VFTE: the number of pools in a word.
 const POOLS_IN_A_WORD: u16 = 32;
 
-/// PVFMAILBOX: what a reset of the pool takes: that the function holds the mailbox, and what was sent to it.
+/// PVFMAILBOX: the bits that a reset of the pool clears: that the function holds the mailbox, and what was sent to it.
 const MAIL_RENEWED: u32 = Pvfmailbox::VFU.0 | Pvfmailbox::PFSTS.0 | Pvfmailbox::PFACK.0;
 
 /// PVFMAILBOX after a reset.
 const MAIL_AT_RESET: u32 = Pvfmailbox::RSTI.0;
 
 impl RegisterFile {
-    /// How GCR_EXT parts the queues among pools.
+    /// How GCR_EXT separates the queues into pools.
     pub fn mode(&self) -> Mode
         ensures { result ≡ mode_in self.now }
     {
         mode_of(self.word(RowId::GcrExt, 0))
     }
 
-    /// Whether a pool below 64 takes frames, by its bit of VFRE, or sends, by its bit of VFTE.
+    /// Whether a pool below 64 has reception enabled, by its bit of VFRE, or transmission, by its bit of VFTE.
     pub fn is_pool_on(&self, dir: Dir, pool: u16) -> bool
         requires { pool < 64 }
         ensures { result ≡ is_pool_on self.now dir pool }
@@ -42,9 +42,9 @@ impl RegisterFile {
         (word >> (pool % POOLS_IN_A_WORD)) % 2 == 1
     }
 
-    /// Resets pool v, below 64: the interrupts of its virtual function, what was told of them, PSRTYPE, and what is
-    /// counted of the function; and both sides of the queues that the mode gives the pool, what is wanted of them, and
-    /// their vectors. A mode without the pool gives it no queues.
+    /// Resets pool v, below 64: the interrupts of its virtual function with the told bits, PSRTYPE, its mailbox, and
+    /// the counters of the function; and for the queues that the mode gives the pool both sides, the enables that were
+    /// asked for, and the vectors. Where the mode doesn't have the pool, no queues are reset.
     #[tactic(auto, unfolding(crate::specs::PoolReset::pool_reset))]
     pub fn reset_pool(&mut self, mode: Mode, v: u8)
         requires { v < 64 }
@@ -57,7 +57,7 @@ impl RegisterFile {
         }
     }
 
-    /// Resets what a pool has once.
+    /// Resets the registers of which a pool has one each, and its mailbox.
     fn reset_function(&mut self, v: u8)
         requires { v < 64 }
         ensures { self.new ≡ function_reset self.old v }
@@ -66,7 +66,7 @@ impl RegisterFile {
         self.reset_mailbox(u16::from(v));
     }
 
-    /// Resets the interrupts of a pool's function, what was told of them, PSRTYPE, and what is counted of the function.
+    /// Resets the interrupts of a pool's function with the told bits, PSRTYPE, and the counters of the function.
     fn reset_own(&mut self, v: u8)
         requires { v < 64 }
         ensures { self.new ≡ with_told (rows_reset self.old own_renewals v) (Vf v) 0 }
@@ -78,7 +78,7 @@ impl RegisterFile {
         self.counters.vfgptc[at] = 0;
     }
 
-    /// Resets what a pool has of its mailbox: that the function holds it, what was sent to it, and its vector.
+    /// Resets a pool's part of the mailbox: that the function holds it, what was sent to it, and its vector.
     fn reset_mailbox(&mut self, v: u16)
         requires { v < 64 }
         ensures { self.new ≡ rows_reset self.old mailbox_renewals v }
@@ -92,7 +92,7 @@ impl RegisterFile {
         );
     }
 
-    /// Resets so many queues from the first on.
+    /// Resets `count` queues from queue `first` on.
     fn reset_queues(&mut self, first: u8, count: u8)
         requires { first + count ≤ 128 }
         ensures { self.new ≡ fold queue_reset self.old (range_with_len first count) }
@@ -102,7 +102,7 @@ impl RegisterFile {
         }
     }
 
-    /// Resets so many words of vectors from the first on.
+    /// Resets `count` words of PVTIVAR from word `first` on.
     fn reset_vectors(&mut self, first: u8, count: u8)
         requires { first + count ≤ 64 }
         ensures { self.new ≡ fold vectors_reset self.old (range_with_len first count) }
@@ -136,7 +136,7 @@ impl RegisterFile {
     }
 }
 
-/// The row that says which pools are on.
+/// The row of the bits that enable pools for a side: VFRE or VFTE.
 fn pool_row(dir: Dir) -> RowId
     ensures { result ≡ pool_row dir }
 {

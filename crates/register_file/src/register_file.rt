@@ -1,4 +1,4 @@
-//! What the registers hold, and their reset.
+//! The registers, and their reset.
 
 ghost use Rattle.std.specs.Prelude.{◌≡◌, ◌<◌};
 ghost use Rattle.reg_table.specs.Rows.{row_of};
@@ -14,7 +14,8 @@ use reg_table::RowId;
 use rss_hash::HashKey;
 use std::marker::Model;
 
-/// The words of all registers, which sides of queues are wanted on, and which interrupt causes messages told.
+/// The words of all registers, which sides of queues are asked to be enabled, and which interrupt causes messages have
+/// reported.
 #[derive(Drop)]
 pub struct RegisterFile {
     pub(crate) cells: Cells,
@@ -41,7 +42,7 @@ impl Model for RegisterFile {
 }
 
 impl RegisterFile {
-    /// The registers after a reset.
+    /// The registers as a reset leaves them.
     pub fn new() -> Self
         ensures { result ≡ reset_registers }
     {
@@ -58,7 +59,7 @@ impl RegisterFile {
         }
     }
 
-    /// Gives each register its reset value, wants no queue on, and forgets what messages told.
+    /// Sets each register to its reset value, withdraws all enable requests, and forgets what messages have reported.
     pub fn reset(&mut self)
         ensures { self.new ≡ reset_registers }
     {
@@ -73,8 +74,8 @@ impl RegisterFile {
         self.key = HashKey::zero();
     }
 
-    /// The word of a row at an index below the row's count, 0 to 0xFFFFFFFF, as it was stored: what is calculated, and
-    /// what a read does, is left to `peek` and `read`.
+    /// The stored word of a row at an index below the row's count. `peek` and `read` return what a driver reads:
+    /// calculated registers, and the side effects of reads.
     #[inline(always)]
     pub fn word(&self, row: RowId, index: u16) -> u32
         requires { index < (row_of row).count }
@@ -83,7 +84,7 @@ impl RegisterFile {
         self.cell(row, index)
     }
 
-    /// Whether a side of a queue below `QUEUES` is wanted on.
+    /// Whether a side of a queue below `QUEUES` is asked to be enabled.
     pub fn is_wanted(&self, dir: Dir, queue: u16) -> bool
         requires { queue < 128 }
         ensures { result ≡ is_wanted self.now dir queue }
@@ -94,7 +95,7 @@ impl RegisterFile {
         }
     }
 
-    /// Wants a side of a queue below `QUEUES` on, or not.
+    /// Asks a side of a queue below `QUEUES` to be enabled or disabled.
     pub(crate) fn want(&mut self, dir: Dir, queue: u16, wanted: bool)
         requires { queue < 128 }
         ensures { self.new ≡ with_wanted self.old dir queue wanted }

@@ -1,4 +1,4 @@
-//! What single bits and fields of registers set.
+//! Settings of the device in single bits and fields of registers.
 
 ghost use Rattle.std.specs.Prelude.{◌≡◌, ◌≤◌, ◌<◌};
 ghost use Rattle.reg_table.specs.declared.rows.RowId.TheVariants.{Srrctl};
@@ -9,14 +9,14 @@ use crate::register_file::RegisterFile;
 use reg_table::RowId;
 use register_bits::{Ctrl, Dmatxctl, Hlreg0, Rxctrl, Tdwbal, has_flag};
 
-/// How many bytes a frame has at most where HLREG0 doesn't leave it to MAXFRS.
+/// The longest frame in bytes where HLREG0 doesn't enable jumbo frames, frame check sequence excluded.
 const USUAL_LIMIT: u16 = 1514;
 
-/// How many bytes of MAXFRS are those of the frame check sequence, which frames here don't have.
+/// How many bytes of the number in MAXFRS are the frame check sequence, which frames here don't have.
 const FRAME_CHECK: u32 = 4;
 
 impl RegisterFile {
-    /// Whether the device makes no step: CTRL bit 2 is 1.
+    /// Whether the device makes no steps: bus mastering is disabled, CTRL bit 2.
     #[inline(always)]
     pub fn is_stopped(&self) -> bool
         ensures { result ≡ is_stopped self.now }
@@ -24,7 +24,7 @@ impl RegisterFile {
         has_flag(self.word(RowId::Ctrl, 0), Ctrl::MASTER_DISABLE)
     }
 
-    /// Whether frames are taken: RXCTRL bit 0 is 1.
+    /// Whether reception is enabled: RXCTRL bit 0 is 1.
     #[inline(always)]
     pub fn can_receive(&self) -> bool
         ensures { result ≡ can_receive self.now }
@@ -32,7 +32,7 @@ impl RegisterFile {
         has_flag(self.word(RowId::Rxctrl, 0), Rxctrl::RXEN)
     }
 
-    /// Whether frames are sent: DMATXCTL bit 0 is 1.
+    /// Whether transmission is enabled: DMATXCTL bit 0 is 1.
     #[inline(always)]
     pub fn can_transmit(&self) -> bool
         ensures { result ≡ can_transmit self.now }
@@ -40,8 +40,8 @@ impl RegisterFile {
         has_flag(self.word(RowId::Dmatxctl, 0), Dmatxctl::TE)
     }
 
-    /// How many bytes a frame has at most: 1,514, or with HLREG0 bit 2 the number in MAXFRS bits 31 to 16 less 4, 0 at
-    /// least.
+    /// The longest frame in bytes, frame check sequence excluded: 1,514, or with HLREG0 bit 2 (jumbo frames) the number
+    /// in MAXFRS bits 31 to 16 minus 4, at least 0.
     #[inline(always)]
     pub fn frame_limit(&self) -> u16
         ensures { result ≡ frame_limit self.now }
@@ -60,7 +60,7 @@ impl RegisterFile {
         has_flag(self.word(RowId::Hlreg0, 0), Hlreg0::TXPADEN)
     }
 
-    /// The control word, SRRCTL, of a receive queue below `QUEUES`.
+    /// The word of SRRCTL of a receive queue below `QUEUES`.
     #[inline(always)]
     pub fn receive_control(&self, queue: u16) -> u32
         requires { queue < 128 }
@@ -69,7 +69,7 @@ impl RegisterFile {
         self.word(RowId::Srrctl, queue)
     }
 
-    /// Whether a receive queue below `QUEUES` drops a frame that finds no slot: SRRCTL bit 28 is 1.
+    /// Whether a receive queue below `QUEUES` drops a frame for which there is no free descriptor: SRRCTL bit 28 is 1.
     #[inline(always)]
     pub fn drops(&self, queue: u16) -> bool
         requires { queue < 128 }
@@ -81,8 +81,8 @@ impl RegisterFile {
         )
     }
 
-    /// Where a transmit queue below `QUEUES` writes its head, if it does: the address of TDWBAH and TDWBAL bits 31 to
-    /// 2, where TDWBAL bit 0 is 1.
+    /// The head write-back address of a transmit queue below `QUEUES`: TDWBAH and TDWBAL bits 31 to 2. `None` where
+    /// TDWBAL bit 0 is 0.
     #[inline(always)]
     pub fn writeback(&self, queue: u16) -> Option<u64>
         requires { queue < 128 }

@@ -1,51 +1,51 @@
 //! The registers of one side of a queue.
 
-/// The registers of the receive side of a queue, and whether it is wanted on.
+/// The registers of the receive side of a queue, and whether it is asked to be enabled.
 #[derive(Clone, Copy)]
 pub(crate) struct ReceiveSide {
-    /// RDBAL.
+    /// RDBAL: the ring's base address, low part.
     pub(crate) base_low: u32,
-    /// RDBAH.
+    /// RDBAH: the ring's base address, high part.
     pub(crate) base_high: u32,
-    /// RDLEN.
+    /// RDLEN: the ring's length in bytes.
     pub(crate) length: u32,
-    /// RDH.
+    /// RDH: the ring's head, an index of a descriptor.
     pub(crate) head: u32,
-    /// SRRCTL.
+    /// SRRCTL: split receive control, with buffer size and descriptor type.
     pub(crate) control: u32,
-    /// RDT.
+    /// RDT: the ring's tail, an index of a descriptor.
     pub(crate) tail: u32,
-    /// RXDCTL.
+    /// RXDCTL: receive descriptor control, with the enable bit.
     pub(crate) enable: u32,
-    /// Whether the side is wanted on.
+    /// Whether the side is asked to be enabled.
     pub(crate) wanted: bool,
 }
 
-/// The registers of the transmit side of a queue, and whether it is wanted on.
+/// The registers of the transmit side of a queue, and whether it is asked to be enabled.
 #[derive(Clone, Copy)]
 pub(crate) struct TransmitSide {
-    /// TDBAL.
+    /// TDBAL: the ring's base address, low part.
     pub(crate) base_low: u32,
-    /// TDBAH.
+    /// TDBAH: the ring's base address, high part.
     pub(crate) base_high: u32,
-    /// TDLEN.
+    /// TDLEN: the ring's length in bytes.
     pub(crate) length: u32,
-    /// TDH.
+    /// TDH: the ring's head, an index of a descriptor.
     pub(crate) head: u32,
-    /// TDT.
+    /// TDT: the ring's tail, an index of a descriptor.
     pub(crate) tail: u32,
-    /// TXDCTL.
+    /// TXDCTL: transmit descriptor control, with the enable bit.
     pub(crate) enable: u32,
-    /// TDWBAL.
+    /// TDWBAL: the head write-back address, low part, with the enable bit.
     pub(crate) writeback_low: u32,
-    /// TDWBAH.
+    /// TDWBAH: the head write-back address, high part.
     pub(crate) writeback_high: u32,
-    /// Whether the side is wanted on.
+    /// Whether the side is asked to be enabled.
     pub(crate) wanted: bool,
 }
 
 impl ReceiveSide {
-    /// A side after a reset.
+    /// The receive side as a reset leaves it.
     pub(crate) const AT_RESET: ReceiveSide = ReceiveSide {
         base_low: 0,
         base_high: 0,
@@ -59,7 +59,7 @@ impl ReceiveSide {
 }
 
 impl TransmitSide {
-    /// A side after a reset.
+    /// The transmit side as a reset leaves it.
     pub(crate) const AT_RESET: TransmitSide = TransmitSide {
         base_low: 0,
         base_high: 0,

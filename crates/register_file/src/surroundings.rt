@@ -1,8 +1,8 @@
-/// What lies around the registers, as far as calculated registers tell of it.
+/// The state outside the registers that calculated registers report.
 #[derive(Clone, Copy, PartialEq, Eq, Debug)]
 pub struct Surroundings {
     /// Whether the link is up.
     pub link: bool,
-    /// The size of the EEPROM's image: s, 0 to 8, where it has 64 * 2^s words.
+    /// The size of the EEPROM image as a power of two: s, 0 to 8, where it has 64 * 2^s words.
     pub eeprom: u8,
 }

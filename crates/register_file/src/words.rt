@@ -1,4 +1,4 @@
-//! The words of the registers: which row lies in which field.
+//! The words of the registers: the field of each row.
 
 ghost use Rattle.std.specs.Prelude.{◌≡◌, ◌<◌, IsTrue};
 ghost use Rattle.reg_table.specs.Rows.{row_of};
@@ -11,7 +11,7 @@ use intr_unit::Group;
 use reg_table::RowId;
 
 impl RegisterFile {
-    /// The word of a row at an index below the row's count, as it was stored.
+    /// The stored word of a row at an index below the row's count.
     #[inline(always)]
     pub(crate) fn cell(&self, row: RowId, index: u16) -> u32
         requires { index < (row_of row).count }
@@ -66,7 +66,8 @@ impl RegisterFile {
         }
     }
 
-    /// The same, and which words the row holds: a group's auto-clear and auto-mask have only bits of the group.
+    /// The stored word, and that it is one that the row can hold: a group's auto-clear and auto-mask have only bits of
+    /// the group.
     #[inline(always)]
     pub(crate) fn row_word(&self, row: RowId, index: u16) -> u32
         requires { index < (row_of row).count }
@@ -82,7 +83,7 @@ impl RegisterFile {
         }
     }
 
-    /// Stores a word in a row at an index below the row's count. The row is one that holds such words.
+    /// Stores a word in a row at an index below the row's count. The row must be one that can hold it.
     #[inline(always)]
     pub(crate) fn set_word(&mut self, row: RowId, index: u16, word: u32)
         requires index { index < (row_of row).count }

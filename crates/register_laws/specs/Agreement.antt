@@ -1,4 +1,4 @@
--- What accesses of a pool's registers, and the pool's reset, change and tell: of all registers the pool's alone.
+-- What accesses of a pool's registers, and the pool's reset, change and return: of all registers only the pool's.
 use Rattle.std.specs.Prelude.{ℕ, ◌≡◌, ◌≢◌, IsTrue}
 use Rattle.register_file.specs.RegTable.Rows.{row_of}
 use Rattle.register_file.specs.RegTable.declared.place.Place.{Place}
@@ -32,11 +32,12 @@ abbrev pub SharedWritesChangeNothing : Type 0
 SharedWritesChangeNothing =
     (r : Registers) (p : Place) (view word : ℕ) → IsTrue (is_shared p) → after_write r p view word ≡ r
 
--- what a read of a place tells
+-- what a read of a place returns
 abbrev pub told_at : Registers → Surroundings → Place → ℕ
 told_at r around p = read_word (row_of p.row).kind r around p
 
--- registers that agree of a pool tell the same at its places, and at STATUS and LINKS where both make steps or neither
+-- registers that agree in a pool return the same at its places, and at STATUS and LINKS where both have bus mastering
+-- enabled or neither
 abbrev pub PoolReadsTellTheSame : Type 0
 PoolReadsTellTheSame =
     (mode : Mode) (v : ℕ) (a b : Registers) → AgreeWithin (pool_agrees mode v) a b →

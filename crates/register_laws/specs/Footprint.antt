@@ -21,7 +21,8 @@ use Rattle.register_file.specs.declared.owner.Owner.TheVariants as owner
 pub use Rattle.register_file.specs.Footprint.{Footprint, nothing, either, is_place, the_word, the_bits, the_enable}
 pub use Rattle.register_file.specs.Footprint.{pending, pending_of}
 
--- a part of the registers: whole words at places, which sides are wanted on, and what is told of groups
+-- a part of the registers: whole words at places, which sides are asked to be enabled, and the causes, masks and told
+-- bits of groups
 pub record Part : Type 0 where
   pub words : Place → Bool
   pub wanted : Dir → ℕ → Bool

@@ -104,7 +104,7 @@ abbrev pub SwitchedSideStays : Type 0
 SwitchedSideStays =
     (r : Registers) (dir : Dir) (queue : ℕ) → is_on r dir queue ≡ is_wanted r dir queue → switched r dir queue ≡ r
 
--- a read of a side's enable word tells in bit 25 whether the side is on
+-- a read of a side's enable word returns in bit 25 whether the side is enabled
 abbrev pub EnableReadTellsOn : Type 0
 EnableReadTellsOn =
     (r : Registers) (dir : Dir) (queue : ℕ) (around : Surroundings) →
@@ -211,8 +211,8 @@ EepromAnswerIsRead =
     (r : Registers) → HasShape r → (word : ℕ) → word < 2 ^ 16 →
     IsAnswered (eeprom_answered r word) (eeprom_index r) word
 
--- the causes, masks and told bits of a group that were put into its registers are there again, beside the auto-clear
--- and the auto-mask that it had
+-- the causes, masks and told bits of a group that were stored in its registers are read back, with the auto-clear and
+-- the auto-mask as they were
 abbrev pub InterruptsStand : Type 0
 InterruptsStand =
     (r : Registers) → HasShape r → (s : Interrupts) → IsConsistent s → index_of s.group < 64 →
@@ -315,7 +315,7 @@ MissedInterruptsStand =
     (f : Footprint) (old new : Registers) (g : Group) → Misses f (of_group g) → ChangesWithin f old new →
     interrupts_of new g ≡ interrupts_of old g
 
--- what single words set stands where a footprint hasn't these words
+-- what single words set is unchanged where a footprint doesn't have these words
 pub record SettingsStand (f : Footprint) (old new : Registers) : Type 0 where
   pub stopped : LacksWord f (place Ctrl 0) → is_stopped new ≡ is_stopped old
   pub can_receive : LacksWord f (place Rxctrl 0) → can_receive new ≡ can_receive old

@@ -35,7 +35,7 @@ bits_of_row row = bit_or (row_of row).reset (bits_of_kind (row_of row).kind (row
 abbrev pub pending_bits : Registers → Group → ℕ
 pending_bits r g = intersection (word_of r (cause_row g) (index_of g)) (word_of r (mask_row g) (index_of g))
 
--- a mailbox is held by one side at most, and tells that a reset began or that it is done, not both
+-- a mailbox is held by one side at most, and reports that a reset began or that it is done, not both
 pub record IsMail (mail : ℕ) : Type 0 where
   pub holder : IsFalse (has_bit 2 mail && has_bit 3 mail)
   pub end : IsFalse (has_bit 6 mail && has_bit 7 mail)

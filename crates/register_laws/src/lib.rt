@@ -1,10 +1,10 @@
-//! What the registers promise as a whole, above the definitions that the contracts of `register_file` cite.
+//! Laws of the registers as a whole, beyond the definitions that the contracts of `register_file` cite.
 //!
 //! Each law is the contract of a function that does nothing: what it ensures holds of the definitions by which
-//! `register_file::RegisterFile` makes each operation. What an operation may change is its footprint; a place has one
-//! owner, and an access changes nothing of another; a side of a queue and the interrupts of a group are seen as values,
-//! and stand through all that misses them; registers stay sound. The device core keeps its own soundness by these, and
-//! the laws of the device rest on them.
+//! `register_file::RegisterFile` makes each operation. What an operation can change is its footprint. A place has one
+//! owner, and an access changes nothing of another owner. A side of a queue and the interrupts of a group are seen as
+//! values, which every change outside them leaves as they are. Registers stay sound. The device core proves its own
+//! soundness by these, and the laws of the device use them.
 #![tactic(auto)]
 
 ghost use Rattle.register_laws.specs.Laws.{ResetIsSound, ReadKeepsSound, WriteKeepsSound, CountKeepsSound, CountWrappingKeepsSound, AnswerKeepsSound, RaiseKeepsSound, QueueRaiseKeepsSound, MessageKeepsSound, HeadKeepsSound, SwitchKeepsSound, ShutKeepsSound, ResetGivesResetValues, ResetSwitchesOff, ResetTellsNothing, PutWordIsThere, PutWordIsAlone, GroupBitsAreMasks, StoredWordReadsBack, ReadStaysWithin, WriteStaysWithin, CountStaysWithin, CountWrappingStaysWithin, AnswerStaysWithin, RaiseStaysWithin, QueueRaiseStaysWithin, MessageStaysWithin, HeadStaysWithin, SwitchStaysWithin, ShutStaysWithin, ReadStaysWithOwner, WriteStaysWithOwner, OwnersAreApart, OwnersDiffer, WordIsOnePlace, PendingIsPending, CountersAreTheirOwn, PendingMissesSides, ReadMissesSides, MissedReceiveStands, MissedTransmitStands, MissedInterruptsStand, MissedSettingsStand, HeadMovesReceive, HeadMovesTransmit, SwitchObeysReceive, SwitchObeysTransmit, SwitchedSideStays, ShutIsOffReceive, ShutIsOffTransmit, RingIsHeldWhileOn, WrittenReceiveIsTheSides, WrittenTransmitIsTheSides, EnableWriteAsksReceive, EnableWriteAsksTransmit, EnableReadTellsOn, CountersCount, ReadOnlyCountersGoRound, CalculatedRowsHaveFormulas, EepromAnswerIsRead, InterruptsStand};
@@ -12,8 +12,8 @@ ghost use Rattle.register_laws.specs.SoundWords.{SoundWordsAreSmall, ActingWords
 ghost use Rattle.register_laws.specs.PoolReset.{PoolIsReset, PoolResetTakesTheRest, PoolResetStaysWithin, PoolResetKeepsSound};
 ghost use Rattle.register_laws.specs.Agreement.{PoolReadsStayWithin, PoolWritesStayWithin, SharedReadsChangeNothing, SharedWritesChangeNothing, PoolReadsTellTheSame, SharedReadsTellTheSame, PoolReadsKeepAgreement, PoolWritesKeepAgreement, PoolResetKeepsAgreement, PoolsHaveNothingInCommon, MissedAgreementStands};
 
-/// Registers are sound after a reset and through every change: they have each place of the table, in each word only
-/// bits that its row can have, and told bits only where cause and mask are 1.
+/// Registers are sound after a reset and after every change: they have each place of the table, in each word only bits
+/// that its row can have, and told bits only where cause and mask are 1.
 pub fn soundness_is_kept()
     ensures reset { ResetIsSound }
     ensures read { ReadKeepsSound }
@@ -29,8 +29,8 @@ pub fn soundness_is_kept()
     ensures shut { ShutKeepsSound }
 {}
 
-/// A word of sound registers has 32 bits. It is 0 where the register only acts or is calculated, and none whose write
-/// would ask for a reset; and each ring has its base and its length at multiples of 128.
+/// A word of sound registers has 32 bits. It is 0 where the register only acts or is calculated, and it is never one
+/// whose write would ask for a reset. The base and the length of each ring are multiples of 128.
 pub fn sound_words_are_of_their_rows()
     ensures small { SoundWordsAreSmall }
     ensures none { ActingWordsAreNone }
@@ -38,20 +38,21 @@ pub fn sound_words_are_of_their_rows()
     ensures rings { RingsAreAligned }
 {}
 
-/// After a reset each register has its reset value, no side of a queue is on or wanted on, and nothing is told.
+/// After a reset each register has its reset value, no side of a queue is enabled or asked to be enabled, and no bit is
+/// told.
 pub fn reset_is_the_tables()
     ensures words { ResetGivesResetValues }
     ensures off { ResetSwitchesOff }
     ensures told { ResetTellsNothing }
 {}
 
-/// A word that was put at a place is there, and all else is as it was.
+/// A word that was stored at a place is there, and all else is unchanged.
 pub fn put_word_is_there()
     ensures there { PutWordIsThere }
     ensures alone { PutWordIsAlone }
 {}
 
-/// The bits that a group of interrupts has are the bits that its registers have in the table.
+/// The bits of a group of interrupts are the bits that its registers have in the table.
 pub fn group_bits_are_masks()
     ensures { GroupBitsAreMasks }
 {}
@@ -61,9 +62,9 @@ pub fn stored_word_reads_back()
     ensures { StoredWordReadsBack }
 {}
 
-/// What an operation changes is in its footprint: of a read and a write that of its place, of a count, of an answer of
-/// the EEPROM and of a moved head the one word, of raised causes and of a message what is pending of the group, of a
-/// switch the enable word, and of a fault the enable word and whether the side is wanted on.
+/// What an operation changes is in its footprint: for a read and a write that of its place; for a count, an answer of
+/// the EEPROM and a moved head the one word; for raised causes and a message the causes, masks and told bits of the
+/// group; for a switch the enable word; for a fault the enable word and whether the side is asked to be enabled.
 pub fn changes_stay_in_their_footprint()
     ensures read { ReadStaysWithin }
     ensures write { WriteStaysWithin }
@@ -78,9 +79,8 @@ pub fn changes_stay_in_their_footprint()
     ensures shut { ShutStaysWithin }
 {}
 
-/// What is of a place is its owner's: a read changes nothing of another owner, nor does a write, but where its kind
-/// reaches others as those of mailboxes do; and raised causes and messages change nothing but causes, masks and told
-/// bits.
+/// A place belongs to its owner. A read changes nothing of another owner, nor does a write, except where its kind
+/// reaches others as those of mailboxes do. Raised causes and messages change only causes, masks and told bits.
 pub fn accesses_stay_with_their_owner()
     ensures read { ReadStaysWithOwner }
     ensures write { WriteStaysWithOwner }
@@ -93,8 +93,8 @@ pub fn accesses_stay_with_their_owner()
     ensures no_side { ReadMissesSides }
 {}
 
-/// A side of a queue, a group's interrupts, and what single words set, stand through each change within a footprint
-/// that has nothing of them.
+/// A side of a queue, a group's interrupts, and settings in single words are unchanged by each change within a
+/// footprint that doesn't contain them.
 pub fn what_a_footprint_misses_stands()
     ensures receive { MissedReceiveStands }
     ensures transmit { MissedTransmitStands }
@@ -102,52 +102,54 @@ pub fn what_a_footprint_misses_stands()
     ensures settings { MissedSettingsStand }
 {}
 
-/// A moved head is the head of the side's ring, and the side is else as it was.
+/// A moved head is the head of the side's ring, and the side is unchanged otherwise.
 pub fn moved_head_is_the_head()
     ensures receive { HeadMovesReceive }
     ensures transmit { HeadMovesTransmit }
 {}
 
-/// A switched side is on exactly where it is wanted on, and is else as it was; where it was so, nothing changes.
+/// A switched side is enabled exactly where it was asked to be, and is unchanged otherwise; where it was so already,
+/// nothing changes.
 pub fn switched_side_is_as_wanted()
     ensures receive { SwitchObeysReceive }
     ensures transmit { SwitchObeysTransmit }
     ensures stays { SwitchedSideStays }
 {}
 
-/// A shut side is off and not wanted on, and is else as it was.
+/// A side that is shut is disabled and not asked to be enabled, and is unchanged otherwise.
 pub fn shut_side_is_off()
     ensures receive { ShutIsOffReceive }
     ensures transmit { ShutIsOffTransmit }
 {}
 
-/// While a side of a queue is on, no write changes its ring's base, length or head.
+/// While a side of a queue is enabled, no write changes its ring's base, length or head.
 pub fn ring_is_held_while_on()
     ensures { RingIsHeldWhileOn }
 {}
 
-/// A written tail, control word or write-back address is the side's, and while the side is off a written base, length
-/// or head too: of the written word the bits that the register's mask and the address let through. The side is else as
-/// it was.
+/// A written tail, control word or write-back address is the side's, and while the side is disabled also a written
+/// base, length or head: the bits of the written word that the register's mask has and the address shows. The side is
+/// unchanged otherwise.
 pub fn written_word_is_the_sides()
     ensures receive { WrittenReceiveIsTheSides }
     ensures transmit { WrittenTransmitIsTheSides }
 {}
 
-/// A write of a side's enable word only asks: the side stays on or off, and its ring stays. A read of that word tells
-/// whether the side is on.
+/// A write of a side's enable word only asks: the side stays enabled or disabled, and its ring is unchanged. A read of
+/// that word returns whether the side is enabled.
 pub fn enable_write_only_asks()
     ensures receive { EnableWriteAsksReceive }
     ensures transmit { EnableWriteAsksTransmit }
     ensures read { EnableReadTellsOn }
 {}
 
-/// What is counted is read: one more each time, up to the largest word. A read starts the counter again from 0.
+/// A counter reads as what was counted: one more each time, up to the largest word. A read restarts it from 0.
 pub fn counters_count()
     ensures { CountersCount }
 {}
 
-/// What is counted in a read-only counter is read: one more each time, and 0 after the largest word. Accesses leave it.
+/// A read-only counter reads as what was counted: one more each time, and 0 after the largest word. Accesses don't
+/// change it.
 pub fn read_only_counters_go_round()
     ensures { ReadOnlyCountersGoRound }
 {}
@@ -157,19 +159,19 @@ pub fn calculated_rows_have_formulas()
     ensures { CalculatedRowsHaveFormulas }
 {}
 
-/// An answer of the EEPROM is read back, with the index that was asked for and DONE, and nothing is asked any more.
+/// An answer of the EEPROM is read back, with the index that was asked for and DONE, and nothing is asked for any more.
 pub fn eeprom_answer_is_read()
     ensures { EepromAnswerIsRead }
 {}
 
-/// What a group's interrupts were made is what its registers hold: its causes, its masks and its told bits, beside the
-/// auto-clear and the auto-mask that it had.
+/// What changes the interrupts of a group is stored in its registers: causes, masks and told bits, with the auto-clear
+/// and the auto-mask unchanged.
 pub fn interrupts_stand()
     ensures { InterruptsStand }
 {}
 
-/// After a reset of a pool all that it takes is as a reset leaves it, it takes all that is the pool's but what it
-/// leaves of the mailbox, all else is as it was, and the registers are sound where they were.
+/// After a reset of a pool all that the reset reaches is as a reset leaves it. It reaches all that belongs to the pool,
+/// except for a part of the mailbox. All else is unchanged, and the registers are sound where they were.
 pub fn reset_pool_is_reset()
     ensures reset { PoolIsReset }
     ensures rest { PoolResetTakesTheRest }
@@ -177,8 +179,8 @@ pub fn reset_pool_is_reset()
     ensures sound { PoolResetKeepsSound }
 {}
 
-/// An access of a pool's register, where it asks for no reset, changes nothing but what is the pool's, the bits of its
-/// function in PFMBICR and EICR bit 19, and one of STATUS or LINKS nothing at all.
+/// An access of a pool's register that asks for no reset changes only what belongs to the pool, the bits of its
+/// function in PFMBICR and EICR bit 19; an access of STATUS or LINKS changes nothing at all.
 pub fn pool_accesses_stay_within()
     ensures read { PoolReadsStayWithin }
     ensures write { PoolWritesStayWithin }
@@ -186,8 +188,9 @@ pub fn pool_accesses_stay_within()
     ensures shared_write { SharedWritesChangeNothing }
 {}
 
-/// Two register files that agree of a pool tell the same at the pool's registers, and agree of the pool again after the
-/// same access of one of them and after its reset. STATUS and LINKS tell the same where both make steps or neither.
+/// Two register files that agree in a pool return the same at the pool's registers, and agree in the pool again after
+/// the same access of one of them and after its reset. STATUS and LINKS return the same where both have bus mastering
+/// enabled or neither.
 pub fn pool_accesses_tell_of_the_pool()
     ensures word { PoolReadsTellTheSame }
     ensures shared_word { SharedReadsTellTheSame }
@@ -196,8 +199,8 @@ pub fn pool_accesses_tell_of_the_pool()
     ensures reset { PoolResetKeepsAgreement }
 {}
 
-/// Accesses of two pools may both change no bit but EICR bit 19, and what those of one may change has nothing of what
-/// must agree of the other; what two register files agree in stands through changes that have nothing of it.
+/// Accesses of two pools can both change no bit but EICR bit 19, and what those of one can change has nothing of what
+/// must agree for the other. What two register files agree in is unchanged by changes that have nothing of it.
 pub fn pools_have_nothing_in_common()
     ensures apart { PoolsHaveNothingInCommon }
     ensures stands { MissedAgreementStands }

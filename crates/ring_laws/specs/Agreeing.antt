@@ -10,20 +10,20 @@ use Rattle.ring_laws.specs.TransmitPrelude.{is_ring_block, segment_at, slot_at}
 abbrev pub bytes_of : List Kept → List (List ℕ)
 bytes_of packets = map (λ (p : Kept). p.bytes) packets
 
--- the bytes that a segment leaves staged, behind those that are, and the frame that ends with it, where one does
+-- the bytes that a segment leaves staged, after those that are, and the frame that ends with it, where one does
 abbrev pub staged_behind : List ℕ → Segment → List ℕ
 staged_behind staged s = if s.part.last then [] else staged ++ s.part.bytes
 
 abbrev pub frame_ended : List ℕ → Segment → List (List ℕ)
 frame_ended staged s = if s.part.last then (staged ++ s.part.bytes) ∷ [] else []
 
--- the frames that segments become, behind what is staged
+-- the frames that segments become, after what is staged
 abbrev pub frames_from : List ℕ → List Segment → List (List ℕ)
 frames_from staged [] = []
 frames_from staged (s ∷ segments) = frame_ended staged s ++ frames_from (staged_behind staged s) segments
 
--- behind the bytes that are staged segments go on with their packet, and with others, and end one: each has the limit
--- at most, and 60 bytes at least
+-- after the bytes that are staged segments go on with their packet, and with others, and end one: each has the limit at
+-- most, and 60 bytes at least
 abbrev pub ArePackets : ℕ → List ℕ → List Segment → Type 0
 ArePackets limit staged [] = staged ≡ []
 ArePackets limit staged (s ∷ segments) =
@@ -53,9 +53,9 @@ pub record IsBased (s : State) (queue : ℕ) (l : Layout) : Type 0 where
   pub tail : named s l.port l.tail ≡ Register (place Tdt queue) 0xFFFFFFFF
   pub limit : frame_limit s.registers ≡ l.limit
 
--- the transmit side is the driver's, where so many of the outstanding segments are posted and so many were fetched: its
--- ring begins with the driver's block, its head is the slot of the first segment that wasn't fetched, its tail that of
--- the first that isn't posted, and the head isn't written to memory. The side may be on or off
+-- the transmit side is the driver's, where this many of the outstanding segments are posted and this many were fetched:
+-- its ring begins with the driver's block, its head is the slot of the first segment that wasn't fetched, its tail that
+-- of the first that isn't posted, and the head isn't written to memory. The side may be on or off
 pub record IsSetUp (side : TransmitQueue) (l : Layout) (posted fetched : ℕ) : Type 0 where
   pub base : side.ring.base ≡ 2048 * l.ring
   pub length : side.ring.length ≡ 16 * l.size
@@ -63,7 +63,7 @@ pub record IsSetUp (side : TransmitQueue) (l : Layout) (posted fetched : ℕ) : 
   pub tail : side.ring.tail ≡ slot_at l posted
   pub writeback : side.writeback ≡ None
 
--- a segment can be sent: its block, lent beside those of a ring of so many slots, which begins with the block of this
+-- a segment can be sent: its block, lent beside those of a ring of this many slots, which begins with the block of this
 -- number, begins with its bytes
 pub record IsReady (m : Memory) (ring size : ℕ) (s : Segment) : Type 0 where
   pub short : length s.part.bytes ≤ 2048
@@ -116,7 +116,7 @@ SendsInOrder s queue sent limit left accepted =
     IsInTurn limit (staged_by s queue) sent left accepted
     ⊎ IsCutOff (transmit_queue_of s.registers queue) sent left accepted
 
--- so many of the outstanding segments were fetched
+-- this many of the outstanding segments were fetched
 pub record AgreesAt (s : State) (queue : ℕ) (sent : List (List ℕ)) (v : Sender) (fetched : ℕ) : Type 0 where
   pub based : IsBased s queue v.layout
   pub set_up : IsSetUp (transmit_queue_of s.registers queue) v.layout v.posted fetched

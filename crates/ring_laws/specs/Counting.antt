@@ -13,7 +13,7 @@ NeverGoesOn queue s (e ∷ es) = IsFalse (goes_on queue s e.event) × NeverGoesO
 abbrev pub IsEndOf : List (List ℕ) → List (List ℕ) → Type 0
 IsEndOf xs ys = (before : List (List ℕ)) × (ys ≡ before ++ xs)
 
--- where the side never goes on, all that is sent is counted, behind what was counted before; where it goes on, all that
+-- where the side never goes on, all that is sent is counted, after what was counted before; where it goes on, all that
 -- is sent since the last time. What is counted over two histories in turn is counted on over the second. It is an end
 -- of all that was counted before and sent, and an entry adds one frame at most
 pub record SentIsCounted : Type 0 where
@@ -34,12 +34,13 @@ pub record SentIsCounted : Type 0 where
       (queue : ℕ) (s : State) (sent : List (List ℕ)) (h : List Entry)
       → length (sent_since queue s sent h) ≤ length sent + length h
 
--- how long the frame is that a reply tells as sent on a queue, where it does
+-- the length of the frame that a reply reports as sent on a queue, where it does
 abbrev pub lengths_told : ℕ → Reply Block → List ℕ
 lengths_told queue (Sent on len back) = if on == queue then len ∷ [] else []
 lengths_told queue other = []
 
--- the frames that a legal history of a sound device sends on a queue are those that its replies tell, by their lengths
+-- the frames that a legal history of a sound device sends on a queue are those that its replies report, by their
+-- lengths
 abbrev pub SentIsTold : Type 0
 SentIsTold =
     (queue : ℕ) (s : State) (h : List Entry) → IsSound s → AreEvents h → IsLegal s h →

@@ -1,18 +1,18 @@
--- What the agreement says of the packets that a driver handed out, and of a look of its that finds none.
+-- What the agreement says of the packets that a driver returned, and of a look of its that finds none.
 use Rattle.std.specs.Prelude.{[], ◌++◌, ◌<◌, ◌≡◌, IsFalse, List, length, ℕ}
 use Rattle.history_laws.specs.Prelude.{Bytes, State, is_done, reply_to, second_half}
 use Rattle.ring_laws.specs.ReceivePrelude.{Looks, Receive, descriptor_at, records_of}
 use Rattle.ring_laws.specs.{Delivered.IsPrefixOf, Joint.Agree, Pieces.Piece, Pieces.packets_of}
 use Rattle.nic_device.specs.declared.event.Event.TheVariants as event
 
--- where the device and the driver agree, what the driver handed out is a prefix of the packets that were written since
+-- where the device and the driver agree, what the driver returned is a prefix of the packets that were written since
 -- the side went on
 abbrev pub HandedIsPrefix : Type 0
 HandedIsPrefix =
     (queue : ℕ) (s : State) (out : List Piece) (v : Receive) → Agree queue s out v →
     IsPrefixOf v.handed (packets_of out)
 
--- a look at the slot behind those that a driver saw, from a state on, would find it not done
+-- a look at the slot after those that a driver saw, from a state on, would find it not done
 pub record ShowsNone (s : State) (v : Receive) : Type 0 where
   pub looks : v.stage ≡ Looks
   pub posted : length v.seen < length v.layout.blocks
@@ -20,8 +20,8 @@ pub record ShowsNone (s : State) (v : Receive) : Type 0 where
   pub reply : reply_to s (event.Peek16 (descriptor_at v.layout (length v.seen))) ≡ Bytes bytes
   pub waits : IsFalse (is_done (second_half bytes))
 
--- where a look that comes next finds its slot not done, all of them were taken: they were handed out, or are whole and
--- handed out as the tail moves on
+-- where a look that comes next finds its slot not done, all of them were taken: they were returned, or are whole and
+-- returned as the tail moves on
 abbrev pub NoneIsAllTaken : Type 0
 NoneIsAllTaken =
     (queue : ℕ) (s : State) (out : List Piece) (v : Receive) → Agree queue s out v → ShowsNone s v →
@@ -32,7 +32,7 @@ pub record FindsNone (s : State) (v : Receive) : Type 0 where
   pub shows : ShowsNone s v
   pub none_whole : v.whole ≡ []
 
--- then all of them were handed out
+-- then all of them were returned
 abbrev pub NoneIsAll : Type 0
 NoneIsAll =
     (queue : ℕ) (s : State) (out : List Piece) (v : Receive) → Agree queue s out v → FindsNone s v →

@@ -8,7 +8,7 @@ use Rattle.ring_laws.specs.Pieces.{AllFit, Piece, open_after, pieces}
 use Rattle.ring_laws.specs.{Joint.Agree, ReceiveUp.IsUp}
 use Rattle.nic_device.specs.declared.event.Event.TheVariants as event
 
--- a frame, where it waits for this queue, fits so many blocks
+-- a frame, where it waits for this queue, fits this many blocks
 abbrev pub FitsBlocks : ℕ → ℕ → Waiting → Type 0
 FitsBlocks queue most w = w.queue ≡ queue → length w.frame ≤ 2048 * most
 
@@ -17,8 +17,8 @@ abbrev pub begun_on : ℕ → List Waiting → ℕ
 begun_on queue [] = 0
 begun_on queue (w ∷ others) = if w.queue == queue then w.offset else 0
 
--- the frames that wait for the queue fit, longer ones aren't let in, so do the packets of the pieces that were written,
--- and of a packet that doesn't end yet so much is written as its pieces fill
+-- the frames that wait for the queue fit, longer ones aren't accepted, so do the packets of the pieces that were
+-- written, and of a packet that doesn't end yet so much is written as its pieces fill
 pub record AreFitting (queue most : ℕ) (s : State) (out : List Piece) : Type 0 where
   pub limit : frame_limit s.registers ≤ 2048 * most
   pub waiting : All (FitsBlocks queue most) s.waiting

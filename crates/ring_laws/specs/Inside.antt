@@ -5,13 +5,13 @@ use Rattle.ring_laws.specs.ReceivePrelude.{Layout, Receive, block_at, blocks_for
 use Rattle.ring_laws.specs.{Joint.Agree, Pieces.Piece}
 use Rattle.nic_device.specs.declared.event.Event.TheVariants as event
 
--- a descriptor is in one of the blocks of a ring of so many slots, from this block on
+-- a descriptor is in one of the blocks of a ring of this many slots, from this block on
 pub record IsInRing (ring size desc : ℕ) : Type 0 where
   pub part : ℕ
   pub known : part < blocks_for size
   pub descriptor : LiesIn (ring + part) desc 16
 
--- a descriptor is in one of the ring's blocks, and so many bytes are in the block of one of the ring's slots
+-- a descriptor is in one of the ring's blocks, and this many bytes are in the block of one of the ring's slots
 pub record IsInside (l : Layout) (desc at len : ℕ) : Type 0 where
   pub descriptor : IsInRing l.ring l.size desc
   pub slot : ℕ

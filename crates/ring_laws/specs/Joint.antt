@@ -41,8 +41,8 @@ pub record IsRing (l : Layout) : Type 0 where
   pub not_ring : (k : ℕ) → k < length l.blocks → is_ring_block l.ring l.size (block_at l k) ≡ false
   pub apart : (i j : ℕ) → i < length l.blocks → j < length l.blocks → i ≢ j → block_at l i ≢ block_at l j
 
--- the queue's receive side is the driver's: one buffer of 2,048 bytes a descriptor, and of its slots so many are filled
--- and not consumed. The side may be on or off
+-- the queue's receive side is the driver's: one buffer of 2,048 bytes a descriptor, and of its slots this many are
+-- filled and not consumed. The side may be on or off
 pub record IsSetUp (q : ReceiveQueue) (l : Layout) (filled : ℕ) : Type 0 where
   pub one_buffer : descriptor_type_of q.control ≡ 1
   pub buffer_size : buffer_size_of q.control ≡ 2048
@@ -68,7 +68,7 @@ abbrev pub StageHolds : Memory → Layout → Stage → Type 0
 StageHolds m l (Lent b) = IsLoose m l b
 StageHolds m l other = ⊤
 
--- the slots from the next one on that have a block: the first are filled with these pieces, and those behind them wait;
+-- the slots from the next one on that have a block: the first are filled with these pieces, and those after them wait;
 -- of all others, which are consumed or vacant, nothing is said
 pub record HasSlots (m : Memory) (l : Layout) (here : List Piece) : Type 0 where
   pub there : EachRingBlock l.ring l.size (λ b. IsTrue (has_block m b))
@@ -76,7 +76,7 @@ pub record HasSlots (m : Memory) (l : Layout) (here : List Piece) : Type 0 where
   pub filled : (k : ℕ) → k < length here → IsFilled m (descriptor_at l k) (block_at l k) (piece_at here k)
   pub posted : (k : ℕ) → length here ≤ k → k < length l.blocks → IsPosted m (descriptor_at l k) (block_at l k)
 
--- what the driver saw of the first pieces that stand in slots
+-- what the driver saw of the first pieces in slots
 pub record Saw (t : Told) (p : Piece) : Type 0 where
   pub first_is : t.first ≡ p.first
   pub len_is : bytes_in t.second ≡ length p.bytes
@@ -113,19 +113,19 @@ IsAt (Lent b) seen held = EndLast seen
 abbrev pub still_held : Receive → Packet
 still_held v = left_of v.seen v.held
 
--- the packets that the driver handed out, those that are whole, and the one whose last part was taken
+-- the packets that the driver returned, those that are whole, and the one whose last part was taken
 abbrev pub packets_had : Receive → List Kept
 packets_had v = v.handed ++ records_of (v.whole ++ ended_of v.seen v.held)
 
--- the pieces that were consumed are those packets, and the parts of one that is held: whatever comes behind them is cut
--- as behind those parts
+-- the pieces that were consumed are those packets, and the parts of one that is held: whatever comes after them is cut
+-- as after those parts
 abbrev pub AreCut : List Piece → Receive → Type 0
 AreCut gone v =
     (rest : List Piece)
     → packets_of (gone ++ rest) ≡ packets_had v ++ packets_behind (kept_of (still_held v)).bytes rest
 
--- the pieces that were written on the queue since its side went on: those that were consumed, and then those that
--- stand in slots, of which the driver saw the first. A packet that isn't whole fills its blocks
+-- the pieces that were written on the queue since its side was enabled: those that were consumed, and then those in
+-- slots, of which the driver saw the first. A packet that isn't complete fills its blocks
 pub record InOrder (out : List Piece) (v : Receive) (gone here : List Piece) : Type 0 where
   pub cut : AreCut gone v
   pub parts : open_after 0 gone ≡ length (still_held v).bufs
@@ -134,7 +134,7 @@ pub record InOrder (out : List Piece) (v : Receive) (gone here : List Piece) : T
   pub stage : IsAt v.stage v.seen v.held
   pub order : out ≡ gone ++ here
 
--- the device and the driver agree, where these pieces were consumed and these stand in slots. The slots behind the tail
+-- the device and the driver agree, where these pieces were consumed and these are in slots. The slots after the tail
 -- whose descriptors name a block wait as the posted ones do, and none of them is filled
 pub record Holds (queue : ℕ) (s : State) (out : List Piece) (v : Receive) (gone here : List Piece) : Type 0 where
   pub named : IsNamed s queue v.layout

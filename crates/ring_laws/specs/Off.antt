@@ -42,8 +42,8 @@ pub record OffStays : Type 0 where
 abbrev pub NamesEnable : ℕ → State → Port → ℕ → Type 0
 NamesEnable queue s port number = named s port number ≡ Register (place Txdctl queue) 0xFFFFFFFF
 
--- a write of a word without bit 25 to the enable register leaves the side not wanted on; and a side that isn't is off
--- where a read of the register tells bit 25 as 0
+-- after a write of a word without bit 25 to the enable register the side isn't asked to be enabled; and a side that
+-- isn't is disabled where a read of the register returns bit 25 as 0
 pub record GuardIsOff : Type 0 where
   pub written :
       (queue : ℕ) (s : State) (port : Port) (number word : ℕ) → queue < 128 → IsSound s

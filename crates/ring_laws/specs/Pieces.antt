@@ -4,11 +4,11 @@ use Rattle.std.specs.Prelude.{[], if◌then◌else◌, ◌++◌, ◌+◌, ◌<�
 use Rattle.ring_laws.specs.ReceivePrelude.{Kept}
 use Rattle.nic_device.specs.DmaRing.Driver.{hash_in, rss_in}
 
--- a packet of these bytes, with what the first half of its descriptor tells
+-- a packet of these bytes, with what the first half of its descriptor reports
 abbrev pub packet_told : List ℕ → ℕ → Kept
 packet_told bytes first = record { bytes = bytes; rss = rss_in first; hash = hash_in first }
 
--- pieces cut into packets, after each that ends a frame, behind the bytes of those that came before; a rest without an
+-- pieces cut into packets, after each that ends a frame, after the bytes of those that came before; a rest without an
 -- end is left out
 abbrev pub packets_behind : List ℕ → List Piece → List Kept
 packets_behind front [] = []
@@ -19,12 +19,12 @@ packets_behind front (p ∷ ps) =
 abbrev pub packets_of : List Piece → List Kept
 packets_of ps = packets_behind [] ps
 
--- how many pieces there are of a packet that doesn't end yet, behind so many of it and these
+-- how many pieces there are of a packet that doesn't end yet, after this many of it and these
 abbrev pub open_after : ℕ → List Piece → ℕ
 open_after n [] = n
 open_after n (p ∷ ps) = open_after (if p.end then 0 else n + 1) ps
 
--- a packet has at most so many pieces, and each but its last has 2,048 bytes: this one comes behind so many of it
+-- a packet has at most this many pieces, and each but its last has 2,048 bytes: this one comes after this many of it
 pub record Fits (most before : ℕ) (p : Piece) : Type 0 where
   pub full : p.end ≡ false → length p.bytes ≡ 2048
   pub more : p.end ≡ false → before + 1 < most

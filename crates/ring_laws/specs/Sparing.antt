@@ -1,4 +1,4 @@
--- What it is for an event to spare a driver that sends: to leave what the driver rests on as it is.
+-- What it means for an event to spare a driver that sends: to leave what the driver relies on as it is.
 use Rattle.std.specs.Prelude.{◌<◌, ◌≡◌, Bool, IsFalse, IsTrue, ℕ, ⊤}
 use Rattle.history_laws.specs.Prelude.{Avoids, Block, Blocks, Event, IsEvent, IsSound, LeavesBlock, LeavesBlocks}
 use Rattle.history_laws.specs.Prelude.{LeavesRegisters, LeavesTransmit, Reply, State, Tx, Watched, WritesNoSetting}

@@ -6,8 +6,8 @@ use Rattle.ring_laws.specs.ReceivePrelude.{EachRingBlock, blocks_for}
 use Rattle.pmd_rx.specs.Receive.{at_start}
 use Rattle.ring_laws.specs.Joint.{Agree, IsNamed}
 
--- the side has a ring of so many slots from a block's start on, of which none is posted, and one buffer of 2,048 bytes
--- a descriptor
+-- the side has a ring of this many slots from a block's start on, of which none is posted, and one buffer of 2,048
+-- bytes a descriptor
 pub record IsFreshSide (q : ReceiveQueue) (ring size : ℕ) : Type 0 where
   pub one_buffer : descriptor_type_of q.control ≡ 1
   pub buffer_size : buffer_size_of q.control ≡ 2048

@@ -11,7 +11,7 @@ use Rattle.pmd_rx.specs.Keeping.{has_lent}
 use Rattle.ring_laws.specs.{Joint.Agree, Joint.Holds, Pieces.Piece, Pieces.piece_at, Pieces.pieces}
 use Rattle.nic_device.specs.declared.event.Event.TheVariants as event
 
--- what a look at a slot tells: its descriptor is done exactly where the slot is filled, and then tells of the slot's
+-- what a read of a slot returns: its descriptor is done exactly where the slot is filled, and then reports the slot's
 -- piece
 pub record TellsSlot (here : List Piece) (k : ℕ) (d : List ℕ) : Type 0 where
   pub done : IsTrue (is_done (second_half d)) ↔ (k < length here)
@@ -51,7 +51,7 @@ abbrev pub OwnReportsSpare : ℕ → Receive → State → Type 0
 OwnReportsSpare queue v s =
     (back : ℕ) → told_back (reply_to s (event.TxStep queue)) ≡ Some back → Each v (λ b. b ≢ back / 2048)
 
--- what an entry that isn't the driver's own is made on: a sound device, whose queues are parted by this mode
+-- what an entry that isn't the driver's own is made on: a sound device, whose queues are separated by this mode
 pub record IsMetBy (w : Watched) (mode : Mode) (s : State) (e : Entry) : Type 0 where
   pub sound : IsSound s
   pub vfs : w.vfs ≡ s.vfs

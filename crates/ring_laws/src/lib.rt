@@ -1,7 +1,7 @@
-//! What the device and a driver agree on, ring by ring, and that each event keeps it that is the driver's own or leaves
-//! its queue alone: `receive` is about the receive ring, by which what the driver hands out is a prefix of what was
-//! delivered, and `transmit` about the transmit ring, by which what is sent is a prefix of what it accepted. Over whole
-//! histories it is said of both rings at once, by crate `start_laws`.
+//! What the device and a driver agree on, ring by ring. Each event that is the driver's own or leaves its queue alone
+//! keeps the agreement. `receive` is about the receive ring: what the driver returns is a prefix of what was delivered.
+//! `transmit` is about the transmit ring: what is sent is a prefix of what the driver accepted. Crate `start_laws`
+//! states both for whole histories.
 #![tactic(auto)]
 
 pub mod receive;

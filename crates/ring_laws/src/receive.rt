@@ -1,10 +1,10 @@
-//! What the device and a driver agree on of the receive ring, whatever others do meanwhile: so what the driver hands
-//! out is a prefix of the packets that were written.
+//! What the device and a driver agree on in the receive ring, whatever others do in between: so what the driver returns
+//! is a prefix of the packets that were written.
 //!
-//! The device and the driver agree, between two events, on the slots of the receive ring: which are filled with pieces
-//! of frames, which are posted, which name a block behind the tail, and which pieces were consumed. Each law is the
-//! contract of a function that does nothing: what it ensures holds of `step_of`, by which the device makes each event,
-//! and of the driver's state as `pmd_rx` says it follows from the driver's own calls.
+//! Between two events, the device and the driver agree on the slots of the receive ring: which are filled with pieces
+//! of frames, which are posted, which of the slots after the tail name a block, and which pieces were consumed. Each
+//! law is the contract of a function that does nothing: what it ensures holds of `step_of`, by which the device makes
+//! each event, and of the driver's state, which `pmd_rx` derives from the driver's own calls.
 
 ghost use Rattle.ring_laws.specs.Fitting.{FramesStayFitting, NoneBegunWhileOff};
 ghost use Rattle.ring_laws.specs.ReceiveHealthy.{OwnRepliesAreHealthy};
@@ -15,35 +15,36 @@ ghost use Rattle.ring_laws.specs.Starting.{StartAgrees};
 ghost use Rattle.ring_laws.specs.Steps.{LookTellsSlot, ReceiveStepKeeps, EnableStepKeeps, LeavingKeeps, SwitchingKeeps, OwnEventKeeps, EntryKeeps};
 ghost use Rattle.ring_laws.specs.ReceiveUp.{LeavingStaysUp, EnableStepChangesNothing, ReceiveStepStaysUp, OwnEventStaysUp, EntryStaysUp};
 
-/// A look at the next slot tells done exactly where the slot is filled, and then tells of the slot's piece.
+/// A read of the next slot finds it done exactly where the slot is filled, and then reads the slot's piece.
 pub fn look_tells_the_slot()
     ensures { LookTellsSlot }
 {}
 
-/// A step of receiving, of whichever queue, keeps what the device and the driver agree on: on the driver's queue the
-/// first posted slot becomes the last filled one, or nothing changes there. A fault is impossible.
+/// A receive step, of any queue, keeps the agreement: on the driver's queue the first posted slot becomes the last
+/// filled one, or nothing changes there. A fault is impossible.
 #[tactic(auto, using(crate::proofs::Foreign::receive_keeps))]
 pub fn receive_step_keeps_the_agreement()
     ensures { ReceiveStepKeeps }
 {}
 
-/// A step of receiving on the driver's own queue writes its descriptor into one of the ring's blocks, and its bytes
-/// into the block of one of the ring's slots.
+/// A receive step on the driver's own queue writes its descriptor into one of the ring's blocks, and its bytes into the
+/// block of one of the ring's slots.
 pub fn receive_step_stays_in_its_blocks()
     ensures { PieceIsInside }
 {}
 
-/// An event that leaves the receive side of the queue and the driver's blocks as they were keeps what they agree on. It
-/// may switch the side, or ask it to go on or off, and so a step of the side's own enable keeps it too.
+/// An event that leaves the receive side of the queue and the driver's blocks unchanged keeps the agreement. It may
+/// enable or disable the side, or ask for that, and so a step of the side's own enable keeps it too.
 pub fn other_events_keep_the_agreement()
     ensures leaving { LeavingKeeps }
     ensures switching { SwitchingKeeps }
     ensures enable { EnableStepKeeps }
 {}
 
-/// A receive side that is on and wanted on stays so where an event leaves it, and over a step of its enable, which then
-/// changes nothing. Where the device and the driver agree it stays so over each step of receiving, each event of the
-/// driver's own, each entry of another pass that leaves the queue alone and each step of the device, whoever made it.
+/// A receive side that is enabled and asked to be enabled stays so where an event leaves it alone, and over a step of
+/// its enable, which then changes nothing. Where the device and the driver agree it stays so over each receive step,
+/// each event of the driver's own, each entry of another pass that leaves the queue alone and each step of the device,
+/// whoever made it.
 pub fn queue_up_stays_up()
     ensures leaving { LeavingStaysUp }
     ensures enable { EnableStepChangesNothing }
@@ -52,29 +53,31 @@ pub fn queue_up_stays_up()
     ensures entry { EntryStaysUp }
 {}
 
-/// Each event of the driver's own keeps what they agree on, with the driver that it leads to: a look, the block of a
-/// part taken, a fresh block lent, a vacant descriptor written, the tail moved on over descriptors that name blocks.
+/// Each event of the driver's own keeps the agreement, with the state of the driver after it: a descriptor read, the
+/// block of a piece taken, a fresh block lent, a vacant descriptor written, the tail advanced over descriptors that
+/// name blocks.
 #[tactic(auto, using(crate::proofs::Own::own_keeps))]
 pub fn own_event_keeps_the_agreement()
     ensures { OwnEventKeeps }
 {}
 
-/// An entry of another pass that leaves the queue alone keeps what they agree on, and so does a step of the device,
-/// whoever made it.
+/// An entry of another pass that leaves the queue alone keeps the agreement, and so does a step of the device, whoever
+/// made it.
 pub fn foreign_entry_keeps_the_agreement()
     ensures { EntryKeeps }
 {}
 
-/// Where the two agree, the packets that the driver handed out are a prefix of those that were written since the side
-/// went on. Where a look that comes next finds none, all of them were handed out, or are whole and handed out as the
-/// tail moves on; and all were handed out where none is whole.
+/// Where the two agree, the packets that the driver returned are a prefix of those that were written since the side was
+/// enabled. Where a following poll finds none, all of them were returned, or are complete and returned as the tail
+/// advances; and all were returned where none is complete.
 pub fn handed_packets_are_a_prefix_of_those_written()
     ensures prefix { HandedIsPrefix }
     ensures taken { NoneIsAllTaken }
     ensures all { NoneIsAll }
 {}
 
-/// As the side goes on with its ring lent and its words written, the device and a driver that posted nothing agree.
+/// When the side is enabled with its ring lent and its words written, the device and a driver that posted nothing
+/// agree.
 #[tactic(auto, using(crate::proofs::Leaving::start_agrees))]
 pub fn fresh_ring_agrees()
     ensures { StartAgrees }
@@ -82,24 +85,24 @@ pub fn fresh_ring_agrees()
 
 /// Each event of the driver's own gets the reply of a healthy queue where the two agree, the packets that were written
 /// have no more pieces than the driver takes, each but its last of 2,048 bytes, and a block that is lent isn't lent
-/// yet: a look tells a descriptor, of a part of a packet where it is done, the block of a part is taken, a fresh one
-/// lent, its descriptor written and the tail moved on.
+/// yet: a read returns a descriptor, of a piece of a packet where it is done; the block of a piece is taken, a fresh
+/// one lent, its descriptor written and the tail advanced.
 pub fn own_replies_are_healthy()
     ensures { OwnRepliesAreHealthy }
 {}
 
-/// Where the frames that wait for the queue fit as many slots as the driver takes for a packet, longer ones aren't let
-/// in, and so do the packets that were written, it stays so over every event that writes no setting and resets not the
-/// queue's pool, while the side is up: each piece that is written but the last of its frame fills its block. While the
-/// side is off nothing is written of a frame that waits for the queue.
+/// The following stays so over every event that writes no setting and doesn't reset the queue's pool, while the side is
+/// enabled: the frames of the receive list for the queue fit as many slots as the driver takes for a packet, longer
+/// ones aren't accepted, and the packets that were written fit too. Each piece that is written but the last of its
+/// frame fills its block. While the side is disabled, nothing is written of a frame for the queue.
 pub fn fitting_frames_stay_fitting()
     ensures stay { FramesStayFitting }
     ensures off { NoneBegunWhileOff }
 {}
 
-/// Where of some numbers, as an arena's, only those are lent that the driver has lent for receiving or others have,
-/// each event of the driver's own leaves it so, with the driver that it leads to; and a block of these numbers that the
-/// driver lends, and others haven't lent, isn't lent yet.
+/// Take some block numbers, such as an arena's, of which only those are lent that the driver has lent for receiving or
+/// others have. Each event of the driver's own leaves it so, with the state of the driver after it; and a block of
+/// these numbers that the driver lends, and others haven't lent, isn't lent yet.
 #[tactic(auto, using(crate::proofs::ReceiveLent::own_lends_are_known))]
 pub fn own_lends_are_known()
     ensures { OwnLendsAreKnown }

@@ -1,8 +1,8 @@
-//! What holds of a driver that sends on a queue of a shared device, over whatever others do meanwhile.
+//! What holds of a driver that sends on a queue of a shared device, whatever others do in between.
 //!
-//! Each law is the contract of a function that does nothing. `specs/Sent` says which frames a queue sends,
-//! `specs/Agreeing` what device and driver agree on, `specs/Sparing` what it is for an event to spare the driver, and
-//! `specs/Moves` which events may be its next move.
+//! Each law is the contract of a function that does nothing. `specs/Sent` defines which frames a queue sends,
+//! `specs/Agreeing` what device and driver agree on, `specs/Sparing` which events spare the driver, that is leave alone
+//! what it relies on, and `specs/Moves` which events can be its next move.
 
 ghost use Rattle.ring_laws.specs.Counting.{SentIsCounted, SentIsTold};
 ghost use Rattle.ring_laws.specs.Enable.{EnableWordsKeep};
@@ -13,15 +13,14 @@ ghost use Rattle.ring_laws.specs.TransmitUp.{UpStays};
 ghost use Rattle.ring_laws.specs.Laws.{StepsOfQueueKeep, SparingEventsKeep, LeftAloneIsSpared, MovesKeep};
 ghost use Rattle.ring_laws.specs.Laws.{SentIsPrefix, IdleIsAllSent, WaitingIsNotAllSent};
 
-/// A step of transmitting of the driver's own queue keeps what device and driver agree on, with the frame that it
-/// sends: the next packet that was accepted and not sent, or none.
+/// A transmit step of the driver's own queue keeps the agreement, with the frame that it sends: the next packet that
+/// was accepted and not sent, or none.
 #[tactic(auto, using(crate::proofs::Sparing::step_of_queue_keeps))]
 pub fn steps_of_queue_keep()
     ensures { StepsOfQueueKeep }
 {}
 
-/// An event that spares the driver keeps what device and driver agree on, with the frame that it sends on the queue, if
-/// any.
+/// An event that spares the driver keeps the agreement, with the frame that it sends on the queue, if any.
 #[tactic(auto, using(crate::proofs::Sparing::sparing_events_keep))]
 pub fn sparing_events_keep()
     ensures { SparingEventsKeep }
@@ -32,72 +31,72 @@ pub fn left_alone_is_spared()
     ensures { LeftAloneIsSpared }
 {}
 
-/// Each move of the driver's own keeps what device and driver agree on.
+/// Each move of the driver's own keeps the agreement.
 #[tactic(auto, using(crate::proofs::Playing::moves_keep))]
 pub fn moves_keep()
     ensures { MovesKeep }
 {}
 
 /// Where device and driver agree, the frames sent on the queue are a prefix of those that the driver accepted, byte for
-/// byte; with none outstanding they are all of them; and where a look finds the oldest outstanding packet not done, not
-/// all that was accepted was sent, nor was it earlier.
+/// byte; with none outstanding they are all of them. Where a read finds the oldest outstanding packet not done, not all
+/// that was accepted was sent, nor was it earlier.
 pub fn sent_in_order()
     ensures prefix { SentIsPrefix }
     ensures idle { IdleIsAllSent }
     ensures waiting { WaitingIsNotAllSent }
 {}
 
-/// The frames that a history sends on a queue, counted since the queue's transmit side last went on, are all that it
-/// sends where the side never goes on, and else all that it sends since the last time: an end of all, of one frame an
-/// entry at most.
+/// The frames that a history sends on a queue, counted since the queue's transmit side was last enabled, are all that
+/// it sends where the side is never enabled, and else all that it sends since the last time. They are the end of all,
+/// at most one frame an entry.
 #[tactic(auto, using(crate::proofs::InOrder::sent_is_counted))]
 pub fn sent_is_counted_since_the_side_went_on()
     ensures { SentIsCounted }
 {}
 
-/// The frames that a legal history of a sound device sends on a queue are as many, and as long, as its replies tell.
+/// The frames that a legal history of a sound device sends on a queue are as many, and as long, as its replies report.
 #[tactic(auto, using(crate::proofs::InOrder::sent_is_told))]
 pub fn sent_frames_are_told()
     ensures { SentIsTold }
 {}
 
-/// A transmit side that isn't wanted on stays so, and one that is off besides stays off and sends nothing, over every
-/// history whose events leave it or are steps of its own.
+/// A transmit side that isn't asked to be enabled stays so, and one that is also disabled stays disabled and sends
+/// nothing, over every history whose events leave it alone or are steps of its own.
 #[tactic(auto, using(crate::proofs::Off::off_stays))]
 pub fn queue_off_stays_off()
     ensures { OffStays }
 {}
 
-/// A transmit side that is on and wanted on stays so where device and driver agree, over each of the driver's moves and
-/// over every event that spares the driver.
+/// A transmit side that is enabled and asked to be enabled stays so where device and driver agree, over each of the
+/// driver's moves and over every event that spares the driver.
 pub fn queue_up_stays_up()
     ensures { UpStays }
 {}
 
-/// A write of the enable register of the queue's transmit side keeps what device and driver agree on, whatever the
-/// word: they agree whether the side is on or not.
+/// A write of the enable register of the queue's transmit side keeps the agreement, whatever the word: they agree
+/// whether the side is enabled or not.
 #[tactic(auto, using(crate::proofs::Off::enable_words_keep))]
 pub fn enable_words_keep()
     ensures { EnableWordsKeep }
 {}
 
-/// After a write of the enable register without bit 25 the side isn't wanted on; and where it isn't, a read that tells
-/// bit 25 as 0 finds it off.
+/// After a write of the enable register without bit 25 the side isn't asked to be enabled; and where it isn't, a read
+/// that returns bit 25 as 0 finds it disabled.
 #[tactic(auto, using(crate::proofs::Off::guard_is_off))]
 pub fn guarded_queue_is_off()
     ensures { GuardIsOff }
 {}
 
 /// Each move of the driver's own gets the reply of a healthy queue where the two agree, and the block of a packet that
-/// is accepted isn't lent yet: the block is lent, its descriptor written and the tail moved on, the oldest descriptor
-/// told, and the block of a packet that was seen sent is taken back.
+/// is accepted isn't lent yet: the block is lent, its descriptor written and the tail advanced, the oldest descriptor
+/// read, and the block of a packet that was seen sent is taken back.
 pub fn own_replies_are_healthy()
     ensures { OwnRepliesAreHealthy }
 {}
 
-/// Where of some numbers, as an arena's, only those are lent that the sender has lent or others have, each move of the
-/// driver's own leaves it so, with the sender that it leads to; and a packet that is accepted, whose block is of these
-/// numbers and lent by no other, has a block that isn't lent yet.
+/// Take some block numbers, such as an arena's, of which only those are lent that the sender has lent or others have.
+/// Each move of the driver's own leaves it so, with the state of the sender after it; and a packet that is accepted,
+/// whose block is of these numbers and lent by no other, has a block that isn't lent yet.
 #[tactic(auto, using(crate::proofs::TransmitLent::own_lends_are_known))]
 pub fn own_lends_are_known()
     ensures { OwnLendsAreKnown }

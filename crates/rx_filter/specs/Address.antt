@@ -1,4 +1,4 @@
--- Which frames are let in by their destination, the first six bytes of a frame.
+-- Which frames are accepted by their destination, the first six bytes of a frame.
 use Rattle.std.specs.Prelude.{ℕ, ◌+◌, ◌*◌, ◌/◌, ◌%◌, ◌^◌, ◌==◌, ◌&&◌, ◌||◌}
 use Rattle.std.specs.Prelude.{Bool, List, slice_index, find, Option, is_some, if◌then◌else◌}
 use Rattle.std.specs.List.{range_with_len}
@@ -49,7 +49,7 @@ is_in_table r frame =
     has_bit MFE (word_of r Mcstctrl 0)
     && has_bit (multicast_number r frame % 32) (word_of r Mta (multicast_number r frame / 32))
 
--- FCTRL bits 8, 9 and 10, MPE, UPE and BAM: all multicast frames, all unicast frames, and broadcast frames are let in
+-- FCTRL bits 8, 9 and 10, MPE, UPE and BAM: all multicast frames, all unicast frames, and broadcast frames are accepted
 abbrev pub lets_multicast : Registers → Bool
 lets_multicast r = has_bit MPE (word_of r Fctrl 0)
 
@@ -59,7 +59,7 @@ lets_unicast r = has_bit UPE (word_of r Fctrl 0)
 abbrev pub lets_broadcast : Registers → Bool
 lets_broadcast r = has_bit BAM (word_of r Fctrl 0)
 
--- whether a frame is let in by its destination
+-- whether a frame is accepted by its destination
 unfoldable pub passes : Registers → List ℕ → Bool
 passes r frame =
     if is_broadcast frame then lets_broadcast r || lets_multicast r

@@ -1,7 +1,7 @@
 -- The named bits of the receive registers under the datasheet's names, each by its number.
 use Rattle.std.specs.Prelude.{ℕ}
 
--- FCTRL: all multicast frames are let in, all unicast frames, and broadcast frames
+-- FCTRL: all multicast frames are accepted, all unicast frames, and broadcast frames
 abbrev pub MPE : ℕ
 MPE = 8
 
@@ -19,13 +19,13 @@ MFE = 2
 abbrev pub AV : ℕ
 AV = 31
 
--- VT_CTL: frames are parted among pools, and there is no default pool
+-- VT_CTL: frames are distributed among pools, and there is no default pool
 abbrev pub VT_ENA : ℕ
 VT_ENA = 0
 
 abbrev pub DIS_DEF_POOL : ℕ
 DIS_DEF_POOL = 29
 
--- RXCSUM: descriptors tell hashes
+-- RXCSUM: descriptors report hashes
 abbrev pub PCSD : ℕ
 PCSD = 13

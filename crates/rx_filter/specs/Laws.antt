@@ -36,7 +36,7 @@ BroadcastIsAllOnes =
     (frame : List ℕ) → ((k : ℕ) → slice_index frame k < 256) →
     IsTrue (is_broadcast frame) ↔ ((k : ℕ) → k < 6 → slice_index frame k ≡ 0xFF)
 
--- a frame for all is let in exactly where FCTRL bit 10, BAM, or bit 8, MPE, is 1
+-- a frame for all is accepted exactly where FCTRL bit 10, BAM, or bit 8, MPE, is 1
 abbrev pub BroadcastIsLetIn : Type 0
 BroadcastIsLetIn =
     (r : Registers) (frame : List ℕ) → IsTrue (is_broadcast frame) →
@@ -61,28 +61,28 @@ IsListed r frame =
     let vector = vector_of (word_of r Mcstctrl 0 % 4) frame in
     IsTrue (has_bit MFE (word_of r Mcstctrl 0)) × IsTrue (has_bit (vector % 32) (word_of r Mta (vector / 32)))
 
--- a frame for several but not for all is let in exactly where FCTRL bit 8, MPE, is 1, a valid address is its
+-- a frame for several but not for all is accepted exactly where FCTRL bit 8, MPE, is 1, a valid address is its
 -- destination, or MTA lists it
 abbrev pub MulticastIsLetIn : Type 0
 MulticastIsLetIn =
     (r : Registers) (frame : List ℕ) → IsFalse (is_broadcast frame) → IsTrue (is_multicast frame) →
     IsTrue (passes r frame) ↔ (IsTrue (has_bit MPE (word_of r Fctrl 0)) ⊎ (IsAddressed r frame ⊎ IsListed r frame))
 
--- a frame for one is let in exactly where FCTRL bit 9, UPE, is 1, or a valid address is its destination
+-- a frame for one is accepted exactly where FCTRL bit 9, UPE, is 1, or a valid address is its destination
 abbrev pub UnicastIsLetIn : Type 0
 UnicastIsLetIn =
     (r : Registers) (frame : List ℕ) → IsFalse (is_multicast frame) →
     IsTrue (passes r frame) ↔ (IsTrue (has_bit UPE (word_of r Fctrl 0)) ⊎ IsAddressed r frame)
 
--- the filter is why a frame goes nowhere exactly where it isn't let in
+-- the filter is why a frame goes nowhere exactly where it isn't accepted
 abbrev pub FilteredIsNotLetIn : Type 0
 FilteredIsNotLetIn = (r : Registers) (frame : List ℕ) → (sorted r frame ≡ Err Filter) ↔ IsFalse (passes r frame)
 
--- after a reset no frame is let in
+-- after a reset no frame is accepted
 abbrev pub ResetRefusesAll : Type 0
 ResetRefusesAll = (frame : List ℕ) → sorted reset_registers frame ≡ Err Filter
 
--- without pools and with a single queue, each frame that is let in goes to queue 0, with type 0 and hash 0
+-- without pools and with a single queue, each frame that is accepted goes to queue 0, with type 0 and hash 0
 abbrev pub SingleIsQueue0 : Type 0
 SingleIsQueue0 =
     (r : Registers) (frame : List ℕ) → uses_pools r ≡ false → queue_mode_of (word_of r Mrqc 0) ≡ Single →
@@ -137,7 +137,7 @@ pub record PoolOfAFrame : Type 0 where
   pub none : (r : Registers) (frame : List ℕ) → HasNoPool r frame →
       IsTrue (has_bit DIS_DEF_POOL (word_of r VtCtl 0)) → pool_of r frame ≡ None
 
--- frames are parted among pools, and this frame is for this pool and goes there
+-- frames are distributed among pools, and this frame is for this pool and goes there
 pub record GoesToPool (r : Registers) (frame : List ℕ) (pool : ℕ) (t : Target) : Type 0 where
   pub parted : IsTrue (uses_pools r)
   pub meant : pool_of r frame ≡ Some pool

@@ -19,7 +19,7 @@ use Rattle.rx_filter.specs.declared.fields.TheConstants.{DEF_PL}
 use Rattle.rx_filter.specs.declared.unwanted.Unwanted.{Unwanted}
 use Rattle.rx_filter.specs.declared.unwanted.Unwanted.TheVariants.{NoPool, PoolOff}
 
--- frames are parted among pools where VT_CTL bit 0, VT_ENA, is 1
+-- frames are distributed among pools where VT_CTL bit 0, VT_ENA, is 1
 abbrev pub uses_pools : Registers → Bool
 uses_pools r = has_bit VT_ENA (word_of r VtCtl 0)
 
@@ -49,7 +49,8 @@ or_default r (Some pool) = Some pool
 abbrev pub pool_of : Registers → List ℕ → Option ℕ
 pool_of r frame = or_default r (matched_pool r (first_match r frame))
 
--- the pools that MRQC's codes for pools part the queues among: 64, or 32 with code 0xA, but where GCR_EXT has 16 these
+-- the pools that MRQC's codes for pools separate the queues into: 64, or 32 with code 0xA, but where GCR_EXT has 16
+-- these
 abbrev pub sixteen_or : Mode → Mode → Mode
 sixteen_or Pools16 by_code = Pools16
 sixteen_or other by_code = by_code
@@ -64,7 +65,7 @@ parting code.Pools64Rss mode = sixteen_or mode Pools64
 abbrev pub parting_in : Registers → Mode
 parting_in r = parting (queue_mode_of (word_of r Mrqc 0)) (mode_in r)
 
--- whether a pool has queues: where they are parted, only so many pools do
+-- whether a pool has queues: any counts as such while queues are not separated into pools, else those of the mode
 abbrev pub has_queues : Mode → ℕ → Bool
 has_queues Off pool = true
 has_queues mode pool = nat_lt pool (pools_in mode)

@@ -42,8 +42,8 @@ abbrev pub rss_entry : Registers → List ℕ → ℕ
 rss_entry r frame =
     if code_of (rss_type r frame) == 0 then 0 else entry_of (row_words r.words Reta) (rss_hash r frame)
 
--- where a frame of a pool goes, and what its descriptors tell: the RSS type, and the hash where RXCSUM bit
--- 13, PCSD, is 1
+-- where a frame of a pool goes, and what its descriptors report: the RSS type, and the hash where RXCSUM bit 13, PCSD,
+-- is 1
 unfoldable pub target_of : Registers → List ℕ → ℕ → Target
 target_of r frame pool =
     record {
@@ -56,6 +56,6 @@ abbrev pub pool_target : Registers → List ℕ → Result ℕ Unwanted → Resu
 pool_target r frame (Ok pool) = Ok (target_of r frame pool)
 pool_target r frame (Err why) = Err why
 
--- a frame is let in by its destination, then its pool is chosen, and then its queue
+-- a frame is accepted by its destination, then its pool is chosen, and then its queue
 unfoldable pub sorted : Registers → List ℕ → Result Target Unwanted
 sorted r frame = if passes r frame then pool_target r frame (chosen_pool r frame) else Err Filter

@@ -1,4 +1,4 @@
-//! Whether a frame is let in by its destination.
+//! The address filter: whether a frame's destination is accepted.
 
 ghost use Rattle.std.specs.Prelude.{◌≡◌, ◌<◌, slice_index, IfSome};
 ghost use Rattle.rx_filter.specs.Address.{destination_low, destination_high, matches, first_match, is_broadcast, is_multicast, multicast_shift, multicast_number, is_in_table, lets_multicast, lets_unicast, lets_broadcast, passes};
@@ -7,10 +7,10 @@ use crate::fields::{MO, has_bit};
 use register_bits::{Fctrl, Mcstctrl, Rah, has_flag};
 use register_file::{RegisterFile, RowId};
 
-/// How many addresses there are.
+/// The number of receive addresses, RAL and RAH.
 const ADDRESSES: u16 = 128;
 
-/// Whether a frame is let in by its destination.
+/// Whether a frame's destination is accepted.
 #[tactic(auto, unfolding(crate::specs::Address::passes))]
 pub(crate) fn passes(registers: &RegisterFile, frame: &[u8]) -> bool
     ensures { result ≡ passes registers.now frame.now }
@@ -26,7 +26,7 @@ pub(crate) fn passes(registers: &RegisterFile, frame: &[u8]) -> bool
     }
 }
 
-/// The first of the addresses that a frame matches, by its number.
+/// The index of the first receive address that equals a frame's destination.
 pub(crate) fn first_match(registers: &RegisterFile, frame: &[u8]) -> Option<u16>
     ensures first { result ≡ first_match registers.now frame.now }
     ensures range { IfSome result (λ index. index < 128) }
@@ -39,7 +39,7 @@ pub(crate) fn first_match(registers: &RegisterFile, frame: &[u8]) -> Option<u16>
     None
 }
 
-/// Whether a frame's destination is that of a valid address.
+/// Whether a frame's destination is the valid receive address of this index.
 fn matches(registers: &RegisterFile, frame: &[u8], index: u16) -> bool
     requires { index < 128 }
     ensures { result ≡ matches registers.now frame.now index }
@@ -50,14 +50,14 @@ fn matches(registers: &RegisterFile, frame: &[u8], index: u16) -> bool
         && high % 0x1_0000 == destination_high(frame)
 }
 
-/// A byte of a frame, and 0 past its end.
+/// A byte of a frame. 0 past its end.
 fn byte(frame: &[u8], at: usize) -> u8
     ensures { result ≡ slice_index frame.now at }
 {
     if at < frame.len() { frame[at] } else { 0 }
 }
 
-/// The first four bytes of the destination, the first in the lowest bits.
+/// Bytes 0 to 3 of the destination, little-endian.
 fn destination_low(frame: &[u8]) -> u32
     ensures { result ≡ destination_low frame.now }
 {
@@ -67,7 +67,7 @@ fn destination_low(frame: &[u8]) -> u32
         + 0x100_0000 * u32::from(byte(frame, 3))
 }
 
-/// The last two bytes of the destination, the first in the lowest bits. It is below 65,536.
+/// Bytes 4 and 5 of the destination, little-endian. It is below 65,536.
 fn destination_high(frame: &[u8]) -> u32
     ensures value { result ≡ destination_high frame.now }
     ensures range { result < 65536 }
@@ -75,21 +75,21 @@ fn destination_high(frame: &[u8]) -> u32
     u32::from(byte(frame, 4)) + 0x100 * u32::from(byte(frame, 5))
 }
 
-/// Whether a frame is for all.
+/// Whether a frame is broadcast.
 fn is_broadcast(frame: &[u8]) -> bool
     ensures { result ≡ is_broadcast frame.now }
 {
     destination_low(frame) == 0xFFFF_FFFF && destination_high(frame) == 0xFFFF
 }
 
-/// Whether a frame is for several.
+/// Whether a frame is multicast or broadcast: bit 0 of its first byte is 1.
 fn is_multicast(frame: &[u8]) -> bool
     ensures { result ≡ is_multicast frame.now }
 {
     byte(frame, 0) % 2 == 1
 }
 
-/// Whether the table of multicast addresses has a frame's destination.
+/// Whether the multicast table has the bit of a frame's destination set.
 fn is_in_table(registers: &RegisterFile, frame: &[u8]) -> bool
     ensures { result ≡ is_in_table registers.now frame.now }
 {
@@ -103,7 +103,7 @@ fn is_in_table(registers: &RegisterFile, frame: &[u8]) -> bool
     )
 }
 
-/// The number of a destination in the table of multicast addresses, below 4,096.
+/// The index of a destination's bit in the multicast table, below 4,096.
 fn multicast_number(registers: &RegisterFile, frame: &[u8]) -> u16
     ensures value { result ≡ multicast_number registers.now frame.now }
     ensures range { result < 4096 }
@@ -117,21 +117,21 @@ fn multicast_number(registers: &RegisterFile, frame: &[u8]) -> u16
     (part % 0x1000) as u16
 }
 
-/// Whether all multicast frames are let in.
+/// Whether all multicast frames are accepted (FCTRL MPE).
 fn lets_multicast(registers: &RegisterFile) -> bool
     ensures { result ≡ lets_multicast registers.now }
 {
     has_flag(registers.word(RowId::Fctrl, 0), Fctrl::MPE)
 }
 
-/// Whether all unicast frames are let in.
+/// Whether all unicast frames are accepted (FCTRL UPE).
 fn lets_unicast(registers: &RegisterFile) -> bool
     ensures { result ≡ lets_unicast registers.now }
 {
     has_flag(registers.word(RowId::Fctrl, 0), Fctrl::UPE)
 }
 
-/// Whether broadcast frames are let in.
+/// Whether broadcast frames are accepted (FCTRL BAM).
 fn lets_broadcast(registers: &RegisterFile) -> bool
     ensures { result ≡ lets_broadcast registers.now }
 {

@@ -1,12 +1,12 @@
-//! Where the fields of several bits begin in the receive registers, under the datasheet's names, and the bits of tables.
+//! Positions of the fields of several bits in the receive registers, under the datasheet's names, and bits of tables.
 
 ghost use Rattle.std.specs.Prelude.{◌≡◌, ◌<◌};
 ghost use Rattle.register_file.specs.Bits.{has_bit};
 
-/// MCSTCTRL.MO: which bits of a destination number it in MTA. It has two bits.
+/// MCSTCTRL.MO: which 12 bits of a destination are its index in MTA. The field has two bits.
 pub(crate) const MO: u32 = 0;
 
-/// VT_CTL.DEF_PL: the default pool. It has six bits.
+/// VT_CTL.DEF_PL: the default pool. The field has six bits.
 pub(crate) const DEF_PL: u32 = 7;
 
 /// Whether a bit of a word is 1.

@@ -1,8 +1,8 @@
 //! Where a received frame goes: the address filter, the pool, and the queue.
 //!
-//! [`sort`] answers for a frame, given the registers: whether its destination is let in (RAL and RAH, MTA, FCTRL),
-//! which pool it is for (MPSAR, VT_CTL, VFRE), and which queue, by MRQC and GCR_EXT and by the hash of what the frame
-//! is (RSSRK, RETA). The definitions stand in `specs/`. No call takes memory. The device core stands on this crate.
+//! [`sort`] decides for a frame, by the registers: whether its destination address is accepted (RAL and RAH, MTA,
+//! FCTRL), which pool it is for (MPSAR, VT_CTL, VFRE), and which queue, by MRQC and GCR_EXT and by the RSS hash of the
+//! frame (RSSRK, RETA). The definitions are in `specs/`. No call allocates. The device core depends on this crate.
 //!
 //! Source: Intel 82599 datasheet, sections on packet filtering and on receive queue assignment.
 #![tactic(auto)]

@@ -1,4 +1,4 @@
-//! Which pool of queues a frame is for.
+//! Pool selection: which pool of queues a frame is for.
 
 ghost use Rattle.std.specs.Prelude.{◌≡◌, ◌<◌, IfSome, IfOk, IsTrue};
 ghost use Rattle.rx_filter.specs.Pools.{uses_pools, selects, lowest_pool, default_pool, pool_of, parting, parting_in, has_queues, checked_pool, chosen_pool};
@@ -9,10 +9,10 @@ use crate::unwanted::Unwanted;
 use register_bits::{VtCtl, has_flag};
 use register_file::{Dir, Mode, QueueMode, RegisterFile, RowId, queues_of};
 
-/// How many pools there are at most.
+/// The most pools that there can be.
 const POOLS: u16 = 64;
 
-/// The pool that a frame is for, below 64 and with queues as MRQC parts them: 0 where there are no pools.
+/// The pool that a frame is for, below 64 and with queues by MRQC: 0 where pools aren't in use.
 #[tactic(auto, unfolding(crate::specs::Pools::chosen_pool))]
 pub(crate) fn chosen_pool(registers: &RegisterFile, frame: &[u8]) -> Result<u16, Unwanted>
     ensures chosen { result ≡ chosen_pool registers.now frame.now }
@@ -26,14 +26,14 @@ pub(crate) fn chosen_pool(registers: &RegisterFile, frame: &[u8]) -> Result<u16,
     }
 }
 
-/// Whether frames are parted among pools: VT_CTL bit 0.
+/// Whether frames are distributed among pools: VT_CTL bit 0.
 pub fn uses_pools(registers: &RegisterFile) -> bool
     ensures { result ≡ uses_pools registers.now }
 {
     has_flag(registers.word(RowId::VtCtl, 0), VtCtl::VT_ENA)
 }
 
-/// The lowest pool of the address that a frame matches first, or else the default.
+/// The lowest pool of the first receive address that a frame matches, or else the default pool.
 fn pool_of(registers: &RegisterFile, frame: &[u8]) -> Option<u16>
     ensures pool { result ≡ pool_of registers.now frame.now }
     ensures range { IfSome result (λ pool. pool < 64) }
@@ -48,7 +48,7 @@ fn pool_of(registers: &RegisterFile, frame: &[u8]) -> Option<u16>
     }
 }
 
-/// The lowest pool that the frames of an address are for.
+/// The lowest pool to which frames for a receive address go.
 fn lowest_pool(registers: &RegisterFile, index: u16) -> Option<u16>
     requires { index < 128 }
     ensures lowest { result ≡ lowest_pool registers.now index }
@@ -62,7 +62,7 @@ fn lowest_pool(registers: &RegisterFile, index: u16) -> Option<u16>
     None
 }
 
-/// Whether the frames of an address are for a pool.
+/// Whether frames for a receive address go to a pool (MPSAR).
 fn selects(registers: &RegisterFile, index: u16, pool: u16) -> bool
     requires index { index < 128 }
     requires pool { pool < 64 }
@@ -74,7 +74,7 @@ fn selects(registers: &RegisterFile, index: u16, pool: u16) -> bool
     )
 }
 
-/// The pool of a frame without one of its own.
+/// The pool of a frame that no receive address selects one for.
 fn default_pool(registers: &RegisterFile) -> Option<u16>
     ensures pool { result ≡ default_pool registers.now }
     ensures range { IfSome result (λ pool. pool < 64) }
@@ -87,7 +87,7 @@ fn default_pool(registers: &RegisterFile) -> Option<u16>
     }
 }
 
-/// A frame's pool, which needs queues and has to take frames.
+/// Checks that a frame's pool has queues and has reception enabled.
 fn checked_pool(registers: &RegisterFile, pool: Option<u16>) -> Result<u16, Unwanted>
     requires { IfSome pool (λ pool. pool < 64) }
     ensures checked { result ≡ checked_pool registers.now pool }
@@ -107,8 +107,8 @@ fn checked_pool(registers: &RegisterFile, pool: Option<u16>) -> Result<u16, Unwa
     Ok(pool)
 }
 
-/// The pools that MRQC's codes for pools part the queues among: 64, or 32 with code 0xA, but where GCR_EXT has 16
-/// these. `Off` with other codes.
+/// The separation of the queues into pools by MRQC's codes for pools: 64, or 32 with code 0xA; but 16 where GCR_EXT has
+/// 16. `Off` with other codes.
 pub(crate) fn parting(code: QueueMode, mode: Mode) -> Mode
     ensures { result ≡ parting code mode }
 {
@@ -123,7 +123,7 @@ pub(crate) fn parting(code: QueueMode, mode: Mode) -> Mode
     }
 }
 
-/// Whether a pool has queues.
+/// Whether a pool has queues in this separation.
 fn has_queues(mode: Mode, pool: u16) -> bool
     requires { pool < 64 }
     ensures { result ≡ has_queues mode pool }

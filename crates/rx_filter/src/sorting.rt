@@ -1,4 +1,4 @@
-//! The queue that a frame is for, and its hash.
+//! Queue selection: the queue that a frame is for, and its RSS hash.
 
 ghost use Rattle.std.specs.Prelude.{◌≡◌, ◌<◌, ◌==◌, IfOk, IsTrue, if◌then◌else◌};
 ghost use Rattle.register_file.specs.RegTable.declared.rows.RowId.TheVariants.{Reta, Rxcsum};
@@ -19,9 +19,11 @@ use register_file::{
     Mode, QueueMode, RegisterFile, RowId, choose_bytes, classify, entry, queue_in,
 };
 
-/// Where a frame goes, given without its frame check sequence, or why it goes nowhere; any bytes will do, and bytes
-/// that a frame doesn't have read as 0. `Filter` where its destination isn't let in, then `NoPool` where there is no
-/// pool for it or the pool has no queues, and `PoolOff` where the pool takes no frames.
+/// The receive queue of a frame, or why it is dropped. The frame is given without its frame check sequence; it may be
+/// of any bytes, and bytes past its end are read as 0.
+///
+/// Errors: `Filter` where its destination isn't accepted, then `NoPool` where no pool is selected for it or the pool
+/// has no queues, then `PoolOff` where the pool has reception disabled.
 ///
 /// Intel 82599 datasheet, sections on packet filtering and on receive queue assignment.
 #[tactic(auto, unfolding(crate::specs::Sorting::sorted))]
@@ -36,7 +38,7 @@ pub fn sort(registers: &RegisterFile, frame: &[u8]) -> Result<Target, Unwanted>
     Ok(target(registers, frame, pool))
 }
 
-/// Where a frame of a pool goes.
+/// The receive queue of a frame of this pool, and its RSS type and hash.
 #[tactic(auto, unfolding(crate::specs::Sorting::target_of))]
 fn target(registers: &RegisterFile, frame: &[u8], pool: u16) -> Target
     requires range { pool < 64 }
@@ -56,7 +58,7 @@ fn target(registers: &RegisterFile, frame: &[u8], pool: u16) -> Target
     }
 }
 
-/// The entry of RETA that a hash selects, and 0 for a frame of type 0.
+/// The entry of RETA that a hash selects. 0 for a frame of RSS type 0.
 fn entry_at(registers: &RegisterFile, rss: u8, hash: u32) -> u8
     ensures value { result ≡ (if rss == 0 then 0 else entry_of (row_words registers.now.words Reta) hash) }
     ensures range { result < 16 }
@@ -67,7 +69,7 @@ fn entry_at(registers: &RegisterFile, rss: u8, hash: u32) -> u8
     entry(registers.redirection(), hash)
 }
 
-/// The hash that descriptors tell.
+/// The hash that descriptors report: 0 unless RXCSUM enables it.
 fn told(registers: &RegisterFile, hash: u32) -> u32
     ensures { result ≡ (if has_bit PCSD (word_of registers.now Rxcsum 0) then hash else 0) }
 {
@@ -81,7 +83,7 @@ fn told(registers: &RegisterFile, hash: u32) -> u32
     }
 }
 
-/// The queue of a pool and an entry of the redirection table.
+/// The queue for a pool and an entry of the redirection table.
 fn queue(code: QueueMode, mode: Mode, pool: u16, entry: u8) -> u16
     requires queues { IsTrue (has_queues (parting code mode) pool) }
     requires entry { entry < 16 }

@@ -1,10 +1,10 @@
-/// Where a frame goes, and what its descriptors tell of its hash.
+/// The receive queue of a frame, and what its descriptors report of its hash.
 #[derive(Clone, Copy, PartialEq, Eq, Debug)]
 pub struct Target {
-    /// The receive queue, below 128.
+    /// The receive queue, 0 to 127.
     pub queue: u16,
-    /// The number of its RSS type, below 16.
+    /// The RSS type, 0 to 15.
     pub rss: u8,
-    /// Its hash, 0 where descriptors tell none.
+    /// The RSS hash, 0 where descriptors report none.
     pub hash: u32,
 }

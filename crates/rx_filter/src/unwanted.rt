@@ -1,10 +1,10 @@
-/// Why a frame goes to no queue.
+/// Why a frame is dropped before it joins a queue.
 #[derive(Clone, Copy, PartialEq, Eq, Debug)]
 pub enum Unwanted {
-    /// Its destination isn't let in.
+    /// Its destination address isn't accepted.
     Filter,
-    /// There is no pool for it, or its pool has no queues.
+    /// No pool is selected for it, or its pool has no queues.
     NoPool,
-    /// Its pool takes no frames.
+    /// Its pool has reception disabled (VFRE).
     PoolOff,
 }

@@ -31,11 +31,11 @@ head_address r = descriptor_address r r.head
 abbrev pub buffer_address : Memory → Ring → ℕ
 buffer_address m r = buffer_of (first_half (read_at m (head_address r) 16))
 
--- how many bytes go into a buffer of so many: as many as are left and have room
+-- how many bytes go into a buffer of this many: as many as are left and have room
 abbrev pub piece_length : ℕ → Rest → ℕ
 piece_length size rest = min size (length rest.bytes)
 
--- the slot at the head takes so many bytes into the buffer at an address
+-- the slot at the head takes this many bytes into the buffer at an address
 abbrev pub filled_of : Ring → Rest → ℕ → ℕ → Filled
 filled_of r rest at len = record {
   slot = r.head;

@@ -23,7 +23,7 @@ pub record IsSound (t : Turn) : Type 0 where
   pub whole : IsWhole t.memory
   pub apart : AreApart (buffer_address t.memory t.ring) (buffer_size_of t.srrctl) (head_address t.ring) 16
 
--- a piece of a frame: its bytes, what is told of the packet, and whether the packet ends
+-- a piece of a frame: its bytes, what is reported of the packet, and whether the packet ends
 pub record Piece : Type 0 where
   pub bytes : List ℕ
   pub first : ℕ
@@ -37,11 +37,11 @@ piece_at m f = record {
   end = ends_packet (second_half (read_at m f.desc 16));
 }
 
--- what is left of a frame after so many bytes
+-- what is left of a frame after this many bytes
 abbrev pub rest_after : Rest → ℕ → Rest
 rest_after rest len = record rest { bytes = drop len rest.bytes }
 
--- a filled slot's piece, and those that come behind it where the frame doesn't end; a fault ends them
+-- a filled slot's piece, and those that come after it where the frame doesn't end; a fault ends them
 abbrev pub pieces_from : Memory → (Filled → List Piece) → Result Filled RingFault → List Piece
 pieces_from m more (Ok f) = piece_at m f ∷ (if f.end then [] else more f)
 pieces_from m more (Err fault) = []
@@ -57,8 +57,8 @@ unfoldable pub joined : List Piece → List ℕ
 joined [] = []
 joined (p ∷ ps) = p.bytes ++ joined ps
 
--- a piece behind others tells what is to be told of the packet, and has EOP exactly where with it the frame is whole;
--- then no piece comes behind it
+-- a piece after others reports the packet as they do, and has EOP exactly where the frame is complete with it; then no
+-- piece comes after it
 pub record IsPieceOf (frame : Rest) (before : List Piece) (p : Piece) (behind : List Piece) : Type 0 where
   pub told : p.first ≡ frame.first
   pub end : IsTrue p.end ↔ (joined before ++ p.bytes ≡ frame.bytes)

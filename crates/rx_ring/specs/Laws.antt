@@ -100,7 +100,7 @@ DriverReads =
     (m : Memory) (r : Ring) (srrctl : ℕ) (rest : Rest) (f : Filled) → IsWhole m → rest.first < 2 ^ 64
     → (fill_of m r srrctl rest).answer ≡ Ok f → ShowsPiece (fill_of m r srrctl rest).memory rest f
 
--- beside the descriptor's bytes and those of the buffer each byte stays, and each read and each block
+-- outside the descriptor's bytes and those of the buffer each byte stays, and each read and each block
 pub record ChangesOnlySlot (old new : Memory) (f : Filled) : Type 0 where
   pub bytes : (a : ℕ) → IsOutside a f.desc 16 → IsOutside a f.at f.len → byte_at new a ≡ byte_at old a
   pub reads : (a n : ℕ) → AreApart a n f.desc 16 → AreApart a n f.at f.len → read_at new a n ≡ read_at old a n

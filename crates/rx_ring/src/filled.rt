@@ -1,16 +1,16 @@
-/// What was written into one slot.
+/// What was written for one descriptor.
 #[derive(Clone, Copy, PartialEq, Eq, Debug)]
 pub struct Filled {
-    /// The slot.
+    /// The index of the descriptor in the ring.
     pub slot: u16,
-    /// The frame ends in this slot's buffer.
+    /// Whether the frame ends in this descriptor's buffer.
     pub end: bool,
-    /// The bus address of the descriptor that was written back.
+    /// The bus address of the descriptor, which was written back.
     pub desc: u64,
     /// The bus address of the first byte that was written into the buffer.
     pub at: u64,
-    /// How many bytes were written there: 31,744 at most.
+    /// How many bytes were written there, at most 31,744.
     pub len: usize,
-    /// The ring's new head.
+    /// The new head of the ring.
     pub head: u16,
 }

@@ -1,10 +1,10 @@
 /// What is to be written: the bytes of a frame from an offset on.
 #[derive(Clone, Copy, Debug)]
 pub struct Item<'a> {
-    /// The whole frame.
+    /// All bytes of the frame, without frame check sequence.
     pub frame: &'a [u8],
-    /// How many of its bytes are written already, in earlier descriptors.
+    /// How many of them are already written, by earlier descriptors.
     pub offset: usize,
-    /// The first half that is written back: the packet's types and its hash.
+    /// The first half of the descriptor as it is written back: the packet's types and its RSS hash.
     pub first: u64,
 }

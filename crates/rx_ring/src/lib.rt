@@ -2,8 +2,8 @@
 //!
 //! [`fill`] takes the slot at the head of a ring. It tests what the queue's registers, the descriptor and the lent
 //! memory allow, and then writes the next bytes of a frame into the buffer that the descriptor names, and the
-//! descriptor back, in one call. What it answers and leaves is `specs/Fill.antt`; what a driver can rest on is `laws`.
-//! The ring itself is that of `dma_ring`, and the device stands on this crate. No call takes memory.
+//! descriptor back, in one call. `specs/Fill.antt` defines what it returns and leaves; `laws` states what a driver can
+//! rely on. The ring itself is in `dma_ring`, and the device depends on this crate. No call allocates.
 //!
 //! Source: Intel 82599 datasheet, sections on receive descriptor rings and on advanced receive descriptors.
 #![tactic(auto)]

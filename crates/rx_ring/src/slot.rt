@@ -1,4 +1,4 @@
-//! The slot at the head is filled, in three steps: by the registers, by the descriptor, by the buffer.
+//! Filling the slot at the head, in three steps: by the registers, by the descriptor, by the buffer.
 
 ghost use Rattle.std.specs.Prelude.{◌≡◌, ◌-◌, ◌≤◌, ◌<◌, ◌^◌, length, IsTrue, IsFalse, OnErr};
 ghost use Rattle.dma_arena.specs.Memory.{is_lent};
@@ -12,13 +12,13 @@ use crate::item::Item;
 use dma_arena::LentMemory;
 use dma_ring::{Ring, RingFault, buffer_address, done_word, first_half, of_halves};
 
-/// Fills the slot at the head of a receive ring: writes the item's next bytes into the buffer that the descriptor
-/// there names, as many as are left and have room, and then writes the descriptor back. It takes no memory.
+/// Fills the slot at the head of a receive ring: writes the item's next bytes into the buffer that the descriptor there
+/// names, as many as are left and have room, and then writes the descriptor back. It allocates nothing.
 ///
-/// `srrctl` is the queue's control word, SRRCTL. The faults, in the order of their tests: `Outside` where the head or
-/// the tail is no slot; `DescType` where the descriptor type isn't 1, the advanced one with one buffer;
-/// `NoBufferSize` where the buffer size is 0; `NotLent` of the descriptor's address, and then `NotLent` of the
-/// buffer's, where a byte to be read or written isn't lent. A fault leaves the memory as it was.
+/// `srrctl` is the word of the queue's SRRCTL. Errors, in the order of the tests: `Outside` where the head or the tail
+/// is no slot; `DescType` where the descriptor type isn't 1, the advanced one with one buffer; `NoBufferSize` where the
+/// buffer size is 0; `NotLent` with the descriptor's address; `NotLent` with the buffer's address, where a byte to be
+/// written isn't lent. An error leaves the memory as it was.
 ///
 /// Intel 82599 datasheet, section on advanced receive descriptors.
 #[tactic(auto, unfolding(crate::specs::Fill::fill_of))]
@@ -48,7 +48,7 @@ pub fn fill(
     fill_slot(memory, ring, item, size)
 }
 
-/// Fills the slot at the head by its descriptor, with buffers of so many bytes.
+/// Fills the slot at the head by its descriptor, with buffers of `size` bytes.
 #[tactic(auto, unfolding(crate::specs::Fill::fill_slot_of))]
 fn fill_slot(
     memory: &mut LentMemory,
@@ -73,7 +73,7 @@ fn fill_slot(
     fill_buffer(memory, ring, item, at, len)
 }
 
-/// Writes so many bytes into the buffer at an address, and the descriptor back.
+/// Writes `len` bytes into the buffer at an address, and the descriptor back.
 #[tactic(auto, unfolding(crate::specs::Fill::fill_buffer_of))]
 fn fill_buffer(
     memory: &mut LentMemory,

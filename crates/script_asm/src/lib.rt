@@ -1,7 +1,7 @@
-//! Register scripts, whole: programs, their texts and objects, and the machine that runs them.
+//! Register scripts: programs, their texts and objects, and the machine that runs them.
 //!
-//! It declares nothing, and passes on three crates: `program` has programs and their objects, `script_text` makes
-//! programs of texts and texts of programs, and `machine` runs a program on a device.
+//! This crate declares nothing, and re-exports three crates: `program` has programs and their objects, `script_text`
+//! makes programs from texts and texts from programs, and `machine` runs a program on a device.
 #![tactic(auto)]
 
 pub use machine::{BLOCKS, Machine, MachineSnapshot, NewRefused, Status, StepAnswer};

@@ -31,15 +31,15 @@ is_target code pc = list_any (jumps_to pc) code
 abbrev pub label_line : ℕ → List ℕ
 label_line pc = codes "L" ++ (decimal pc ++ 58 ∷ 10 ∷ [])
 
--- the label of an instruction stands where one jumps there
+-- an instruction has a label where one jumps to it
 abbrev pub label_line_at : List (Instruction ℕ ℕ) → ℕ → List ℕ
 label_line_at code pc = if is_target code pc then label_line pc else []
 
--- an instruction, behind its label
+-- an instruction, after its label
 abbrev pub code_line : List (Instruction ℕ ℕ) → ℕ → Instruction ℕ ℕ → List ℕ
 code_line code pc instruction = label_line_at code pc ++ (instruction_text instruction ++ 10 ∷ [])
 
--- the instructions from this number on, and the label behind the last one
+-- the instructions from this number on, and the label after the last one
 unfoldable pub code_lines : List (Instruction ℕ ℕ) → ℕ → List (Instruction ℕ ℕ) → List ℕ
 code_lines code pc [] = label_line_at code pc
 code_lines code pc (instruction ∷ more) = code_line code pc instruction ++ code_lines code (pc + 1) more

@@ -1,4 +1,4 @@
--- A script that a line ends, with other lines behind it.
+-- A script that a line ends, with other lines after it.
 use Rattle.std.specs.Prelude.{ℕ, Bool, false, List, [], ◌∷◌, Result}
 use Rattle.std.specs.List.{after_first, before_first, list_any}
 use Rattle.std.specs.Str.{bytes_eq}
@@ -26,6 +26,6 @@ has_end end lines = list_any (is_end end) lines
 abbrev pub program_before : List ℕ → List NumberedLine → Result Listing ScriptFault
 program_before end lines = program_of_lines (before_first (is_end end) lines)
 
--- the lines behind it
+-- the lines after it
 abbrev pub lines_behind : List ℕ → List NumberedLine → List NumberedLine
 lines_behind end lines = after_first (is_end end) lines

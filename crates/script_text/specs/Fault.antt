@@ -1,4 +1,4 @@
--- The faults of a script, and which of them is told.
+-- The faults of a script, and which of them is reported.
 use Rattle.std.specs.Prelude.{◌≡◌, ◌≢◌, ℕ, Result, Ok, Err}
 use Rattle.text_format.specs.declared.numbers.NumberFault.{NumberFault}
 use Rattle.text_format.specs.declared.numbers.NumberFault.TheVariants.{Malformed, TooLarge}
@@ -8,7 +8,7 @@ use Rattle.script_text.specs.declared.faults.LineFault.TheVariants as line
 use Rattle.script_text.specs.declared.faults.ScriptFault.{ScriptFault}
 use Rattle.script_text.specs.declared.faults.ScriptFault.TheVariants.{Syntax, UnknownName, Range, TooLong, OutOfMemory}
 
--- of two faults of a line, the one that is told
+-- of two faults of a line, the one that is reported
 abbrev pub told_first : LineFault → LineFault → LineFault
 told_first line.Syntax other = line.Syntax
 told_first line.UnknownName line.Syntax = line.Syntax

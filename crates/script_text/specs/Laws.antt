@@ -1,4 +1,4 @@
--- What the definitions come to, in the words of the script language.
+-- Laws of the definitions, in the words of the script language.
 use Rattle.std.specs.Prelude.{◌≡◌, ◌↔◌, ◌⊎◌, ⊤, ℕ, ◌+◌, true, ◌<◌, ◌≤◌, List, [], ◌∷◌, ◌++◌, length, map, Option, Some}
 use Rattle.std.specs.Prelude.{None, is_some, Result, Ok, Err, if◌then◌else◌}
 use Rattle.std.specs.Str.{bytes_eq}
@@ -49,7 +49,7 @@ drafts_in (Label name ∷ more) = drafts_in more
 drafts_in (Data name string ∷ more) = drafts_in more
 drafts_in (Instruction draft ∷ more) = draft ∷ drafts_in more
 
--- where the first label with a name stands among statements, the first instruction having this number
+-- where the first label with a name is among statements, the first instruction having this number
 abbrev pub label_from : ℕ → List Statement → List ℕ → Option ℕ
 label_from first [] name = None
 label_from first (Empty ∷ more) name = label_from first more name
@@ -66,7 +66,7 @@ data_from first (Data other string ∷ more) name =
     if bytes_eq other name then Some first else data_from (first + 1) more name
 data_from first (Instruction draft ∷ more) name = data_from first more name
 
--- a statement fits behind others: a label or data has a new name, data isn't too long, and there are fewer than 1,024
+-- a statement fits after others: a label or data has a new name, data isn't too long, and there are fewer than 1,024
 -- other strings, or 4,096 other instructions
 abbrev pub FitsBehind : List Statement → Statement → Type 0
 FitsBehind before Empty = ⊤
@@ -75,7 +75,7 @@ FitsBehind before (Data name string) = (data_from 0 before name ≡ None) × (le
     × (length (strings_in before) < 1024)
 FitsBehind before (Instruction draft) = length (drafts_in before) < 4096
 
--- statements fit, one behind the other
+-- statements fit, one after the other
 abbrev pub Fit : List Statement → List Statement → Type 0
 Fit before [] = ⊤
 Fit before (statement ∷ more) = FitsBehind before statement × Fit (before ++ statement ∷ []) more
@@ -131,7 +131,7 @@ ProgramIsWhatLinesSay = (text : List ℕ) (program : Listing) → (program_of te
 
 -- a label's place, and a data string's number, by the statements before it
 pub record NamesHaveTheirPlaces : Type 0 where
-  -- a label stands behind as many instructions as there are before it, data has the number of data strings before it
+  -- a label follows as many instructions as there are before it, data has the number of data strings before it
   pub label : (before after : List Statement) (name : List ℕ) → label_from 0 before name ≡ None
       → label_from 0 (before ++ Label name ∷ after) name ≡ Some (length (drafts_in before))
   pub «data» : (before after : List Statement) (name string : List ℕ) → data_from 0 before name ≡ None
@@ -145,7 +145,7 @@ pub record NamesHaveTheirPlaces : Type 0 where
       → (before : List Statement) × (string : List ℕ) × (after : List Statement)
       × (statements ≡ before ++ Data name string ∷ after)
 
--- where the first fault of a text is told
+-- the line for which the first fault of a text is reported
 pub record FirstFaultDecides : Type 0 where
   -- at the first faulty line
   pub lines : (text : List ℕ) (front : List NumberedLine) (line : NumberedLine) (back : List NumberedLine)
@@ -159,7 +159,7 @@ pub record FirstFaultDecides : Type 0 where
       → with_resolved outline [] front ≡ Ok instructions
       → resolved outline d.line d.draft ≡ Err fault → program_of text ≡ Err fault
 
--- the order in which the faults of a line are told
+-- the order in which the faults of a line are reported
 abbrev pub rank : LineFault → ℕ
 rank line.Syntax = 0
 rank line.UnknownName = 1
@@ -172,13 +172,13 @@ OneHas a b fault = (a ≡ Err fault) ⊎ (b ≡ Err fault)
 
 -- a line's faults come in their order
 pub record FaultsComeInOrder : Type 0 where
-  -- what is told of two operands is the fault of one of them, and neither has one that stands before it
+  -- what is reported of two operands is the fault of one of them, and neither has one that comes before it
   pub operands : (a b : Result ℕ LineFault) (fault : LineFault) → both a b ≡ Err fault
       → OneHas a b fault × ((other : LineFault) → OneHas a b other → rank fault ≤ rank other)
-  -- what is wrong with a line by itself is told whatever the lines before it say
+  -- what is wrong with a line by itself is reported whatever the lines before it say
   pub lines : (before : Outline) (line : NumberedLine) (fault : LineFault) → reading_of line ≡ Err fault
       → with_line before line ≡ Err (fault_at line.number fault)
-  -- a name given twice is told of any other line, also of one that is beyond a limit
+  -- a name defined twice is reported for any other line, also for one that is beyond a limit
   pub labels : (before : Outline) (line : NumberedLine) (name : List ℕ) → reading_of line ≡ Ok (Label name)
       → is_some (place_of before.labels name) ≡ true
       → with_line before line ≡ Err (TwoLabels line.number)

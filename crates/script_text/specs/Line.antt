@@ -16,7 +16,7 @@ operand_text (Target address) = target_text address
 operand_text (Data number) = codes "d" ++ decimal number
 operand_text (Label pc) = codes "L" ++ decimal pc
 
--- a name, and the operands behind it
+-- a name, and the operands after it
 abbrev pub with_operands : List ℕ → Operands → List ℕ
 with_operands name Zero = name
 with_operands name (One a) = name ++ (codes " " ++ operand_text a)

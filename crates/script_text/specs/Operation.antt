@@ -37,7 +37,7 @@ group_in word = if bytes_eq word (codes "pf") then Ok Pf else (number_below 63 w
 abbrev pub number16_in : List ℕ → Result ℕ LineFault
 number16_in word = number_below (2 ^ 16) word
 
--- what stands beside the name in a table of operations; another name is no operation
+-- what a table of operations has for a name; another name is no operation
 abbrev pub beside : List ℕ → List (List ℕ × Result Draft LineFault) → Result Draft LineFault
 beside name [] = Err Syntax
 beside name (row ∷ more) = if bytes_eq name row.0 then row.1 else beside name more

@@ -3,8 +3,8 @@ use Rattle.std.specs.Prelude.{◌≤◌, ℕ, List, [], length}
 use Rattle.script_text.specs.Places.{Places, nowhere}
 use Rattle.script_text.specs.declared.sheet.DraftLine.{DraftLine}
 
--- where the labels stand, the numbers of the data strings, and the strings and the instructions in the order of their
--- lines
+-- the positions of the labels, the numbers of the data strings, and the strings and the instructions in the order of
+-- their lines
 pub record Outline : Type 0 where
   pub labels : Places
   pub data_numbers : Places

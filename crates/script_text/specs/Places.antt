@@ -1,4 +1,4 @@
--- What names stand for.
+-- The numbers of names.
 use Rattle.std.specs.Prelude.{ℕ, List, map, Option}
 use Rattle.std.specs.BTreeMap.{BTreeMap}
 use Rattle.std.specs.Cmp.Lexicographic.{slice_cmp}
@@ -7,7 +7,7 @@ use Rattle.std.specs.FinMap as fin
 use Rattle.std.specs.Ordering.{nat_cmp}
 use denote.Ref.{Bor}
 
--- names, and the number that each stands for
+-- names, and the number of each
 abbrev pub Places : Type 0
 Places = fin.FinMap (slice_cmp nat_cmp) ℕ
 
@@ -18,7 +18,7 @@ places_code = fin.code (coded_list coded_ℕ) coded_ℕ
 abbrev pub nowhere : Places
 nowhere = fin.empty
 
--- the number that a name stands for
+-- the number of a name
 abbrev pub place_of : Places → List ℕ → Option ℕ
 place_of places name = fin.get places name
 

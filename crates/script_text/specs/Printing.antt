@@ -26,7 +26,7 @@ place_text place =
 abbrev pub if_first_at : ℕ → Place → Option Place
 if_first_at address place = if unwrap_or (address_among runs place) 0 == address then Some place else None
 
--- the place whose first address this is
+-- the register whose first address this is
 abbrev pub place_first_at : ℕ → Option Place
 place_first_at address = elim (place_among runs address) [ None ↦ None | Some place ↦ if_first_at address place ]
 

@@ -17,7 +17,7 @@ use Rattle.script_text.specs.Operation.{Draft}
 use Rattle.script_text.specs.Outline.{Outline}
 use Rattle.script_text.specs.Places.{place_of}
 
--- where the label stands that a line jumps to
+-- the position of the label that a line jumps to
 abbrev pub label_named : Outline → ℕ → List ℕ → Result ℕ ScriptFault
 label_named outline line name = ok_or (place_of outline.labels name) (UnknownLabel line)
 
@@ -68,8 +68,8 @@ IsInRange (JumpUnlessEqual word name) = ⊤
 IsInRange (Jump name) = ⊤
 IsInRange Halt = ⊤
 
--- what lines have said makes a program: labels stand at instructions or at the end, data numbers have their strings,
--- and nothing is out of its range
+-- the lines make a program: labels are at instructions or at the end, data numbers have their strings, and nothing is
+-- out of its range
 pub record IsReady (outline : Outline) : Type 0 where
   pub few_drafts : length outline.drafts ≤ 4096
   pub few_strings : length outline.strings ≤ 1024

@@ -15,7 +15,7 @@ use Rattle.script_text.specs.Places.{place_of, with_place}
 use Rattle.script_text.specs.Resolved.{with_resolved}
 use Rattle.script_text.specs.Statement.{statement_of}
 
--- one more label, which stands where the next instruction will: its name is new among labels
+-- one more label, at the next instruction: its name is new among labels
 abbrev pub with_label : Outline → ℕ → List ℕ → Result Outline ScriptFault
 with_label before line name =
     if is_some (place_of before.labels name) then Err (TwoLabels line)

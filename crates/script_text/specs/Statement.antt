@@ -15,7 +15,7 @@ use Rattle.script_text.specs.Target.{name_in, before_last_byte}
 abbrev pub bytes_in : List ℕ → Result (List ℕ) LineFault
 bytes_in word = ok_or (hex_bytes_of word) Syntax then λ bytes. if length bytes == 0 then Err Syntax else Ok bytes
 
--- a label stands alone: `NAME:`
+-- a label is alone on its line: `NAME:`
 abbrev pub label_in : List ℕ → List (List ℕ) → Result Statement LineFault
 label_in name [] = name_in name then λ label. Ok (Label label)
 label_in name (a ∷ more) = Err Syntax

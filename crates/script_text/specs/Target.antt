@@ -40,11 +40,11 @@ register_address row index =
 abbrev pub address_in : Result RowId LineFault → Result ℕ LineFault → Result ℕ LineFault
 address_in row index = both row index then λ register. register_address register.0 register.1
 
--- whether a byte stands in a word
+-- whether a byte is in a word
 abbrev pub has_byte : ℕ → List ℕ → Bool
 has_byte byte word = nat_lt (position_or_len (λ b. b == byte) word) (length word)
 
--- what stands before the byte that ends a word
+-- the part of a word before the byte that ends it
 abbrev pub before_last_byte : ℕ → List ℕ → Option (List ℕ)
 before_last_byte byte word =
     if slice_index word (length word - 1) == byte && nat_lt 0 (length word)

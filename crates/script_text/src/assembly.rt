@@ -1,4 +1,4 @@
-//! From a text to its program.
+//! Assembles a text into its program.
 
 ghost use Rattle.std.specs.Prelude.{◌≡◌, ◌≢◌, IfOk, IfErr, IfSome, IsOk, None, Ok, Err, false, true};
 ghost use Rattle.std.specs.List.{after_first, before_first, list_any};
@@ -16,7 +16,7 @@ use program::Program;
 use std::alloc::Global;
 use text_format::{Line, Lines, Words};
 
-/// Adds what a line says.
+/// Adds the statement of a line.
 fn add_line<'a>(alloc: Global, sheet: &mut Sheet<'a>, line: Line<'a>) -> Result<(), ScriptFault>
     ensures { Gives (λ _. sheet.new) result (with_line sheet.old (line_of line.entry)) }
 {
@@ -25,7 +25,7 @@ fn add_line<'a>(alloc: Global, sheet: &mut Sheet<'a>, line: Line<'a>) -> Result<
     sheet.add(number, statement)
 }
 
-/// What all lines say.
+/// Reads all lines of a text, before names are looked up.
 fn read_sheet(alloc: Global, text: &str) -> Result<Sheet<'_>, ScriptFault>
     ensures { Gives (λ sheet. sheet) result (with_lines blank (lines_of text.now)) }
 {
@@ -36,12 +36,12 @@ fn read_sheet(alloc: Global, text: &str) -> Result<Sheet<'_>, ScriptFault>
     Ok(sheet)
 }
 
-/// The program of a text, or its fault.
+/// Assembles a text into its program, or returns its fault.
 ///
-/// Where the text is no program, the first line with `Syntax`, `UnknownName`, `Range`, `TwoLabels` or
-/// `TooLong` decides, and in it the first of these. Without such a line, the first line decides that
-/// names data which no line defines, `UnknownLabel`, or pokes data of other than 16 bytes, `Range`.
-/// `OutOfMemory` may stand in place of any answer.
+/// Of several faults, the first line with `Syntax`, `UnknownName`, `Range`, `TwoLabels` or `TooLong` is reported, and
+/// of several in one line the first in this list. Without such a line, the first line is reported that uses a name
+/// which no line defines (`UnknownLabel`), or that pokes data of other than 16 bytes (`Range`). `OutOfMemory` may be
+/// returned in place of any other result.
 #[tactic(auto, unfolding(crate::specs::Script::program_of))]
 pub fn assemble(alloc: Global, text: &str) -> Result<Program, ScriptFault>
     ensures program { IfOk result (λ program. program_of text.now ≡ Ok program) }
@@ -62,7 +62,7 @@ fn is_only(word: &str, line: &str) -> bool
     }
 }
 
-/// What the lines before the end say, and whether there is an end. The lines behind it are left.
+/// Reads the lines before the line `end`, and whether there is such a line. The lines after it stay unread.
 fn read_before<'a>(
     alloc: Global,
     lines: &mut Lines<'a>,
@@ -83,11 +83,10 @@ fn read_before<'a>(
     Ok((sheet, false))
 }
 
-/// The program of the lines before the first whose only word is `end`; the lines behind that one are left. `None` where
-/// no line has it and all lines are a script.
+/// Assembles the lines before the first line whose only word is `end`. The lines after that one stay unread. `None`
+/// where no line is `end`, and all lines are a script.
 ///
-/// Where the lines before are no script, the fault is told as by `assemble`. `OutOfMemory` may stand in place of any
-/// answer.
+/// Faults are reported as by `assemble`. `OutOfMemory` may be returned in place of any other result.
 pub fn assemble_before(
     alloc: Global,
     lines: &mut Lines<'_>,

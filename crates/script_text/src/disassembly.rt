@@ -1,4 +1,4 @@
-//! From a program to its text.
+//! Disassembles a program into its text.
 
 ghost use Rattle.std.specs.Prelude.{◌≡◌, ◌++◌, ◌<◌, ◌≤◌, length, IfOk, Ok, string_bytes};
 ghost use Rattle.std.specs.List.{AllByRecursion};
@@ -13,7 +13,7 @@ use std::alloc::Global;
 use std::fmt::Write;
 use text_format::BytesText;
 
-/// Adds the line of a data string.
+/// Appends the line of a data string.
 fn push_data_line(text: &mut String, number: usize, bytes: &[u8]) -> Result<(), OutOfMemory>
     ensures { IfOk result (λ _. string_bytes text.new ≡ string_bytes text.old ++ data_line number bytes.now) }
 {
@@ -23,7 +23,7 @@ fn push_data_line(text: &mut String, number: usize, bytes: &[u8]) -> Result<(), 
     }
 }
 
-/// Adds the lines of the data strings.
+/// Appends the lines of all data strings.
 fn push_data_lines(text: &mut String, strings: &[Octets]) -> Result<(), OutOfMemory>
     ensures { IfOk result (λ _. string_bytes text.new ≡ string_bytes text.old ++ data_lines 0 strings.now) }
 {
@@ -52,7 +52,7 @@ fn is_target(code: &[Instruction], pc: u16) -> bool
     code.iter().any(|instruction| jumps_to(instruction, pc))
 }
 
-/// Adds the label of an instruction, where one jumps to it.
+/// Appends the label of an instruction, where an instruction jumps to it.
 fn push_label_line(text: &mut String, code: &[Instruction], pc: u16) -> Result<(), OutOfMemory>
     ensures { IfOk result (λ _. string_bytes text.new ≡ string_bytes text.old ++ label_line_at code.now pc) }
 {
@@ -65,7 +65,7 @@ fn push_label_line(text: &mut String, code: &[Instruction], pc: u16) -> Result<(
     }
 }
 
-/// Adds an instruction, behind its label.
+/// Appends an instruction, after its label.
 fn push_code_line(
     text: &mut String,
     code: &[Instruction],
@@ -82,7 +82,7 @@ fn push_code_line(
     }
 }
 
-/// Adds the instructions, and the label behind the last one.
+/// Appends the instructions, and the label after the last one.
 fn push_code_lines(text: &mut String, code: &[Instruction]) -> Result<(), OutOfMemory>
     requires { length code.now ≤ 4096 }
     ensures { IfOk result (λ _. string_bytes text.new ≡ string_bytes text.old ++ code_lines code.now 0 code.now) }
@@ -93,14 +93,14 @@ fn push_code_lines(text: &mut String, code: &[Instruction]) -> Result<(), OutOfM
     push_label_line(text, code, code.len() as u16)
 }
 
-/// Each byte is below 256. It does nothing.
+/// States that each byte is below 256. It does nothing.
 fn are_bytes(bytes: &[u8])
     ensures { AllByRecursion (λ byte. byte < 256) bytes.now }
 {
     let _all = bytes;
 }
 
-/// Data strings are of bytes. It does nothing.
+/// States that data strings consist of bytes. It does nothing.
 fn have_bytes(strings: &[Octets])
     ensures { AllByRecursion (AllByRecursion (λ byte. byte < 256)) strings.now }
 {
@@ -109,7 +109,7 @@ fn have_bytes(strings: &[Octets])
     }
 }
 
-/// The numbers of an instruction have as many bits as an object keeps of them. It does nothing.
+/// States that an instruction's numbers have at most as many bits as an object has for them. It does nothing.
 fn has_widths(instruction: Instruction)
     ensures { HaveWidths (fields_of instruction) }
 {
@@ -151,7 +151,7 @@ fn has_widths(instruction: Instruction)
     }
 }
 
-/// The same of instructions. It does nothing.
+/// States `has_widths` for each instruction. It does nothing.
 fn have_widths(code: &[Instruction])
     ensures { AllByRecursion (λ i. HaveWidths (fields_of i)) code.now }
 {
@@ -160,10 +160,10 @@ fn have_widths(code: &[Instruction])
     }
 }
 
-/// The text of a program: its data strings as `d0`, `d1` and so on, then its instructions, with a label before each one
-/// that is jumped to: `L` and its number. Registers are named where the address is their first one, with the index
-/// where their row has several; all other numbers are words of eight hex digits. It is a script that means the program,
-/// so that it assembles to one with the same bytes.
+/// The text of a program: its data strings with the names `d0`, `d1` and so on, then its instructions. Each instruction
+/// that is jumped to has a label before it: `L` and its number. Where an address is a register's first one, it is
+/// printed as the register's name, with the index where its row has several; all other numbers are printed as eight hex
+/// digits. The text assembles to the same program. `OutOfMemory` where there is no memory for it.
 pub fn disassemble(alloc: Global, program: &Program) -> Result<String, OutOfMemory>
     ensures text { IfOk result (λ text. string_bytes text ≡ text_of program.now) }
     ensures means { IfOk result (λ text. program_of (string_bytes text) ≡ Ok program.now) }

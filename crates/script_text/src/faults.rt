@@ -1,4 +1,4 @@
-//! The faults of a script.
+//! Why a text isn't a script.
 
 ghost use Rattle.std.specs.Prelude.{◌≡◌};
 ghost use Rattle.script_text.specs.Fault.{both, told_first, fault_at};
@@ -7,35 +7,34 @@ use std::alloc::{AllocError, AllocFailed};
 use text_format::NumberFault;
 use thiserror::Error;
 
-/// Why a text is no script. Lines are numbered from 1.
+/// Why a text isn't a script. The number in a variant is the line, counted from 1.
 ///
-/// The first line with `Syntax`, `UnknownName`, `Range`, `TwoLabels` or `TooLong` decides, and in it the first of
-/// these. Only where no line has one, labels and data are looked up: then the first line with `UnknownLabel`, or with
-/// `Range` for data that can't be poked, decides.
+/// The first line with `Syntax`, `UnknownName`, `Range`, `TwoLabels` or `TooLong` is reported, and of several in one
+/// line the first in this list. Labels and data are looked up only where no line has one of these: then the first line
+/// with `UnknownLabel`, or with `Range` for data that can't be poked, is reported.
 #[derive(Clone, Copy, Debug, PartialEq, Eq, Error)]
 pub enum ScriptFault {
     /// The line has no form of the language.
     #[error("line {0}: no statement of the script language")]
     Syntax(usize),
-    /// The line names a row that isn't in the register table.
+    /// The line names a register that isn't in the register table.
     #[error("line {0}: no register of this name")]
     UnknownName(usize),
-    /// The line jumps to a label, or names data, that no line gives. It is told only of a text whose lines all say
-    /// something.
+    /// The line uses a label, or data, that no line defines. It is reported only where no line has a fault of its own.
     #[error("line {0}: no label or data of this name")]
     UnknownLabel(usize),
-    /// The line gives a label, or data, a name that an earlier line gave to another of its kind.
+    /// The line defines a label, or data, under a name that an earlier line already defined.
     #[error("line {0}: a name given twice")]
     TwoLabels(usize),
-    /// A number on the line is out of its range, or an index isn't below its row's count. Or, where all lines say
-    /// something, the line pokes data that hasn't 16 bytes.
+    /// A number is out of its range, or an index isn't below its row's count. Or, where no line has a fault of its own,
+    /// the line pokes data of other than 16 bytes.
     #[error("line {0}: a number out of range")]
     Range(usize),
-    /// There are more than 4,096 instructions or 1,024 data strings, a data string has more than 16,384 bytes, or the
+    /// The program has more than 4,096 instructions or 1,024 data strings, a data string more than 16,384 bytes, or a
     /// name of a label or of data more than 32.
     #[error("beyond a limit of scripts")]
     TooLong,
-    /// There is no memory for the program. It may stand in place of any answer.
+    /// There is no memory for the program. It may be returned in place of any other result.
     #[error("out of memory")]
     OutOfMemory,
 }
@@ -60,13 +59,13 @@ impl<T: Drop> From<AllocFailed<T>> for ScriptFault {
     }
 }
 
-/// What may be wrong with a line by itself, the fault that is told first standing first.
+/// What can be wrong with a line by itself, in the order in which it is reported.
 #[derive(Clone, Copy, Debug, PartialEq, Eq, Error)]
 pub enum LineFault {
     /// The line has no form of the language.
     #[error("no statement of the script language")]
     Syntax,
-    /// It names no register.
+    /// It names no register of the register table.
     #[error("no register of this name")]
     UnknownName,
     /// A number is out of its range.
@@ -91,7 +90,7 @@ impl From<NumberFault> for LineFault {
 }
 
 impl LineFault {
-    /// Of two faults of a line, the one that is told.
+    /// Of two faults of a line, the one that is reported.
     fn told_first(self, other: LineFault) -> LineFault
         ensures { result ≡ told_first self other }
     {
@@ -103,7 +102,7 @@ impl LineFault {
         }
     }
 
-    /// The fault of the script, where the line has this number.
+    /// The fault of the script whose line of this number has the fault.
     pub(crate) fn at(self, number: usize) -> ScriptFault
         ensures { result ≡ fault_at number self }
     {
@@ -116,7 +115,7 @@ impl LineFault {
     }
 }
 
-/// Two parts of a line. Where both are faulty, the fault that is told first decides.
+/// Two operands of a line. Where both are faulty, the fault that is reported first is returned.
 pub(crate) fn both<A: Drop, B: Drop>(
     a: Result<A, LineFault>,
     b: Result<B, LineFault>,

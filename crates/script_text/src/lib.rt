@@ -1,7 +1,7 @@
-//! Register scripts: `assemble` makes a `Program` of a text, and `disassemble` a text of a program.
+//! Register scripts: `assemble` makes a `Program` from a text, and `disassemble` makes a text from a program.
 //!
-//! A text means a program by `program_of`, line by line in the words of the script language, and a program has its
-//! text by `text_of`. `nicbench` and the debugger stand on this crate.
+//! `program_of` defines which program a text means, line by line, and `text_of` defines the text of a program.
+//! `nicbench` and the debugger depend on this crate.
 #![tactic(auto)]
 
 mod assembly;

@@ -1,4 +1,4 @@
-//! Names of labels and of data.
+//! Names of labels and of data strings.
 
 ghost use Rattle.std.specs.Prelude.{◌≡◌};
 ghost use Rattle.script_text.specs.Target.{name_in};
@@ -7,7 +7,7 @@ use crate::faults::LineFault;
 use std::marker::Model;
 use text_format::{NAME_LIMIT, is_name};
 
-/// A name of at most 32 bytes, which contracts see as its bytes.
+/// A name of at most 32 bytes. Contracts see its bytes.
 #[derive(Drop)]
 pub(crate) struct Name<'a> {
     text: &'a str,
@@ -22,7 +22,7 @@ impl<'a> Model for Name<'a> {
 }
 
 impl<'a> Name<'a> {
-    /// The name that a word is.
+    /// Checks that a word is a name.
     pub(crate) fn of(word: &'a str) -> Result<Name<'a>, LineFault>
         ensures { result ≡ name_in word.now }
     {
@@ -35,7 +35,7 @@ impl<'a> Name<'a> {
         Ok(Name { text: word })
     }
 
-    /// Its text.
+    /// The name as text.
     pub(crate) fn as_str(&self) -> &'a str
         ensures { result.now ≡ self.now }
     {

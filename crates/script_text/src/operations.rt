@@ -1,4 +1,4 @@
-//! Operations and their operands.
+//! Reads an instruction: the operation's name and its operands.
 
 ghost use Rattle.std.specs.Prelude.{◌≡◌};
 ghost use Rattle.script_text.specs.Operation.{beside, table_alone, table_of_one, table_of_two, table_of_three};
@@ -11,10 +11,10 @@ use crate::targets::{number, number_below, target};
 use program::{Dir, Group, Instruction, MAX_VFS};
 use text_format::Words;
 
-/// An instruction as its line writes it, with labels and data by name.
+/// An instruction as its line writes it, with names for labels and data.
 pub(crate) type Draft<'a> = Instruction<Name<'a>, Name<'a>>;
 
-/// The direction that a word names.
+/// The side of a queue that a word names: `rx` or `tx`.
 fn direction(word: &str) -> Result<Dir, LineFault>
     ensures { result ≡ direction_in word.now }
 {
@@ -25,7 +25,7 @@ fn direction(word: &str) -> Result<Dir, LineFault>
     }
 }
 
-/// Whether a word says that there is link.
+/// The state of the link that a word names: `up` or `down`.
 fn link(word: &str) -> Result<bool, LineFault>
     ensures { result ≡ link_in word.now }
 {
@@ -57,7 +57,7 @@ fn group(word: &str) -> Result<Group, LineFault>
     }
 }
 
-/// The number of a block or a queue.
+/// The 16-bit number of a block or a queue.
 fn number16(word: &str) -> Result<u16, LineFault>
     ensures { result ≡ number16_in word.now }
 {
@@ -65,7 +65,7 @@ fn number16(word: &str) -> Result<u16, LineFault>
     Ok(number as u16)
 }
 
-/// The number of a word among four.
+/// The number of one of four words, 0 to 3.
 fn word_number(word: &str) -> Result<u8, LineFault>
     ensures { result ≡ number_below 4 word.now }
 {
@@ -73,7 +73,7 @@ fn word_number(word: &str) -> Result<u8, LineFault>
     Ok(number as u8)
 }
 
-/// An instruction without operands.
+/// The instruction of an operation without operands.
 fn alone<'a>(name: &str) -> Result<Draft<'a>, LineFault>
     ensures { result ≡ beside name.now table_alone }
 {
@@ -86,7 +86,7 @@ fn alone<'a>(name: &str) -> Result<Draft<'a>, LineFault>
     }
 }
 
-/// An instruction with one operand.
+/// The instruction of an operation with one operand.
 fn with_one<'a>(name: &str, a: &'a str) -> Result<Draft<'a>, LineFault>
     ensures { result ≡ beside name.now (table_of_one a.now) }
 {
@@ -111,7 +111,7 @@ fn with_one<'a>(name: &str, a: &'a str) -> Result<Draft<'a>, LineFault>
     }
 }
 
-/// An instruction with two operands.
+/// The instruction of an operation with two operands.
 fn with_two<'a>(name: &str, a: &'a str, b: &'a str) -> Result<Draft<'a>, LineFault>
     ensures { result ≡ beside name.now (table_of_two a.now b.now) }
 {
@@ -152,7 +152,7 @@ fn with_two<'a>(name: &str, a: &'a str, b: &'a str) -> Result<Draft<'a>, LineFau
     }
 }
 
-/// An instruction with three operands.
+/// The instruction of an operation with three operands.
 fn with_three<'a>(name: &str, a: &str, b: &str, c: &str) -> Result<Draft<'a>, LineFault>
     ensures { result ≡ beside name.now (table_of_three a.now b.now c.now) }
 {
@@ -169,7 +169,7 @@ fn with_three<'a>(name: &str, a: &str, b: &str, c: &str) -> Result<Draft<'a>, Li
     }
 }
 
-/// The instruction of an operation's name and its operands.
+/// The instruction with this operation's name and these operands.
 pub(crate) fn read_instruction<'a>(
     name: &str,
     mut operands: Words<'a>,

@@ -1,4 +1,4 @@
-//! What names stand for.
+//! The numbers of labels and data strings by name.
 
 ghost use Rattle.std.specs.Prelude.{◌≡◌, Ok};
 ghost use Rattle.script_text.specs.Fault.{Gives};
@@ -10,8 +10,8 @@ use std::alloc::Global;
 use std::collections::BTreeMap;
 use std::marker::Model;
 
-/// Names, and the number that each stands for: where a label stands, or which data string has the name. A look-up
-/// takes time that grows as the logarithm of how many names there are.
+/// Names and their numbers: of the instruction that a label precedes, or of the data string. A look-up takes time
+/// logarithmic in the number of names.
 #[derive(Drop)]
 pub(crate) struct Places<'a> {
     numbers: BTreeMap<&'a str, u16>,
@@ -28,7 +28,7 @@ impl<'a> Model for Places<'a> {
 }
 
 impl<'a> Places<'a> {
-    /// No name.
+    /// An empty list of names.
     pub(crate) fn new(alloc: Global) -> Places<'a>
         ensures { result ≡ nowhere }
     {
@@ -37,14 +37,14 @@ impl<'a> Places<'a> {
         }
     }
 
-    /// The number that a name stands for. `None` where it stands for none.
+    /// The number of a name. `None` where the name isn't defined.
     pub(crate) fn place_of(&self, name: &Name<'_>) -> Option<u16>
         ensures { result ≡ place_of self.now name.now }
     {
         self.numbers.get(name.as_str()).copied()
     }
 
-    /// Lets a name stand for a number.
+    /// Defines a name's number.
     pub(crate) fn add(&mut self, name: Name<'a>, number: u16) -> Result<(), ScriptFault>
         ensures { Gives (λ _. self.new) result (Ok (with_place self.old name.entry number)) }
     {

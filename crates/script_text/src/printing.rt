@@ -1,4 +1,4 @@
-//! Instructions as the lines of a text print them.
+//! Prints instructions as lines of a text.
 
 ghost use Rattle.std.specs.Prelude.{◌≡◌, Some};
 ghost use Rattle.script_text.specs.Printing.{target_text, place_text, place_first_at, group_text, direction_text};
@@ -12,7 +12,7 @@ use reg_table::{Place, addr_of, count_of, name_of, place_of};
 use std::fmt;
 use text_format::WordText;
 
-/// A place of the register table as it is printed: its row's name, with its index where the row has several.
+/// The printed form of a register: its name, with its index where the row has several.
 #[derive(Clone, Copy)]
 struct PlaceText(Place);
 
@@ -30,7 +30,7 @@ impl fmt::Display for PlaceText {
     }
 }
 
-/// The place whose first address this is.
+/// The register whose first address this is.
 fn place_first_at(address: u32) -> Option<Place>
     ensures { result ≡ place_first_at address }
 {
@@ -42,7 +42,7 @@ fn place_first_at(address: u32) -> Option<Place>
     }
 }
 
-/// The address of a register as it is printed: by the register's name where it is its first address.
+/// The printed form of a register's address: its name where it is the first address, else a number.
 #[derive(Clone, Copy)]
 struct TargetText(u32);
 
@@ -57,18 +57,18 @@ impl fmt::Display for TargetText {
     }
 }
 
-/// An operand of an instruction.
+/// An operand, as it is printed.
 #[derive(Clone, Copy)]
 enum Operand {
     /// A word of the language.
     Named(&'static str),
-    /// A number.
+    /// A number, printed as eight hex digits.
     Word(u32),
-    /// The address of a register.
+    /// A register's address, printed by name where it is the first one.
     Target(u32),
-    /// The number of a data string.
+    /// A data string, by its number.
     Data(u16),
-    /// The number of an instruction that is jumped to.
+    /// A jump target, by the instruction's number.
     Label(u16),
 }
 
@@ -86,20 +86,20 @@ impl fmt::Display for Operand {
     }
 }
 
-/// The operands of an instruction.
+/// The operands of an instruction, as they are printed.
 #[derive(Clone, Copy)]
 enum Operands {
-    /// None.
+    /// An operation without operands.
     Zero,
-    /// One.
+    /// An operation with one operand.
     One(Operand),
-    /// Two.
+    /// An operation with two operands.
     Two(Operand, Operand),
-    /// Three.
+    /// An operation with three operands.
     Three(Operand, Operand, Operand),
 }
 
-/// The line of an instruction: its name and its operands.
+/// The printed form of an instruction: its operation's name and its operands.
 #[derive(Clone, Copy)]
 struct Line(&'static str, Operands);
 
@@ -117,14 +117,14 @@ impl fmt::Display for Line {
     }
 }
 
-/// A number of 8 or 16 bits.
+/// The operand for a number of 8 or 16 bits.
 fn number(number: u16) -> Operand
     ensures { result ≡ Operand.Word number }
 {
     Operand::Word(u32::from(number))
 }
 
-/// A group of interrupts.
+/// The operand for a group of interrupts.
 fn group(group: Group) -> Operand
     ensures { operand_text result ≡ group_text group }
 {
@@ -134,7 +134,7 @@ fn group(group: Group) -> Operand
     }
 }
 
-/// A direction of a queue.
+/// The operand for a side of a queue.
 fn direction(direction: Dir) -> Operand
     ensures { operand_text result ≡ direction_text direction }
 {
@@ -144,14 +144,14 @@ fn direction(direction: Dir) -> Operand
     }
 }
 
-/// Whether there is link.
+/// The operand for the link's state: `up` or `down`.
 fn link(up: bool) -> Operand
     ensures { operand_text result ≡ link_text up }
 {
     Operand::Named(if up { "up" } else { "down" })
 }
 
-/// The line of an instruction.
+/// An instruction's line, before it is printed.
 fn line_of(instruction: &Instruction) -> Line
     ensures { line_text result ≡ instruction_text instruction.now }
 {
@@ -192,7 +192,7 @@ fn line_of(instruction: &Instruction) -> Line
     }
 }
 
-/// An instruction as it is printed.
+/// An instruction's line, printed by `Display`.
 #[derive(Clone, Copy)]
 pub(crate) struct InstructionText<'a>(pub(crate) &'a Instruction);
 

@@ -1,4 +1,4 @@
-//! What lines have said, before labels and names of data are looked up.
+//! The statements of all lines, before labels and names of data are looked up.
 
 ghost use Rattle.std.specs.Prelude.{◌≡◌, ◌≤◌, ◌++◌, ◌∷◌, [], length, Ok, Err};
 ghost use Rattle.script_text.specs.Fault.{Gives, ◌then◌};
@@ -16,14 +16,14 @@ use program::{DATA_BYTES, DATA_LIMIT, INSTRUCTION_LIMIT, Instruction, Octets, Pr
 use std::alloc::Global;
 use std::marker::Model;
 
-/// An instruction as its line writes it, with the number of the line.
+/// An instruction as its line writes it, with the line's number.
 #[derive(Drop)]
 pub(crate) struct DraftLine<'a> {
     line: usize,
     draft: Draft<'a>,
 }
 
-/// Where the labels stand, the numbers of the data strings by their names, and the strings and the instructions in the
+/// The positions of the labels, the numbers of the data strings by name, and the strings and the instructions in the
 /// order of their lines. Empty lines take no room.
 #[derive(Drop)]
 pub(crate) struct Sheet<'a> {
@@ -59,7 +59,7 @@ impl<'a> Model for Sheet<'a> {
 }
 
 impl<'a> Sheet<'a> {
-    /// Before the first line.
+    /// The sheet before the first line.
     pub(crate) fn new(alloc: Global) -> Sheet<'a>
         ensures { result ≡ blank }
     {
@@ -71,7 +71,7 @@ impl<'a> Sheet<'a> {
         }
     }
 
-    /// Adds a label, which stands where the next instruction will.
+    /// Adds a label at the next instruction.
     fn add_label(&mut self, line: usize, name: Name<'a>) -> Result<(), ScriptFault>
         ensures { Gives (λ _. self.new) result (with_label self.old line name.entry) }
     {
@@ -81,7 +81,7 @@ impl<'a> Sheet<'a> {
         self.labels.add(name, self.drafts.len() as u16)
     }
 
-    /// Adds a data string.
+    /// Adds a data string under its name.
     fn add_data(&mut self, line: usize, name: Name<'a>, string: Octets) -> Result<(), ScriptFault>
         ensures { Gives (λ _. self.new) result (with_data self.old line name.entry string) }
     {
@@ -96,7 +96,7 @@ impl<'a> Sheet<'a> {
         Ok(())
     }
 
-    /// Adds an instruction.
+    /// Adds an instruction, whose names are looked up later.
     fn add_draft(&mut self, line: usize, draft: Draft<'a>) -> Result<(), ScriptFault>
         ensures { Gives (λ _. self.new) result (with_draft self.old line draft.entry) }
     {
@@ -107,7 +107,7 @@ impl<'a> Sheet<'a> {
         Ok(())
     }
 
-    /// Adds what the line of this number says.
+    /// Adds the statement of the line of this number.
     pub(crate) fn add(&mut self, line: usize, statement: Statement<'a>) -> Result<(), ScriptFault>
         ensures { Gives (λ _. self.new) result (with_statement self.old line statement.entry) }
     {
@@ -119,7 +119,7 @@ impl<'a> Sheet<'a> {
         }
     }
 
-    /// Where the label stands that a line jumps to.
+    /// The number of the instruction at the label that a line jumps to.
     fn label_named(&self, line: usize, name: &Name<'_>) -> Result<u16, ScriptFault>
         ensures { result ≡ label_named self.now line name.now }
     {
@@ -128,7 +128,7 @@ impl<'a> Sheet<'a> {
             .ok_or(ScriptFault::UnknownLabel(line))
     }
 
-    /// The number of the data string that a line names.
+    /// The number of the data string that a line uses.
     fn data_named(&self, line: usize, name: &Name<'_>) -> Result<u16, ScriptFault>
         ensures { result ≡ data_named self.now line name.now }
     {
@@ -137,7 +137,7 @@ impl<'a> Sheet<'a> {
             .ok_or(ScriptFault::UnknownLabel(line))
     }
 
-    /// How many bytes a data string has.
+    /// The length in bytes of a data string.
     fn bytes_of(&self, number: u16) -> usize
         ensures { result ≡ length (string_at self.now.strings number) }
     {
@@ -147,7 +147,7 @@ impl<'a> Sheet<'a> {
         }
     }
 
-    /// An instruction, unless it pokes data of other than 16 bytes.
+    /// The instruction, unless it pokes data of other than 16 bytes.
     fn fitting(&self, line: usize, instruction: Instruction) -> Result<Instruction, ScriptFault>
         ensures { result ≡ fitting self.now line instruction }
     {
@@ -161,7 +161,7 @@ impl<'a> Sheet<'a> {
         }
     }
 
-    /// An instruction with its label and its data by number.
+    /// The instruction with numbers in place of names.
     fn resolved(&self, line: usize, draft: &Draft<'a>) -> Result<Instruction, ScriptFault>
         ensures { result ≡ resolved self.now line draft.now }
     {
@@ -175,7 +175,7 @@ impl<'a> Sheet<'a> {
         self.fitting(line, instruction)
     }
 
-    /// Adds an instruction with its label and its data by number.
+    /// Appends an instruction with numbers in place of names.
     fn push_resolved(
         &self,
         instructions: &mut Vec<Instruction>,
@@ -190,7 +190,7 @@ impl<'a> Sheet<'a> {
         Ok(())
     }
 
-    /// Instructions with their labels and data by number.
+    /// These instructions with numbers in place of names.
     fn all_resolved(
         &self,
         alloc: Global,
@@ -205,7 +205,7 @@ impl<'a> Sheet<'a> {
         Ok(instructions)
     }
 
-    /// All instructions with their labels and data by number.
+    /// All instructions with numbers in place of names.
     fn instructions(&self, alloc: Global) -> Result<Vec<Instruction>, ScriptFault>
         ensures gives { Gives (λ instructions. instructions.items) result (with_resolved self.now [] self.now.drafts) }
         ensures few { length self.now.drafts ≤ 4096 }
@@ -213,7 +213,7 @@ impl<'a> Sheet<'a> {
         self.all_resolved(alloc, &self.drafts)
     }
 
-    /// The program of what all lines say.
+    /// The program of all lines, once they are read.
     pub(crate) fn into_program(self, alloc: Global) -> Result<Program, ScriptFault>
         requires { IsReady self }
         ensures { Gives (λ program. program) result (program_in self.entry) }

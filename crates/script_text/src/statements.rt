@@ -1,4 +1,4 @@
-//! What a line says.
+//! Reads one line as a statement.
 
 ghost use Rattle.std.specs.Prelude.{◌≡◌};
 ghost use Rattle.std.specs.Option.{option_copied};
@@ -14,20 +14,20 @@ use program::Octets;
 use std::alloc::Global;
 use text_format::{HexFault, Line, Words, hex_bytes};
 
-/// What a line says.
+/// The statement of a line.
 #[derive(Drop)]
 pub(crate) enum Statement<'a> {
-    /// Nothing.
+    /// An empty line, or a comment alone.
     Empty,
-    /// The name of the place of the next instruction.
+    /// A label: the name of the next instruction.
     Label(Name<'a>),
-    /// A name, and its data.
+    /// A data string and its name.
     Data(Name<'a>, Octets),
-    /// An instruction.
+    /// An instruction with its operands.
     Instruction(Draft<'a>),
 }
 
-/// The bytes that a word of a line writes in hex.
+/// The bytes that a word writes in hex.
 fn read_bytes(alloc: Global, number: usize, word: &str) -> Result<Octets, ScriptFault>
     ensures { Gives (λ bytes. bytes) result (at_line number (bytes_in word.now)) }
 {
@@ -39,7 +39,7 @@ fn read_bytes(alloc: Global, number: usize, word: &str) -> Result<Octets, Script
     }
 }
 
-/// A name and its data.
+/// A data line: a name and its bytes.
 fn read_data<'a>(
     alloc: Global,
     number: usize,
@@ -51,7 +51,7 @@ fn read_data<'a>(
     else {
         return Err(ScriptFault::Syntax(number));
     };
-    // Data that is no hex is told before a name that is too long.
+    // Data that isn't hex is reported before a name that is too long.
     let bytes = read_bytes(alloc, number, digits)?;
     match Name::of(name) {
         Ok(name) => Ok(Statement::Data(name, bytes)),
@@ -59,14 +59,14 @@ fn read_data<'a>(
     }
 }
 
-/// What stands before the colon that ends a word.
+/// The part of a word before a final colon.
 fn before_colon(word: &str) -> Option<&str>
     ensures { option_copied result ≡ before_last_byte 58 word.now }
 {
     word.strip_suffix(':')
 }
 
-/// A label, which stands alone on its line.
+/// A label, which is alone on its line.
 fn read_label<'a>(name: &'a str, mut operands: Words<'a>) -> Result<Statement<'a>, LineFault>
     ensures { result ≡ label_in name.now operands.entry }
 {
@@ -77,7 +77,7 @@ fn read_label<'a>(name: &'a str, mut operands: Words<'a>) -> Result<Statement<'a
     Ok(Statement::Label(name))
 }
 
-/// A label or an instruction, which begins with a word.
+/// A label or an instruction, by the line's first word.
 fn read_other<'a>(first: &'a str, operands: Words<'a>) -> Result<Statement<'a>, LineFault>
     ensures { result ≡ label_or_instruction first.now (before_last_byte 58 first.now) operands.entry }
 {
@@ -88,7 +88,7 @@ fn read_other<'a>(first: &'a str, operands: Words<'a>) -> Result<Statement<'a>, 
     Ok(Statement::Instruction(draft))
 }
 
-/// What a line says.
+/// Reads a line as a statement.
 #[tactic(auto, unfolding(crate::specs::Statement::statement_of))]
 pub(crate) fn read_line<'a>(alloc: Global, line: Line<'a>) -> Result<Statement<'a>, ScriptFault>
     ensures { Gives (λ statement. statement) result

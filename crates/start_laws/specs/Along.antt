@@ -1,4 +1,5 @@
--- A legal history of a sound device that leaves a queue alone, and what holds wherever its pass has made so many calls.
+-- A legal history of a sound device that leaves a queue alone, and what holds wherever its pass has made this many
+-- calls.
 use Rattle.std.specs.Prelude.{[], ◌++◌, ◌<◌, ◌∷◌, ◌≡◌, List, ℕ}
 use Rattle.device_lock.specs.History.{AreEvents, IsLegal}
 use Rattle.ring_laws.specs.HistoryLaws.Alone.{LeavesAloneFrom}
@@ -6,7 +7,7 @@ use Rattle.start_laws.specs.Prelude.{Block, Blocks, Call, Entry, Event, IsEvent,
 use Rattle.start_laws.specs.Prelude.{call_in, calls_of, leads_to, reply_to}
 use Rattle.start_laws.specs.{Moves.IsMet, Standing.IsLeft}
 
--- the history begins with a sound device, whichever its state, of as many virtual functions as are told
+-- the history begins with a sound device, whichever its state, of this number of virtual functions
 pub record IsAlong (w : Watched) (origin : State) (h : List Entry) : Type 0 where
   pub small : w.queue < 128
   pub sound : IsSound origin

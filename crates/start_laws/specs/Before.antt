@@ -6,7 +6,7 @@ use Rattle.start_laws.specs.Prelude.{OnlyLent, State}
 use Rattle.start_laws.specs.Prelude.{WritesNoSetting, after, either, leads_to, lent_by}
 use Rattle.nic_device.specs.declared.event.Event.TheVariants as event
 
--- the frames that wait for a queue fit so many blocks, and longer ones aren't let in
+-- the frames that wait for a queue fit this many blocks, and longer ones aren't accepted
 pub record AreShort (queue most : ℕ) (s : State) : Type 0 where
   pub limit : frame_limit s.registers ≤ 2048 * most
   pub waiting : All (FitsBlocks queue most) s.waiting
@@ -31,7 +31,7 @@ abbrev pub is_asked : List Call → Blocks
 is_asked [] number = false
 is_asked (c ∷ calls) number = asks_for c.event number || is_asked calls number
 
--- over such entries the frames that wait for a queue stay as short as so many blocks
+-- over such entries the frames that wait for a queue stay as short as this many blocks
 abbrev pub FramesStayShortAlong : Type 0
 FramesStayShortAlong =
     (queue most : ℕ) (s : State) (es : List Entry) → AreShort queue most s → NoneSets s es →

@@ -1,4 +1,5 @@
--- What the driver's pass may make beside the calls of the driver's halves: events that leave every queue alone.
+-- The calls that the driver's pass may make in addition to those of the driver's halves: events that leave every queue
+-- alone.
 use Rattle.std.specs.Prelude.{[], ⊤, ◌&&◌, ◌++◌, ◌∷◌, ◌≡◌, Bool, IsTrue, List, None, Option, Some, false, not, true, ℕ}
 use Rattle.nic_device.specs.{RegTable.Place.place_among, RegTable.Runs.runs, VfMap.Owner.is_receive}
 use Rattle.nic_device.specs.{VfMap.Owner.is_transmit, declared.event.Port.TheVariants.Pf}
@@ -46,8 +47,8 @@ AreHarmless (c ∷ calls) = IsTrue (is_harmless c.event) × AreHarmless calls
 abbrev pub AddsHarmless : List Call → List Call → Type 0
 AddsHarmless old new = (more : List Call) × (new ≡ old ++ more) × AreHarmless more
 
--- a call of a harmless event through a way to a device, as the clause `made` of that way tells, adds such calls alone;
--- and so does one that was refused, as its clause `refused` tells
+-- a call of a harmless event through a way to a device adds only such calls, by the clause `made` of that way; and so
+-- does one that was refused, by its clause `refused`
 abbrev pub CallsAddHarmless : Type 0
 CallsAddHarmless =
     (old new : List Call) (e : Event Block) (reply : Reply Block) → Adds old new e reply → IsTrue (is_harmless e) →
@@ -56,7 +57,7 @@ CallsAddHarmless =
 abbrev pub StepsAddHarmless : Type 0
 StepsAddHarmless = (old new : List Call) → AddsSome old new → AddsHarmless old new
 
--- the calls that are neither half's are such. Those behind the last doer are neither's
+-- the calls that are neither half's are such. Those after the last doer are neither's
 abbrev pub OthersHarmless : List Doer → List Call → Type 0
 OthersHarmless [] calls = AreHarmless calls
 OthersHarmless (d ∷ doers) [] = ⊤
@@ -69,11 +70,11 @@ Leads old h new k =
     (doers : List Doer) × (since : List Call) × (new ≡ old ++ since) × AllOwn h doers since
     × (k ≡ played_by h doers since) × OthersHarmless doers since
 
--- so the driver's calls lead, since what they make beside are steps of the device
+-- so the driver's calls lead, since what they make in addition are steps of the device
 abbrev pub DrivesLead : Type 0
 DrivesLead = (old new : List Call) (h k : Halves) → Drives old h new k → Leads old h new k
 
--- so do harmless calls by themselves, and calls behind calls that lead
+-- so do harmless calls by themselves, and calls after calls that lead
 abbrev pub HarmlessLead : Type 0
 HarmlessLead = (old new : List Call) (h : Halves) → AddsHarmless old new → Leads old h new h
 

@@ -10,7 +10,7 @@ abbrev pub MayAsk : Dir → ℕ → Halves → Type 0
 MayAsk Rx word h = ⊤
 MayAsk Tx word h = has_bit 25 word ≡ true → h.transmit.outstanding ≡ []
 
--- behind such a word that is written to that of a side the device agrees with both halves as before it
+-- after such a word that is written to that of a side the device agrees with both halves as before it
 abbrev pub EnableWordsKeep : Type 0
 EnableWordsKeep =
     (queue : ℕ) (s : State) (side : Dir) (port : Port) (number word : ℕ) (out : List Piece) (sent : List (List ℕ))

@@ -10,7 +10,7 @@ use Rattle.start_laws.specs.{Along.AtCalls, Along.BeforeLast, Along.IsAlong, Bef
 abbrev pub Never : Watched → State → List Entry → List Call → Type 0
 Never w origin h calls = AtCalls w origin h calls (λ s. ⊥)
 
--- it holds just before the pass's first call behind these that is no step of the device
+-- it holds just before the pass's first call after these that is no step of the device
 abbrev pub BeforeNext : Watched → State → List Entry → List Call → (State → Type 0) → Type 0
 BeforeNext w origin h old P =
     (before : List Call) (c : Call) → AreSteps before → IsFalse (is_step c.event) →

@@ -10,8 +10,8 @@ abbrev pub doers_of : (own : Blocks) (old : List Call) (h : Halves) (new : List 
     → List Doer
 doers_of own old h new f = f.drives.drives.0 ++ (doers_other f.adds.0 ++ f.doer ∷ [])
 
--- no history that drives the halves, and shares the numbers with no other, has such a call behind calls that lend as
--- the driver's do
+-- no history that drives the halves, and shares the numbers with no other, has such a call after calls that lend as the
+-- driver's do
 abbrev pub NoFault : Type 0
 NoFault =
     (w : Watched) (origin : State) (start rest more : List Entry) (h : Halves) (doers : List Doer) (own : Blocks)

@@ -1,4 +1,4 @@
--- What a driver hands out and what it sends, over histories that leave its queue alone.
+-- What a driver returns and what it sends, over histories that leave its queue alone.
 use Rattle.std.specs.Prelude.{[], ⊤, ◌++◌, ◌==◌, ◌∷◌, ◌≡◌, Bool, IsTrue, List, None, Some, false, true}
 use Rattle.device_lock.specs.Alone.{has_begun}
 use Rattle.start_laws.specs.Prelude.{AllOwn, Blocks, Doer, Elsewhere, Entry, FindsNone, Halves, IsUp, LeavesBlocks}
@@ -44,7 +44,7 @@ pub record IsDriven (w : Watched) (origin : State) (start rest : List Entry) (h 
   pub own : AllOwn h doers (calls_of w.pass rest)
   pub others : OthersLeaveAlone w (lent_by w.pass (start ++ rest)) (leads_to origin start) doers rest
 
--- what the driver handed out is a prefix of what was delivered since its receive side went on
+-- what the driver returned is a prefix of what was delivered since its receive side went on
 abbrev pub HandedIsPrefix : Type 0
 HandedIsPrefix =
     (w : Watched) (origin : State) (start rest : List Entry) (h : Halves) (doers : List Doer) →
@@ -52,8 +52,8 @@ HandedIsPrefix =
     receive.IsPrefixOf (played_by h doers (calls_of w.pass rest)).receive.handed
     (delivered w.queue origin (start ++ rest))
 
--- where a look that comes next finds its slot not done, all of that was taken: it was handed out, or is whole and
--- handed out as the tail moves on. Where none is whole it was all handed out
+-- where a look that comes next finds its slot not done, all of that was taken: it was returned, or is whole and
+-- returned as the tail moves on. Where none is whole it was all returned
 
 abbrev pub NoneIsAllTaken : Type 0
 NoneIsAllTaken =
@@ -71,7 +71,7 @@ NoneIsAll =
     (played_by h doers (calls_of w.pass rest)).receive.handed
     ≡ delivered w.queue origin (start ++ rest)
 
--- and so it was at an earlier place of the history, where nothing was handed out since
+-- and so it was at an earlier place of the history, where nothing was returned since
 abbrev pub NoneIsAllBefore : Type 0
 NoneIsAllBefore =
     (w : Watched) (origin : State) (start before rest : List Entry) (h : Halves) (early doers : List Doer) →
@@ -100,7 +100,7 @@ IdleIsAllSent =
     bytes_of (played_by h doers (calls_of w.pass rest)).transmit.accepted
     ≡ sent_in w.queue (leads_to origin start) rest
 
--- where the queue's transmit side is up as the first entries end, all that is sent behind them is counted since it went
+-- where the queue's transmit side is up as the first entries end, all that is sent after them is counted since it went
 -- on
 abbrev pub CountedWhereUp : Type 0
 CountedWhereUp =

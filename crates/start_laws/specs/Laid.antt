@@ -62,7 +62,7 @@ LaysOn q l [] last = last ≡ l
 LaysOn q l (c ∷ cs) last = (m : Laid) × Lays q l c.event m × LaysOn q m cs last
 
 -- over a legal history that leaves the queue alone, nothing is sent on it from a call of its pass on before which port
--- and queue name it and its transmit side is off, where this and the pass's calls behind it are such
+-- and queue name it and its transmit side is off, where this and the pass's calls after it are such
 abbrev pub LaidQueueIsSilent : Type 0
 LaidQueueIsSilent =
     (w : Watched) (q : AtPort) (frame : ℕ) (origin : State) (h done rest : List Entry) (e : Entry) (last : Laid) →

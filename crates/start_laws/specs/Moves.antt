@@ -1,4 +1,4 @@
--- What a driver's own accesses do to sides that stand still, and what these are in the end.
+-- What a driver's own accesses do to sides that are at rest, and the state of these in the end.
 use Rattle.std.specs.Prelude.{[], ◌*◌, ◌+◌, ◌<◌, ◌==◌, ◌||◌, ◌≡◌, ◌≤◌, Bool, IsFalse, None, true, ℕ}
 use Rattle.nic_device.specs.Named.{named}
 use Rattle.ring_laws.specs.Joint.{IsNamed}
@@ -22,8 +22,8 @@ pub record IsMet (queue : ℕ) (s : State) : Type 0 where
 abbrev pub MayGoOn : Side → Type 0
 MayGoOn x = x.wanted ≡ true → is_empty x.ring ≡ true
 
--- a word is written to a register of a side that isn't wanted on: the side stands with it, where its ring is empty if
--- it is wanted on now
+-- a word is written to a register of a side that isn't asked to be enabled: the side has it, where its ring is empty if
+-- it is asked to be enabled now
 abbrev pub WriteStands : Dir → Type 0
 WriteStands dir =
     (queue : ℕ) (s : State) (sides : Dir → Side) (rings : Blocks) (port : Port) (number word : ℕ) (row : RowId) →
@@ -31,7 +31,8 @@ WriteStands dir =
     MayGoOn (side_with dir row word (sides dir)) → NamesRow s port number row queue →
     Stand queue (λ d. side_with d row word (sides d)) rings (after s (event.Write port number word))
 
--- a side after a register is read that tells bit 25 so: the side is on, where that is its enable word and has the bit
+-- a side after a register is read that returns bit 25 so: the side is enabled, where that is its enable word and has
+-- the bit
 abbrev pub side_seen : Dir → RowId → Bool → Side → Side
 side_seen Rx Rxdctl on x = record x { on = x.on || on }
 side_seen Tx Txdctl on x = record x { on = x.on || on }
@@ -46,7 +47,7 @@ ReadStands dir =
     Stand queue (λ d. side_seen d (enable_row dir) (has_bit 25 word) (sides d)) rings
     (after s (event.Read port number))
 
--- a block of zero bytes is lent: it is one of the blocks that stand so
+-- a block of zero bytes is lent: it is one of these blocks
 
 abbrev pub and_one : ℕ → Blocks → Blocks
 and_one ring rings number = (number == ring) || rings number
@@ -57,8 +58,8 @@ LendStands =
     reply_to s (event.Lend (zero_block ring)) ≡ reply.Done →
     Stand queue sides (and_one ring rings) (after s (event.Lend (zero_block ring)))
 
--- a fresh side: an empty ring of so many slots from a block's start on, one buffer of 2,048 bytes a descriptor, and no
--- head written back
+-- a fresh side: an empty ring of this many slots from a block's start on, one buffer of 2,048 bytes a descriptor, and
+-- no head written back
 
 abbrev pub fresh_ring : (ring size : ℕ) → Ring
 fresh_ring ring size = record { base = 2048 * ring; length = 16 * size; head = 0; tail = 0 }
@@ -75,8 +76,8 @@ pub record IsSized (ring size : ℕ) : Type 0 where
   pub few : size ≤ 1024
   pub low : ring + blocks_for size ≤ 65536
 
--- where fresh sides stand whose rings are lent, device and driver agree: of the receive side, with nothing posted; and
--- of the transmit side, with nothing sent
+-- where the sides have fresh rings that are lent, device and driver agree: on the receive side, with nothing posted;
+-- and on the transmit side, with nothing sent
 
 abbrev pub FreshReceiveAgrees : Type 0
 FreshReceiveAgrees =

@@ -9,12 +9,12 @@ abbrev pub queue_in : Option (ℕ × ℕ) → ℕ → Option ℕ
 queue_in None number = None
 queue_in (Some queues) number = if nat_lt number queues.1 then Some (queues.0 + number) else None
 
--- the physical function's queues are the device's, and those of one of so many virtual functions are its pool's
+-- the physical function's queues are the device's, and those of one of this many virtual functions are its pool's
 abbrev pub queue_at : Mode → (vfs : ℕ) → Port → ℕ → Option ℕ
 queue_at mode vfs Pf number = if nat_lt number 128 then Some number else None
 queue_at mode vfs (Vf v) number = if nat_lt v vfs then queue_in (queues_of mode v) number else None
 
--- they name this queue, as the device's queues are parted among pools
+-- they name this queue, as the device's queues are separated into pools
 abbrev pub NamesQueue : State → AtPort → ℕ → Type 0
 NamesQueue s q queue = queue_at (mode_in s.registers) s.vfs q.port q.queue ≡ Some queue
 

@@ -1,11 +1,11 @@
--- How the sides of a queue stand at a point of a history, and how a driver's accesses move that on.
+-- The state of the sides of a queue at a point of a history, and how a driver's accesses change it.
 use Rattle.std.specs.Prelude.{[], ⊤, ◌<◌, ◌∷◌, ◌≡◌, ◌≢◌, Bool, IsFalse, IsTrue, List, ℕ}
 use Rattle.start_laws.specs.Prelude.{Access, AreMade, AtPort, Blocks, Call, Dir, Entry, RowId, Rxdctl, Sees, Sets}
 use Rattle.start_laws.specs.Prelude.{Side, State, Txdctl, Watched, frame_limit, lent_by, packet_limit}
 use Rattle.start_laws.specs.{Along.AtCalls, Along.IsAlong, Moves.MayGoOn, Moves.side_seen, Numbers.NamesQueue}
 use Rattle.start_laws.specs.{Standing.Stand, Words.Fits, Words.side_with}
 
--- what a driver rests on beside its sides: port and queue name this queue, and frames have at most as many bytes as
+-- what a driver relies on besides its sides: port and queue name this queue, and frames have at most as many bytes as
 -- the driver's packets
 pub record HasGround (queue : ℕ) (q : AtPort) (frame : ℕ) (s : State) : Type 0 where
   pub names : NamesQueue s q queue
@@ -16,7 +16,7 @@ pub record Sides : Type 0 where
   pub side : Dir → Side
   pub rings : Blocks
 
--- they stand so, and the blocks are among these
+-- they are so, and the blocks are among these
 pub record Point (queue : ℕ) (mine : Blocks) (q : AtPort) (frame : ℕ) (p : Sides) (s : State) : Type 0 where
   pub stand : Stand queue p.side p.rings s
   pub ground : HasGround queue q frame s
@@ -36,7 +36,8 @@ abbrev pub after_accesses : List Access → Sides → Sides
 after_accesses [] p = p
 after_accesses (a ∷ rest) p = after_accesses rest (after_access a p)
 
--- an access that keeps the sides standing: the read of an enable word, or a word written to a side that isn't wanted on
+-- an access that keeps the sides at rest: the read of an enable word, or a word written to a side that isn't asked to
+-- be enabled
 
 abbrev pub IsEnable : RowId → Type 0
 IsEnable Rxdctl = ⊤
@@ -56,8 +57,8 @@ abbrev pub AllMay : List Access → Sides → Type 0
 AllMay [] p = ⊤
 AllMay (a ∷ rest) p = May a p × AllMay rest (after_access a p)
 
--- over a history that leaves the queue alone: where the pass has made some calls the sides stand as some that are
--- known; then, where it has made accesses that keep them standing, they stand as after these
+-- over a history that leaves the queue alone: where the pass has made some calls the sides are in a known state; then,
+-- where it has made accesses that keep them at rest, they are in the state after these
 abbrev pub AccessesLead : Type 0
 AccessesLead =
     (w : Watched) (q : AtPort) (frame : ℕ) (origin : State) (h : List Entry) (known : Sides → Bool) (F : Sides → Sides)

@@ -39,7 +39,7 @@ asked_after w x (event.Write port number word) =
     if same_port port w.port then with_asked w x number (has_bit 25 word) else x
 asked_after w x other = x
 
--- whether an event reads one of the two words, and the reply tells it without bit 25, though it is asked
+-- whether an event reads one of the two words, and the reply returns it without bit 25, though it is asked
 abbrev pub is_missed : Enables → Asked → Event Block → Reply Block → Bool
 is_missed w x (event.Read port number) (reply.Word word) =
     same_port port w.port && (is_asked w x number && not (has_bit 25 word))

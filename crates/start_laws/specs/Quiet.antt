@@ -15,8 +15,8 @@ IsUnwanted queue s = sides.IsUnwanted (side_of Rx queue s)
 abbrev pub IsOff : ℕ → State → Type 0
 IsOff queue s = sides.IsOff (side_of Rx queue s)
 
--- after a write of the enable word without bit 25 the side isn't wanted on, on or off, and it stays so over every event
--- that leaves the queue alone; a read that tells bit 25 as 0 then finds it off
+-- after a write of the enable word without bit 25 the side isn't asked to be enabled, enabled or disabled, and it stays
+-- so over every event that leaves the queue alone; a read that returns bit 25 as 0 then finds it disabled
 pub record ReceiveGuardIsOff : Type 0 where
   pub written :
       (queue : ℕ) (s : State) (port : Port) (number word : ℕ) → IsMet queue s
@@ -34,7 +34,7 @@ pub record ReceiveGuardIsOff : Type 0 where
 abbrev pub no_block : Blocks
 no_block number = false
 
--- two sides that are off and not wanted on stand as they are, in a sound device
+-- two sides that are disabled and not asked to be enabled stay as they are, in a sound device
 abbrev pub OffSidesStand : Type 0
 OffSidesStand =
     (queue : ℕ) (s : State) → IsSound s → IsOff queue s → transmit.IsOff queue s →

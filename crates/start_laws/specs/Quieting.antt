@@ -30,7 +30,7 @@ abbrev pub are_off : Sides → Bool
 are_off p =
     (not (p.side Rx).on && not (p.side Rx).wanted) && (not (p.side Tx).on && not (p.side Tx).wanted)
 
--- and so they stand as they are, with no block lent
+-- and so they stay as they are, with no block lent
 abbrev pub QuietSidesStand : Type 0
 QuietSidesStand =
     (w : Watched) (q : AtPort) (frame : ℕ) (origin : State) (h : List Entry) (calls : List Call) → IsAlong w origin h →

@@ -1,4 +1,4 @@
--- A history told anew: the same calls in the same order, some of them with another pass's tag.
+-- A history with other tags: the same calls in the same order, some of them with another pass's tag.
 use Rattle.std.specs.Prelude.{[], ◌∷◌, ◌≡◌, Bool, List, false, map, true, ℕ}
 use Rattle.start_laws.specs.Prelude.{AreEvents, Entry, IsLegal, State, call_in, delivered, leads_to, sent_since}
 
@@ -6,12 +6,12 @@ use Rattle.start_laws.specs.Prelude.{AreEvents, Entry, IsLegal, State, call_in, 
 abbrev pub AreSame : List Entry → List Entry → Type 0
 AreSame h g = map call_in h ≡ map call_in g
 
--- an entry that is the driver's is told as it is, and one that isn't with the tag of another pass
+-- an entry that is the driver's keeps its tag, and one that isn't gets the tag of another pass
 abbrev pub told_as : ℕ → Bool → Entry → Entry
 told_as other true e = e
 told_as other false e = record e { pass = other }
 
--- a history whose entries are marked in turn as the driver's or not. Those behind the last mark are told as they are
+-- a history whose entries are marked in turn as the driver's or not. Those after the last mark are unchanged
 abbrev pub retold : ℕ → List Bool → List Entry → List Entry
 retold other [] h = h
 retold other (is ∷ own) [] = []
@@ -21,8 +21,8 @@ retold other (is ∷ own) (e ∷ es) = told_as other is e ∷ retold other own e
 abbrev pub RetoldIsSame : Type 0
 RetoldIsSame = (other : ℕ) (own : List Bool) (h : List Entry) → AreSame (retold other own h) h
 
--- nothing but the tags differs: what is legal, and of events that a driver can make, is so told anew, leads to the same
--- state, and delivers and sends the same on each queue
+-- nothing but the tags differs: what is legal, and of events that a driver can make, is so with other tags, leads to
+-- the same state, and delivers and sends the same on each queue
 
 abbrev pub SameIsLegal : Type 0
 SameIsLegal =

@@ -1,4 +1,4 @@
--- The two sides of a queue that stand still: each is off, or on with an empty ring.
+-- The two sides of a queue at rest: each is disabled, or enabled with an empty ring.
 pub use Rattle.ring_laws.specs.HistoryLaws.Left.{IsLeft}
 use Rattle.std.specs.Prelude.{[], ◌≡◌, IsTrue, Some, ℕ}
 use Rattle.ring_laws.specs.HistoryLaws.Left.{IsLeft}
@@ -18,14 +18,15 @@ pub record Stands (x side : Side) : Type 0 where
 abbrev pub IsZero : Memory → ℕ → Type 0
 IsZero m number = map.get m number ≡ Some (zero_block number).bytes
 
--- both sides stand so, nothing is written yet of a frame that waits for the queue, and these blocks are lent, all zero
+-- both sides are at rest, nothing is written yet of a frame that waits for the queue, and these blocks are lent, all
+-- zero
 pub record Stand (queue : ℕ) (sides : Dir → Side) (rings : Blocks) (s : State) : Type 0 where
   pub side : (dir : Dir) → Stands (side_of dir queue s) (sides dir)
   pub begun : begun_on queue s.waiting ≡ 0
   pub zero : (number : ℕ) → IsTrue (rings number) → IsZero s.memory number
 
--- an event that leaves the queue and these blocks alone keeps both sides as they stand; it receives and sends nothing
--- on the queue; and the frame limit, and how the queues are parted among virtual functions, stay
+-- an event that leaves the queue and these blocks alone keeps both sides at rest; it receives and sends nothing on the
+-- queue; and the frame limit, and how the queues are separated among virtual functions, are unchanged
 pub record LeavesStanding (queue : ℕ) (sides : Dir → Side) (rings : Blocks) (s : State) (e : Event Block) : Type 0 where
   pub stand : Stand queue sides rings (after s e)
   pub received : pieces queue s e ≡ []

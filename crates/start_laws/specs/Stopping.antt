@@ -1,4 +1,5 @@
--- The calls by which both sides of a queue are switched off and blocks are taken back, beside steps of the device.
+-- The calls by which both sides of a queue are disabled and blocks are taken back, and steps of the device between
+-- them.
 use Rattle.std.specs.Prelude.{◌++◌, ◌≡◌, ◌⊎◌, List, false, ℕ}
 use Rattle.pmd_driver.specs.PmdAccess.Home.{Bringing, Brings}
 use Rattle.start_laws.specs.Ending.{Each, IsAsking, IsEnding}

@@ -56,7 +56,7 @@ Fits dir other word = ⊥
 abbrev pub NamesRow : State → Port → ℕ → RowId → ℕ → Type 0
 NamesRow s port number row queue = named s port number ≡ Register (place row queue) 0xFFFFFFFF
 
--- what else a driver rests on: memory, the frame limit, and how the queues are parted among virtual functions
+-- what else a driver rests on: memory, the frame limit, and how the queues are separated among virtual functions
 pub record KeepsGround (s t : State) : Type 0 where
   pub memory : LeavesMemory s t
   pub limit : frame_limit t.registers ≡ frame_limit s.registers

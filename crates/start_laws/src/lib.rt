@@ -1,11 +1,11 @@
-//! What holds of a driver on a queue of a shared device, over whatever others do meanwhile: where its start leads, the
-//! device and the driver agreeing on both sides of its queue, and why one is refused; and what holds of both its halves
-//! from there on.
+//! What holds of a driver on a queue of a shared device, whatever others do in between: the state after its start, in
+//! which the device and the driver agree on both sides of its queue; why a start is refused; and what holds of both
+//! halves of the driver, for receiving and for sending, from there on.
 //!
-//! Each law is the contract of a function that does nothing. `specs/Along` says which histories the laws speak of, and
-//! `specs/Histories` which of these drive both halves; how the halves follow from the calls of a driver's pass is said
-//! by crate `pmd_driver`, and what the device and both halves agree on by `specs/Agreeing`. `specs/Healthy` says over
-//! which histories the device never replies what a queue at fault replies.
+//! Each law is the contract of a function that does nothing. `specs/Along` defines which histories the laws are about,
+//! and `specs/Histories` which of these drive both halves; crate `pmd_driver` states how the halves follow from the
+//! calls of a driver's pass, and `specs/Agreeing` what the device and both halves agree on. `specs/Healthy` defines
+//! over which histories the device never gives the reply of a queue at fault.
 #![tactic(auto)]
 
 ghost use Rattle.nic_device.specs.DmaRing.declared.dir.Dir.TheVariants.{Rx, Tx};
@@ -37,37 +37,37 @@ ghost use Rattle.start_laws.specs.TimedOut.{TimeoutsPoll};
 ghost use Rattle.start_laws.specs.Waiting.{WaitingIsNotAll};
 ghost use Rattle.start_laws.specs.Words.{WordsAreTaken};
 
-/// The numbers that a driver uses at its port name the registers of the queue that port and queue name: at the physical
-/// function each of the device's queues by its number there, at a virtual function those of its pool, from the first
-/// on.
+/// The numbers that a driver uses at its port are those of the registers of its queue: at the physical function each of
+/// the device's queues by its number, at a virtual function those of its pool, from the first on.
 #[tactic(auto, using(crate::proofs::Ground::named_queue_has_the_numbers))]
 pub fn named_queue_has_the_numbers()
     ensures { NamedQueueHasTheNumbers }
 {}
 
-/// A word that a driver writes to a register of a side that is off is the side's, whole: its ring's base, length, head
-/// or tail, its control word, or no write-back of the head; and a write of the enable word asks. The queue's other
-/// side, memory, the frame limit and how the queues are parted stay.
+/// A word that a driver writes to a register of a side that is disabled is the side's, whole: its ring's base, length,
+/// head or tail, its control word, or no head write-back; and a write of the enable word only asks. The queue's other
+/// side, memory, the frame limit and how the queues are separated are unchanged.
 pub fn words_of_an_off_side_are_taken()
     ensures receive { WordsAreTaken Rx }
     ensures transmit { WordsAreTaken Tx }
 {}
 
-/// Two sides of a queue that are off, or on with an empty ring, stay as they are but for going on where they are wanted
-/// on, over every event that leaves the queue alone: nothing is received or sent there, and blocks that are lent with
-/// each byte 0 stay so.
+/// Two sides of a queue that are disabled, or enabled with an empty ring, stay as they are, except that they are
+/// enabled where they are asked to be, over every event that leaves the queue alone: nothing is received or sent there,
+/// and lent blocks with each byte 0 stay so.
 pub fn standing_sides_are_left()
     ensures { StandingSidesAreLeft }
 {}
 
-/// While a driver lays out the empty transmit ring of a queue whose transmit side is off, and asks the side on only
-/// behind that, nothing is sent on the queue, over a legal history that leaves it alone: be the side off yet, or on.
+/// While a driver lays out the empty transmit ring of a queue whose transmit side is disabled, and only after that asks
+/// for the side to be enabled, nothing is sent on the queue, over a legal history that leaves it alone, whether the
+/// side is enabled yet or not.
 pub fn laid_queue_is_silent()
     ensures { LaidQueueIsSilent }
 {}
 
-/// A driver's own accesses keep such sides: one with the word that is written to it, one that is on where its enable
-/// word was read with bit 25, and the block of zero bytes that was lent.
+/// A driver's own accesses keep such sides: one with the word that is written to it, one that is enabled where its
+/// enable word was read with bit 25, and the lent block of zero bytes.
 pub fn accesses_keep_sides_standing()
     ensures receive_write { WriteStands Rx }
     ensures transmit_write { WriteStands Tx }
@@ -76,56 +76,56 @@ pub fn accesses_keep_sides_standing()
     ensures lend { LendStands }
 {}
 
-/// Where the words of a fresh ring stand and the ring's block is lent, the device and the driver agree: on the receive
-/// side, with nothing posted, and on the transmit side, with nothing sent; each on or off.
+/// Where the words of a fresh ring are written and the ring's block is lent, the device and the driver agree: on the
+/// receive side, with nothing posted, and on the transmit side, with nothing sent; each enabled or disabled.
 pub fn fresh_sides_agree()
     ensures receive { FreshReceiveAgrees }
     ensures transmit { FreshTransmitAgrees }
 {}
 
-/// After a write of the receive side's enable word without bit 25 the side isn't wanted on, and stays so over every
-/// event that leaves the queue alone; a read that tells bit 25 as 0 then finds it off. Two sides that are off so stand
-/// as they are.
+/// After a write of the receive side's enable word without bit 25 the side isn't asked to be enabled, and stays so over
+/// every event that leaves the queue alone; a read that returns bit 25 as 0 then finds it disabled. Two sides that are
+/// disabled so stay as they are.
 #[tactic(auto, using(crate::proofs::SwitchedOff::off_sides_stand, crate::proofs::SwitchedOff::receive_guard_is_off))]
 pub fn guarded_receive_side_is_off()
     ensures guard { ReceiveGuardIsOff }
     ensures stand { OffSidesStand }
 {}
 
-/// Over a legal history that leaves the queue alone, both sides are off, and not wanted on, wherever the driver's pass
-/// has made the accesses that see them off; and so they stand as they are.
+/// Over a legal history that leaves the queue alone, both sides are disabled, and not asked to be enabled, wherever the
+/// driver's pass has made the accesses that find them disabled; and so they stay as they are.
 pub fn both_sides_are_seen_off()
     ensures quieting { QuietingLeads }
     ensures stand { QuietSidesStand }
 {}
 
-/// Over such a history, from where the sides stand as some that are known, they stand as after the driver's accesses
+/// Over such a history, from a place where the state of the sides is known, it is the state after the driver's accesses
 /// wherever its pass has made these.
 pub fn accesses_lead_over_a_history()
     ensures { AccessesLead }
 {}
 
-/// Over such a history, wherever the driver's pass has made the calls by which both rings came up and both sides went
-/// on, the device and the driver agree on both, with nothing posted or sent yet; both are on, nothing was received or
-/// sent since they went on, and nothing is written yet of a frame that waits for the queue. That holds whether or not
-/// the receive ring is filled next.
+/// Over such a history, wherever the driver's pass has made the calls by which both rings were set up and both sides
+/// enabled, the device and the driver agree on both, with nothing posted or sent yet; both are enabled, nothing was
+/// received or sent since they were, and nothing is written yet of a frame for the queue. That holds whether or not the
+/// receive ring is filled next.
 pub fn switched_sides_agree()
     ensures agree { SwitchedSidesAgree }
     ensures on { SwitchedSidesGoOn }
     ensures begun { SwitchedSidesBeginNone }
 {}
 
-/// Over such a history, wherever the driver's pass has made the calls by which a start of it brought both sides up, the
-/// device and the driver agree on both: nothing is posted or sent yet. Both are on there, and nothing was received or
-/// sent since they went on. Just before its first access its port and queue name this queue, and frames have at most as
+/// Over such a history, wherever the driver's pass has made the calls by which its start enabled both sides, the device
+/// and the driver agree on both: nothing is posted or sent yet. Both are enabled there, and nothing was received or
+/// sent since they were. Just before its first access its port and queue name this queue, and frames have at most as
 /// many bytes as its packets.
 pub fn start_leaves_sides_that_agree()
     ensures agree { StartAgrees }
     ensures on { StartGoesOn }
 {}
 
-/// A start that answers `StartTimeout` made 1,000 reads of its queue's RXDCTL or TXDCTL, of both together, each
-/// answered without bit 25, and each after a write of it there, the last of which before the read has bit 25.
+/// A start that returns `StartTimeout` made 1,000 reads of its queue's RXDCTL and TXDCTL together, each of which
+/// returned bit 25 as 0, and each after a write of the register of which the last one before the read has bit 25.
 #[tactic(auto, using(crate::proofs::TimedOut::timeouts_poll))]
 pub fn timeouts_poll_a_thousand_times()
     ensures { TimeoutsPoll }
@@ -144,34 +144,34 @@ pub fn named_queues_pass_the_gate()
     ensures { NamedQueuesPass }
 {}
 
-/// Where port and queue name a queue of the device, a driver's reads of its registers give words and its writes are
-/// done; and the enable word of a side that is off is read without bit 25.
+/// Where port and queue name a queue of the device, a driver's reads of its registers return words and its writes are
+/// done; and the enable word of a side that is disabled is read without bit 25.
 pub fn replies_at_a_start_are_healthy()
     ensures registers { NamedRegistersReply }
     ensures off { OffSidesAreSeenOff }
 {}
 
-/// Over a legal history that leaves the queue alone, where port and queue name it, its sides are off and not wanted on
-/// just before the start's first call, and no block that the start lends is lent already: no start finds the device at
-/// fault as it makes its rings ready, one after the other, or switches both sides on.
+/// Over a legal history that leaves the queue alone, where port and queue name it, its sides are disabled and not asked
+/// to be enabled just before the start's first call, and no block that the start lends is already lent: no start finds
+/// the device at fault as it sets up its rings, one after the other, or enables both sides.
 pub fn starts_find_no_device_at_fault()
     ensures receive { ReceiveIsReady }
     ensures transmit { TransmitIsReady }
     ensures switch { SwitchingIsNeverStray }
 {}
 
-/// A start that answers `DeviceFault` amid its events does so before both sides are on, or as it fills its receive
-/// ring. Over such a history the first never comes; and as the ring began to be filled the device and the driver
-/// agreed on both sides.
+/// A start that returns `DeviceFault` in the midst of its events does so before both sides are enabled, or as it fills
+/// its receive ring. Over such a history the first never happens; and when the filling of the ring began the device and
+/// the driver agreed on both sides.
 pub fn faults_at_a_start_come_filling()
     ensures cases { FaultsAreEarlyOrFilling }
     ensures early { NoFaultIsEarly }
     ensures filling { FillingBeginsWell }
 {}
 
-/// The calls of one half lead both on, where the other half stays as it was; steps of the device leave both; and calls
-/// lead on, one after another. So the halves follow from whatever calls of a driver that runs were made, and each call
-/// that is neither half's is such a step.
+/// The calls of one half change its state and leave the other half unchanged; steps of the device leave both unchanged;
+/// and sequences of calls compose. So the halves follow from whatever calls of a running driver were made, where each
+/// call that belongs to neither half is such a step.
 pub fn calls_lead_both_halves()
     ensures receiving { ReceivingDrives }
     ensures sending { SendingDrives }
@@ -179,12 +179,12 @@ pub fn calls_lead_both_halves()
     ensures on { DrivesOn }
 {}
 
-/// Over a history of any sound device that leaves the driver's queue alone, from a place on where the device agrees
-/// with both halves and the receive side has gone on: the packets that the driver handed out are a prefix of those that
-/// were delivered since. Where a look that comes next finds none, all of them were handed out, or are whole and handed
-/// out as the tail moves on; and all were handed out where none is whole, as they were at each place before since which
-/// none was handed out. The frames that were sent since are a prefix of those that it accepted, and all of them where
-/// none is outstanding. Where the transmit side is up at that place, all of these are counted since it went on.
+/// Take a history of any sound device that leaves the driver's queue alone, from a place on where the device agrees
+/// with both halves and the receive side is enabled. The packets that the driver returned are a prefix of those that
+/// were delivered since. Where a following poll finds none, all of them were returned, or are complete and returned as
+/// the tail advances; and all were returned where none is complete, as they were at each place before since which none
+/// was returned. The frames that were sent since are a prefix of those that it accepted, and all of them where none is
+/// outstanding. Where the transmit side is enabled at that place, all of these are counted since it was.
 pub fn both_sides_in_order()
     ensures handed { HandedIsPrefix }
     ensures taken { NoneIsAllTaken }
@@ -195,19 +195,19 @@ pub fn both_sides_in_order()
     ensures counted { CountedWhereUp }
 {}
 
-/// Behind a word that is written to the enable register of either side of the driver's queue, as a driver that stops
-/// writes one, the device agrees with both halves as before it. The word may be any, but that nothing is outstanding
-/// where it asks for the transmit side to be on.
+/// After a word that is written to the enable register of either side of the driver's queue, as a driver that stops
+/// writes one, the device agrees with both halves as before it. The word is arbitrary, except that nothing is
+/// outstanding where it asks for the transmit side to be enabled.
 pub fn enable_words_keep_the_agreement()
     ensures { EnableWordsKeep }
 {}
 
 /// Harmless calls leave every queue alone, and both halves as they are: they lend, take and poke no block, and write no
-/// register that a queue rests on, by a number of the physical function, and none by one of a virtual function. Such
-/// are the steps of the device that the ways to a device make before the driver's calls, as these say of them, and
-/// those that the driver's own author makes through the same pass, such as the arrival of a frame or a write of EIMS.
-/// So nothing more is asked of a pass whose calls that are neither half's are such. A call through a way to a device
-/// adds such calls alone where its event is such, or where it is refused.
+/// register that a queue relies on, by a number of the physical function, and none by one of a virtual function. Such
+/// are the steps of the device that the ways to access a device make before the driver's calls, and those that the
+/// driver's own author makes through the same pass, such as the arrival of a frame or a write of EIMS. So nothing more
+/// is required of a pass whose calls that belong to neither half are harmless. A call through a way to access a device
+/// adds only such calls where its event is harmless, or where it is refused.
 pub fn harmless_calls_leave_the_queue_alone()
     ensures called { CallsAddHarmless }
     ensures refused { StepsAddHarmless }
@@ -217,18 +217,18 @@ pub fn harmless_calls_leave_the_queue_alone()
     ensures alone { HarmlessLeaveAlone }
 {}
 
-/// Over such a history, where a look that comes next finds the oldest outstanding packet not done, what was sent up to
-/// any place before isn't all that the driver accepted.
+/// Over such a history, where a following read finds the oldest outstanding packet not done, what was sent up to any
+/// place before isn't all that the driver accepted.
 pub fn waiting_packets_are_not_all_sent()
     ensures { WaitingIsNotAll }
 {}
 
-/// Over a history of any sound device that leaves the driver's queue alone, from a place on where the device agrees
-/// with both halves and the receive side has gone on: each call of either half gets a reply that a healthy queue gives.
-/// There the frames that wait for the queue fit as many blocks as the driver takes for a packet, as do those that are
-/// let in; and of the driver's arena only blocks are lent that the driver has lent, and no other pass lends any. What
-/// the halves lend is as the clause `drives` of a driver's calls says: blocks of the arena alone, and none that the
-/// other half has lent.
+/// Take a history of any sound device that leaves the driver's queue alone, from a place on where the device agrees
+/// with both halves and the receive side is enabled. Each call of either half gets a reply that a healthy queue gives,
+/// under these conditions at that place: the frames of the receive list for the queue fit as many blocks as the driver
+/// takes for a packet, as do those that are accepted; and of the driver's arena only blocks are lent that the driver
+/// has lent, and no other pass lends any. What the halves lend is as the clause `drives` of a driver's calls says:
+/// blocks of the arena alone, and none that the other half has lent.
 #[tactic(auto, using(crate::proofs::Healthy::own_replies_are_healthy))]
 pub fn own_replies_are_healthy()
     ensures { OwnRepliesAreHealthy }
@@ -240,17 +240,17 @@ pub fn no_call_finds_the_device_at_fault()
     ensures { NoFault }
 {}
 
-/// What such a history begins with leads there from the driver's start: over entries that write no setting the frames
-/// that wait for the queue stay as short as so many blocks; and where no other pass lends a block of the driver's
-/// arena, only those are lent that were before, and those that the pass lent.
+/// The beginning of such a history leads to that place from the driver's start: over entries that write no setting the
+/// frames of the receive list for the queue stay as short as this many blocks; and where no other pass lends a block of
+/// the driver's arena, only those are lent that were before, and those that the pass lent.
 pub fn entries_before_lead_there()
     ensures short { FramesStayShortAlong }
     ensures lent { OnlyPassLent }
 {}
 
-/// The tags of a history say who made its calls, and nothing else looks at them: told anew, with other tags, a history
-/// is of the same calls. It is as legal, its events are such as a driver can make, it leads to the same state, and it
-/// delivers and sends the same on each queue.
+/// The tags of a history say who made its calls, and nothing else depends on them: with other tags, a history has the
+/// same calls. It is as legal, its events are such as a driver can make, it leads to the same state, and it delivers
+/// and sends the same on each queue.
 pub fn history_is_told_anew()
     ensures retold { RetoldIsSame }
     ensures legal { SameIsLegal }

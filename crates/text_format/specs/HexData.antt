@@ -8,7 +8,7 @@ byte_of (Some high) (Some low) = Some (high * 16 + low)
 byte_of (Some high) None = None
 byte_of None low = None
 
--- a byte, and those behind it
+-- a byte, and those after it
 abbrev pub onto : Option ℕ → Option (List ℕ) → Option (List ℕ)
 onto (Some byte) (Some bytes) = Some (byte ∷ bytes)
 onto (Some byte) None = None

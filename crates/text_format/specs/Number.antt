@@ -18,21 +18,21 @@ numeral_of radix word =
     if nat_lt (digits_value radix word) (2 ^ 32) then Ok (digits_value radix word) else Err TooLarge
     else Err Malformed
 
--- the number that digits write behind others that write a value, and 2^32 in place of a greater one
+-- the number that digits write after others that write a value, and 2^32 in place of a greater one
 abbrev pub capped_numeral : ℕ → ℕ → List ℕ → Option ℕ
 capped_numeral radix value [] = Some value
 capped_numeral radix value (byte ∷ more) =
     if is_digit byte radix then capped_numeral radix (min (value * radix + digit_value byte) (2 ^ 32)) more else None
 
--- how many digits stand in front
+-- how many digits there are at the beginning
 abbrev pub digits_in_front : ℕ → List ℕ → ℕ
 digits_in_front radix text = prefix_len (λ byte. is_digit byte radix) text
 
--- the number of a word: hex digits behind 0x, else decimal digits
+-- the number of a word: hex digits after 0x, else decimal digits
 unfoldable pub number_of : List ℕ → Result ℕ NumberFault
 number_of word = if starts_with nat_eq word (codes "0x") then numeral_of 16 (drop 2 word) else numeral_of 10 word
 
--- a text is a word of letters and digits that writes the value, and what stands behind it
+-- a text is a word of letters and digits that writes the value, and what follows it
 pub record IsNumberInFront (text : List ℕ) (value : ℕ) (behind : List ℕ) : Type 0 where
   pub word : List ℕ
   pub whole : text ≡ word ++ behind

@@ -12,23 +12,23 @@ pub record IsPair (name : List ℕ) (words : List (List ℕ)) (first second : �
   pub writes_first : number_of one ≡ Ok first
   pub writes_second : number_of two ≡ Ok second
 
--- the first line of a text has these words, and these lines stand behind it
+-- the first line of a text has these words, and these lines follow it
 pub record FirstLine (text : List ℕ) (words behind : List (List ℕ)) : Type 0 where
   pub line : List ℕ
   pub is_first : lines text ≡ line ∷ behind
   pub has : words_of line ≡ words
 
--- a word that stands before a line ends there
+-- a word that precedes a line ends there
 abbrev pub EndsWord : List ℕ → Type 0
 EndsWord [] = Unit {0}
 EndsWord (byte ∷ line) = ends_word byte ≡ true
 
--- the same of what stands behind a word of a line
+-- the same of what follows a word of a line
 pub record RestOfLine (text : List ℕ) (words behind : List (List ℕ)) : Type 0 where
   pub first : FirstLine text words behind
   pub ends : EndsWord first.line
 
--- a number stands in front of a text, behind blanks
+-- a number at the beginning of a text, after blanks
 pub record IsOperand (text : List ℕ) (value : ℕ) (rest : List ℕ) : Type 0 where
   pub word : List ℕ
   pub writes : number_of word ≡ Ok value

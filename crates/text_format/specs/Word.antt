@@ -2,7 +2,7 @@
 use Rattle.std.specs.Prelude.{ℕ, ◌-◌, List, ◌++◌, codes, false, length, replicate}
 use Rattle.std.specs.Fmt.{digits}
 
--- `0x` and lower-case hex digits, with zeros in front up to so many
+-- `0x` and lower-case hex digits, with zeros in front up to this many
 abbrev pub hex_text : ℕ → ℕ → List ℕ
 hex_text places n = codes "0x" ++ (replicate (places - length (digits 16 false n)) 48 ++ digits 16 false n)
 

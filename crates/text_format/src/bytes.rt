@@ -1,16 +1,16 @@
-//! Bytes as they are printed.
+//! Printing of bytes in hex.
 ghost use Rattle.std.specs.Prelude.{Some};
 ghost use Rattle.text_format.specs.Bytes.{bytes_text};
 
 use std::{fmt, str};
 
-/// How many bytes are written at once.
+/// How many bytes are formatted at once.
 const CHUNK: usize = 256;
 
-/// Bytes as they are printed: each in two lower-case hex digits, with nothing between them.
+/// Bytes that `Display` prints in lower-case hex, two digits a byte, with nothing between them.
 #[derive(Clone, Copy)]
 pub struct BytesText<'a>(
-    /// The bytes.
+    /// The bytes that are printed, in order.
     pub &'a [u8],
 );
 

@@ -1,4 +1,4 @@
-//! Hex data.
+//! Reading of bytes in hex.
 
 ghost use Rattle.std.specs.Prelude.{◌≡◌, ◌≢◌, Some, None, IfOk};
 ghost use Rattle.text_format.specs.HexData.{hex_bytes_of};
@@ -7,10 +7,10 @@ use hex::FromHexError;
 use std::alloc::Global;
 use thiserror::Error;
 
-/// Why a word gave no bytes.
+/// Why a word isn't hex data.
 #[derive(Clone, Copy, Debug, PartialEq, Eq, Error)]
 pub enum HexFault {
-    /// It has another character than a hex digit, or an odd number of digits.
+    /// It has a character that isn't a hex digit, or an odd number of digits.
     #[error("no whole bytes of hex")]
     Malformed,
     /// There is no memory for the bytes.
@@ -18,7 +18,7 @@ pub enum HexFault {
     OutOfMemory,
 }
 
-/// What an error of `hex` says of the word.
+/// The fault for an error of the crate `hex`.
 fn fault_of(error: FromHexError) -> HexFault
     ensures { result ≡ HexFault.Malformed → error ≢ FromHexError.OutOfMemory }
 {
@@ -30,9 +30,9 @@ fn fault_of(error: FromHexError) -> HexFault
     }
 }
 
-/// The bytes that a word writes, each as two hex digits of either case, the high one first.
+/// The bytes that a word writes in hex, two digits of either case a byte, the high one first.
 ///
-/// `Malformed` where it isn't whole bytes of hex. `OutOfMemory` may stand in place of any answer.
+/// `Malformed` where the word isn't whole bytes of hex. `OutOfMemory` may be returned in place of any other result.
 pub fn hex_bytes(alloc: Global, word: &str) -> Result<Vec<u8>, HexFault>
     ensures ok { IfOk result (λ bytes. hex_bytes_of word.now ≡ Some bytes.items) }
     ensures malformed { result ≡ Err HexFault.Malformed → hex_bytes_of word.now ≡ None }

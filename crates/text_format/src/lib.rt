@@ -1,9 +1,8 @@
-//! What all texts of the bench are made of: register scripts, EEPROM texts, debugger commands, hash lines, and what is
-//! printed.
+//! The elements of all texts of the bench: register scripts, EEPROM texts, debugger commands, hash lines, and output.
 //!
-//! Lines, words, numbers, names and hex data are read; each call works on a line or a word at a time, and only hex data
-//! takes memory. Words, addresses and bytes are printed: each type prints what its definition says (`word_text`,
-//! `address_text`, `bytes_text`), and takes no memory.
+//! Lines, words, numbers, names and hex data are read; each call works on one line or word, and only hex data
+//! allocates. Words, addresses and bytes are printed: each type prints what its definition says (`word_text`,
+//! `address_text`, `bytes_text`), and allocates nothing.
 #![tactic(auto)]
 
 mod bytes;

@@ -1,4 +1,4 @@
-//! Lines.
+//! Lines of a text, with their numbers.
 
 ghost use Rattle.std.specs.Prelude.{◌≡◌, ◌≢◌, ◌+◌, ◌<◌, ◌≤◌, ℕ, List, [], ◌∷◌, length, None, MatchOption, IfSome};
 ghost use Rattle.std.specs.Str.Lines.{lines, strip_carriage_return};
@@ -14,28 +14,27 @@ use std::marker::Model;
 /// A line of a text, without its end.
 #[derive(Clone, Copy, Debug, PartialEq, Eq)]
 pub struct Line<'a> {
-    /// Its number in the text, from 1 on.
+    /// The line's number in the text, from 1.
     pub number: usize,
-    /// What stands on it.
+    /// The text of the line, comments included.
     pub text: &'a str,
 }
 
-/// A line of a name and two numbers.
+/// A line that consists of a name and two numbers.
 #[derive(Clone, Copy, Debug, PartialEq, Eq)]
 pub struct Pair {
-    /// Its number in the text, from 1 on.
+    /// The line's number in the text, from 1.
     pub line: usize,
-    /// The first number.
+    /// The first number after the name.
     pub first: u32,
-    /// The second one.
+    /// The second number after the name.
     pub second: u32,
 }
 
 /// The lines of a text, in order.
 ///
-/// A line ends in LF or CR LF. The last may have no end, and then it isn't empty: what stands behind
-/// the last LF is a line only where there is something. A carriage return anywhere else is a
-/// character of its line.
+/// A line ends in LF or CR LF. The last line may lack its end, and then it isn't empty: what follows the last LF is a
+/// line only where there is something. A carriage return anywhere else is a character of its line.
 #[derive(Debug, Drop)]
 pub struct Lines<'a> {
     rest: &'a str,
@@ -56,7 +55,7 @@ impl<'a> Model for Lines<'a> {
     ghost invariant = { λ a. a.before + length a.rest.now < 2 ^ 64 };
 }
 
-/// What stands behind a carriage return and a line feed in front.
+/// The rest of a text after a leading carriage return and line feed.
 #[inline(always)]
 fn behind_return(text: &str) -> Option<&str>
     ensures cases { MatchOption result ((rest : List ℕ) → text.now ≢ 13 ∷ 10 ∷ rest)
@@ -68,7 +67,7 @@ fn behind_return(text: &str) -> Option<&str>
     }
 }
 
-/// What stands behind the first line of a text, where that line is empty.
+/// The rest of a text after its first line, where that line is empty.
 #[inline(always)]
 pub(crate) fn behind_empty(text: &str) -> Option<&str>
     ensures cases { MatchOption result (prefix_len is_nothing (lines text.now) ≡ 0)
@@ -82,11 +81,11 @@ pub(crate) fn behind_empty(text: &str) -> Option<&str>
     }
 }
 
-/// How many lines without words are gone past one by one before a look for many.
+/// How many lines without words are skipped one by one before the faster search is tried.
 const LINES_EACH: usize = 4;
 
-/// Some lines in front that have no words, one at least: how many, and what stands behind them. More than one only
-/// where a look for many is wanted.
+/// Skips leading lines without words, at least one: returns how many, and the rest of the text. More than one only
+/// where `looks_for_many` asks for the faster search.
 #[inline(always)]
 fn wordless_in_front(text: &str, looks_for_many: bool) -> Option<(usize, &str)>
     ensures past { IfSome result (λ front. PastWordless front.0 (lines text.now) (lines front.1.now)) }
@@ -102,7 +101,7 @@ fn wordless_in_front(text: &str, looks_for_many: bool) -> Option<(usize, &str)>
     Some((count + 1, rest))
 }
 
-/// Lines in front that have no words: how many, and what stands behind them, whose first line isn't empty.
+/// Skips leading lines without words: returns how many, and the rest of the text, whose first line isn't empty.
 fn wordless_lines(text: &str) -> (usize, &str)
     ensures past { PastWordless result.0 (lines text.now) (lines result.1.now) }
     ensures shorter { result.0 + length result.1.now ≤ length text.now }
@@ -124,7 +123,7 @@ impl<'a> Lines<'a> {
     ghost use Rattle.text_format.specs.Name.{is_name};
     ghost use Rattle.text_format.specs.TakenPair.{TakesPair};
 
-    /// The lines of a text.
+    /// The lines of a text, from its first.
     #[tactic(auto, unfolding(crate::specs::Lines::lines_of))]
     pub fn of(text: &'a str) -> Lines<'a>
         ensures { result ≡ lines_of text.now }
@@ -135,8 +134,8 @@ impl<'a> Lines<'a> {
         }
     }
 
-    /// Goes past lines in front that have no words, and tells how many these were. All that are empty are
-    /// among them; a line without a line feed behind it may be left.
+    /// Skips leading lines without words, and returns how many were skipped. All empty ones are among them; a line
+    /// without a line feed may be left.
     #[inline(always)]
     pub fn skip_wordless(&mut self) -> usize
         ensures count { result ≤ prefix_len is_wordless self.old }
@@ -149,11 +148,11 @@ impl<'a> Lines<'a> {
         count
     }
 
-    /// Goes past the next line where its words are the name and two numbers, and gives these. It is read as
-    /// it stands, without a look for its end before.
+    /// Reads the next line where its words are the name and two numbers, and returns these. It is read directly,
+    /// without a search for its end.
     ///
-    /// After `None` the lines are as they were. It says nothing of the next line: one of that form is left
-    /// too where no line feed stands behind it.
+    /// After `None` the lines are unchanged. `None` doesn't say that the next line has another form: it is also
+    /// returned where no line feed follows the line.
     #[inline(always)]
     pub fn take_pair(&mut self, name: &str) -> Option<Pair>
         requires { is_name name.now ≡ true }
@@ -171,7 +170,7 @@ impl<'a> Lines<'a> {
     }
 }
 
-/// A line without the carriage return at its end, if it has one.
+/// A line without its final carriage return, if it has one.
 fn without_carriage_return(line: &str) -> &str
     ensures { result.now ≡ strip_carriage_return line.now }
 {
@@ -181,7 +180,7 @@ fn without_carriage_return(line: &str) -> &str
     }
 }
 
-/// The first line of a text, and what stands behind its end.
+/// The first line of a text, and the text after it.
 pub(crate) fn split_line(text: &str) -> Option<(&str, &str)>
     ensures cases { MatchOption result (lines text.now ≡ [])
         (λ parts. lines text.now ≡ parts.0.now ∷ lines parts.1.now) }

@@ -1,10 +1,10 @@
-//! Names.
+//! Names of labels and data strings.
 
 ghost use Rattle.std.specs.Prelude.{◌≡◌};
 ghost use Rattle.std.specs.List.{list_all};
 ghost use Rattle.text_format.specs.Name.{is_name, begins_name, continues_name};
 
-/// How many bytes the name of a label or of a data string may have.
+/// The most bytes in the name of a label or of a data string.
 pub const NAME_LIMIT: usize = 32;
 
 /// Whether a byte may begin a name.
@@ -14,7 +14,7 @@ fn begins_name(byte: u8) -> bool
     byte.is_ascii_alphabetic() || byte == b'_'
 }
 
-/// Whether all bytes may stand behind the first one of a name.
+/// Whether all bytes can follow the first one of a name.
 fn continue_name(bytes: &[u8]) -> bool
     ensures { result ≡ list_all continues_name bytes.now }
 {
@@ -23,8 +23,8 @@ fn continue_name(bytes: &[u8]) -> bool
         .all(|byte| begins_name(*byte) || byte.is_ascii_digit())
 }
 
-/// Whether a word has the form of a name: an ASCII letter or `_`, and then ASCII letters, digits
-/// and `_`. Its length is not looked at.
+/// Whether a word has the form of a name: an ASCII letter or `_`, and then ASCII letters, digits and `_`. Its length
+/// isn't checked.
 #[tactic(auto, unfolding(crate::specs::Name::is_name))]
 pub fn is_name(word: &str) -> bool
     ensures { result ≡ is_name word.now }

@@ -1,4 +1,4 @@
-//! Numbers.
+//! Reading of decimal and hex numbers.
 
 ghost use Rattle.std.specs.Prelude.{◌≡◌, ◌≢◌, ◌≤◌, ◌<◌, ◌^◌, ℕ, List, ◌∷◌, false, MatchOption, Some, Ok, take, drop};
 ghost use Rattle.std.specs.Prelude.{IfSome};
@@ -7,13 +7,13 @@ ghost use Rattle.text_format.specs.Number.{numeral_of, capped_numeral, digits_in
 
 use thiserror::Error;
 
-/// Why a word is no number.
+/// Why a word isn't a number.
 #[derive(Clone, Copy, Debug, PartialEq, Eq, Error)]
 pub enum NumberFault {
-    /// It isn't decimal digits, or hex digits behind `0x`.
+    /// It isn't decimal digits, or `0x` and hex digits.
     #[error("no number")]
     Malformed,
-    /// It writes a number from 2^32 on.
+    /// The number is 2^32 or more.
     #[error("a number of 2^32 or more")]
     TooLarge,
 }
@@ -42,7 +42,7 @@ static DIGIT_VALUES: [u8; 256] = [
     36, 36, 36, 36, 36, 36, 36, 36, 36, 36, 36, 36, 36, 36, 36, 36,
 ];
 
-/// The value of a digit or a letter, as a digit of radix 36; 36 for every other byte.
+/// The value of a digit or a letter as a digit of radix 36; 36 for every other byte.
 #[inline(always)]
 fn digit_value(byte: u8) -> u8
     ensures { result ≡ digit_value byte }
@@ -50,7 +50,7 @@ fn digit_value(byte: u8) -> u8
     DIGIT_VALUES[usize::from(byte)]
 }
 
-/// The value of a byte as a digit of the radix, and no less than the radix where it's none.
+/// The value of a byte as a digit of the radix; at least the radix where it isn't one.
 #[inline(always)]
 fn digit_of(radix: u8, byte: u8) -> u8
     requires { radix ≤ 36 }
@@ -64,7 +64,7 @@ fn digit_of(radix: u8, byte: u8) -> u8
     }
 }
 
-/// The number that the digits of the radix in front write, 2^32 in place of a greater one, and what stands behind them.
+/// The number that the leading digits of the radix write, 2^32 in place of a greater one, and the rest.
 #[inline(always)]
 fn split_numeral(radix: u8, bytes: &[u8]) -> (u64, &[u8])
     requires low { 2 ≤ radix }
@@ -113,8 +113,8 @@ fn numeral(radix: u8, word: &str) -> Result<u32, NumberFault>
     }
 }
 
-/// The number that the digits of the radix in front write behind others that write a value, and what stands behind
-/// them. `None` where it is too large.
+/// The number that the leading digits of the radix write after earlier ones of value `first`, and the rest. `None`
+/// where it is too large.
 #[inline(always)]
 fn more_digits(radix: u8, first: u64, bytes: &[u8]) -> Option<(u32, &[u8])>
     requires low { 2 ≤ radix }
@@ -141,8 +141,8 @@ fn more_digits(radix: u8, first: u64, bytes: &[u8]) -> Option<(u32, &[u8])>
     Some((value as u32, rest))
 }
 
-/// The number that the digits of the radix in front write, and what stands behind them. `None` where there is no digit,
-/// and where the number is too large.
+/// The number that the leading digits of the radix write, and the rest. `None` where there is no digit, and where the
+/// number is too large.
 #[inline(always)]
 fn numeral_in_front(radix: u8, text: &str) -> Option<(u32, &str)>
     requires low { 2 ≤ radix }
@@ -160,7 +160,7 @@ fn numeral_in_front(radix: u8, text: &str) -> Option<(u32, &str)>
     Some((value, &text[text.len() - behind.len()..]))
 }
 
-/// What stands behind `0x` in front.
+/// The rest of a text after a leading `0x`.
 #[inline(always)]
 fn behind_mark(text: &str) -> Option<&str>
     ensures { MatchOption result ((rest : List ℕ) → text.now ≢ 48 ∷ 120 ∷ rest)
@@ -172,7 +172,7 @@ fn behind_mark(text: &str) -> Option<&str>
     }
 }
 
-/// The number in front, and what stands behind its last digit. `None` where there is no number, or one too large.
+/// The leading number, and the rest after its last digit. `None` where there is no number, or one too large.
 #[inline(always)]
 pub(crate) fn number_in_front(text: &str) -> Option<(u32, &str)>
     ensures { IfSome result (λ split. IsNumberInFront text.now split.0 split.1.now) }
@@ -183,8 +183,8 @@ pub(crate) fn number_in_front(text: &str) -> Option<(u32, &str)>
     }
 }
 
-/// The number that a word writes: decimal digits, or `0x` and hex digits of either case, as many as
-/// one likes. No sign, no `_` and no `0X`.
+/// The number that a word writes: decimal digits, or `0x` and hex digits of either case, in any number. No sign, no `_`
+/// and no `0X`.
 ///
 /// `Malformed` where it has another form, else `TooLarge` from 2^32 on.
 #[tactic(auto, unfolding(crate::specs::Number::number_of))]

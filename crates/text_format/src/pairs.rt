@@ -1,4 +1,4 @@
-//! Lines of a name and two numbers, each read in one look over its bytes.
+//! Lines of a name and two numbers, each read in one pass over its bytes.
 
 ghost use Rattle.std.specs.Prelude.{◌≡◌, ◌<◌, ◌==◌, [], drop, length, not, position, true, None, IfSome};
 ghost use Rattle.std.specs.Str.Lines.{lines};
@@ -12,7 +12,7 @@ use crate::lines::behind_empty;
 use crate::numbers::number_in_front;
 use crate::words::{behind_blanks, behind_many_blanks};
 
-/// What stands behind one blank in front of a digit.
+/// The rest of a text after a single leading blank that a digit follows.
 #[inline(always)]
 fn behind_one_blank(text: &str) -> Option<&str>
     ensures { IfSome result (λ behind.
@@ -25,7 +25,7 @@ fn behind_one_blank(text: &str) -> Option<&str>
     None
 }
 
-/// What stands behind the blanks in front, of which there is one at least.
+/// The rest of a text after its leading blanks, at least one.
 fn behind_some_blanks(text: &str) -> Option<&str>
     ensures { IfSome result (λ behind.
         (behind.now ≡ drop (position_or_len (λ byte. not (is_blank byte)) text.now) text.now)
@@ -38,7 +38,7 @@ fn behind_some_blanks(text: &str) -> Option<&str>
     Some(behind)
 }
 
-/// The number behind the blanks in front, of which there is one at least, and what stands behind it.
+/// The number after leading blanks, at least one, and the rest.
 #[inline(always)]
 fn operand(text: &str) -> Option<(u32, &str)>
     ensures { IfSome result (λ split. IsOperand text.now split.0 split.1.now) }
@@ -49,7 +49,7 @@ fn operand(text: &str) -> Option<(u32, &str)>
     number_in_front(behind_some_blanks(text)?)
 }
 
-/// Where the first line feed stands.
+/// The index of the first line feed.
 #[inline(always)]
 fn first_line_feed(bytes: &[u8]) -> Option<usize>
     ensures { result ≡ position (λ byte. byte == 10) bytes.now }
@@ -57,7 +57,7 @@ fn first_line_feed(bytes: &[u8]) -> Option<usize>
     bytes.iter().position(|byte| *byte == b'\n')
 }
 
-/// What stands behind the line of a comment in front.
+/// The rest of a text after a leading comment line.
 #[inline(always)]
 fn behind_comment(text: &str) -> Option<&str>
     ensures rest { IfSome result (λ rest. RestOfLine text.now [] (lines rest.now)) }
@@ -72,7 +72,7 @@ fn behind_comment(text: &str) -> Option<&str>
     }
 }
 
-/// What stands behind a line of blanks and a comment, or of blanks alone.
+/// The rest of a text after a line of blanks and a comment, or of blanks alone.
 #[inline(always)]
 fn behind_blank_line(text: &str) -> Option<&str>
     ensures rest { IfSome result (λ rest. RestOfLine text.now [] (lines rest.now)) }
@@ -85,7 +85,7 @@ fn behind_blank_line(text: &str) -> Option<&str>
     }
 }
 
-/// What stands behind a line that has no words here.
+/// The rest of a text after a leading line without words.
 #[inline(always)]
 pub(crate) fn behind_wordless(text: &str) -> Option<&str>
     ensures rest { IfSome result (λ rest. RestOfLine text.now [] (lines rest.now)) }
@@ -102,7 +102,7 @@ pub(crate) fn behind_wordless(text: &str) -> Option<&str>
     }
 }
 
-/// The numbers of a line in front whose first word is the name and that has two, and what stands behind the line.
+/// The numbers of a leading line of the name and two numbers, and the rest after the line.
 #[inline(always)]
 pub(crate) fn pair_in_front<'a>(name: &str, text: &'a str) -> Option<(u32, u32, &'a str)>
     requires { is_name name.now ≡ true }

@@ -1,14 +1,14 @@
-//! Lines without words, gone past a byte at a time.
+//! Skips lines without words, a byte at a time, by a table of states.
 
 ghost use Rattle.std.specs.Prelude.{◌≡◌, ◌≢◌, ◌==◌, ◌+◌, ◌-◌, ◌≤◌, ◌<◌, ◌∷◌, [], IsTrue, length, take, get_or};
 ghost use Rattle.std.specs.List.{count_by};
 ghost use Rattle.std.specs.Str.Lines.{lines};
 ghost use Rattle.text_format.specs.Place.{is_place, next_place, place_behind, PastWordless};
 
-/// The place of a byte that isn't in a line without words.
+/// The state of a byte that isn't in a line without words.
 const ELSEWHERE: u32 = 24;
 
-/// The place behind each byte, shifted to the left by the place before it.
+/// For each byte, the next state, shifted left by the state before it.
 #[rattlefmt::skip]
 static PLACES: [u32; 256] = [
     0x18180818, 0x18180818, 0x18180818, 0x18180818, 0x18180818, 0x18180818, 0x18180818, 0x18180818,
@@ -45,7 +45,7 @@ static PLACES: [u32; 256] = [
     0x18180818, 0x18180818, 0x18180818, 0x18180818, 0x18180818, 0x18180818, 0x18180818, 0x18180818,
 ];
 
-/// The place behind a byte.
+/// The state after one byte.
 #[inline(always)]
 fn next_place(place: u32, byte: u8) -> u32
     requires { IsTrue (is_place place) }
@@ -55,7 +55,7 @@ fn next_place(place: u32, byte: u8) -> u32
     (PLACES[usize::from(byte)] >> place) % 32
 }
 
-/// The place behind four bytes.
+/// The state after four bytes.
 #[inline(always)]
 fn fourth_place(place: u32, bytes: (u8, u8, u8, u8)) -> u32
     requires { IsTrue (is_place place) }
@@ -66,7 +66,7 @@ fn fourth_place(place: u32, bytes: (u8, u8, u8, u8)) -> u32
     next_place(next_place(second, bytes.2), bytes.3)
 }
 
-/// How many bytes in front stand in lines without words. Some that do may be left.
+/// How many leading bytes are in lines without words. Some that are may not be counted.
 fn bytes_in_front(bytes: &[u8]) -> usize
     ensures place { place_behind 0 (take result bytes.now) ≢ 24 }
     ensures bound { result ≤ length bytes.now }
@@ -84,7 +84,7 @@ fn bytes_in_front(bytes: &[u8]) -> usize
     bytes.len() - rest.len()
 }
 
-/// Where the line begins that has bytes up to this place.
+/// The index at which the line begins that has bytes up to `end`.
 fn line_start(bytes: &[u8], end: usize) -> usize
     requires { end ≤ length bytes.now }
     ensures line { 0 < result → get_or bytes.now (result - 1) 0 ≡ 10 }
@@ -100,7 +100,7 @@ fn line_start(bytes: &[u8], end: usize) -> usize
     start
 }
 
-/// How many line feeds there are.
+/// The number of line feeds in the bytes.
 fn line_feeds(bytes: &[u8]) -> usize
     ensures { result ≡ count_by (λ byte. byte == 10) bytes.now }
 {
@@ -115,7 +115,7 @@ fn line_feeds(bytes: &[u8]) -> usize
     count
 }
 
-/// Some lines in front that have no words: how many, and what stands behind them.
+/// Skips leading lines without words: returns how many, and the rest of the text. Some may be left.
 pub(crate) fn behind_places(text: &str) -> (usize, &str)
     ensures past { PastWordless result.0 (lines text.now) (lines result.1.now) }
     ensures shorter { result.0 + length result.1.now ≤ length text.now }

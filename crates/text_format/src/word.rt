@@ -1,13 +1,13 @@
-//! Words and addresses as they are printed.
+//! Printing of registers' words and of addresses.
 ghost use Rattle.std.specs.Prelude.{Some};
 ghost use Rattle.text_format.specs.Word.{address_text, word_text};
 
 use std::fmt;
 
-/// A register's word as it is printed: `0x` and eight lower-case hex digits.
+/// A register's word that `Display` prints as `0x` and eight lower-case hex digits.
 #[derive(Clone, Copy, Debug, PartialEq, Eq)]
 pub struct WordText(
-    /// The word.
+    /// The word that is printed.
     pub u32,
 );
 
@@ -20,7 +20,7 @@ impl fmt::Display for WordText {
     }
 }
 
-/// An address of the bus or of a register as it is printed: `0x` and five lower-case hex digits at least.
+/// An address of the bus or of a register that `Display` prints as `0x` and at least five lower-case hex digits.
 #[derive(Clone, Copy, Debug, PartialEq, Eq)]
 pub struct AddressText(
     /// The address, in bytes.

@@ -1,4 +1,4 @@
-//! Words.
+//! The words of a line.
 
 ghost use Rattle.std.specs.Prelude.{◌≡◌, ◌≤◌, ◌+◌, ◌∷◌, [], length, not, take, drop, position, MatchOption};
 ghost use Rattle.std.specs.List.{position_or_len};
@@ -7,7 +7,7 @@ ghost use Rattle.text_format.specs.Words.{is_blank, ends_word, words_of};
 
 use std::marker::Model;
 
-/// The words of a line, in order: what stands between its spaces and tabs, before the first `#`.
+/// The words of a line, in order: its parts between spaces and tabs, before the first `#`.
 ///
 /// Every other character is part of a word.
 #[derive(Debug, Drop)]
@@ -37,7 +37,7 @@ fn ends_word(byte: u8) -> bool
     byte == b'#' || is_blank(byte)
 }
 
-/// Where the first byte stands that is no blank.
+/// The index of the first byte that isn't a blank.
 #[inline(always)]
 fn first_unblank(bytes: &[u8]) -> Option<usize>
     ensures { result ≡ position (λ byte. not (is_blank byte)) bytes.now }
@@ -45,7 +45,7 @@ fn first_unblank(bytes: &[u8]) -> Option<usize>
     bytes.iter().position(|byte| !is_blank(*byte))
 }
 
-/// How many blanks stand in front.
+/// How many blanks there are at the beginning.
 #[inline(always)]
 fn blanks_in_front(bytes: &[u8]) -> usize
     ensures { result ≡ position_or_len (λ byte. not (is_blank byte)) bytes.now }
@@ -56,7 +56,7 @@ fn blanks_in_front(bytes: &[u8]) -> usize
     }
 }
 
-/// What stands behind blanks in front, looked at four at a time. Up to three blanks are left.
+/// Skips leading blanks, four at a time. Up to three blanks are left.
 #[inline(always)]
 fn behind_fours(bytes: &[u8]) -> &[u8]
     ensures blanks { length bytes.now + position_or_len (λ byte. not (is_blank byte)) result.now
@@ -73,7 +73,7 @@ fn behind_fours(bytes: &[u8]) -> &[u8]
     rest
 }
 
-/// The same, quicker where there are many.
+/// How many blanks there are at the beginning, faster where there are many.
 fn many_blanks_in_front(bytes: &[u8]) -> usize
     ensures { result ≡ position_or_len (λ byte. not (is_blank byte)) bytes.now }
 {
@@ -81,14 +81,14 @@ fn many_blanks_in_front(bytes: &[u8]) -> usize
     bytes.len() - rest.len() + blanks_in_front(rest)
 }
 
-/// Where the first byte stands that ends a word.
+/// The index of the first byte that ends a word.
 fn first_end(bytes: &[u8]) -> Option<usize>
     ensures { result ≡ position ends_word bytes.now }
 {
     bytes.iter().position(|byte| ends_word(*byte))
 }
 
-/// How many bytes stand before the end of a word.
+/// How many bytes there are before the end of a word.
 fn word_length(bytes: &[u8]) -> usize
     ensures { result ≡ position_or_len ends_word bytes.now }
 {
@@ -98,7 +98,7 @@ fn word_length(bytes: &[u8]) -> usize
     }
 }
 
-/// A text without the blanks in front.
+/// A text without its leading blanks.
 #[inline(always)]
 pub(crate) fn behind_blanks(text: &str) -> &str
     ensures { result.now ≡ drop (position_or_len (λ byte. not (is_blank byte)) text.now) text.now }
@@ -107,7 +107,7 @@ pub(crate) fn behind_blanks(text: &str) -> &str
     &text[blanks..]
 }
 
-/// The same, quicker where there are many.
+/// A text without its leading blanks, faster where there are many.
 #[inline(always)]
 pub(crate) fn behind_many_blanks(text: &str) -> &str
     ensures { result.now ≡ drop (position_or_len (λ byte. not (is_blank byte)) text.now) text.now }
@@ -116,7 +116,7 @@ pub(crate) fn behind_many_blanks(text: &str) -> &str
     &text[blanks..]
 }
 
-/// What stands before the first end of a word, and from there on.
+/// Splits a text at the first end of a word.
 fn split_at_end(text: &str) -> (&str, &str)
     ensures word { result.0.now ≡ take (position_or_len ends_word text.now) text.now }
     ensures behind { result.1.now ≡ drop (position_or_len ends_word text.now) text.now }
@@ -125,7 +125,7 @@ fn split_at_end(text: &str) -> (&str, &str)
     (&text[..end], &text[end..])
 }
 
-/// The first word of a text, and what stands behind it.
+/// The first word of a text, and the rest after it.
 fn split_word(text: &str) -> Option<(&str, &str)>
     ensures { MatchOption result (words_of text.now ≡ [])
         (λ parts. words_of text.now ≡ parts.0.now ∷ words_of parts.1.now) }
@@ -139,7 +139,7 @@ fn split_word(text: &str) -> Option<(&str, &str)>
 }
 
 impl<'a> Words<'a> {
-    /// The words of a line.
+    /// The words of this line.
     pub fn of(line: &'a str) -> Words<'a>
         ensures { result ≡ words_of line.now }
     {

@@ -55,17 +55,17 @@ pub record HasItsQueue (worker : ℕ) (history : List Entry) : Type 0 where
   pub alone : LeavesAlone (watched_of worker) history
   pub begins : BeginsWell (watched_of worker) 0 (given_of worker) history
 
--- so it is for each of so many workers
+-- so it is for each of this many workers
 abbrev pub HaveTheirQueues : ℕ → List Entry → Type 0
 HaveTheirQueues workers history = (worker : ℕ) → worker < workers → HasItsQueue worker history
 
--- so many frames were sent in a history of the controller that is legal, and in which the workers have their queues
+-- this many frames were sent in a history of the controller that is legal, and in which the workers have their queues
 abbrev pub IsTold : ℕ → ℕ → Type 0
 IsTold workers sent =
     (history : List Entry) × IsLegal (new_state 0 64) history × HaveTheirQueues workers history
     × (sent ≡ sent_in history)
 
--- the summary of so many queues is written, and of a legal history in which the workers have them
+-- the summary of this many queues is written, and of a legal history in which the workers have them
 abbrev pub Tells : ℕ → Option (List ℕ) → Option (List ℕ) → Type 0
 Tells queues old new = (reports : List (List Report)) × (sent : ℕ) × (length reports ≡ queues) × IsTold queues sent
     × Appends old new (summary_text reports sent)

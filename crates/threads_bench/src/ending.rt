@@ -1,18 +1,18 @@
-//! How what a run holds is ended.
+//! Ends what a run owns: arenas, jobs, drivers and the device.
 
 use crate::refused::Refused;
 use nic_device::{Arena, Device, Parts};
 use std::mem::ManuallyDrop;
 use workers::{Home, Job, Rest};
 
-/// Leaves a value that can't be dropped and can't be ended either. Its memory is lost to the process, which ends next:
+/// Leaks a value that can't be dropped and can't be ended either. Its memory is lost to the process, which ends next:
 /// this happens only on the way to a status other than 0.
 pub(crate) fn leave<T>(value: T) {
     // The value is moved in, so that nobody uses it again, and nothing else refers to what it owns.
     let _left = unsafe { ManuallyDrop::new_unchecked(value) };
 }
 
-/// Ends an arena. It is left where a block of it isn't free.
+/// Closes an arena. It is leaked where one of its blocks isn't free.
 pub(crate) fn end_arena(arena: Arena) -> Result<(), Refused> {
     match arena.close() {
         Ok(()) => Ok(()),
@@ -23,7 +23,7 @@ pub(crate) fn end_arena(arena: Arena) -> Result<(), Refused> {
     }
 }
 
-/// Ends jobs that aren't done.
+/// Ends jobs that weren't run.
 pub(crate) fn end_jobs(jobs: Vec<Job>) {
     let mut jobs = jobs;
     while let Some(job) = jobs.pop() {
@@ -42,7 +42,7 @@ pub(crate) fn end_jobs(jobs: Vec<Job>) {
     jobs.destroy_empty();
 }
 
-/// Ends what a driver left. A driver that didn't stop is left.
+/// Ends what a driver left. A driver that didn't stop is leaked.
 pub(crate) fn end_rest(rest: Rest) -> Result<(), Refused> {
     match rest {
         Rest::Home(home) => {
@@ -61,7 +61,7 @@ pub(crate) fn end_rest(rest: Rest) -> Result<(), Refused> {
     }
 }
 
-/// Ends a device. Memory that is still lent to it is left.
+/// Ends a device. Memory that is still lent to it is leaked.
 pub(crate) fn end_device(device: Device) -> Result<(), Refused> {
     let Parts {
         memory,

@@ -1,4 +1,4 @@
-//! What comes back from the workers.
+//! Collects the results of the workers.
 
 ghost use Rattle.std.specs.Prelude.{◌≡◌, ◌+◌, IfOk, OnOk, vec_len};
 
@@ -7,17 +7,17 @@ use crate::refused::{Refused, both};
 use std::alloc::Global;
 use workers::{Pass, Ran, Report, WorkerEnd};
 
-/// What came back from the workers.
+/// The results of all workers.
 #[derive(Drop)]
 pub(crate) struct Gathered {
-    /// The passes.
+    /// The workers' passes to the device, to be closed.
     pub(crate) passes: Vec<Pass>,
-    /// Of each worker its reports, in their order.
+    /// For each worker its reports, in their order.
     pub(crate) reports: Vec<Vec<Report>>,
 }
 
 impl Gathered {
-    /// Takes what one worker left. Refused where its end has a fault, or its blocks aren't all home.
+    /// Adds the result of one worker. Refused where it ended with a fault, or its blocks aren't all free again.
     fn take(&mut self, end: WorkerEnd) -> Result<(), Refused>
         ensures { OnOk result (vec_len self.new.reports ≡ vec_len self.old.reports + 1) }
     {
@@ -39,7 +39,7 @@ impl Gathered {
     }
 }
 
-/// Takes what workers left. Refused where an end has a fault, or fewer frames arrived than there are.
+/// Collects the results of all workers. Refused where one ended with a fault, or where not all frames arrived.
 pub(crate) fn gather(alloc: Global, ran: Ran, frames: u8) -> Result<Gathered, Refused>
     ensures { IfOk result (λ g. vec_len g.reports ≡ vec_len ran.ends) }
 {

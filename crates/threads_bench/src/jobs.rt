@@ -1,4 +1,4 @@
-//! How the controller is set up, and what the workers are to do.
+//! The settings of the device, and the jobs of the workers.
 
 ghost use Rattle.std.specs.Prelude.{◌≡◌, ◌≤◌, IfOk, vec_len};
 
@@ -8,27 +8,26 @@ use nic_device::{Arena, Mode, Port};
 use std::alloc::{AllocError, Global};
 use workers::{Job, Pass, Setup};
 
-/// MRQC: RSS by the redirection table, of TCP over IPv4 and over IPv6.
+/// MRQC: RSS by the redirection table, for TCP over IPv4 and over IPv6.
 const RSS_OF_TCP: u32 = 0x0021_0001;
 
-/// The key of the published vectors of the RSS hash.
+/// The RSS key of the published test vectors.
 pub const KEY: [u8; 40] = [
     0x6D, 0x5A, 0x56, 0xDA, 0x25, 0x5B, 0x0E, 0xC2, 0x41, 0x67, 0x25, 0x3D, 0x43, 0xA3, 0x8F, 0xB0,
     0xD0, 0xCA, 0x2B, 0xCB, 0xAE, 0x7B, 0x30, 0xB4, 0x77, 0xCB, 0x2D, 0xA3, 0x80, 0x30, 0xF2, 0x0C,
     0x6A, 0x42, 0xB7, 0x3B, 0xBE, 0xAC, 0x01, 0xFA,
 ];
 
-/// How many blocks each worker has.
+/// The number of blocks of each worker.
 const BLOCKS: u32 = 256;
 
-/// How many descriptors each ring has.
+/// The number of descriptors in each ring.
 const SIZE: u16 = 64;
 
-/// How many bytes a frame has at most, with its frame check sequence.
+/// The longest frame in bytes, frame check sequence included.
 pub(crate) const FRAME: u16 = 1518;
 
-/// A promiscuous controller without pools. A TCP segment goes to queue i mod `workers` by entry i of the redirection
-/// table.
+/// A promiscuous device without pools. A TCP segment goes to queue i mod `workers` by entry i of the redirection table.
 pub(crate) fn setup(workers: u8) -> Setup {
     let mut reta = [0; 128];
     for entry in 0..128u8 {
@@ -44,7 +43,7 @@ pub(crate) fn setup(workers: u8) -> Setup {
     }
 }
 
-/// The job of a worker by its number, on the queue of the same number. It looks twice for each frame, and twice more.
+/// The job of a worker by its number, on the queue of the same number. It polls twice for each frame, and twice more.
 fn job(alloc: Global, pass: Pass, worker: u8, frames: u8) -> Result<Job, AllocError> {
     let Ok(arena) = Arena::new(alloc, BLOCKS * u32::from(worker), BLOCKS) else {
         return Err(AllocError);

@@ -1,7 +1,7 @@
-//! `nicbench threads`: workers that drive queues of one controller, each on a thread of its own.
+//! `nicbench threads`: workers that drive queues of one device, each on a thread of its own.
 //!
-//! `bench_threads` shares a controller, sets it up, lets frames arrive while the workers receive and send them, closes
-//! the history, and prints what went through each queue. The program's `main` stands on this crate.
+//! `bench_threads` shares a device, sets it up, lets frames arrive while the workers receive and send them, closes the
+//! history, and prints a summary of each queue. The program's `main` depends on this crate.
 #![tactic(auto)]
 
 mod ending;

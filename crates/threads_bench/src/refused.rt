@@ -1,4 +1,4 @@
-//! Why a run prints nothing.
+//! Why a run prints no summary.
 
 ghost use Rattle.std.specs.Prelude.{◌≡◌, ◌↔◌};
 ghost use Rattle.threads_bench.specs.Refused.{both_done, status_of};
@@ -7,17 +7,17 @@ use bench_commands::{FAILED, NO_MEMORY};
 use std::alloc::AllocError;
 use workers::{CallFault, CloseFault, NewFault, PmdFault, RunFault, WorkerFault};
 
-/// Why a run prints nothing.
+/// Why a run prints no summary.
 #[derive(Clone, Copy, PartialEq, Eq, Debug)]
 pub(crate) enum Refused {
     /// There was no memory for something.
     OutOfMemory,
-    /// Something was refused, and nothing of it for memory.
+    /// Another refusal than one for memory.
     Other,
 }
 
 impl Refused {
-    /// The status that it ends with.
+    /// The exit status after this refusal.
     pub(crate) fn status(self) -> u8
         ensures { result ≡ status_of self }
     {
@@ -28,7 +28,7 @@ impl Refused {
     }
 }
 
-/// Whether two things are done; where one was refused for memory, so is this.
+/// Whether two results are both done; where one was refused for memory, so is this.
 pub(crate) fn both(first: Result<(), Refused>, second: Result<(), Refused>) -> Result<(), Refused>
     ensures { result ≡ both_done first second }
 {

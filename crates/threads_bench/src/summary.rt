@@ -1,4 +1,4 @@
-//! What is printed.
+//! The summary that a run prints.
 
 ghost use Rattle.std.specs.Prelude.{◌≡◌, OnOk, map};
 ghost use Rattle.std.specs.Io.KnownBytes.{Appends};
@@ -10,16 +10,16 @@ use nic_device::ReplyNote;
 use std::io::Write;
 use workers::{Entry, Report};
 
-/// What a run tells.
+/// The results of a run.
 #[derive(Drop)]
 pub(crate) struct Summary {
-    /// Of each queue, in their order, the reports of its worker.
+    /// For each queue, in their order, the reports of its worker.
     pub(crate) reports: Vec<Vec<Report>>,
-    /// How many frames were sent.
+    /// How many frames were transmitted.
     pub(crate) sent: usize,
 }
 
-/// How many bytes the packets of reports have.
+/// The number of bytes in the packets of reports.
 fn byte_count(reports: &[Report]) -> u128
     ensures { result ≡ byte_count reports.now }
 {
@@ -30,14 +30,14 @@ fn byte_count(reports: &[Report]) -> u128
     bytes
 }
 
-/// Whether a frame was sent.
+/// Whether an entry of a history transmitted a frame.
 fn is_sent(entry: &Entry) -> bool
     ensures { result ≡ is_sent entry.now.reply }
 {
     matches!(entry.reply, ReplyNote::Sent { .. })
 }
 
-/// How many frames were sent in a history.
+/// How many frames were transmitted in a history.
 pub(crate) fn sent_in(history: &[Entry]) -> usize
     ensures { result ≡ sent_in history.now }
 {
@@ -77,7 +77,7 @@ fn write_queues<W: Write>(output: &mut Output<W>, reports: &[Vec<Report>]) -> Re
     Ok(())
 }
 
-/// Writes what a run tells.
+/// Writes the summary of a run.
 pub(crate) fn write_summary<W: Write>(
     output: &mut Output<W>,
     summary: &Summary,

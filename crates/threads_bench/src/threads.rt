@@ -1,4 +1,4 @@
-//! The run, from options to a status.
+//! The run: from its options to a status.
 
 ghost use Rattle.std.specs.Prelude.{◌≡◌, ◌≢◌, ◌+◌, ◌≤◌, ◌<◌, ◌⊎◌, ◌↔◌, IsTrue, IfOk, true, vec_len};
 ghost use Rattle.threads_bench.specs.Summary.{HasItsQueue, HaveTheirQueues, IsTold, Tells};
@@ -20,16 +20,16 @@ use workers::{
     begins_well, pf_setup, run_workers,
 };
 
-/// The controller that the workers share.
+/// The device that the workers share.
 type Bench = Shared<0, 64>;
 
-/// How many entries its history may have.
+/// The most entries of its history.
 const LIMIT: u32 = 1_000_000;
 
-/// How many workers there are at most.
+/// The most workers that there can be.
 const MAX_WORKERS: u8 = 8;
 
-/// Sets the controller up by a pass, which steps on queue 0.
+/// Sets the device up through a pass, which steps queue 0.
 fn set_up<R: Wait>(
     rt: &R,
     alloc: Global,
@@ -46,8 +46,8 @@ fn set_up<R: Wait>(
     }
 }
 
-/// Sets the controller up by the last pass, and runs a worker by each other one while frames arrive. All passes come
-/// back.
+/// Sets the device up through the last pass, and runs a worker through each other one while frames arrive. All passes
+/// are returned.
 #[tactic(auto, using(crate::proofs::Counting::ends_count))]
 fn drive<R: Threads + Wait + Sync>(
     rt: &R,
@@ -90,8 +90,8 @@ fn drive<R: Threads + Wait + Sync>(
     }
 }
 
-/// Whether a history leaves a worker's queue alone, and its driver begins well there: worker `k` has queue `k`, and the
-/// pass with the tag `k`, which made no call before.
+/// Whether a history leaves a worker's queue alone, and its driver starts from a clean state there: worker `k` has
+/// queue `k`, and the pass with the tag `k`, which made no call before.
 fn has_its_queue(closed: &Closed<0, 64>, worker: u8) -> bool
     ensures { IsTrue result ↔ HasItsQueue worker closed.now.history }
 {
@@ -109,7 +109,7 @@ fn has_its_queue(closed: &Closed<0, 64>, worker: u8) -> bool
     closed.left_alone(worker, queue) && begins_well(watched, 0, given, closed.history())
 }
 
-/// Whether each of so many workers has its queue so.
+/// Whether that holds of each of this many workers.
 fn have_their_queues(closed: &Closed<0, 64>, workers: u8) -> bool
     ensures { IsTrue result ↔ HaveTheirQueues workers closed.now.history }
 {
@@ -121,8 +121,8 @@ fn have_their_queues(closed: &Closed<0, 64>, workers: u8) -> bool
     true
 }
 
-/// Closes the history. How many frames were sent in it. Refused where it doesn't leave the workers' queues alone, or a
-/// driver doesn't begin well.
+/// Closes the history, and returns how many frames were transmitted in it. Refused where the history doesn't leave the
+/// workers' queues alone, or where a driver doesn't start from a clean state.
 fn close(bench: Bench, passes: Vec<Pass>, workers: u8) -> Result<usize, Refused>
     ensures { IfOk result (λ sent. IsTold workers sent) }
 {
@@ -149,7 +149,7 @@ fn close(bench: Bench, passes: Vec<Pass>, workers: u8) -> Result<usize, Refused>
     }
 }
 
-/// Runs workers while frames arrive.
+/// Runs the workers while frames arrive, and returns the summary.
 fn run<R: Threads + Wait + Sync>(
     rt: &R,
     alloc: Global,
@@ -172,18 +172,18 @@ fn run<R: Threads + Wait + Sync>(
     }
 }
 
-/// Runs workers on a controller that they share, one on each of the queues from 0 on, while so many frames arrive: TCP
-/// over IPv4 and over IPv6 in turn, which RSS parts among the queues. Each worker sends again what it receives. Then it
-/// writes a line for each queue, with how many packets its worker received and how many bytes these have, how many
-/// frames were sent, and that the history of the controller is legal: it leaves each worker's queue alone too, as
-/// `left_alone` tells, and its driver begins well there, as `begins_well` does. The status is 0 then.
+/// Runs workers on a device that they share, one on each of the queues from 0 on, while this many frames arrive: TCP
+/// over IPv4 and over IPv6 alternately, which RSS distributes among the queues. Each worker sends back what it
+/// receives. Then it writes a line for each queue, with how many packets and bytes its worker received, how many frames
+/// were transmitted, and that the history of the device is legal: it also leaves each worker's queue alone, by
+/// `left_alone`, and its driver starts from a clean state there, by `begins_well`. Returns status 0 then.
 ///
-/// So what each worker received is a prefix of what was delivered on its queue, and what was sent there one of what its
-/// driver accepted, as `workers::run_workers` says of every such history by its clause `order`.
+/// So what each worker received is a prefix of what was delivered on its queue, and what was transmitted there is a
+/// prefix of what its driver accepted, as the clause `order` of `workers::run_workers` states of every such history.
 ///
 /// It waits for locks and for the threads. Nothing is written where something is refused, a worker ends with a fault,
-/// its queue isn't left alone, its driver doesn't begin well, or fewer frames arrive: the status is 4 where one of
-/// these is for memory, or fewer frames arrive, and else 2. There are from 1 to 8 workers: with another number the
+/// its queue isn't left alone, its driver doesn't start from a clean state, or fewer frames arrive: the status is 4
+/// where one of these is for memory, or fewer frames arrive, else 2. `workers` must be 1 to 8; with another number the
 /// status is 2. Where a write fails it is 2.
 pub fn bench_threads<R: Threads + Wait + Sync, W: Write>(
     rt: &R,

@@ -46,7 +46,7 @@ buffer_bytes m descriptor = read_at m (buffer_in descriptor) (command_in descrip
 
 -- the tests, in order; each gives the fault where it fails
 
--- third those of a data descriptor, with so many bytes staged
+-- third those of a data descriptor, with this many bytes staged
 unfoldable pub data_fault_of : Memory → Ring → Tx → ℕ → List ℕ → Option RingFault
 data_fault_of m r tx staged descriptor =
     if (command_in descriptor).offload then Some Offload
@@ -71,7 +71,7 @@ fault_of m r tx staged =
     else if not (is_lent m (head_address r) 16) then Some (NotLent (head_address r))
     else descriptor_fault_of m r tx staged (descriptor_of m r)
 
--- a data descriptor that passes its tests, with so many bytes staged
+-- a data descriptor that passes its tests, with this many bytes staged
 pub record CanSend (m : Memory) (r : Ring) (tx : Tx) (staged : ℕ) (descriptor : List ℕ) : Type 0 where
   pub no_offload : IsFalse (command_in descriptor).offload
   pub room : staged + (command_in descriptor).len ≤ tx.limit

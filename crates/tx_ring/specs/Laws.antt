@@ -133,8 +133,8 @@ PacketLaw =
     → (frame ≡ frame_of last.tx.pad (pieces_of turns ++ piece_of last))
     × ((turn_of last (staged_after turns [])).staged ≡ [])
 
--- where an address was written back, what stands there: the new head, and without a head write-back address the
--- descriptor with its done bit
+-- where an address was written back, what is there: the new head, and without a head write-back address the descriptor
+-- with its done bit
 pub record ShowsReport (old new : Memory) (r : Ring) (tx : Tx) (f : Fetched) : Type 0 where
   pub head : (a : ℕ) → tx.writeback ≡ Some a → (f.back ≡ Some a) × (read_at new a 4 ≡ to_le_bytes w32 f.head)
   pub descriptor :
@@ -147,7 +147,7 @@ DriverReads =
     → (fetch_of m staged r tx).answer ≡ Ok f
     → IsTrue f.rs → ShowsReport m (fetch_of m staged r tx).memory r tx f
 
--- beside the bytes that were written back each byte stays, and each read and each block; where nothing was, all stays
+-- outside the bytes that were written back each byte stays, and each read and each block; where nothing was, all stays
 pub record ChangesOnlyReport (old new : Memory) (tx : Tx) (f : Fetched) : Type 0 where
   pub none : f.back ≡ None → new ≡ old
   pub bytes :

@@ -1,16 +1,17 @@
 use dma_arena::Octets;
 
-/// What became of one slot.
+/// What one fetched descriptor did.
 #[derive(Debug, Drop)]
 pub struct Fetched {
-    /// The slot.
+    /// The index of the descriptor in the ring.
     pub slot: u16,
-    /// The ring's new head.
+    /// The new head of the ring.
     pub head: u16,
-    /// The bus address that was written back, where something was: that of the descriptor, or the one for the head.
+    /// The bus address of the write-back: that of the descriptor, or the one for the head. `None` where nothing was
+    /// written back.
     pub back: Option<u64>,
-    /// A data descriptor asked for its status to be reported (RS): it was written back.
+    /// Whether a data descriptor asked for a report (RS), which was written back.
     pub rs: bool,
-    /// The frame that went out, where the packet ended with this slot.
+    /// The frame to be sent, where the packet ends with this descriptor.
     pub frame: Option<Octets>,
 }

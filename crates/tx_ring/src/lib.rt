@@ -1,10 +1,9 @@
 //! The transmit rings of the Intel 82599: one descriptor is fetched.
 //!
 //! [`fetch`] takes the slot at the head of a ring. It tests what the descriptor asks for and the lent memory allows,
-//! and then stages the bytes that the descriptor names, hands out the frame at the end of a packet, and writes back
-//! what was done, in one call. What it answers and leaves is `specs/Fetch.antt`; what a driver can rest on is `laws`.
-//! The ring itself is that of `dma_ring`, and the device stands on this crate. Memory is taken for the bytes of a
-//! frame alone.
+//! and then stages the bytes that the descriptor names, returns the frame at the end of a packet, and writes back what
+//! was done, in one call. `specs/Fetch.antt` defines what it returns and leaves; `laws` states what a driver can rely
+//! on. The ring itself is in `dma_ring`, and the device depends on this crate. Only the bytes of a frame take memory.
 //!
 //! Source: Intel 82599 datasheet, sections on transmit descriptor rings and on advanced transmit descriptors.
 #![tactic(auto)]

@@ -4,10 +4,10 @@ ghost use Rattle.tx_ring.specs.declared.refused.TxRefused.TheVariants.{Fault, Ou
 use dma_ring::RingFault;
 use std::alloc::AllocError;
 
-/// Why a slot wasn't fetched. Memory and staged bytes are as they were.
+/// Why a descriptor wasn't fetched. Memory and staged bytes are unchanged.
 #[derive(Clone, Copy, PartialEq, Eq, Debug)]
 pub enum TxRefused {
-    /// A test failed.
+    /// The ring or its descriptor failed a test: this one.
     Fault(RingFault),
     /// There was no memory for the bytes of the frame.
     OutOfMemory,

@@ -1,4 +1,4 @@
-//! The slot at the head is fetched: its descriptor is tested, and then done in one go.
+//! Fetching the slot at the head: its descriptor is tested, and then done in one go.
 
 ghost use Rattle.std.specs.Prelude.{◌≡◌, ◌↔◌, ◌+◌, ◌-◌, ◌≤◌, ◌<◌, ◌&&◌, if◌then◌else◌, length, true, IsTrue, IsFalse, OnOk, OnErr, IfOk, Some};
 ghost use Rattle.dma_arena.specs.Memory.{is_lent};
@@ -21,18 +21,18 @@ const CONTEXT: u8 = 2;
 /// The type of a data descriptor.
 const DATA: u8 = 3;
 
-/// How many bytes a frame has at least where short ones are padded.
+/// The fewest bytes of a frame where short frames are padded.
 const SHORTEST_FRAME: usize = 60;
 
-/// Fetches the slot at the head of a transmit ring: stages the bytes that its descriptor names, hands out the frame at
-/// the end of a packet, and reports where the descriptor asks for it. A context descriptor moves the head alone. Where
-/// the ring isn't outside, a slot must be the device's, and it has 65,536 slots at most.
+/// Fetches the slot at the head of a transmit ring: stages the bytes that its descriptor names, returns the frame at
+/// the end of a packet, and writes back a report where the descriptor asks for it. A context descriptor only moves the
+/// head. Unless the ring is `outside`, the device must own a slot of it, and it has at most 65,536 slots.
 ///
-/// The faults, in the order of their tests: `Outside` where the head or the tail is no slot; `NotLent` of the
-/// descriptor's address; `Legacy`; `UnknownType`; then of a data descriptor `Offload`, `TooLong` where the staged
-/// bytes and its own are above the limit, `NotLent` of its buffer, and `NotLent` of the address to be written back.
-/// `OutOfMemory` comes only after all tests, and only where more bytes are to be held than before. Each leaves memory
-/// and staged bytes.
+/// Errors, in the order of the tests: `Outside` where the head or the tail is no slot; `NotLent` with the descriptor's
+/// address; `Legacy`; `UnknownType`; then for a data descriptor `Offload`, `TooLong` where the staged bytes and its own
+/// are above the limit, `NotLent` with its buffer's address, and `NotLent` with the address of the write-back.
+/// `OutOfMemory` comes only after all tests, and only where more bytes are to be stored than before. Each leaves memory
+/// and staged bytes unchanged.
 ///
 /// Intel 82599 datasheet, section on advanced transmit descriptors.
 #[tactic(auto, unfolding(crate::specs::Fetch::fetch_of, crate::specs::Fetch::fault_of))]
@@ -78,7 +78,7 @@ pub fn fetch(
     Ok(send(alloc, memory, ring, tx, staged, &descriptor)?)
 }
 
-/// The first test that a descriptor fails, with so many bytes staged.
+/// The first test that a descriptor fails, with `staged` bytes staged.
 #[tactic(auto, unfolding(crate::specs::Fetch::descriptor_fault_of))]
 fn descriptor_fault(
     memory: &LentMemory,
@@ -100,7 +100,7 @@ fn descriptor_fault(
     }
 }
 
-/// The first test that a data descriptor fails, with so many bytes staged.
+/// The first test that a data descriptor fails, with `staged` bytes staged.
 #[tactic(auto, unfolding(crate::specs::Fetch::data_fault_of))]
 fn data_fault(
     memory: &LentMemory,
@@ -129,8 +129,8 @@ fn data_fault(
     None
 }
 
-/// Does a data descriptor that passed its tests: stages its bytes, hands out the frame at the end of the packet, and
-/// reports. Only the staging takes memory, and it comes first.
+/// Executes a data descriptor that passed its tests: stages its bytes, returns the frame at the end of the packet, and
+/// writes back a report. Only the staging allocates, and it comes first.
 fn send(
     alloc: Global,
     memory: &mut LentMemory,
@@ -169,7 +169,7 @@ fn send(
     })
 }
 
-/// How many zero bytes go behind so many of a packet: those of a short frame that ends and is padded.
+/// How many zero bytes are added to `len` bytes of a packet: those of a short frame that ends and is padded.
 fn padding(tx: &Tx, end: bool, len: usize) -> usize
     ensures { result ≡ (if end && tx.now.pad then 60 - len else 0) }
 {
@@ -180,14 +180,14 @@ fn padding(tx: &Tx, end: bool, len: usize) -> usize
     }
 }
 
-/// Where a queue reports.
+/// The bus address to which a queue reports.
 fn report_address(ring: &Ring, tx: &Tx) -> u64
     ensures { result ≡ report_address ring.now tx.now }
 {
     tx.writeback.unwrap_or(ring.descriptor(ring.head))
 }
 
-/// Whether what a queue reports has its place in lent memory.
+/// Whether the bytes of a queue's report are lent.
 fn is_report_lent(memory: &LentMemory, ring: &Ring, tx: &Tx) -> bool
     ensures { result ≡ is_lent memory.now (report_address ring.now tx.now) (report_length tx.now.writeback) }
 {
@@ -195,7 +195,7 @@ fn is_report_lent(memory: &LentMemory, ring: &Ring, tx: &Tx) -> bool
     memory.is_lent(report_address(ring, tx), len)
 }
 
-/// Reports that the slot at the head is done, where the descriptor asks for it, and gives the address.
+/// Writes back that the slot at the head is done, where the descriptor asks for it. Returns the address.
 fn report(
     memory: &mut LentMemory,
     ring: &Ring,

@@ -6,7 +6,7 @@ use std::alloc::{AllocError, Global};
 use std::marker::Model;
 use std::mem;
 
-/// The bytes of a packet that a queue has fetched so far, which contracts see as their list.
+/// The bytes of a packet that a queue has fetched so far. Contracts see them as a list.
 #[derive(Debug, Drop)]
 pub struct Staged {
     bytes: Vec<u8>,
@@ -21,7 +21,7 @@ impl Model for Staged {
 }
 
 impl Staged {
-    /// No bytes. It takes no memory.
+    /// No staged bytes. It allocates nothing.
     pub fn new(alloc: Global) -> Staged
         ensures { result ≡ [] }
     {
@@ -30,7 +30,7 @@ impl Staged {
         }
     }
 
-    /// The same bytes once more.
+    /// A copy of the staged bytes. `AllocError` where there is no memory for it.
     pub fn copy(&self, alloc: Global) -> Result<Staged, AllocError>
         ensures { IfOk result (λ staged. staged ≡ self.now) }
     {
@@ -45,14 +45,14 @@ impl Staged {
         &self.bytes
     }
 
-    /// Drops the bytes.
+    /// Drops all staged bytes.
     pub fn clear(&mut self)
         ensures { self.new ≡ [] }
     {
         self.bytes.clear();
     }
 
-    /// Takes the bytes out, and leaves none.
+    /// Takes the bytes out, which leaves none.
     fn take(&mut self, alloc: Global) -> Octets
         ensures taken { result ≡ self.old }
         ensures left { self.new ≡ [] }
@@ -60,7 +60,7 @@ impl Staged {
         Octets::of(mem::replace(&mut self.bytes, Vec::new(alloc)))
     }
 
-    /// The staged bytes as a frame, where it ends: they are taken out, and none are left.
+    /// The staged bytes as a frame, where it ends: then they are taken out, which leaves none.
     pub(crate) fn frame(&mut self, alloc: Global, end: bool) -> Option<Octets>
         ensures frame { result ≡ (if end then Some self.old else None) }
         ensures left { self.new ≡ (if end then [] else self.old) }
@@ -68,8 +68,8 @@ impl Staged {
         if end { Some(self.take(alloc)) } else { None }
     }
 
-    /// Stages `len` bytes from a bus address on, and then so many zero bytes. Where there is no memory for them the
-    /// staged bytes stay.
+    /// Stages `len` bytes from a bus address on, and then `zeros` zero bytes. Without memory for them the staged bytes
+    /// stay unchanged.
     pub(crate) fn stage(
         &mut self,
         memory: &LentMemory,
@@ -90,7 +90,7 @@ impl Staged {
     }
 }
 
-/// Reads `len` bytes from a bus address on into the slice, from one of its bytes on.
+/// Reads `len` bytes from a bus address on into the slice, from index `start` on.
 #[tactic(auto, unfolding(dma_arena::specs::Memory::put_bytes))]
 fn read_part(memory: &LentMemory, address: u64, bytes: &mut [u8], start: usize, len: usize)
     requires lent { IsTrue (is_lent memory.now address len) }

@@ -27,7 +27,7 @@ OffsetsHaveOneRegister =
     (mode : Mode) (v first count : ℕ) → queues_of mode v ≡ Some (first, count) →
     AllPairs (λ e f. e.0 ≢ f.0) (entries v first count)
 
--- the address that an offset stands for is that of its register, and shows its whole word
+-- the address to which an offset is mapped is that of its register, and shows its whole word
 abbrev pub AddressesReadBack : Type 0
 AddressesReadBack =
     (mode : Mode) (vfs v offset : ℕ) (p : Place) → located mode vfs v offset ≡ Register p →
@@ -71,8 +71,8 @@ EachQueueHasOnePool =
     (v : ℕ) × (v < pools_in mode) × IsAmong (queues_of mode v) queue
     × ((w : ℕ) → IsAmong (queues_of mode w) queue → w ≡ v)
 
--- the registers of a function's queue stand as far from each other as the device has them, from 0x1000 and 0x2000 on
--- by the queue's place among the function's; and each two of its queues have a word of vectors, from 0x120 on
+-- the registers of a function's queue are as far from each other as in the device, from 0x1000 and 0x2000 on by the
+-- queue's index among the function's; and each two of its queues have a word of vectors, from 0x120 on
 pub record QueueRegistersAreThere : Type 0 where
   pub receive : (mode : Mode) (vfs v first count x : ℕ) (row : RowId) → v < vfs →
       queues_of mode v ≡ Some (first, count) → x < count → IsTrue (is_receive row) →

@@ -16,7 +16,7 @@ use Rattle.vf_map.specs.declared.located.Located.TheVariants as located_as
 use Rattle.vf_map.specs.declared.mapped.Mapped.{Mapped}
 use Rattle.vf_map.specs.declared.mapped.Mapped.TheVariants as mapped_as
 
--- an offset, and the place that it stands for
+-- an offset, and the place that it is mapped to
 abbrev pub Entry : Type 0
 Entry = ℕ × Place
 
@@ -51,11 +51,11 @@ receive_rows = filter is_receive rows
 abbrev pub transmit_rows : List RowId
 transmit_rows = filter is_transmit rows
 
--- how far a row's first register stands behind another's
+-- how far a row's first register follows another's
 abbrev pub behind : (first row : RowId) → ℕ
 behind first row = (first_of row).first - (first_of first).first
 
--- the registers of a side of a queue of the device, from an offset on as far apart as the device has them
+-- the registers of a side of a queue of the device, from an offset on, with the device's distances
 abbrev pub side_entries : (offset : ℕ) → (first : RowId) → List RowId → (queue : ℕ) → List Entry
 side_entries offset first rows queue = map (λ row. entry (offset + behind first row) row queue) rows
 
@@ -65,7 +65,7 @@ queue_entries x queue =
     side_entries (0x1000 + 0x40 * x) Rdbal receive_rows queue
     ++ side_entries (0x2000 + 0x40 * x) Tdbal transmit_rows queue
 
--- all that a virtual function with so many queues from the first on can reach
+-- all that a virtual function with this many queues from the first on can reach
 unfoldable pub entries : (vf first count : ℕ) → List Entry
 entries vf first count =
     function_entries vf ++ vector_entries first count
@@ -80,7 +80,7 @@ abbrev pub located_in : ℕ → Option (ℕ × ℕ) → ℕ → Located
 located_in vf None offset = located_as.Absent
 located_in vf (Some queues) offset = found (find (λ entry. entry.0 == offset) (entries vf queues.0 queues.1))
 
--- of so many virtual functions, what an offset of one is: nothing where there is no such function or the mode has no
+-- of this many virtual functions, what an offset of one is: nothing where there is no such function or the mode has no
 -- pool for it, else a register, or a hole
 unfoldable pub located : Mode → (vfs vf offset : ℕ) → Located
 located mode vfs vf offset =

@@ -12,12 +12,12 @@ abbrev pub place_at : List Entry → ℕ → Option Place
 place_at [] offset = None
 place_at (entry ∷ entries) offset = if entry.0 == offset then Some entry.1 else place_at entries offset
 
--- what an offset is, by the place that it stands for
+-- what an offset is, by the place that it is mapped to
 abbrev pub located_at : Option Place → Located
 located_at None = Hole
 located_at (Some place) = Register place
 
--- the row of a side that stands so far behind its first
+-- the row of a side at this distance from its first
 abbrev pub row_behind : (first : RowId) → List RowId → ℕ → Option RowId
 row_behind first rows bytes = find (λ row. behind first row == bytes) rows
 

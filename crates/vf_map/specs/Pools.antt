@@ -1,4 +1,4 @@
--- How GCR_EXT parts the 128 queues among pools. Virtual function v has pool v.
+-- How GCR_EXT separates the 128 queues into pools. Virtual function v has pool v.
 use Rattle.std.specs.Prelude.{ℕ, ◌+◌, ◌*◌, ◌/◌, ◌%◌, ◌==◌, nat_lt, Option, Some, None, if◌then◌else◌}
 use Rattle.vf_map.specs.declared.mode.Mode.{Mode}
 use Rattle.vf_map.specs.declared.mode.Mode.TheVariants.{Off, Pools16, Pools32, Pools64}

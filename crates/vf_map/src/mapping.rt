@@ -11,24 +11,26 @@ use crate::mode::Mode;
 use crate::pools::queues_of;
 use reg_table::{Place, RowId, addr_of};
 
-/// The offset of a function's first vector word.
+/// The offset of a function's first interrupt vector register, PVTIVAR.
 const VECTORS: u32 = 0x120;
 
-/// The offset of a function's first word of the mailbox memory, and how many it has.
+/// The offset of a function's first word of mailbox memory, and how many words it has.
 const MESSAGES: u32 = 0x200;
 
 const MESSAGE_WORDS: u16 = 16;
 
-/// How many bytes of offsets each side's queues have: the receive side's are the second such block, the transmit side's
-/// the third.
+/// The size in bytes of the register space of each side's queues: the receive queues are in the second such block, the
+/// transmit queues in the third.
 const SIDE: u32 = 0x1000;
 
-/// How many bytes of offsets one side of a queue has.
+/// The size in bytes of the register space of one side of a queue.
 const QUEUE: u32 = 0x40;
 
-/// What an offset of virtual function v is, where there are `vfs` of them: `Absent` where v is not below `vfs` or the
-/// mode has no pool v; else the `Register` that the offset stands for, or `Hole` where it stands for none. Offsets are
-/// in bytes. One that isn't a multiple of 4 is a hole.
+/// Maps an offset of virtual function v, of `vfs` functions: `Absent` where v isn't below `vfs` or the mode has no pool
+/// v; else the `Register` at the offset, or `Hole` where there is none. Offsets are in bytes. One that isn't a multiple
+/// of 4 is a hole.
+///
+/// Intel 82599 datasheet, section on the registers of virtual functions.
 pub fn locate(mode: Mode, vfs: u8, v: u8, offset: u32) -> Located
     ensures value { result ≡ located mode vfs v offset }
     ensures in_range { IsInRange result }
@@ -45,7 +47,8 @@ pub fn locate(mode: Mode, vfs: u8, v: u8, offset: u32) -> Located
     }
 }
 
-/// The same by addresses: `Pf` with the first address of the register, in bytes, for `Register`.
+/// Maps an offset of virtual function v as `locate` does, but to an address: `Pf` with the first address of the
+/// register, in bytes, in place of `Register`.
 pub fn map(mode: Mode, vfs: u8, v: u8, offset: u32) -> Mapped
     ensures { result ≡ mapped mode vfs v offset }
 {
@@ -56,7 +59,7 @@ pub fn map(mode: Mode, vfs: u8, v: u8, offset: u32) -> Mapped
     }
 }
 
-/// The register that an offset of function v stands for, where the function has `count` queues from `first` on.
+/// The register at an offset of function v, which has `count` queues from `first` on.
 fn place(v: u8, first: u8, count: u8, offset: u32) -> Option<Place>
     requires { count ≤ most_queues }
     ensures { result ≡ place_at (entries v first count) offset }
@@ -70,7 +73,7 @@ fn place(v: u8, first: u8, count: u8, offset: u32) -> Option<Place>
     queue_place(first, count, offset)
 }
 
-/// What function v has but what is of its queues.
+/// The register at an offset of function v, those of its queues and vectors excluded.
 fn function_place(v: u8, offset: u32) -> Option<Place>
     ensures { result ≡ place_at (function_entries v) offset }
 {
@@ -80,7 +83,7 @@ fn function_place(v: u8, offset: u32) -> Option<Place>
     message_place(v, offset)
 }
 
-/// The registers that function v has once.
+/// The registers of which function v has one each.
 #[rattlefmt::skip]
 fn own_place(v: u8, offset: u32) -> Option<Place>
     ensures { result ≡ place_at (own_entries v) offset }
@@ -113,7 +116,7 @@ fn register(row: RowId, index: u8) -> Option<Place>
     })
 }
 
-/// PFMBMEM: the words of the mailbox memory that function v has.
+/// The word of mailbox memory, PFMBMEM, at an offset of function v.
 fn message_place(v: u8, offset: u32) -> Option<Place>
     ensures { result ≡ place_at (message_entries v) offset }
 {
@@ -131,7 +134,7 @@ fn message_place(v: u8, offset: u32) -> Option<Place>
     }
 }
 
-/// PVTIVAR: a word for each two queues of the function.
+/// The vector register, PVTIVAR, at an offset: one for each two queues of the function.
 fn vector_place(first: u8, count: u8, offset: u32) -> Option<Place>
     ensures { result ≡ place_at (vector_entries first count) offset }
 {
@@ -149,7 +152,7 @@ fn vector_place(first: u8, count: u8, offset: u32) -> Option<Place>
     }
 }
 
-/// The registers of the function's queues.
+/// The register at an offset, where it belongs to one of the function's queues.
 fn queue_place(first: u8, count: u8, offset: u32) -> Option<Place>
     requires { count ≤ most_queues }
     ensures { result ≡ place_at (queues_entries first count) offset }
@@ -176,7 +179,7 @@ fn queue_register(row: Option<RowId>, queue: u16) -> Option<Place>
     }
 }
 
-/// The register of a queue's receive side that stands so many bytes behind its first.
+/// The receive register at a byte offset from a queue's first.
 #[rattlefmt::skip]
 #[tactic(auto, unfolding(reg_table::specs::Rows::rows))]
 fn receive_row(bytes: u32) -> Option<RowId>
@@ -194,7 +197,7 @@ fn receive_row(bytes: u32) -> Option<RowId>
     }
 }
 
-/// The register of a queue's transmit side that stands so many bytes behind its first.
+/// The transmit register at a byte offset from a queue's first.
 #[rattlefmt::skip]
 #[tactic(auto, unfolding(reg_table::specs::Rows::rows))]
 fn transmit_row(bytes: u32) -> Option<RowId>

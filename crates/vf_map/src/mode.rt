@@ -1,7 +1,7 @@
-/// How the 128 queues are parted among pools: bits 1:0 of GCR_EXT.
+/// How the 128 queues are separated into pools: bits 1:0 of GCR_EXT.
 #[derive(Clone, Copy, PartialEq, Eq, Debug)]
 pub enum Mode {
-    /// No pools.
+    /// No pools: no virtual function has queues.
     Off,
     /// 16 pools of eight queues.
     Pools16,

@@ -7,13 +7,13 @@ use crate::mode::Mode;
 /// The bits of GCR_EXT that hold the mode.
 const MODE_MASK: u32 = 0x3;
 
-/// How many queues the device has, each with a receive and a transmit side.
+/// The number of queues, each with a receive and a transmit side.
 pub const QUEUES: u16 = 128;
 
-/// How many virtual functions the device has at most.
+/// The most virtual functions that a device can have.
 pub const MAX_VFS: u8 = 63;
 
-/// The mode in GCR_EXT: its bits 1:0. The other bits say nothing here.
+/// The mode in a word of GCR_EXT: its bits 1:0. The other bits don't matter.
 pub fn mode_of(gcr_ext: u32) -> Mode
     ensures { result ≡ mode_of gcr_ext }
 {
@@ -26,8 +26,7 @@ pub fn mode_of(gcr_ext: u32) -> Mode
 }
 
 /// The first queue of virtual function v, and how many queues it has: 8v and eight with 16 pools, 4v and four with 32,
-/// 2v and two with 64.
-/// `None` where the mode has no pool v.
+/// 2v and two with 64. `None` where the mode has no pool v.
 pub fn queues_of(mode: Mode, v: u8) -> Option<(u8, u8)>
     ensures { result ≡ queues_of mode v }
 {
@@ -39,8 +38,8 @@ pub fn queues_of(mode: Mode, v: u8) -> Option<(u8, u8)>
     }
 }
 
-/// The pool that a queue of the device is in: queue / 8 with 16 pools, queue / 4 with 32, queue / 2 with 64. `None`
-/// where the mode has no pools, and for a queue that the device doesn't have, 128 or above.
+/// The pool that a queue belongs to: queue / 8 with 16 pools, queue / 4 with 32, queue / 2 with 64. `None` where the
+/// mode has no pools, and for a queue of 128 or above, which doesn't exist.
 pub fn pool_of(mode: Mode, queue: u16) -> Option<u8>
     ensures { result ≡ pool_of mode queue }
 {
@@ -52,8 +51,8 @@ pub fn pool_of(mode: Mode, queue: u16) -> Option<u8>
     }
 }
 
-/// The queue of a pool that a number chooses, as an entry of the redirection table does: the number modulo the number
-/// of the pool's queues is its place among them. The mode has to have the pool.
+/// The queue of a pool that a number selects, as an entry of the redirection table does: the number modulo the pool's
+/// count of queues is the index among them. The mode has to have the pool.
 pub fn queue_in(mode: Mode, pool: u16, number: u8) -> u16
     requires { pool < pools_in mode }
     ensures queue { result ≡ queue_in mode pool number }
@@ -67,7 +66,8 @@ pub fn queue_in(mode: Mode, pool: u16, number: u8) -> u16
     }
 }
 
-/// Whether a pool has a queue of the device. No pool has one where the mode has no pools, or from 128 on.
+/// Whether a queue belongs to a pool. No pool has a queue where the mode has no pools, and none has a queue of 128 or
+/// above.
 pub fn has_queue(mode: Mode, pool: u16, queue: u16) -> bool
     ensures { result ≡ has_queue mode pool queue }
 {

@@ -217,8 +217,14 @@ def kinds() -> str:
     return ", ".join(sorted({row.kind for row in TABLE}))
 
 
+def doc_of(row: Row) -> str:
+    """What a row is, and how many registers it has, in the sentence above its variant and its field."""
+    meaning = row.meaning if row.meaning[1].isupper() else row.meaning[0].lower() + row.meaning[1:]
+    return f"{row.name}: {meaning}, " + ("one register." if row.count == 1 else f"index 0 to {row.count - 1}.")
+
+
 def rust_rows() -> str:
-    enum = "".join(f"    /// {row.meaning}.\n    {row.variant},\n" for row in TABLE)
+    enum = "".join(f"    /// {doc_of(row)}\n    {row.variant},\n" for row in TABLE)
     order = "".join(f"    RowId::{row.variant},\n" for row in TABLE)
     entries = "".join(
         f"    entry!({quoted(row.name):15} {row.count:4}, {row.kind}, {row.bank}, "
@@ -236,7 +242,7 @@ use crate::kind::Kind;
 use crate::row::Entry;
 use std::fmt;
 
-/// A row of the register table: the registers of one name.
+/// A row of the register table: all registers of one name, under the datasheet's name.
 #[derive(Clone, Copy, PartialEq, Eq, PartialOrd, Ord)]
 pub enum RowId {{
 {enum}}}
@@ -258,12 +264,12 @@ macro_rules! entry {{
     }};
 }}
 
-/// What the table says of each row, in its order: name, number of indices, kind, bank, mask, word after a reset.
+/// The entry of each row, in the table's order: name, number of indices, kind, bank, mask, word after a reset.
 #[rattlefmt::skip]
 static ENTRIES: [Entry; {len(TABLE)}] = [
 {entries}];
 
-/// What the table says of the rows, in its order.
+/// The entries of all rows, in the table's order.
 #[inline(always)]
 #[tactic(auto, unfolding(crate::specs::Rows::rows))]
 fn entries() -> &'static [Entry]
@@ -272,7 +278,7 @@ fn entries() -> &'static [Entry]
     &ENTRIES
 }}
 
-/// What the table says of a row.
+/// The table's entry of a row.
 #[inline(always)]
 pub(crate) fn entry_of(row: RowId) -> Entry
     ensures {{ row_in result ≡ row_of row }}
@@ -683,12 +689,12 @@ macro_rules! run {{
     }};
 }}
 
-/// Each row's, in the order of the table: first address, stride, how many, further address.
+/// The first addresses of each row, in the table's order: first address, stride, count, further address.
 #[rattlefmt::skip]
 static FIRST_ADDRESSES: [FirstAddresses; {len(TABLE)}] = [
 {entries}];
 
-/// Where the first addresses of a row lie.
+/// The first addresses of a row's indices.
 pub(crate) fn first_of(row: RowId) -> FirstAddresses
     ensures value {{ result ≡ first_of row }}
     ensures near {{ IsTrue (is_near result) }}
@@ -751,7 +757,7 @@ def rust_cells() -> str:
     for row in cells():
         name, at = row.name.lower(), "" if row.count == 1 else "[usize::from(index)]"
         kind, zero = ("u32", "0") if row.count == 1 else (f"[u32; {row.count}]", f"[0; {row.count}]")
-        fields += f"    /// {row.meaning}.\n    pub(crate) {name}: {kind},\n"
+        fields += f"    /// {doc_of(row)}\n    pub(crate) {name}: {kind},\n"
         zeros += f"        {name}: {zero},\n"
         reads += f"        RowId::{row.variant} => cells.{name}{at},\n"
         writes += f"        RowId::{row.variant} => cells.{name}{at} = word,\n"
@@ -762,13 +768,13 @@ ghost use Rattle.register_file.specs.Cells.{{cells_of, with_cell}};
 
 use reg_table::RowId;
 
-/// The registers that a reset clears: a single one in a field, a row in an array.
+/// The registers that a reset sets to 0, 32 bits each: a single register in a field, a row of several in an array.
 #[derive(Clone, Copy)]
 pub(crate) struct Cells {{
 {fields}}}
 
 impl Cells {{
-    /// The words after a reset.
+    /// All registers as a reset leaves them: 0.
     pub(crate) const AT_RESET: Cells = Cells {{
 {zeros}    }};
 }}

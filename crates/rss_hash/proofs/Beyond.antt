@@ -1,13 +1,13 @@
 -- A word of the key that is written changes nothing for the half bytes that take none of its bits.
-use Rattle.std.proofs.Common.{◌≡◌, ◌≢◌, ℕ, zero, suc, ◌+◌, ◌*◌, ◌-◌, ◌/◌, ◌%◌, ◌<◌, inl, inr, List, [], length, get_or, slice_index, set, refl, sym, ap, ◌∙◌, arith}
+use Rattle.std.proofs.Common.{◌≡◌, ◌≢◌, ℕ, zero, suc, ◌+◌, ◌*◌, ◌-◌, ◌/◌, ◌%◌, ◌<◌, inl, inr, List, length, slice_index, set, refl, sym, ap, ◌∙◌, arith}
 use Rattle.std.specs.Int.{bit_at, to_le_bytes, w32}
 use Rattle.std.proofs.lemmas.List.{get_or-set_other, length-set}
-use Rattle.std.proofs.lemmas.List.FromFn.{get_or-map-range_with_len, length-map-range_with_len}
 use Rattle.rss_hash.specs.Bits.{bit_of, bits_from}
 use Rattle.rss_hash.specs.Registers.{bytes_of_registers}
-use Rattle.rss_hash.specs.Tables.{table_at, IsBeyond, FitBeyond, tables_of}
+use Rattle.rss_hash.specs.Tables.{half_share, AreItsWindows, IsBeyond, FitBeyond}
 use Rattle.rss_hash.proofs.RegisterBytes.{register_byte_at}
 use Rattle.rss_hash.proofs.Sliding.{no_bits}
+use Rattle.rss_hash.proofs.WindowTables.{half_share-joined}
 use Rattle.rss_hash.proofs.Windows.{bits_from_more}
 
 -- two keys have the same bits from one on
@@ -49,22 +49,21 @@ module _ (words : List ℕ) (index word : ℕ) (ten : length words ≡ 10) where
       bits_agree (bytes_of_registers words) (bytes_of_registers written) k 32 (λ i within.
       bit_stands (k + i) (omega (arith, below, few, at, within)) (λ same. omega (arith, behind, few, at, within, same)))
 
-  row_stands : (n : ℕ) → n < 72 → IsBeyond index n
-      → table_at (bytes_of_registers written) n ≡ table_at (bytes_of_registers words) n
-  row_stands n below beyond =
-      let window = λ (j k : ℕ) (few : j < 4) (at : k ≡ 4 * n + j). window_stands n j k below few at beyond in
-      rw (window 0 (4 * n) (omega arith) (omega arith), window 1 (4 * n + 1) (omega arith) refl) (
-      rw (window 2 (4 * n + 2) (omega arith) refl, window 3 (4 * n + 3) (omega arith) refl) refl
+  share_stands : (k v : ℕ) → k < 72 → IsBeyond index k
+      → half_share (bytes_of_registers written) k v ≡ half_share (bytes_of_registers words) k v
+  share_stands k v below beyond =
+      let stands = λ (j at : ℕ) (few : j < 4) (is : at ≡ 4 * k + j). window_stands k j at below few is beyond in
+      half_share-joined (bytes_of_registers written) k v
+      ∙ rw (stands 0 (4 * k) (omega arith) (omega arith), stands 1 (4 * k + 1) (omega arith) refl) (
+      rw (stands 2 (4 * k + 2) (omega arith) refl, stands 3 (4 * k + 3) (omega arith) refl)
+      (sym (half_share-joined (bytes_of_registers words) k v))
       )
 
--- so tables of the key before the word fit the key after it beyond the word
+-- so tables that hold the windows of the key before the word hold those of the key after it beyond the word
 pub beyond_a_word : (tables : List (List ℕ)) (words : List ℕ) (index word : ℕ) → length words ≡ 10
-    → tables ≡ tables_of words → FitBeyond tables (set words index word) index
-unfolding tables_of
-beyond_a_word tables words index word ten same = record {
-  whole = ap length same ∙ length-map-range_with_len (table_at (bytes_of_registers words)) 0 72;
-  rows = λ n below beyond.
-      ap (λ rows. get_or rows n []) same
-      ∙ get_or-map-range_with_len (table_at (bytes_of_registers words)) 0 72 n n [] below (omega arith)
-      ∙ sym (row_stands words index word ten n below beyond);
+    → AreItsWindows tables words → FitBeyond tables (set words index word) index
+beyond_a_word tables words index word ten held = record {
+  whole = held.whole;
+  entry = λ k v below small beyond.
+      held.entry k v below small ∙ sym (share_stands words index word ten k v below beyond);
 }

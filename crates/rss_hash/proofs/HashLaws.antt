@@ -31,7 +31,7 @@ xor_where f b ks = xor_of (map f (filter (λ k. b k == 1) ks))
 abbrev share : ℕ → ℕ → ℕ
 share bit n = cond (bit == 1) n 0
 
-xor_where-cons : (f b : ℕ → ℕ) (k : ℕ) (ks : List ℕ)
+pub xor_where-cons : (f b : ℕ → ℕ) (k : ℕ) (ks : List ℕ)
     → xor_where f b (k ∷ ks) ≡ bit_xor (share (b k) (f k)) (xor_where f b ks)
 xor_where-cons f b k ks =
     let rest = filter (λ k. b k == 1) ks in

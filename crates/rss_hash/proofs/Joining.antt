@@ -3,11 +3,11 @@ use Rattle.std.proofs.Common.{◌≡◌, ℕ, ◌+◌, ◌-◌, ◌*◌, ◌/◌
 use Rattle.std.proofs.Common.{slice_index, get_or, bit_xor, refl, sym, ap, ◌∙◌, arith}
 use Rattle.std.specs.Int.{bit_at}
 use Rattle.std.specs.Int.Bits.{xor_assoc, xor_zero_r}
-use Rattle.std.proofs.lemmas.List.FromFn.{get_or-map-range_with_len}
 use Rattle.rss_hash.specs.Bits.{bit_of, bits_from}
 use Rattle.rss_hash.specs.Registers.{bytes_of_registers}
-use Rattle.rss_hash.specs.Tables.{where_one, joined, table_at, tables_of, high_share, low_share}
+use Rattle.rss_hash.specs.Tables.{where_one, AreItsWindows, high_share, low_share}
 use Rattle.rss_hash.proofs.HashLaws.{xor_swap}
+use Rattle.rss_hash.proofs.WindowTables.{half_share-joined}
 use Rattle.rss_hash.proofs.Windows.{hash_below, hash_below_more}
 
 -- one more input bit
@@ -36,11 +36,11 @@ record IsHalf (input : List ℕ) (n v : ℕ) : Type 0 where
   fourth : bit_of input (4 * n + 3) ≡ bit_at v 0
 
 -- half a byte more
-half_joined : (words input : List ℕ) (n v : ℕ) → n < 72 → v < 16 → IsHalf input n v →
-    bit_xor (hash_below (bytes_of_registers words) input (4 * n)) (slice_index (get_or (tables_of words) n []) v)
+half_joined : (tables : List (List ℕ)) (words input : List ℕ) (n v : ℕ) → AreItsWindows tables words →
+    n < 72 → v < 16 → IsHalf input n v →
+    bit_xor (hash_below (bytes_of_registers words) input (4 * n)) (slice_index (get_or tables n []) v)
     ≡ hash_below (bytes_of_registers words) input (4 * (n + 1))
-unfolding tables_of
-half_joined words input n v low small half =
+half_joined tables words input n v held low small half =
     let key = bytes_of_registers words in
     let k : ℕ = 4 * n in
     let start = hash_below key input k in
@@ -48,10 +48,8 @@ half_joined words input n v low small half =
     let b = where_one (bit_at v 2) (bits_from key (k + 1) 32) in
     let c = where_one (bit_at v 1) (bits_from key (k + 2) 32) in
     let d = where_one (bit_at v 0) (bits_from key (k + 3) 32) in
-    let entry : slice_index (get_or (tables_of words) n []) v ≡ bit_xor (bit_xor (bit_xor a b) c) d =
-    ap (λ row. slice_index row v) (get_or-map-range_with_len (table_at key) 0 72 n n [] low (omega arith))
-    ∙ get_or-map-range_with_len (joined (bits_from key k 32) (bits_from key (k + 1) 32) (bits_from key (k + 2) 32)
-    (bits_from key (k + 3) 32)) 0 16 v v 0 small (omega arith) in
+    let entry : slice_index (get_or tables n []) v ≡ bit_xor (bit_xor (bit_xor a b) c) d =
+    held.entry n v low small ∙ half_share-joined key n v in
     ap (bit_xor start) entry ∙ regrouped start a b c d
     ∙ ap (λ h. bit_xor (bit_xor (bit_xor h b) c) d) (bit_joined key input k (k + 1) _ half.first refl)
     ∙ ap (λ h. bit_xor (bit_xor h c) d) (bit_joined key input (k + 1) (k + 2) _ half.second (omega arith))
@@ -83,19 +81,20 @@ low_half input i = record {
 }
 
 -- one more byte
-pub byte_joined : (words input : List ℕ) (i high low first second : ℕ) → i < 36 → slice_index input i < 256
-    → first ≡ high_share (tables_of words) i (slice_index input i)
-    → second ≡ low_share (tables_of words) i (slice_index input i)
+pub byte_joined : (tables : List (List ℕ)) (words input : List ℕ) (i high low first second : ℕ)
+    → AreItsWindows tables words → i < 36 → slice_index input i < 256
+    → first ≡ high_share tables i (slice_index input i)
+    → second ≡ low_share tables i (slice_index input i)
     → bit_xor high low ≡ hash_below (bytes_of_registers words) input (8 * i)
     → bit_xor (bit_xor high first) (bit_xor low second) ≡ hash_below (bytes_of_registers words) input (8 * (i + 1))
-byte_joined words input i high low first second within small is_first is_second before =
+byte_joined tables words input i high low first second held within small is_first is_second before =
     let below = hash_below (bytes_of_registers words) input in
     let byte = slice_index input i in
     xor_swap high first low second ∙ sym (xor_assoc (bit_xor high low) first second)
     ∙ ap (λ h. bit_xor (bit_xor h first) second) (before ∙ ap below (omega arith))
     ∙ ap (λ share. bit_xor (bit_xor (below (4 * (2 * i))) share) second) is_first
     ∙ ap (λ h. bit_xor h second)
-    (half_joined words input (2 * i) (byte / 16) (omega arith) (omega arith) (high_half input i))
+    (half_joined tables words input (2 * i) (byte / 16) held (omega arith) (omega arith) (high_half input i))
     ∙ ap (bit_xor (below (4 * (2 * i + 1)))) is_second
-    ∙ half_joined words input (2 * i + 1) (byte % 16) (omega arith) (omega arith) (low_half input i)
+    ∙ half_joined tables words input (2 * i + 1) (byte % 16) held (omega arith) (omega arith) (low_half input i)
     ∙ ap below (omega arith)

@@ -12,5 +12,6 @@ pub mod Parts
 pub mod RegisterBytes
 pub mod Sliding
 pub mod Types
+pub mod WindowTables
 pub mod Windows
 pub mod ZeroKey

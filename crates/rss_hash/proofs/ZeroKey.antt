@@ -1,13 +1,14 @@
 -- The tables of a key of zeros.
-use Rattle.std.proofs.Common.{◌≡◌, ℕ, zero, suc, ◌+◌, ◌*◌, ◌/◌, ◌%◌, ◌-◌, List, [], replicate}
-use Rattle.std.proofs.Common.{refl, sym, ap, ◌∙◌, arith}
+use Rattle.std.proofs.Common.{◌≡◌, ℕ, zero, suc, ◌+◌, ◌*◌, ◌/◌, ◌%◌, ◌-◌, List, [], ◌∷◌, map, fold, replicate}
+use Rattle.std.proofs.Common.{slice_index, bit_xor, refl, sym, ap, ◌∙◌, arith}
 use Rattle.std.specs.Int.{bit_at}
+use Rattle.std.specs.Int.Bits.{xor_zero_l}
 use Rattle.std.proofs.lemmas.Nat.Bits.{bit_at-zero}
 use Rattle.std.proofs.lemmas.List.{length-replicate, get_or-replicate}
-use Rattle.std.proofs.lemmas.List.FromFn.{fill_by_all}
-use Rattle.rss_hash.specs.Bits.{bit_of, bits_from}
+use Rattle.rss_hash.specs.Bits.{bit_of, half_bits, bits_from, window}
 use Rattle.rss_hash.specs.Registers.{bytes_of_registers}
-use Rattle.rss_hash.specs.Tables.{table_at, tables_of}
+use Rattle.rss_hash.specs.Tables.{half_share, AreItsWindows}
+use Rattle.rss_hash.specs.Toeplitz.{xor_of}
 use Rattle.rss_hash.proofs.HashLaws.{slice_index-zeros}
 use Rattle.rss_hash.proofs.Sliding.{no_bits}
 use Rattle.rss_hash.proofs.Windows.{bits_from_more}
@@ -23,22 +24,29 @@ bits_from-zeros count k (suc n) =
     let last = bits_from_more (replicate count 0) k n in
     rw next (omega (arith, last, bits_from-zeros count k n, bit_of-zeros count (k + n)))
 
-table_at-zeros : (count n : ℕ) → table_at (replicate count 0) n ≡ replicate 16 0
-table_at-zeros count n =
-    rw (bits_from-zeros count (4 * n) 32, bits_from-zeros count (4 * n + 1) 32) (
-    rw (bits_from-zeros count (4 * n + 2) 32, bits_from-zeros count (4 * n + 3) 32) refl
-    )
+xor_of_zeros : (f : ℕ → ℕ) → ((j : ℕ) → f j ≡ 0) → (js : List ℕ) → xor_of (map f js) ≡ 0
+xor_of_zeros f zeros [] = refl
+xor_of_zeros f zeros (j ∷ js) =
+    ap (λ n. fold bit_xor (bit_xor 0 n) (map f js)) (zeros j)
+    ∙ ap (λ n. fold bit_xor n (map f js)) (xor_zero_l 0)
+    ∙ xor_of_zeros f zeros js
+
+half_share-zeros : (count k v : ℕ) → half_share (replicate count 0) k v ≡ 0
+unfolding half_share
+half_share-zeros count k v =
+    xor_of_zeros (λ j. window (replicate count 0) (4 * k + j)) (λ j. bits_from-zeros count (4 * k + j) 32) (half_bits v)
 
 bytes_of_registers-zeros : bytes_of_registers (replicate 10 0) ≡ replicate 40 0
 unfolding bytes_of_registers
 bytes_of_registers-zeros = refl
 
-pub tables_of_zeros : replicate 72 (replicate 16 0) ≡ tables_of (replicate 10 0)
-unfolding tables_of
-tables_of_zeros =
+pub windows_of_zeros : AreItsWindows (replicate 72 (replicate 16 0)) (replicate 10 0)
+windows_of_zeros =
     let row : List ℕ = replicate 16 0 in
-    let key : List ℕ = bytes_of_registers (replicate 10 0) in
-    let row_at : (n : ℕ) → table_at key n ≡ row =
-    λ n. ap (λ key. table_at key n) bytes_of_registers-zeros ∙ table_at-zeros 40 n in
-    fill_by_all (table_at key) (replicate 72 row) 72 [] (length-replicate 72 row)
-    (λ n within. get_or-replicate 72 n row [] within ∙ sym (row_at n))
+    record {
+      whole = length-replicate 72 row;
+      entry = λ k v below small.
+          ap (λ row. slice_index row v) (get_or-replicate 72 k row [] below)
+          ∙ slice_index-zeros 16 v
+          ∙ sym (ap (λ key. half_share key k v) bytes_of_registers-zeros ∙ half_share-zeros 40 k v);
+    }

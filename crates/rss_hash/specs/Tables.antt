@@ -2,9 +2,9 @@
 use Rattle.std.specs.Prelude.{ℕ, ◌≡◌, ◌+◌, ◌*◌, ◌/◌, ◌%◌, ◌==◌, ◌<◌, ◌≤◌, ◌⊎◌, List, [], length, map, slice_index, slice_index_or, bit_xor}
 use Rattle.std.specs.Prelude.{if◌then◌else◌}
 use Rattle.std.specs.Int.{bit_at}
-use Rattle.std.specs.List.{range_with_len}
-use Rattle.rss_hash.specs.Bits.{bits_from}
+use Rattle.rss_hash.specs.Bits.{half_bits, window}
 use Rattle.rss_hash.specs.Registers.{bytes_of_registers}
+use Rattle.rss_hash.specs.Toeplitz.{xor_of}
 
 -- a number where a bit is 1, else 0
 abbrev pub where_one : (bit number : ℕ) → ℕ
@@ -16,24 +16,29 @@ joined a b c d v =
     bit_xor (bit_xor (bit_xor (where_one (bit_at v 3) a) (where_one (bit_at v 2) b)) (where_one (bit_at v 1) c))
     (where_one (bit_at v 0) d)
 
--- what each value of half byte n adds: the 32 key bits from each of its bits that are 1, joined
-abbrev pub table_at : (key : List ℕ) (n : ℕ) → List ℕ
-table_at key n =
-    map (joined (bits_from key (4 * n) 32) (bits_from key (4 * n + 1) 32) (bits_from key (4 * n + 2) 32)
-    (bits_from key (4 * n + 3) 32)) (range_with_len 0 16)
+-- what half byte k of an input adds to the hash where its number is v: the exclusive or, over the bits j of v that are
+-- 1, of the key's windows at bits 4k + j, of 32 bits each
+unfoldable pub half_share : (key : List ℕ) (k v : ℕ) → ℕ
+half_share key k v = xor_of (map (λ j. window key (4 * k + j)) (half_bits v))
 
--- the tables of all half bytes of an input of 36 bytes, for the key in ten registers
-unfoldable pub tables_of : List ℕ → List (List ℕ)
-tables_of words = map (table_at (bytes_of_registers words)) (range_with_len 0 72)
+-- the entry with number v in the table of half byte k is that, for the key in ten registers
+abbrev pub HoldsItsShare : (tables : List (List ℕ)) (words : List ℕ) (k v : ℕ) → Type 0
+HoldsItsShare tables words k v = slice_index (slice_index_or tables k []) v ≡ half_share (bytes_of_registers words) k v
+
+-- the tables hold the windows of the key: there is one of each half byte of an input of 36 bytes, with an entry of each
+-- number that a half byte can have
+pub record AreItsWindows (tables : List (List ℕ)) (words : List ℕ) : Type 0 where
+  pub whole : length tables ≡ 72
+  pub entry : (k v : ℕ) → k < 72 → v < 16 → HoldsItsShare tables words k v
 
 -- half byte n takes no bit of a word of the key: its windows, of the 35 bits from bit 4n on, end before or begin behind
 abbrev pub IsBeyond : (index n : ℕ) → Type 0
 IsBeyond index n = (n + 8 < 8 * index) ⊎ (8 * index + 8 ≤ n)
 
--- there are tables of all half bytes, and those of the half bytes that take no bit of a word are the key's
+-- there are tables of all half bytes, and those of the half bytes that take no bit of a word hold the key's windows
 pub record FitBeyond (tables : List (List ℕ)) (words : List ℕ) (index : ℕ) : Type 0 where
   pub whole : length tables ≡ 72
-  pub rows : (n : ℕ) → n < 72 → IsBeyond index n → slice_index_or tables n [] ≡ table_at (bytes_of_registers words) n
+  pub entry : (k v : ℕ) → k < 72 → v < 16 → IsBeyond index k → HoldsItsShare tables words k v
 
 -- what the high half of byte i adds by the tables, and what its low half adds
 abbrev pub high_share : (tables : List (List ℕ)) (i byte : ℕ) → ℕ

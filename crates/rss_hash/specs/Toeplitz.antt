@@ -1,15 +1,15 @@
 -- The Toeplitz hash, and the laws that it keeps.
 use Rattle.std.specs.Prelude.{◌≡◌, ℕ, ◌+◌, ◌-◌, ◌%◌, ◌<◌, ◌==◌, count_by, List, ◌++◌, length, map, replicate, fold, zip, bit_xor}
 use Rattle.std.specs.Int.{bit_at}
-use Rattle.rss_hash.specs.Bits.{bit_of, set_bits, bits_from}
+use Rattle.rss_hash.specs.Bits.{bit_of, set_bits, window}
 
 -- the exclusive or of numbers
 abbrev pub xor_of : List ℕ → ℕ
 xor_of numbers = fold bit_xor 0 numbers
 
--- the exclusive or, over the input bits k that are 1, of the 32 key bits from bit k on
+-- the exclusive or, over the input bits k that are 1, of the key's windows at bits k: of its 32 bits from each on
 unfoldable pub toeplitz_hash : List ℕ → List ℕ → ℕ
-toeplitz_hash key input = xor_of (map (λ k. bits_from key k 32) (set_bits input))
+toeplitz_hash key input = xor_of (map (λ k. window key k) (set_bits input))
 
 -- the exclusive or of two byte strings, byte by byte
 abbrev pub xor_bytes : List ℕ → List ℕ → List ℕ

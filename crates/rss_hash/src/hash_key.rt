@@ -5,8 +5,9 @@ ghost use Rattle.rss_hash.specs.Toeplitz.{toeplitz_hash};
 use crate::tables::{refill_tables, shares};
 use std::marker::Model;
 
-/// The hash key as the registers RSSRK hold it, kept with what each half byte of an input adds, so that
-/// a hash only joins two numbers a byte. Contracts see it as the list of the ten words.
+/// The hash key as the registers RSSRK hold it, kept with what each half byte of an input adds, the exclusive or of the
+/// key's windows at its bits, so that a hash only joins two numbers a byte. Contracts see it as the list of the ten
+/// words.
 ///
 /// Intel 82599 datasheet, section on receive side scaling.
 #[derive(Drop)]
@@ -29,7 +30,6 @@ impl Model for HashKey {
 
 impl HashKey {
     /// The key whose bits are all 0.
-    #[tactic(auto, using(crate::proofs::ZeroKey::tables_of_zeros))]
     pub fn zero() -> HashKey
         ensures { result ≡ replicate 10 0 }
     {

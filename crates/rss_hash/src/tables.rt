@@ -1,18 +1,20 @@
-//! What the half bytes of an input add to its hash, in tables that are filled when a key is written.
+//! What the half bytes of an input add to its hash, in tables of the key's windows that are filled when a key is
+//! written.
 
 ghost use Rattle.std.specs.Prelude.{◌≡◌, ◌<◌, map};
 ghost use Rattle.std.specs.List.{range_with_len};
-ghost use Rattle.rss_hash.specs.Tables.{joined, tables_of, high_share, low_share, FitBeyond};
+ghost use Rattle.rss_hash.specs.Tables.{joined, high_share, low_share, AreItsWindows, FitBeyond};
 
 use crate::key::Key;
 
 /// Fills in the tables anew where a word of the key was written: those of the half bytes that take one of its bits, row
-/// n being what each value of half byte n adds. It stays a call, so that writes of other registers don't carry it.
+/// n being the windows of half byte n, joined for each of its values. It stays a call, so that writes of other
+/// registers don't carry it.
 #[inline(never)]
 pub(crate) fn refill_tables(tables: &mut [[u32; 16]; 72], words: &[u32; 10], index: usize)
     requires index { index < 10 }
     requires beyond { FitBeyond tables.old words.now index }
-    ensures { tables.new ≡ tables_of words.now }
+    ensures { AreItsWindows tables.new words.now }
 {
     let key = Key::from_words(words);
     let first_row = (8 * index).saturating_sub(8);

@@ -1,21 +1,16 @@
-use Rattle.std.proofs.Common.{◌≡◌, ◌*◌, length, slice_index, ap, ◌∙◌, arith}
+use Rattle.std.proofs.Common.{◌≡◌, ◌*◌, length, ap, ◌∙◌, arith}
 use Rattle.rss_hash.specs.Registers.{bytes_of_registers}
 use Rattle.rss_hash.specs.Toeplitz.{toeplitz_hash}
-use Rattle.rss_hash.specs.Tables.{high_share, low_share}
 use Rattle.rss_hash.proofs.Joining.{byte_joined}
 use Rattle.rss_hash.proofs.Windows.{hash_below}
 use Rattle.rss_hash.proofs.hash_key.HashKey.hash.Goals as goal
 
 pub loop-i-preserved : goal.loop-i-preserved
 loop-i-preserved c =
-    let i = c.loop-i.i in
-    let byte = slice_index c.args.input.now i in
-    let tables = c.self.invariant.tables in
     let shares = c.shares-high_share in
-    let high = shares.ensures.high ∙ ap (λ tables. high_share tables i byte) tables in
-    let low = shares.ensures.low ∙ ap (λ tables. low_share tables i byte) tables in
-    byte_joined c.self.inside.words c.args.input.now i c.loop-i.high c.loop-i.low shares.result.0 shares.result.1
-    (omega arith) (omega arith) high low c.loop-i.invariant
+    byte_joined c.self.inside.tables c.self.inside.words c.args.input.now c.loop-i.i c.loop-i.high c.loop-i.low
+    shares.result.0 shares.result.1 c.self.invariant.windows (omega arith) (omega arith) shares.ensures.high
+    shares.ensures.low c.loop-i.invariant
 
 pub returns : goal.returns
 unfolding toeplitz_hash

@@ -5,9 +5,7 @@ ghost use Rattle.device_lock.specs.Told.{first_settings, frames_set, frames_writ
 
 use crate::alone::{mode_after, place_at};
 use nic_device::{Event, EventNote, Mode, Place, RowId, asks_reset};
-
-/// HLREG0: frames may be as long as MAXFRS says.
-const JUMBO: u32 = 0x0000_0004;
+use register_bits::{Hlreg0, has_flag};
 
 /// What MAXFRS bits 31 to 16 say after a reset.
 const USUAL_LONGEST: u16 = 1518;
@@ -64,7 +62,7 @@ impl Frames {
     {
         match place.row {
             RowId::Hlreg0 => Frames {
-                jumbo: word / JUMBO % 2 == 1,
+                jumbo: has_flag(word, Hlreg0::JUMBOEN),
                 longest: self.longest,
             },
             RowId::Maxfrs => Frames {

@@ -13,31 +13,22 @@ use crate::accesses::write;
 use crate::fault::PmdFault;
 use crate::frames::{SHORTEST_FRAME, is_frame};
 use crate::nic::Nic;
+use byteorder::{ByteOrder, LittleEndian};
 use nic_device::{Mode, Place, Port, RowId, addr_of};
+use register_bits::{Dmatxctl, Fctrl, Hlreg0, Rxcsum, Rxctrl, VtCtl};
 use std::alloc::Global;
-
-/// VT_CTL bit 0: receive and transmit by pools.
-const VT_ENABLE: u32 = 1;
 
 /// Each pool of a word of VFRE or VFTE is on.
 const ALL_POOLS: u32 = 0xFFFF_FFFF;
 
-/// RXCSUM bit 13: the descriptor tells the packet's hash.
-const TELL_HASH: u32 = 0x2000;
-
-/// FCTRL bit 10: broadcasts pass. Bits 8 and 9: all other multicasts and unicasts pass too.
-const BROADCASTS: u32 = 0x400;
-
-const PROMISCUOUS: u32 = 0x700;
+/// FCTRL: frames to any address pass.
+const PROMISCUOUS: u32 = Fctrl::MPE.0 | Fctrl::UPE.0 | Fctrl::BAM.0;
 
 /// HLREG0: the frame check sequence is added and stripped, and short frames are padded.
-const PAD_AND_CHECK: u32 = 0x403;
+const PAD_AND_CHECK: u32 = Hlreg0::TXCRCEN.0 | Hlreg0::RXCRCSTRP.0 | Hlreg0::TXPADEN.0;
 
 /// The same, and MAXFRS tells how long a frame may be.
-const PAD_CHECK_AND_JUMBO: u32 = 0x407;
-
-/// Bit 0 of DMATXCTL and RXCTRL: transmitting and receiving are on.
-const ENABLE: u32 = 1;
+const PAD_CHECK_AND_JUMBO: u32 = PAD_AND_CHECK | Hlreg0::JUMBOEN.0;
 
 /// How the whole device is to be set up.
 #[derive(Clone, Copy)]
@@ -63,7 +54,7 @@ pub struct Setting {
     pub word: u32,
 }
 
-/// GCR_EXT bits 1 and 0.
+/// The code of the mode in GCR_EXT.VT_Mode, bits 1 and 0.
 fn mode_word(mode: Mode) -> u32
     ensures { result ≡ mode_word mode }
 {
@@ -81,7 +72,7 @@ fn pools_word(mode: Mode) -> u32
 {
     match mode {
         Mode::Off => 0,
-        Mode::Pools16 | Mode::Pools32 | Mode::Pools64 => VT_ENABLE,
+        Mode::Pools16 | Mode::Pools32 | Mode::Pools64 => VtCtl::VT_ENA.0,
     }
 }
 
@@ -130,9 +121,7 @@ fn word_in(bytes: &[u8], index: usize) -> u32
     requires { 4 * index + 4 ≤ length bytes.now }
     ensures { result ≡ word_in bytes.now index }
 {
-    let mut word = [0; 4];
-    word.copy_from_slice(&bytes[4 * index..4 * index + 4]);
-    u32::from_le_bytes(word)
+    LittleEndian::read_u32(&bytes[4 * index..4 * index + 4])
 }
 
 /// Writes the registers of a row, each with four of the bytes.
@@ -179,7 +168,11 @@ fn pool_settings(mode: Mode) -> [Setting; 6]
 fn fctrl_word(promiscuous: bool) -> u32
     ensures { result ≡ fctrl_word promiscuous }
 {
-    if promiscuous { PROMISCUOUS } else { BROADCASTS }
+    if promiscuous {
+        PROMISCUOUS
+    } else {
+        Fctrl::BAM.0
+    }
 }
 
 /// What passes, and that receiving and transmitting are on: frames of 1,518 bytes at most.
@@ -187,11 +180,11 @@ fn opening_short(promiscuous: bool) -> [Setting; 5]
     ensures { result ≡ opening_short promiscuous }
 {
     [
-        setting_of(RowId::Rxcsum, 0, TELL_HASH),
+        setting_of(RowId::Rxcsum, 0, Rxcsum::PCSD.0),
         setting_of(RowId::Fctrl, 0, fctrl_word(promiscuous)),
         setting_of(RowId::Hlreg0, 0, PAD_AND_CHECK),
-        setting_of(RowId::Dmatxctl, 0, ENABLE),
-        setting_of(RowId::Rxctrl, 0, ENABLE),
+        setting_of(RowId::Dmatxctl, 0, Dmatxctl::TE.0),
+        setting_of(RowId::Rxctrl, 0, Rxctrl::RXEN.0),
     ]
 }
 
@@ -200,12 +193,12 @@ fn opening_long(frame: u16, promiscuous: bool) -> [Setting; 6]
     ensures { result ≡ opening_long frame promiscuous }
 {
     [
-        setting_of(RowId::Rxcsum, 0, TELL_HASH),
+        setting_of(RowId::Rxcsum, 0, Rxcsum::PCSD.0),
         setting_of(RowId::Fctrl, 0, fctrl_word(promiscuous)),
         setting_of(RowId::Maxfrs, 0, 65_536 * u32::from(frame)),
         setting_of(RowId::Hlreg0, 0, PAD_CHECK_AND_JUMBO),
-        setting_of(RowId::Dmatxctl, 0, ENABLE),
-        setting_of(RowId::Rxctrl, 0, ENABLE),
+        setting_of(RowId::Dmatxctl, 0, Dmatxctl::TE.0),
+        setting_of(RowId::Rxctrl, 0, Rxctrl::RXEN.0),
     ]
 }
 

@@ -1,6 +1,7 @@
 //! The sides of a queue, made ready and switched.
 
 ghost use Rattle.std.specs.Prelude.{◌≡◌, ◌<◌, ◌≤◌, ◌-◌, true, false, All, map, IfOk, IfErr, OnOk};
+ghost use Rattle.nic_device.specs.RegisterFile.Bits.{has_bit};
 ghost use Rattle.nic_device.specs.RegisterFile.Queue.{enable_row};
 ghost use Rattle.pmd_access.specs.Begun.{BeganAs};
 ghost use Rattle.pmd_access.specs.QueueMade.{Sees, Sets, IsSeen, IsSet, AreMade, StopsBy, FailsBy, ReadFails};
@@ -13,16 +14,17 @@ use crate::fault::PmdFault;
 use crate::names::Queue;
 use crate::nic::Nic;
 use nic_device::{Dir, RowId};
+use register_bits::{Rxdctl, Txdctl, has_flag};
 use std::alloc::Global;
 
 /// How many polls without the wanted ENABLE a driver makes.
 pub const POLLS: u16 = 1000;
 
-/// RXDCTL and TXDCTL bit 25: the side of the queue is on.
-const ENABLE: u32 = 0x0200_0000;
+/// SRRCTL.DESCTYPE: the type of descriptors. It has three bits, of which this is the lowest.
+const DESCTYPE: u32 = 25;
 
-/// SRRCTL: advanced descriptors with one buffer of 2,048 bytes.
-const ONE_BUFFER: u32 = 0x0200_0002;
+/// SRRCTL: advanced descriptors with one buffer, by DESCTYPE, of two kilobytes, by BSIZEPACKET, the lowest bits.
+const ONE_BUFFER: u32 = (1 << DESCTYPE) | 2;
 
 /// A register of the queue, and the word that it is to have.
 #[derive(Clone, Copy)]
@@ -44,7 +46,7 @@ impl Queue {
     {
         let number = self.number_of(enable_row(side));
         match read(alloc, nic, self.port(), number) {
-            Ok(Some(word)) => Ok(word / ENABLE % 2 == 1),
+            Ok(Some(word)) => Ok(is_enabled(side, word)),
             Ok(None) => Err(PmdFault::DeviceFault),
             Err(refused) => Err(PmdFault::Call(refused)),
         }
@@ -177,7 +179,7 @@ impl Queue {
         ensures refuses { N.refuses nic.new ≡ N.refuses nic.old }
         ensures refusal { IfErr result (λ f. CanFail (N.refuses nic.new) f) }
     {
-        self.set_enable(alloc, nic, side, enable_word(on))
+        self.set_enable(alloc, nic, side, enable_word(side, on))
     }
 
     /// Polls until a side of the queue is on or off as wanted, `polls` times at most. Answers how many are left of
@@ -219,11 +221,27 @@ fn enable_row(side: Dir) -> RowId
     }
 }
 
+/// Whether a side's enable word says that the side is on.
+fn is_enabled(side: Dir, word: u32) -> bool
+    ensures { result ≡ has_bit 25 word }
+{
+    match side {
+        Dir::Rx => has_flag(word, Rxdctl::ENABLE),
+        Dir::Tx => has_flag(word, Txdctl::ENABLE),
+    }
+}
+
 /// The word that asks for a side to be on or off.
-fn enable_word(on: bool) -> u32
+fn enable_word(side: Dir, on: bool) -> u32
     ensures { result ≡ enable_word on }
 {
-    if on { ENABLE } else { 0 }
+    if !on {
+        return 0;
+    }
+    match side {
+        Dir::Rx => Rxdctl::ENABLE.0,
+        Dir::Tx => Txdctl::ENABLE.0,
+    }
 }
 
 /// The words of an empty ring.

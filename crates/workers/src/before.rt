@@ -8,9 +8,7 @@ ghost use Rattle.workers.specs.Quiet.{asks_on, is_enable};
 
 use device_lock::{Entry, Settings, Watched};
 use nic_device::{Event, EventNote, Located, Mode, Place, Port, RowId, locate, place_of};
-
-/// Bit 25 of a word for RXDCTL or TXDCTL: the side of the queue is to be on.
-const ENABLE: u32 = 0x0200_0000;
+use register_bits::{Rxdctl, has_flag};
 
 /// What entries tell.
 #[derive(Clone, Copy, PartialEq, Eq, Debug)]
@@ -47,14 +45,15 @@ fn is_enable(queue: u16, place: Option<Place>) -> bool
     }
 }
 
-/// Whether an event asks the watched queue on, while the queues are parted by a mode.
+/// Whether an event asks the watched queue on, while the queues are parted by a mode: by one bit for receive and
+/// transmit.
 fn asks_on(watched: Watched, mode: Mode, event: &EventNote) -> bool
     ensures { result ≡ asks_on watched mode event.now }
 {
     match event {
         Event::Write(port, number, word) => {
             is_enable(watched.queue, place_at(mode, watched.vfs, *port, *number))
-                && *word / ENABLE % 2 == 1
+                && has_flag(*word, Rxdctl::ENABLE)
         }
         _ => false,
     }

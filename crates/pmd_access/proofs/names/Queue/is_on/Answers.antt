@@ -1,4 +1,4 @@
-use Rattle.std.proofs.Common.{refl, subst}
+use Rattle.std.proofs.Common.{sym, subst}
 use Rattle.nic_device.specs.RegTable.declared.rows.RowId.{RowId}
 use Rattle.nic_device.specs.declared.event.Event.TheVariants as event
 use Rattle.nic_device.specs.declared.event.Port.{Port}
@@ -15,7 +15,7 @@ returns-in-Ok-Some-clause-seen g c =
       number,
       word,
       subst (λ (row : RowId). IsNumberOf q.port row q.queue number) c.enable_row.ensures c.number_of-number.ensures,
-      refl,
+      sym c.is_enabled.ensures,
       subst (λ (p : Port). Adds (g.N.Nic.made c.args.nic.now) (g.N.Nic.made c.read.new.nic) (event.Read p number)
           (reply.Word word)) c.port.ensures (rw c.in-Ok-Some.field-0-is at c.in-Ok-Some.ensures.made),
     )

@@ -32,7 +32,7 @@ const FIRST_ROOM: usize = 65_536;
 pub struct Made {
     /// The queue whose device steps were made before the call, each of them idle. None where they weren't.
     pub rested: Option<u16>,
-    /// The call.
+    /// The call that was made then.
     pub call: Call,
 }
 
@@ -57,7 +57,7 @@ impl Model for Calls {
 }
 
 impl Calls {
-    /// No call.
+    /// A list without calls. It takes no memory.
     pub fn new(alloc: Global) -> Calls
         ensures { result ≡ [] }
     {
@@ -207,7 +207,7 @@ impl Calls {
         Ok(reply)
     }
 
-    /// The same for an idle event, of which this is the note.
+    /// Makes and records an event that changes nothing, whose note is `note`.
     fn keep_locked<const VFS: u8, const FIFO: u16>(
         &mut self,
         alloc: Global,

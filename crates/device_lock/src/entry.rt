@@ -6,9 +6,9 @@ use nic_device::{EventNote, ReplyNote};
 /// A call that a pass made: its event and the reply to it, as notes.
 #[derive(Debug, Drop)]
 pub struct Call {
-    /// The event.
+    /// The event, as a note.
     pub event: EventNote,
-    /// The device's reply.
+    /// The device's reply to it, as a note.
     pub reply: ReplyNote,
 }
 
@@ -17,9 +17,9 @@ pub struct Call {
 pub struct Entry {
     /// The tag of the pass that made it, below 64.
     pub pass: u8,
-    /// The event.
+    /// The event, as a note.
     pub event: EventNote,
-    /// The device's reply.
+    /// The device's reply to it, as a note.
     pub reply: ReplyNote,
 }
 

@@ -26,7 +26,7 @@ pub enum CallFault<E = Event> {
 }
 
 impl<E> CallFault<E> {
-    /// The same refusal with this in its event's place, and the event.
+    /// Replaces the event of a refusal. Returns the refusal with `other` in the event's place, and the event.
     pub fn replace<F>(self, other: F) -> (CallFault<F>, E)
         ensures fault { result.0 ≡ fault_with self other }
         ensures event { result.1 ≡ event_of self }

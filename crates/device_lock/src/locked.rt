@@ -254,7 +254,7 @@ impl<const VFS: u8, const FIFO: u16> Locked<VFS, FIFO> {
         true
     }
 
-    /// The same once nothing is shared any more: each entry stands by itself.
+    /// The parts with one entry for each event, as the owner of a device that is no longer shared has them.
     pub(crate) fn unlock(self) -> Unlocked<VFS, FIFO>
         ensures { result ≡ self.entry }
     {

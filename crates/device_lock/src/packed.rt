@@ -16,7 +16,7 @@ use nic_device::{EventNote, ReplyNote};
 pub struct Rested {
     /// The tag of the pass that made them.
     pub pass: u8,
-    /// The queue.
+    /// The queue, 0 to 127.
     pub queue: u16,
 }
 
@@ -27,9 +27,9 @@ pub struct Packed {
     pub rested: Option<Rested>,
     /// The tag of the pass that made the call.
     pub pass: u8,
-    /// The event.
+    /// The event, as a note.
     pub event: EventNote,
-    /// The device's reply.
+    /// The device's reply to it, as a note.
     pub reply: ReplyNote,
 }
 
@@ -53,7 +53,8 @@ pub(crate) fn hold_room(whole: &mut Vec<Entry>, count: u32, limit: u32) -> bool
     whole.reserve(roomy).is_ok() || whole.reserve(more).is_ok()
 }
 
-/// The same for the entries of the device steps of a queue behind so many others, where there may be so many.
+/// Makes room for the four entries of the idle device steps of a queue, after `count` entries. False where these would
+/// be more than `limit`, or where there is no memory.
 pub(crate) fn has_room(whole: &mut Vec<Entry>, count: u32, limit: u32) -> bool
     ensures same { whole.new.items ≡ whole.old.items }
     ensures more { vec_capacity whole.old ≤ vec_capacity whole.new }

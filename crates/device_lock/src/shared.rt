@@ -53,7 +53,7 @@ pub struct CloseRefused<const VFS: u8, const FIFO: u16> {
     pub fault: CloseFault,
     /// The shared device, unchanged.
     pub shared: Shared<VFS, FIFO>,
-    /// The passes, unchanged.
+    /// The passes that were given to the call, unchanged.
     pub passes: Vec<Pass>,
 }
 

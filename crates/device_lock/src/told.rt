@@ -74,7 +74,7 @@ impl Frames {
         }
     }
 
-    /// After a write.
+    /// The limits on frames after a write of a word to a place. A write to no place changes nothing.
     fn written(self, place: Option<Place>, word: u32) -> Frames
         ensures { result ≡ frames_written self place word }
     {

@@ -55,7 +55,7 @@ impl<const VFS: u8, const FIFO: u16> Unlocked<VFS, FIFO> {
         &self.counts
     }
 
-    /// The same under a lock again.
+    /// The parts as they are kept under a lock.
     pub(crate) fn lock(self) -> Locked<VFS, FIFO>
         ensures { result ≡ self.entry }
     {
@@ -80,7 +80,7 @@ impl<const VFS: u8, const FIFO: u16> Unlocked<VFS, FIFO> {
         }
     }
 
-    /// The device.
+    /// Takes the device out. The history is dropped.
     pub(crate) fn into_device(self) -> Device
         ensures { result ≡ self.entry.device }
     {

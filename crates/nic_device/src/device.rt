@@ -49,8 +49,8 @@ pub struct Parts {
 impl Device {
     /// A device after its reset, with no memory lent, the link up and a blank EEPROM image.
     ///
-    /// Errors: `TooManyVfs` where there are more than `MAX_VFS` virtual functions, `Fifo` where the receive list is
-    /// empty or longer than `MAX_FIFO`, and `OutOfMemory`. A refused configuration takes no memory.
+    /// Errors: `TooManyVfs` where there are more than `MAX_VFS` virtual functions, `Fifo` where the capacity of the
+    /// receive list is 0 or above `MAX_FIFO`, and `OutOfMemory`. A refused configuration takes no memory.
     pub fn new(alloc: Global, config: Config) -> Result<Self, NewFault>
         ensures made { IfOk result (λ device. device ≡ new_state config.vfs config.fifo) }
         ensures fits { OnOk result ((config.vfs ≤ MAX_VFS) × ¬ IsBadFifo config.fifo) }

@@ -31,7 +31,7 @@ impl Model for Bufs {
 }
 
 impl Bufs {
-    /// No Buf.
+    /// A list without blocks. It takes no memory.
     pub fn none() -> Bufs
         ensures { result ≡ [] }
     {
@@ -41,7 +41,7 @@ impl Bufs {
         }
     }
 
-    /// One Buf.
+    /// A list of one block.
     pub fn of(buf: Buf) -> Bufs
         ensures { result ≡ buf ∷ [] }
     {

@@ -33,7 +33,7 @@ pub(crate) fn no_memory(refused: OutOfMemory<Event>) -> CallFault
     CallFault::OutOfMemory(event)
 }
 
-/// The same refusal without its event, which holds no buffer.
+/// A refusal without its event, where the event holds no block.
 pub(crate) fn without_event(fault: CallFault) -> CallFault<()>
     requires { lent_block (event_of fault) ≡ None }
     ensures { result ≡ fault_with fault tt }
@@ -45,7 +45,7 @@ pub(crate) fn without_event(fault: CallFault) -> CallFault<()>
     }
 }
 
-/// The same refusal without its event, and the block that it would have lent.
+/// A refusal without its event, and the block that the event would have lent.
 pub(crate) fn with_block(fault: CallFault) -> (CallFault<()>, Buf)
     requires { is_some (lent_block (event_of fault)) ≡ true }
     ensures fault { result.0 ≡ fault_with fault tt }

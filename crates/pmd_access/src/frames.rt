@@ -6,7 +6,7 @@ ghost use Rattle.pmd_access.specs.Frames.{is_frame, longest_frame, most_blocks, 
 /// The shortest limit on the length of a frame.
 pub const SHORTEST_FRAME: u16 = 1518;
 
-/// The longest.
+/// The longest limit on the length of a frame, in bytes with the frame check sequence.
 pub const LONGEST_FRAME: u16 = 9728;
 
 /// Whether frames of a driver may be of so many bytes.

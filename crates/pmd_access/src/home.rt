@@ -112,7 +112,7 @@ impl Reclaim {
         self.lent.len()
     }
 
-    /// The same with the first block.
+    /// Takes the first of these blocks back from the device, and returns it to the arena.
     fn bring_one<N: Nic>(
         &mut self,
         alloc: Global,

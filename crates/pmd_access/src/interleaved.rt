@@ -40,7 +40,7 @@ impl Model for Interleaved {
 
 /// What an `Interleaved` held at its end.
 pub struct Finished {
-    /// The device.
+    /// The device, as the calls left it.
     pub device: Device,
     /// The calls that were made, foreign and own, with their replies, the oldest first.
     pub calls: Calls,

@@ -52,7 +52,7 @@ impl Queue {
         }
     }
 
-    /// The port.
+    /// The port that the queue is reached by: the physical function, or a virtual one.
     pub fn port(&self) -> Port
         ensures { result ≡ self.now.port }
     {

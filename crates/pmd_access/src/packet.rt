@@ -102,11 +102,11 @@ pub fn give_bufs(arena: &mut Arena, bufs: Bufs)
 /// What is kept of a packet that was handed out or accepted.
 #[derive(Debug, Drop)]
 pub struct Record {
-    /// The packet's bytes.
+    /// The bytes of the packet, without the frame check sequence.
     pub bytes: Octets,
     /// The number of its RSS type.
     pub rss: u8,
-    /// Its RSS hash.
+    /// The RSS hash of the packet, 0 where the descriptor reports none.
     pub hash: u32,
 }
 
@@ -153,7 +153,7 @@ impl Record {
         }
     }
 
-    /// The packet's bytes.
+    /// The bytes of the packet, without the frame check sequence.
     pub fn bytes(&self) -> &[u8]
         ensures { result.now ≡ self.now.bytes }
     {
@@ -167,7 +167,7 @@ impl Record {
         self.rss
     }
 
-    /// Its RSS hash.
+    /// The RSS hash of the packet, 0 where the descriptor reports none.
     pub fn hash(&self) -> u32
         ensures { result ≡ self.now.hash }
     {

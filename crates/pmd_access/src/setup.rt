@@ -188,7 +188,7 @@ fn opening_short(promiscuous: bool) -> [Setting; 5]
     ]
 }
 
-/// The same with frames of so many bytes at most.
+/// Which frames pass, and that receiving and transmitting are on: frames of `frame` bytes at most.
 fn opening_long(frame: u16, promiscuous: bool) -> [Setting; 6]
     ensures { result ≡ opening_long frame promiscuous }
 {

@@ -26,7 +26,7 @@ impl Pfmailbox {
     /// Bit 4: the mailbox is taken from the function.
     pub const RVFU: Pfmailbox = Pfmailbox(0x0000_0010);
 
-    /// All of them.
+    /// The named bits of PFMAILBOX, with their names.
     pub const FLAGS: &'static [Flag<Pfmailbox>] = &[
         Flag {
             name: "STS",
@@ -109,7 +109,7 @@ impl Pvfmailbox {
     /// Bit 7: a reset is done.
     pub const RSTD: Pvfmailbox = Pvfmailbox(0x0000_0080);
 
-    /// All of them.
+    /// The named bits of PVFMAILBOX, with their names.
     pub const FLAGS: &'static [Flag<Pvfmailbox>] = &[
         Flag {
             name: "REQ",
@@ -189,7 +189,7 @@ impl Pfmbicr {
     /// Bits 31 to 16: their acknowledgements.
     pub const VFACK: Pfmbicr = Pfmbicr(0xFFFF_0000);
 
-    /// All of them.
+    /// The named bits of PFMBICR, with their names.
     pub const FLAGS: &'static [Flag<Pfmbicr>] = &[
         Flag {
             name: "VFREQ",

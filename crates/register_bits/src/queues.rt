@@ -14,7 +14,7 @@ impl Srrctl {
     /// Bit 28: a frame that finds no slot is dropped.
     pub const DROP_EN: Srrctl = Srrctl(0x1000_0000);
 
-    /// All of them.
+    /// The named bits of SRRCTL, with their names.
     pub const FLAGS: &'static [Flag<Srrctl>] = &[Flag {
         name: "DROP_EN",
         value: Srrctl::DROP_EN,
@@ -53,7 +53,7 @@ impl Rxdctl {
     /// Bit 25: the receive side of the queue is on.
     pub const ENABLE: Rxdctl = Rxdctl(0x0200_0000);
 
-    /// All of them.
+    /// The named bits of RXDCTL, with their names.
     pub const FLAGS: &'static [Flag<Rxdctl>] = &[Flag {
         name: "ENABLE",
         value: Rxdctl::ENABLE,
@@ -92,7 +92,7 @@ impl Txdctl {
     /// Bit 25: the transmit side of the queue is on.
     pub const ENABLE: Txdctl = Txdctl(0x0200_0000);
 
-    /// All of them.
+    /// The named bits of TXDCTL, with their names.
     pub const FLAGS: &'static [Flag<Txdctl>] = &[Flag {
         name: "ENABLE",
         value: Txdctl::ENABLE,
@@ -131,7 +131,7 @@ impl Tdwbal {
     /// Bit 0: the head is written back.
     pub const HEAD_WB_EN: Tdwbal = Tdwbal(0x0000_0001);
 
-    /// All of them.
+    /// The named bits of TDWBAL, with their names.
     pub const FLAGS: &'static [Flag<Tdwbal>] = &[Flag {
         name: "HEAD_WB_EN",
         value: Tdwbal::HEAD_WB_EN,
@@ -170,7 +170,7 @@ impl Dmatxctl {
     /// Bit 0: frames are sent.
     pub const TE: Dmatxctl = Dmatxctl(0x0000_0001);
 
-    /// All of them.
+    /// The named bits of DMATXCTL, with their names.
     pub const FLAGS: &'static [Flag<Dmatxctl>] = &[Flag {
         name: "TE",
         value: Dmatxctl::TE,
@@ -218,7 +218,7 @@ impl Hlreg0 {
     /// Bit 10: short frames are padded.
     pub const TXPADEN: Hlreg0 = Hlreg0(0x0000_0400);
 
-    /// All of them.
+    /// The named bits of HLREG0, with their names.
     pub const FLAGS: &'static [Flag<Hlreg0>] = &[
         Flag {
             name: "TXCRCEN",

@@ -11,15 +11,15 @@ use bitflags::Flags;
 /// Intel 82599 datasheet, section on the RSS type of a receive descriptor.
 #[derive(Clone, Copy, PartialEq, Eq, Debug)]
 pub enum RssType {
-    /// Nothing.
+    /// Nothing was hashed.
     NoHash = 0,
     /// Addresses and TCP ports of IPv4.
     TcpIpv4 = 1,
-    /// Addresses of IPv4.
+    /// Addresses of IPv4, without ports.
     Ipv4 = 2,
     /// Addresses and TCP ports of IPv6.
     TcpIpv6 = 3,
-    /// Addresses of IPv6.
+    /// Addresses of IPv6, without ports.
     Ipv6 = 5,
     /// Addresses and UDP ports of IPv4.
     UdpIpv4 = 7,

@@ -29,7 +29,7 @@ impl Model for Input {
 }
 
 impl Input {
-    /// No bytes.
+    /// An input without bytes.
     pub(crate) fn empty() -> Input
         ensures { result ≡ [] }
     {

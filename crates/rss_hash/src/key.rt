@@ -35,7 +35,7 @@ impl Key {
         window
     }
 
-    /// The same from the next bit on, given the window from bit `first` on.
+    /// The window of 32 key bits from bit `first + 1` on, given the window from bit `first` on.
     #[tactic(auto, using(crate::proofs::Sliding::bits_from_next))]
     pub(crate) fn next_window(&self, first: usize, window: u32) -> u32
         requires room { first + 32 < 320 }

@@ -10,7 +10,7 @@ use device_lock::{Entry, Settings, Watched};
 use nic_device::{Event, EventNote, Located, Mode, Place, Port, RowId, locate, place_of};
 use register_bits::{Rxdctl, has_flag};
 
-/// What entries tell.
+/// What the entries before a point report: the settings, and whether the watched queue was asked on.
 #[derive(Clone, Copy, PartialEq, Eq, Debug)]
 pub(crate) struct Told {
     /// The device's settings behind them.
@@ -70,7 +70,7 @@ impl Told {
         }
     }
 
-    /// Behind an event.
+    /// What is reported after one more event.
     fn after(self, watched: Watched, event: &EventNote) -> Told
         ensures { result ≡ told_after watched self event.now }
     {

@@ -44,11 +44,11 @@ pub enum RunFault {
 
 /// A run that is refused: why, and what was passed. It can't be dropped.
 pub struct RunRefused {
-    /// Why.
+    /// Why it was refused.
     pub fault: RunFault,
-    /// The jobs, unchanged.
+    /// The jobs that were given to the call, unchanged.
     pub jobs: Vec<Job>,
-    /// The frames, unchanged.
+    /// The frames that were given to the call, unchanged.
     pub frames: Vec<Vec<u8>>,
 }
 

@@ -10,7 +10,7 @@ use std::alloc::{AllocError, Global};
 /// What a worker tells of a packet that it took.
 #[derive(Clone, Copy, PartialEq, Eq, Debug)]
 pub struct Report {
-    /// The job's queue.
+    /// The queue of the job, 0 to 127.
     pub queue: u16,
     /// How many packets the worker took before.
     pub number: u32,

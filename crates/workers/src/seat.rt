@@ -9,7 +9,7 @@ pub trait Task<E> {
     /// Which ends it may come to.
     ghost ends: { Self → E → Type 0 };
 
-    /// Does the task.
+    /// Does the task, and returns its end.
     fn run(self) -> E
         ensures { ends self result };
 
@@ -23,7 +23,7 @@ pub trait Task<E> {
 pub enum Seat<T, E> {
     /// The task isn't done yet.
     Waits(T),
-    /// The task's end.
+    /// The task is done, and this is its end.
     Ended(E),
     /// Nothing: the task is just being done.
     Empty,

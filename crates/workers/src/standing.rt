@@ -8,9 +8,9 @@ use crate::meeting::MAX_MEMBERS;
 pub enum Standing {
     /// Before its first point.
     Outside,
-    /// At this point.
+    /// It waits at this point, or has passed it.
     At(u8),
-    /// It has left.
+    /// It has left the gate for good.
     Left,
 }
 
@@ -63,7 +63,7 @@ impl Standings {
         self.of[member] = standing.moved_to(point);
     }
 
-    /// A member leaves.
+    /// Notes that a member has left the gate for good.
     pub fn leave(&mut self, member: usize)
         requires { member < 17 }
         ensures { self.new.of ≡ slice_set self.old.of member Standing.Left }

@@ -4,6 +4,7 @@ pub use Rattle.pmd_tx.specs as PmdTx
 pub mod Apart
 pub mod Blocks
 pub mod Bursts
+pub mod Counts
 pub mod Driver
 pub mod DriverCalls
 pub mod Ends

@@ -14,6 +14,7 @@ ghost use Rattle.pmd_driver.specs.Stopping.{Stops, StopFails};
 ghost use Rattle.pmd_driver.specs.Blocks.{KeepsBlocks};
 ghost use Rattle.pmd_driver.specs.Bursts.{IsReceiveBurst, IsSendBurst};
 ghost use Rattle.pmd_driver.specs.DriverCalls.{IsReceiveCall, IsSendCall, IsReapCall};
+ghost use Rattle.pmd_driver.specs.Counts.{outstanding_of, vacant_of};
 ghost use Rattle.pmd_driver.specs.Life.{KeepsHalves, RunsOn};
 ghost use Rattle.pmd_driver.specs.Driver.{arena_of, handed_of, accepted_of, goes_back_to, with_arena, halted_of};
 ghost use Rattle.pmd_driver.specs.Driver.{WhereUp, IsDown};
@@ -83,6 +84,37 @@ impl Pmd {
         match &self.rings {
             Rings::Up(running) => running.accepted(),
             Rings::Down(halted) => halted.accepted(),
+        }
+    }
+
+    /// How many blocks of its arena are free.
+    pub fn free_blocks(&self) -> u32
+        ensures { result ≡ free_count (arena_of self.now.rings) }
+    {
+        match &self.rings {
+            Rings::Up(running) => running.free_blocks(),
+            Rings::Down(halted) => halted.free_blocks(),
+        }
+    }
+
+    /// How many more descriptors of the transmit ring can be filled now: a packet takes one for each 2,048 bytes, or
+    /// part of them. 0 where the driver doesn't run.
+    pub fn vacant(&self) -> u16
+        ensures { result ≡ vacant_of self.now.rings }
+    {
+        match &self.rings {
+            Rings::Up(running) => running.vacant(),
+            Rings::Down(_) => 0,
+        }
+    }
+
+    /// How many packets were accepted and aren't reaped yet. 0 where the driver doesn't run.
+    pub fn outstanding(&self) -> u16
+        ensures { result ≡ outstanding_of self.now.rings }
+    {
+        match &self.rings {
+            Rings::Up(running) => running.outstanding(),
+            Rings::Down(_) => 0,
         }
     }
 }

@@ -107,6 +107,13 @@ impl Halted {
     {
         self.transmit.accepted()
     }
+
+    /// How many blocks of its arena are free.
+    pub fn free_blocks(&self) -> u32
+        ensures { result ≡ free_count self.now.arena }
+    {
+        self.arena.free_blocks()
+    }
 }
 
 impl Halted {

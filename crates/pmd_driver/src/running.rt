@@ -8,6 +8,7 @@ ghost use Rattle.pmd_rx.specs.PmdAccess.Begun.{BeganAs};
 ghost use Rattle.pmd_rx.specs.PmdAccess.Bufs.{numbers_of};
 ghost use Rattle.pmd_rx.specs.PmdAccess.Fresh.{IsFresh, bufs_for};
 ghost use Rattle.pmd_rx.specs.Keeping.{blocks_out, handed_blocks, numbers_in, numbers_of_all};
+ghost use Rattle.pmd_tx.specs.Counted.{packets_in};
 ghost use Rattle.pmd_tx.specs.Sends.{returned, IsBack, IsFullWhereTold, IsLate};
 ghost use Rattle.pmd_driver.specs.Apart.{DrivesRings, OwnsSame};
 ghost use Rattle.pmd_driver.specs.Blocks.{KeepsUp};
@@ -82,6 +83,28 @@ impl Running {
         ensures { result.now ≡ self.now.transmit.accepted }
     {
         self.transmit.accepted()
+    }
+
+    /// How many blocks of its arena are free.
+    pub fn free_blocks(&self) -> u32
+        ensures { result ≡ free_count self.now.arena }
+    {
+        self.arena.free_blocks()
+    }
+
+    /// How many more descriptors of the transmit ring can be filled, 0 to 1,023.
+    pub fn vacant(&self) -> u16
+        ensures vacant { result ≡ vacant_in self.now.transmit }
+        ensures few { result < 1024 }
+    {
+        self.transmit.vacant()
+    }
+
+    /// How many packets were accepted and aren't reaped yet.
+    pub fn outstanding(&self) -> u16
+        ensures { result ≡ packets_in self.now.transmit.outstanding }
+    {
+        self.transmit.outstanding()
     }
 }
 
@@ -175,14 +198,6 @@ impl Running {
 }
 
 impl Running {
-    /// How many more segments have room in the transmit ring, 0 to 1,023.
-    pub(crate) fn vacant(&self) -> u16
-        ensures vacant { result ≡ vacant_in self.now.transmit }
-        ensures few { result < 1024 }
-    {
-        self.transmit.vacant()
-    }
-
     /// As `tx`, but it leaves the tail where it is, for a `flush` that moves it behind several packets.
     pub(crate) fn queue_packet<N: Nic>(
         &mut self,

@@ -1,4 +1,5 @@
 pub use Rattle.pmd_access.proofs as PmdAccess
+pub mod Counting
 pub mod Distinct
 pub mod Ending
 pub mod Fields

@@ -1,4 +1,5 @@
 pub use Rattle.pmd_access.specs as PmdAccess
+pub mod Counted
 pub mod Leaving
 pub mod Padding
 pub mod Pieces

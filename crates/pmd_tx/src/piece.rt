@@ -1,6 +1,7 @@
 //! The parts of packets, as descriptors ask for them.
 
 ghost use Rattle.std.specs.Prelude.{◌≡◌, ◌<◌, ◌≤◌, ◌+◌, ◌*◌, ◌++◌, ◌∷◌, length, true};
+ghost use Rattle.std.specs.List.{count_by};
 ghost use Rattle.std.specs.VecDeque.{deque_len, deque_capacity};
 ghost use Rattle.pmd_access.specs.Bufs.{numbers_of};
 ghost use Rattle.pmd_tx.specs.Pieces.{pieces_in, first_last, ends_packet};
@@ -76,4 +77,11 @@ pub(crate) fn first_last(pieces: &VecDeque<Piece>) -> u16
         }
     }
     unreachable!()
+}
+
+/// How many packets end with one of these pieces.
+pub(crate) fn count_ends(pieces: &VecDeque<Piece>) -> usize
+    ensures { result ≡ count_by (λ piece. piece.last) pieces.now.items }
+{
+    pieces.iter().filter(|piece| piece.last).count()
 }

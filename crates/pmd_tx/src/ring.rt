@@ -5,6 +5,7 @@ ghost use Rattle.pmd_access.specs.Accesses.{IsLent, IsWritten};
 ghost use Rattle.pmd_access.specs.Begun.{BeganAs};
 ghost use Rattle.pmd_access.specs.Bufs.{numbers_of};
 ghost use Rattle.pmd_access.specs.Made.{AddsSome};
+ghost use Rattle.pmd_tx.specs.Counted.{packets_in};
 ghost use Rattle.pmd_tx.specs.Plays.{PlaysWith, LooksLast, FaultsBy};
 ghost use Rattle.pmd_tx.specs.Leaving.{lent_of, waiting_of};
 ghost use Rattle.pmd_tx.specs.Pieces.{first_last, places_of};
@@ -20,7 +21,7 @@ ghost use Rattle.pmd_tx.specs.Shown.{MayStart, sent_as, IsUnlent, LendsFirst, ne
 ghost use Rattle.pmd_access.specs.Refusals.{CanFail, CanRefuse};
 
 use crate::padding::{behind, put_back, split};
-use crate::piece::{Piece, add_pieces, first_last, parts_for};
+use crate::piece::{Piece, add_pieces, count_ends, first_last, parts_for};
 use nic_device::{Buf, Port, data_descriptor_word, is_sent, of_halves, second_half};
 use pmd_access::{
     Bufs, CallFault, Nic, Packet, PmdFault, Reclaim, Record, blocks_for, descriptor_address,
@@ -207,6 +208,15 @@ impl TransmitRing {
         ensures few { result < 1024 }
     {
         self.pieces.len() as u16
+    }
+
+    /// How many packets were accepted and aren't reaped yet.
+    #[tactic(auto, using(crate::proofs::Counting::counting))]
+    pub fn outstanding(&self) -> u16
+        ensures packets { result ≡ packets_in self.now.outstanding }
+        ensures few { result < 1024 }
+    {
+        count_ends(&self.pieces) as u16
     }
 
     /// How many of them have their descriptor written.

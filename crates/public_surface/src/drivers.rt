@@ -233,6 +233,18 @@ pub fn pmd_accepted(pmd: &Pmd) -> &[Record] {
     pmd.accepted()
 }
 
+pub fn pmd_free_blocks(pmd: &Pmd) -> u32 {
+    pmd.free_blocks()
+}
+
+pub fn pmd_vacant(pmd: &Pmd) -> u16 {
+    pmd.vacant()
+}
+
+pub fn pmd_outstanding(pmd: &Pmd) -> u16 {
+    pmd.outstanding()
+}
+
 pub fn pmd_stop<N: Nic>(pmd: Pmd, alloc: Global, nic: &mut N) -> Result<Home, StopRefused> {
     pmd.stop(alloc, nic)
 }

@@ -1,0 +1,17 @@
+-- What a driver tells of its transmit ring in numbers.
+use Rattle.std.specs.Prelude.{ℕ}
+use Rattle.pmd_tx.specs.Counted.{packets_in}
+use Rattle.pmd_driver.specs.Bursts.{vacant_in}
+use Rattle.pmd_driver.specs.declared.driver.Rings.{Rings}
+use Rattle.pmd_driver.specs.declared.driver.Rings.TheVariants.{Up, Down}
+
+-- how many more descriptors can be filled, and how many packets were accepted and aren't reaped yet: none where the
+-- driver doesn't run
+
+abbrev pub vacant_of : Rings → ℕ
+vacant_of (Up r) = vacant_in r.transmit
+vacant_of (Down h) = 0
+
+abbrev pub outstanding_of : Rings → ℕ
+outstanding_of (Up r) = packets_in r.transmit.outstanding
+outstanding_of (Down h) = 0

@@ -1,7 +1,7 @@
 //! The poll-mode driver of one queue, put together from its two halves.
 //!
 //! `running.rt` has a driver whose two rings are up: what it receives and sends, and where each block is; `bursts.rt`
-//! sends several packets at once. `rings.rt` has the steps by which they come up, `start.rt` looks for the blocks that
+//! sends several packets at once, and `bytes.rt` reads those in hand. `rings.rt` has the steps by which they come up, `start.rt` looks for the blocks that
 //! they take and has these steps in order, and `driver.rt` is the driver as a whole, `Pmd`: started, running, and
 //! stopped.
 //!
@@ -11,6 +11,7 @@
 #![tactic(auto)]
 
 mod bursts;
+mod bytes;
 mod driver;
 mod ends;
 mod halted;
@@ -20,6 +21,7 @@ mod running;
 mod start;
 mod stopping;
 
+pub use bytes::PacketBytes;
 pub use driver::{Pmd, StopRefused};
 pub use halted::Halted;
 pub use home::{Home, StopFailed};

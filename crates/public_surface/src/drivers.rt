@@ -4,10 +4,10 @@ use crate::typed::is;
 use device_lock::{CallFault, Calls, Pass, Shared};
 use nic_device::{Arena, Device, Event, Mode, Octets, Port, Reply};
 use pmd::{
-    Bufs, Direct, Finished, Home, Interleaved, Nic, Packet, Pmd, PmdFault, Reaped, Record, Rest,
-    Setup, StartRefused, StopRefused, ThroughLock, TxAnswer, TxFault,
+    Bufs, Direct, Finished, Home, Interleaved, Nic, Packet, PacketBytes, Pmd, PmdFault, Reaped,
+    Record, Rest, Setup, StartRefused, StopRefused, ThroughLock, TxAnswer, TxFault,
 };
-use std::alloc::Global;
+use std::alloc::{AllocError, Global};
 use std::sync::Wait;
 
 pub fn pmd_fault(fault: &PmdFault) -> u8 {
@@ -52,6 +52,18 @@ pub fn packet(packet: &Packet) {
     is::<u16>(len);
     is::<u8>(rss);
     is::<u32>(hash);
+}
+
+pub fn packet_read_at(packet: &Packet, at: usize, to: &mut [u8]) -> bool {
+    packet.read_at(at, to)
+}
+
+pub fn packet_byte(packet: &Packet, at: usize) -> Option<u8> {
+    packet.byte(at)
+}
+
+pub fn packet_to_vec(packet: &Packet, alloc: Global) -> Result<Vec<u8>, AllocError> {
+    packet.to_vec(alloc)
 }
 
 pub fn record(record: &Record) {

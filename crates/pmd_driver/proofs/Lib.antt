@@ -10,6 +10,7 @@ pub mod Counted
 pub mod Driving
 pub mod FailedStop
 pub mod Few
+pub mod Filling
 pub mod Finding
 pub mod First
 pub mod Followed

@@ -8,6 +8,7 @@ pub mod Counts
 pub mod Driver
 pub mod DriverCalls
 pub mod Ends
+pub mod Filled
 pub mod Halted
 pub mod Halves
 pub mod Leaving

@@ -1,8 +1,9 @@
 //! The bytes of a packet in hand.
 
-ghost use Rattle.std.specs.Prelude.{◌≡◌, ◌≤◌, ◌+◌, ◌*◌, ◌++◌, ◌↔◌, ℕ, List, true, false, length, take, drop, All, IfOk, slice_get};
+ghost use Rattle.std.specs.Prelude.{◌≡◌, ◌≤◌, ◌+◌, ◌*◌, ◌++◌, ◌↔◌, ℕ, List, true, false, length, take, drop, min, All, IfOk, slice_get};
 ghost use Rattle.nic_device.specs.DmaArena.Block.{IsBlock};
-ghost use Rattle.pmd_rx.specs.PmdAccess.Bufs.{bytes_of};
+ghost use Rattle.nic_device.specs.DmaArena.Memory.{put_bytes};
+ghost use Rattle.pmd_rx.specs.PmdAccess.Bufs.{bytes_of, numbers_of};
 
 use nic_device::BLOCK_BYTES;
 use pmd_rx::{Bufs, Packet, Record};
@@ -63,6 +64,20 @@ impl PacketBytes for Packet {
         } = Record::of(self, room);
         Ok(bytes.into_vec())
     }
+}
+
+/// A packet with these bytes over its first. They fit.
+pub(crate) fn with_bytes(packet: Packet, bytes: &[u8]) -> Packet
+    requires { length bytes.now ≤ min packet.len (2048 * length packet.bufs) }
+    ensures bytes { bytes_of result.bufs ≡ put_bytes (bytes_of packet.bufs) 0 bytes.now }
+    ensures numbers { numbers_of result.bufs ≡ numbers_of packet.bufs }
+    ensures rest { result ≡ record packet { bufs = result.bufs } }
+{
+    let mut filled = packet;
+    if !filled.write_at(0, bytes) {
+        unreachable!()
+    }
+    filled
 }
 
 /// Copies bytes of Bufs from a place on, as many as `to` has, across Bufs.

@@ -15,11 +15,13 @@ ghost use Rattle.pmd_driver.specs.Blocks.{KeepsBlocks};
 ghost use Rattle.pmd_driver.specs.Bursts.{IsReceiveBurst, IsSendBurst};
 ghost use Rattle.pmd_driver.specs.DriverCalls.{IsReceiveCall, IsSendCall, IsReapCall};
 ghost use Rattle.pmd_driver.specs.Counts.{outstanding_of, vacant_of};
+ghost use Rattle.pmd_driver.specs.Filled.{IsMadeOf};
 ghost use Rattle.pmd_driver.specs.Life.{KeepsHalves, RunsOn};
 ghost use Rattle.pmd_driver.specs.Driver.{arena_of, handed_of, accepted_of, goes_back_to, with_arena, halted_of};
 ghost use Rattle.pmd_driver.specs.Driver.{WhereUp, IsDown};
 ghost use Rattle.pmd_rx.specs.PmdAccess.Refusals.{CanFail};
 
+use crate::bytes::with_bytes;
 use crate::halted::Halted;
 use crate::home::{Home, StopFailed};
 use crate::running::Running;
@@ -296,6 +298,26 @@ impl Pmd {
         match &mut self.rings {
             Rings::Up(running) => running.packet(len),
             Rings::Down(halted) => halted.packet(len),
+        }
+    }
+
+    /// A packet of these bytes in free blocks. None where too few blocks are free, or the bytes are above 10,240: nothing
+    /// is taken then.
+    pub fn packet_of(&mut self, bytes: &[u8]) -> Option<Packet>
+        ensures none { IsNone result ↔ ((10240 < length bytes.now)
+            ⊎ (free_count (arena_of self.old.rings) < bufs_for (length bytes.now))) }
+        ensures made { IsMadeOf (arena_of self.old.rings) bytes.now result (arena_of self.new.rings) }
+        ensures rings { self.new.rings ≡ with_arena self.old.rings (arena_of self.new.rings) }
+        ensures blocks { KeepsBlocks self.old.rings [] self.new.rings (numbers_in result) }
+        ensures halves { KeepsHalves self.old.rings self.new.rings }
+        ensures queue { self.new.queue ≡ self.old.queue }
+    {
+        if bytes.len() > 10_240 {
+            return None;
+        }
+        match self.packet(bytes.len() as u16) {
+            Some(packet) => Some(with_bytes(packet, bytes)),
+            None => None,
         }
     }
 

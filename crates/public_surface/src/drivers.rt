@@ -233,6 +233,10 @@ pub fn pmd_packet(pmd: &mut Pmd, len: u16) -> Option<Packet> {
     pmd.packet(len)
 }
 
+pub fn pmd_packet_of(pmd: &mut Pmd, bytes: &[u8]) -> Option<Packet> {
+    pmd.packet_of(bytes)
+}
+
 pub fn pmd_release(pmd: &mut Pmd, packet: Packet) -> Result<(), Packet> {
     pmd.release(packet)
 }

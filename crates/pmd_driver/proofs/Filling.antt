@@ -1,0 +1,74 @@
+-- Packets that are made of bytes.
+use Rattle.std.proofs.Common.{◌≡◌, ℕ, ◌+◌, ◌-◌, ◌*◌, ◌≤◌, List, [], ◌∷◌, ◌++◌, map, replicate, length, drop, Some, refl, sym, ap, ◌∙◌, subst, arith}
+use Rattle.std.proofs.lemmas.List.{drop-replicate, length-map, replicate-append-replicate}
+use Rattle.nic_device.specs.DmaArena.Block.{Block, zero_block}
+use Rattle.nic_device.specs.DmaArena.Memory.{put_bytes}
+use Rattle.nic_device.specs.DmaArena.Numbers.{Numbers}
+use Rattle.pmd_rx.specs.PmdAccess.Bufs.{bytes_of, numbers_of}
+use Rattle.pmd_rx.specs.PmdAccess.Fresh.{IsFresh}
+use Rattle.pmd_rx.specs.PmdAccess.Home.{IsDrawn}
+use Rattle.pmd_rx.specs.PmdAccess.declared.packet.Packet.{Packet}
+use Rattle.pmd_driver.specs.Blocks.{KeepsBlocks}
+use Rattle.pmd_driver.specs.Driver.{arena_of, with_arena}
+use Rattle.pmd_driver.specs.Filled.{IsFilled}
+use Rattle.pmd_driver.specs.Life.{KeepsHalves}
+use Rattle.pmd_driver.specs.declared.driver.Rings.{Rings}
+use Rattle.pmd_driver.specs.declared.driver.Rings.TheVariants.{Up, Down}
+
+-- a driver that stays as it is
+
+pub same_arena : (r : Rings) → r ≡ with_arena r (arena_of r)
+same_arena (Up r) = refl
+same_arena (Down h) = refl
+
+pub same_halves : (r : Rings) → KeepsHalves r r
+same_halves (Up r) = (refl, λ n. refl)
+same_halves (Down h) = tt
+
+pub same_blocks : (r : Rings) → KeepsBlocks r [] r []
+same_blocks r = record { owns = λ n. refl; each = λ n. refl }
+
+-- the bytes of fresh blocks
+zero_bytes : (ns : List ℕ) → bytes_of (map zero_block ns) ≡ replicate (2048 * length ns) 0
+zero_bytes [] = refl
+zero_bytes (n ∷ ns) =
+    let all : 2048 + 2048 * length ns ≡ 2048 * length (n ∷ ns) = omega arith in
+    ap (λ (xs : List ℕ). replicate 2048 0 ++ xs) (zero_bytes ns)
+    ∙ replicate-append-replicate 2048 (2048 * length ns) 0
+    ∙ ap (λ (m : ℕ). replicate m 0) all
+
+-- there are enough of them
+pub fits_fresh : (a b : Numbers) (len : ℕ) (p : Packet) → IsFresh a len (Some p) b
+    → (p.len ≡ len) × (len ≤ 2048 * length p.bufs)
+fits_fresh a b len p (draws, is) =
+    let count = draws.count_is in
+    (ap (λ (x : Packet). x.len) is, omega (arith, count))
+
+same_count : (bs cs : List Block) → numbers_of bs ≡ numbers_of cs → length bs ≡ length cs
+same_count bs cs same =
+    sym (length-map bs (λ (b : Block). b.number))
+    ∙ ap (λ (ns : List ℕ). length ns) same
+    ∙ length-map cs (λ (b : Block). b.number)
+
+-- a fresh packet is filled
+pub filled_of : (a b : Numbers) (bytes : List ℕ) (p q : Packet) → IsFresh a (length bytes) (Some p) b
+    → bytes_of q.bufs ≡ put_bytes (bytes_of p.bufs) 0 bytes → numbers_of q.bufs ≡ numbers_of p.bufs
+    → q ≡ record p { bufs = q.bufs } → IsFilled a bytes q b
+unfolding put_bytes
+filled_of a b bytes p q (draws, is) put numbers rest =
+    let n = length bytes in
+    let count = same_count q.bufs p.bufs numbers in
+    let zeros : bytes_of p.bufs ≡ replicate (2048 * length q.bufs) 0 =
+    ap bytes_of draws.zero ∙ zero_bytes (numbers_of p.bufs)
+    ∙ ap (λ (k : ℕ). replicate (2048 * k) 0) (length-map p.bufs (λ (x : Block). x.number) ∙ sym count) in
+    let none : 0 + n ≡ n = omega arith in
+    let behind : drop (0 + n) (bytes_of p.bufs) ≡ replicate (2048 * length q.bufs - n) 0 =
+    ap (λ (k : ℕ). drop k (bytes_of p.bufs)) none
+    ∙ ap (λ (xs : List ℕ). drop n xs) zeros
+    ∙ drop-replicate n (2048 * length q.bufs) 0 in
+    record {
+      drawn = subst (λ (ns : List ℕ). IsDrawn a ns b) (sym numbers) draws.drawn;
+      count_is = count ∙ draws.count_is;
+      bytes_are = put ∙ ap (λ (xs : List ℕ). bytes ++ xs) behind;
+      rest = rest ∙ ap (λ (x : Packet). record x { bufs = q.bufs }) is;
+    }

@@ -1,0 +1,19 @@
+-- Packets that are made of bytes.
+use Rattle.std.specs.Prelude.{ℕ, ◌≡◌, ◌-◌, ◌*◌, ◌++◌, List, length, replicate, Option, Some, None}
+use Rattle.nic_device.specs.DmaArena.Numbers.{Numbers}
+use Rattle.pmd_rx.specs.PmdAccess.Bufs.{bytes_of, numbers_of}
+use Rattle.pmd_rx.specs.PmdAccess.Fresh.{bufs_for}
+use Rattle.pmd_rx.specs.PmdAccess.Home.{IsDrawn}
+use Rattle.pmd_rx.specs.PmdAccess.declared.packet.Packet.{Packet}
+
+-- a packet of just these bytes was made in free blocks of the arena, and each byte of them behind is 0
+pub record IsFilled (a : Numbers) (bytes : List ℕ) (p : Packet) (b : Numbers) : Type 0 where
+  pub drawn : IsDrawn a (numbers_of p.bufs) b
+  pub count_is : length p.bufs ≡ bufs_for (length bytes)
+  pub bytes_are : bytes_of p.bufs ≡ bytes ++ replicate (2048 * length p.bufs - length bytes) 0
+  pub rest : p ≡ record { bufs = p.bufs; len = length bytes; rss = 0; hash = 0 }
+
+-- so it was, or none was made and nothing taken
+abbrev pub IsMadeOf : Numbers → List ℕ → Option Packet → Numbers → Type 0
+IsMadeOf a bytes None b = b ≡ a
+IsMadeOf a bytes (Some p) b = IsFilled a bytes p b

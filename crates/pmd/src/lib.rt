@@ -6,9 +6,9 @@
 #![tactic(auto)]
 
 pub use pmd_driver::{
-    Bufs, Direct, Finished, Home, Interleaved, LONGEST_FRAME, Nic, POLLS, Packet, PacketBytes, Pmd,
-    PmdFault, Queue, Reaped, Record, Rest, SHORTEST_FRAME, Setup, StartRefused, StopRefused,
-    ThroughLock, TxAnswer, TxFault, history_of, marked_history, pf_setup,
+    Arrived, Bufs, Direct, Finished, Home, Interleaved, LONGEST_FRAME, Nic, POLLS, Packet,
+    PacketBytes, Pmd, PmdFault, Queue, Reaped, Record, Rest, SHORTEST_FRAME, Setup, StartRefused,
+    StopRefused, ThroughLock, TxAnswer, TxFault, arrive, history_of, marked_history, pf_setup,
 };
 pub use workers::{
     Collector, Fed, Gate, Given, Job, Lockstep, MAX_MEMBERS, Order, Ran, Report, RunFault,

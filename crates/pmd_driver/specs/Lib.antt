@@ -2,6 +2,7 @@ pub use Rattle.pmd_rx.specs.PmdAccess
 pub use Rattle.pmd_rx.specs as PmdRx
 pub use Rattle.pmd_tx.specs as PmdTx
 pub mod Apart
+pub mod Arriving
 pub mod Blocks
 pub mod Bursts
 pub mod Counts

@@ -10,6 +10,7 @@
 //! of them a ring or blocks on their way, and `stopping.rt` what is done once both rings are closed.
 #![tactic(auto)]
 
+mod arriving;
 mod bursts;
 mod bytes;
 mod driver;
@@ -21,6 +22,7 @@ mod running;
 mod start;
 mod stopping;
 
+pub use arriving::{Arrived, arrive};
 pub use bytes::PacketBytes;
 pub use driver::{Pmd, StopRefused};
 pub use halted::Halted;

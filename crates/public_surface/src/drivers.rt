@@ -2,10 +2,10 @@
 
 use crate::typed::is;
 use device_lock::{CallFault, Calls, Pass, Shared};
-use nic_device::{Arena, Device, Event, Mode, Octets, Port, Reply};
+use nic_device::{Arena, Device, Event, Mode, Octets, Port, Reply, Why};
 use pmd::{
-    Bufs, Direct, Finished, Home, Interleaved, Nic, Packet, PacketBytes, Pmd, PmdFault, Reaped,
-    Record, Rest, Setup, StartRefused, StopRefused, ThroughLock, TxAnswer, TxFault,
+    Arrived, Bufs, Direct, Finished, Home, Interleaved, Nic, Packet, PacketBytes, Pmd, PmdFault,
+    Reaped, Record, Rest, Setup, StartRefused, StopRefused, ThroughLock, TxAnswer, TxFault,
 };
 use std::alloc::{AllocError, Global};
 use std::sync::Wait;
@@ -190,6 +190,17 @@ pub fn finished(finished: &Finished) {
     is::<Calls>(calls);
     is::<Vec<Reply>>(foreign);
     is::<Vec<Vec<Event>>>(schedule);
+}
+
+pub fn arrived(arrived: &Arrived) {
+    match arrived {
+        Arrived::Taken => {}
+        Arrived::Dropped(why) => is::<Why>(why),
+    }
+}
+
+pub fn arrive<N: Nic>(alloc: Global, nic: &mut N, frame: &[u8]) -> Result<Arrived, PmdFault> {
+    pmd::arrive(alloc, nic, frame)
 }
 
 pub fn pf_setup<N: Nic>(alloc: Global, nic: &mut N, setup: &Setup) -> Result<(), PmdFault> {

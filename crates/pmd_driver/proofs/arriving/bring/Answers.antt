@@ -1,0 +1,18 @@
+use Rattle.nic_device.specs.declared.event.Event.TheVariants as event
+use Rattle.pmd_rx.proofs.PmdAccess.Refusals.{without_refuses}
+use Rattle.pmd_rx.proofs.PmdAccess.Replying.{adds_as}
+use Rattle.pmd_driver.proofs.arriving.bring.Goals as goal
+
+pub returns-in-Done-clause-arrives : goal.returns-in-Done-clause-arrives
+returns-in-Done-clause-arrives g c =
+    adds_as (g.N.Nic.made c.args.nic.now) (g.N.Nic.made c.call.new.self) (event.Arrive c.args.frame) _ _ c.in-Done.is
+    c.in-Ok.ensures.made
+
+pub returns-in-Dropped-clause-arrives : goal.returns-in-Dropped-clause-arrives
+returns-in-Dropped-clause-arrives g c =
+    adds_as (g.N.Nic.made c.args.nic.now) (g.N.Nic.made c.call.new.self) (event.Arrive c.args.frame) _ _
+    c.in-Dropped.is c.in-Ok.ensures.made
+
+pub returns-in-Err-clause-refusal : goal.returns-in-Err-clause-refusal
+returns-in-Err-clause-refusal g c =
+    rw c.without_event.ensures (without_refuses c.in-Err.fault tt _ c.in-Err.ensures.refusal)

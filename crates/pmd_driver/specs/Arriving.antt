@@ -1,0 +1,26 @@
+-- Frames that arrive.
+use Rattle.std.specs.Prelude.{ℕ, List, ⊤}
+use Rattle.nic_device.specs.DmaArena.Block.{Block}
+use Rattle.nic_device.specs.declared.event.Event.TheVariants as event
+use Rattle.nic_device.specs.declared.event.Reply.{Reply}
+use Rattle.nic_device.specs.declared.event.Reply.TheVariants as reply
+use Rattle.pmd_rx.specs.DeviceLock.declared.entry.Call.{Call}
+use Rattle.pmd_rx.specs.PmdAccess.Made.{Adds}
+use Rattle.pmd_rx.specs.PmdAccess.declared.fault.PmdFault.{PmdFault}
+use Rattle.pmd_rx.specs.PmdAccess.declared.fault.PmdFault.TheVariants as fault
+use Rattle.pmd_driver.specs.declared.arriving.Arrived.{Arrived}
+use Rattle.pmd_driver.specs.declared.arriving.Arrived.TheVariants.{Taken, Dropped}
+
+-- the reply that tells what became of a frame
+abbrev pub reply_of : Arrived → Reply Block
+reply_of Taken = reply.Done
+reply_of (Dropped why) = reply.Dropped why
+
+-- behind some steps of the device a frame of these bytes arrived, and this became of it
+abbrev pub Arrives : List Call → List Call → List ℕ → Arrived → Type 0
+Arrives old new frame arrived = Adds old new (event.Arrive frame) (reply_of arrived)
+
+-- the way to the device refused a call
+abbrev pub IsRefusal : PmdFault → Type 0
+IsRefusal (fault.Call refusal) = ⊤
+IsRefusal other = ⊥

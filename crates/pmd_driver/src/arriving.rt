@@ -1,0 +1,70 @@
+//! A frame that arrives from the link.
+
+ghost use Rattle.std.specs.Prelude.{◌≡◌, None, IfOk, IfErr, OnErr};
+ghost use Rattle.nic_device.specs.Step.{lent_block};
+ghost use Rattle.pmd_rx.specs.DeviceLock.Fault.{event_of, fault_with};
+ghost use Rattle.pmd_rx.specs.PmdAccess.Begun.{BeganAs};
+ghost use Rattle.pmd_rx.specs.PmdAccess.Made.{AddsSome};
+ghost use Rattle.pmd_rx.specs.PmdAccess.Refusals.{CanFail};
+ghost use Rattle.pmd_driver.specs.Arriving.{Arrives, IsRefusal};
+
+use nic_device::{Event, Octets, Reply, Why};
+use pmd_rx::{CallFault, Nic, PmdFault};
+use std::alloc::Global;
+
+/// What became of a frame that arrived.
+#[derive(Clone, Copy, PartialEq, Eq, Debug)]
+pub enum Arrived {
+    /// The device took it in: it waits in the receive list.
+    Taken,
+    /// The device dropped it.
+    Dropped(Why),
+}
+
+/// Lets a frame of these bytes arrive from the link, without its frame check sequence.
+///
+/// `Call` where the call was refused, or there was no memory for a copy of the bytes: no frame arrived.
+pub fn arrive<N: Nic>(alloc: Global, nic: &mut N, frame: &[u8]) -> Result<Arrived, PmdFault>
+    ensures arrives { IfOk result (λ arrived. Arrives (N.made nic.old) (N.made nic.new) frame.now arrived) }
+    ensures refused { OnErr result (AddsSome (N.made nic.old) (N.made nic.new)) }
+    ensures call { IfErr result (λ f. IsRefusal f) }
+    ensures began { BeganAs N.began nic.old nic.new }
+    ensures refuses { N.refuses nic.new ≡ N.refuses nic.old }
+    ensures refusal { IfErr result (λ f. CanFail (N.refuses nic.new) f) }
+{
+    match frame.to_vec(alloc) {
+        Ok(bytes) => bring(alloc, nic, Octets::of(bytes)),
+        Err(_) => Err(PmdFault::Call(CallFault::OutOfMemory(()))),
+    }
+}
+
+/// Lets a frame arrive.
+fn bring<N: Nic>(alloc: Global, nic: &mut N, frame: Octets) -> Result<Arrived, PmdFault>
+    ensures arrives { IfOk result (λ arrived. Arrives (N.made nic.old) (N.made nic.new) frame arrived) }
+    ensures refused { OnErr result (AddsSome (N.made nic.old) (N.made nic.new)) }
+    ensures call { IfErr result (λ f. IsRefusal f) }
+    ensures began { BeganAs N.began nic.old nic.new }
+    ensures refuses { N.refuses nic.new ≡ N.refuses nic.old }
+    ensures refusal { IfErr result (λ f. CanFail (N.refuses nic.new) f) }
+{
+    match nic.call(alloc, Event::Arrive(frame)) {
+        Ok(reply) => match reply {
+            Reply::Done => Ok(Arrived::Taken),
+            Reply::Dropped(why) => Ok(Arrived::Dropped(why)),
+            _ => unreachable!(),
+        },
+        Err(fault) => Err(PmdFault::Call(without_event(fault))),
+    }
+}
+
+/// The same refusal without its event, which lends no block.
+fn without_event(fault: CallFault) -> CallFault<()>
+    requires { lent_block (event_of fault) ≡ None }
+    ensures { result ≡ fault_with fault tt }
+{
+    let (fault, event) = fault.replace(());
+    match event.into_buf() {
+        None => fault,
+        Some(_buf) => unreachable!(),
+    }
+}

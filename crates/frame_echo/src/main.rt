@@ -1,20 +1,27 @@
 //! A driver of one queue: a frame arrives, the driver receives it, and sends it back.
-//!
-//! This is a program of one's own, as `docs/driver.md` goes through it. `failure.rt` has why it
-//! fails, and `ending.rt` how what can't be dropped is ended.
 #![tactic(auto)]
 
-mod ending;
-mod failure;
+use nic_device::{Arena, Config, Device, Mode, Parts, Port};
+use pmd::{Arrived, Direct, Home, Packet, Pmd, PmdFault, Setup, StartRefused, StopRefused};
+use std::collections::VecDeque;
+use thiserror::Error;
 
-use ending::{end_device, end_home, end_rest, leave};
-use failure::Failure;
-use nic_device::{Arena, Config, Device, Event, Mode, Octets, Port, Reply};
-use pmd::{
-    Direct, Nic, Packet, Pmd, PmdFault, Setup, StartRefused, StopRefused, TxAnswer, TxFault,
-    pf_setup,
-};
-use std::alloc::Global;
+/// Why the program fails.
+#[derive(Debug, Drop, Error)]
+enum Failure {
+    #[error("there was no memory for a device, or for the blocks")]
+    NoMemory,
+    #[error("the driver: {0:?}")]
+    Driver(#[from] PmdFault),
+    #[error("the frame wasn't sent back")]
+    Unsent,
+    #[error("a block isn't home")]
+    Away,
+    #[error("no line was written")]
+    Unwritten(#[from] std::io::Error),
+}
+
+type Done = Result<(), Failure>;
 
 /// A TCP segment over IPv4 of a published vector of the RSS hash, padded to 60 bytes.
 const FRAME: &[u8] =
@@ -22,122 +29,89 @@ const FRAME: &[u8] =
 \x00\x00\x40\x06\x00\x00\x42\x09\x95\xbb\xa1\x8e\x64\x50\x0a\xea\x06\xe6\x00\x00\
 \x00\x00\x00\x00\x00\x00\x50\x10\x00\x00\x00\x00\x00\x00\x00\x00\x00\x00\x00\x00";
 
-/// The key of the published vectors.
-const KEY: [u8; 40] = [
-    0x6D, 0x5A, 0x56, 0xDA, 0x25, 0x5B, 0x0E, 0xC2, 0x41, 0x67, 0x25, 0x3D, 0x43, 0xA3, 0x8F, 0xB0,
-    0xD0, 0xCA, 0x2B, 0xCB, 0xAE, 0x7B, 0x30, 0xB4, 0x77, 0xCB, 0x2D, 0xA3, 0x80, 0x30, 0xF2, 0x0C,
-    0x6A, 0x42, 0xB7, 0x3B, 0xBE, 0xAC, 0x01, 0xFA,
-];
-
-/// Frames to any address are let in; TCP over IPv4 is hashed, and each entry of the redirection table is queue 0.
+/// Frames to any address are let in; TCP over IPv4 is hashed by the key of the published vectors, and goes to queue 0.
 const SETUP: Setup = Setup {
     mode: Mode::Off,
     mrqc: 0x0001_0001,
-    key: KEY,
+    key: *b"\x6D\x5A\x56\xDA\x25\x5B\x0E\xC2\x41\x67\x25\x3D\x43\xA3\x8F\xB0\xD0\xCA\x2B\xCB\
+\xAE\x7B\x30\xB4\x77\xCB\x2D\xA3\x80\x30\xF2\x0C\x6A\x42\xB7\x3B\xBE\xAC\x01\xFA",
     reta: [0; 128],
     promiscuous: true,
     frame: 1518,
 };
 
-fn main(rt: HostRuntime) -> Result<(), Failure> {
-    let device = Device::new(rt.alloc(), Config { vfs: 0, fifo: 64 })?;
-    let mut nic = Direct::new(rt.alloc(), device, 0);
+fn main(rt: HostRuntime) -> Done {
+    let made = Device::new(rt.alloc(), Config { vfs: 0, fifo: 64 });
+    let mut nic = Direct::new(rt.alloc(), made.map_err(|_| Failure::NoMemory)?, 0);
     let driven = drive(&rt, &mut nic);
     let (device, _calls) = nic.finish();
-    let sent = end_device(device);
+    let Parts {
+        memory,
+        frames,
+        image: _,
+    } = device.dismantle();
+    let ended = memory.finish().map_err(|it| leave(it, Failure::Away));
     driven?;
-    for (queue, frame) in sent?.iter() {
+    for (queue, frame) in frames.iter() {
         println!(rt; "queue {queue} sent {} bytes", frame.bytes().len())?;
     }
-    Ok(())
+    ended
 }
 
 /// Sets the device up, and drives its queue 0 from a start to a stop.
-fn drive(rt: &HostRuntime, nic: &mut Direct) -> Result<(), Failure> {
+fn drive(rt: &HostRuntime, nic: &mut Direct) -> Done {
     let alloc = rt.alloc();
-    pf_setup(alloc, nic, &SETUP)?;
-    let Ok(arena) = Arena::new(alloc, 4, 32) else {
-        return Err(Failure::NoArena);
+    pmd::pf_setup(alloc, nic, &SETUP)?;
+    let arena = Arena::new(alloc, 4, 32).map_err(|_| Failure::NoMemory)?;
+    let mut pmd = match Pmd::start(alloc, nic, Port::Pf, 0, 8, SETUP.frame, arena) {
+        Ok(pmd) => pmd,
+        Err(StartRefused { fault, rest }) => return Err(leave(rest, Failure::Driver(fault))),
     };
-    match Pmd::start(alloc, nic, Port::Pf, 0, 8, SETUP.frame, arena) {
-        Ok(mut pmd) => {
-            let echoed = echo(rt, nic, &mut pmd);
-            stop(rt, nic, pmd)?;
-            echoed
-        }
-        Err(StartRefused { fault, rest }) => {
-            end_rest(rest);
-            Err(Failure::Driver(fault))
-        }
-    }
-}
-
-/// Lets a frame arrive, receives it, sends it back, and takes its block home.
-fn echo(rt: &HostRuntime, nic: &mut Direct, pmd: &mut Pmd) -> Result<(), Failure> {
-    let alloc = rt.alloc();
-    println!(rt; "started")?;
-    arrive(alloc, nic, FRAME)?;
-    let Some(packet) = pmd.rx(alloc, nic)? else {
-        return Err(Failure::NoPacket);
-    };
-    let told = println!(rt;
-        "received {} bytes, RSS type {}, hash {:#010x}",
-        packet.len, packet.rss, packet.hash
-    );
-    send(alloc, nic, pmd, packet)?;
-    told?;
-    for _look in 0..10 {
-        if pmd.reap(alloc, nic)?.idle {
-            return Ok(println!(rt; "reaped")?);
-        }
-    }
-    Err(Failure::Outstanding)
-}
-
-/// Lets a frame arrive from the link.
-fn arrive(alloc: Global, nic: &mut Direct, frame: &[u8]) -> Result<(), Failure> {
-    let event = Event::Arrive(Octets::of(frame.to_vec(alloc)?));
-    match nic.call(alloc, event) {
-        Ok(Reply::Done) => Ok(()),
-        Ok(Reply::Dropped(why)) => Err(Failure::Dropped(why)),
-        Ok(_other) => unreachable!(),
-        Err(fault) => {
-            let (fault, event) = fault.replace(());
-            match event.into_buf() {
-                None => Err(Failure::Driver(PmdFault::Call(fault))),
-                Some(_buf) => unreachable!(),
-            }
-        }
-    }
-}
-
-/// Sends a packet. One that isn't accepted is released.
-fn send(alloc: Global, nic: &mut Direct, pmd: &mut Pmd, packet: Packet) -> Result<(), Failure> {
-    let (back, failure) = match pmd.tx(alloc, nic, packet) {
-        Ok(TxAnswer::Taken) => return Ok(()),
-        Ok(TxAnswer::RingFull(packet)) => (Some(packet), Failure::RingFull),
-        Err(TxFault { fault, packet }) => (packet, Failure::Driver(fault)),
-    };
-    if let Some(packet) = back {
+    let mut packets = VecDeque::new(alloc);
+    let echoed = echo(rt, nic, &mut pmd, &mut packets);
+    while let Some(packet) = packets.pop_front() {
         if let Err(packet) = pmd.release(packet) {
-            leave(packet);
+            leave(packet, Failure::Away);
         }
     }
-    Err(failure)
+    packets.destroy_empty();
+    let Home {
+        arena,
+        lost,
+        handed,
+        accepted,
+    } = match pmd.stop(alloc, nic) {
+        Ok(home) => home,
+        Err(StopRefused { fault, pmd }) => return Err(leave(pmd, Failure::Driver(fault))),
+    };
+    arena.close().map_err(|it| leave(it, Failure::Away))?;
+    let (handed, accepted) = (handed.len(), accepted.len());
+    println!(rt; "stopped: handed out {handed}, accepted {accepted}, lost {lost}")?;
+    echoed
 }
 
-/// Stops the driver, and tells what it leaves.
-fn stop(rt: &HostRuntime, nic: &mut Direct, pmd: Pmd) -> Result<(), Failure> {
-    match pmd.stop(rt.alloc(), nic) {
-        Ok(home) => {
-            let (handed, accepted, lost) = (home.handed.len(), home.accepted.len(), home.lost);
-            end_home(home)?;
-            println!(rt; "stopped: handed out {handed}, accepted {accepted}, lost {lost}")?;
-            Ok(())
-        }
-        Err(StopRefused { fault, pmd }) => {
-            leave(pmd);
-            Err(Failure::Driver(fault))
-        }
+/// Lets a frame arrive, and polls: what came is sent back, and the blocks of what was sent are freed.
+fn echo(rt: &HostRuntime, nic: &mut Direct, pmd: &mut Pmd, packets: &mut VecDeque<Packet>) -> Done {
+    println!(rt; "started")?;
+    let arrived = pmd::arrive(rt.alloc(), nic, FRAME)?;
+    for _look in 0..10 {
+        let _came = pmd.rx_burst(rt.alloc(), nic, 32, packets)?;
+        let _gone = pmd.tx_burst(rt.alloc(), nic, 0, packets)?;
+        let _freed = pmd.reap(rt.alloc(), nic)?;
     }
+    for it in pmd.handed() {
+        let (len, rss, hash) = (it.bytes.bytes().len(), it.rss, it.hash);
+        println!(rt; "received {len} bytes, RSS type {rss}, hash {hash:#010x}")?;
+    }
+    if arrived != Arrived::Taken || pmd.accepted().is_empty() || pmd.outstanding() > 0 {
+        return Err(Failure::Unsent);
+    }
+    Ok(println!(rt; "reaped")?)
+}
+
+/// Leaves what can't be dropped and couldn't be ended: its memory is lost to the process, which fails and ends next.
+fn leave<T>(value: T, failure: Failure) -> Failure {
+    // The value is moved in, so that nobody uses it again, and nothing else refers to what it owns.
+    let _left = unsafe { std::mem::ManuallyDrop::new_unchecked(value) };
+    failure
 }

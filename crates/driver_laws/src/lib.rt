@@ -141,12 +141,12 @@ pub fn waiting_look_leaves_some_unsent()
     ensures told { WaitingIsNotAllAsTold }
 {}
 
-/// The same of a `pmd_driver::Pmd` by what its calls tell alone: `start` answered it, and then came calls of `rx`,
-/// `tx`, `reap`, `rx_burst`, `tx_burst`, `packet` and `release`, in any order and with whatever answers, and between
-/// them harmless calls through the same pass, as those by which its author lets frames arrive. The packets that it
-/// handed out are a prefix of those delivered, and where `rx` answers none, or `rx_burst` 0 of some, all of those that
-/// were delivered before its last look, and so before its first event; and the frames sent are a prefix of those that
-/// it accepted, and all of them where none is outstanding, as where `reap` answers so.
+/// The order of packets and frames by what the calls of a `pmd_driver::Pmd` tell alone: `start` answered it, and then
+/// came calls of `rx`, `tx`, `reap`, `rx_burst`, `tx_burst`, `packet` and `release`, in any order and with whatever
+/// answers, and between them harmless calls through the same pass, as those by which its author lets frames arrive. The
+/// packets that it handed out are a prefix of those delivered, and where `rx` answers none, or `rx_burst` 0 of some,
+/// all of those that were delivered before its last look, and so before its first event; and the frames sent are a
+/// prefix of those that it accepted, and all of them where none is outstanding, as where `reap` answers so.
 pub fn driver_in_order()
     ensures handed { told.HandedIsPrefix }
     ensures none { told.NoneIsAllBefore }
@@ -155,7 +155,7 @@ pub fn driver_in_order()
     ensures idle { told.IdleIsAllSent }
 {}
 
-/// The same where between the driver's calls, and before its start, its author makes whatever calls of the device, as
+/// That order where between the driver's calls, and before its start, its author makes whatever calls of the device, as
 /// those of a second driver of another queue. What is asked of these is what is asked of other passes: that the queue
 /// is left alone by the history as it is told anew, with another pass's tag for each of them. So they write no row of
 /// the queue, no setting, and reset not its pool; and they lend, take and poke no block that the driver itself lends.

@@ -6,7 +6,8 @@ use std::sync::atomic::{AtomicU64, Ordering};
 use std::sync::{Mutex, Wait};
 use std::thread;
 
-/// How often a task looks whether the others have come.
+/// How often a task looks whether the others have come. After each look the others may run, so that a busy machine
+/// gives them the time.
 const TURNS: u32 = 1_000_000;
 
 /// How many points a worker comes to.
@@ -29,6 +30,7 @@ pub fn meets<R: Wait>(rt: &R, come: &Mutex<u64>) -> bool {
         if *come.lock(rt) >= 2 {
             return true;
         }
+        thread::yield_now();
     }
     false
 }

@@ -62,7 +62,8 @@ module _ (bs : List Block) (whole : All (λ (b : Block). IsBlock b) bs) (k : ℕ
 -- bytes of a Buf are put behind those that were copied
 pub copies_one : (bs : List Block) (k : ℕ) (b : Block) (at f start more : ℕ) (old now piece new : List ℕ)
     → All (λ (x : Block). IsBlock x) bs → k < length bs → b ≡ get_or bs k b → at + length old ≤ 2048 * length bs
-    → f ≡ min (length old) (2048 * k - at) → start ≡ min (at - 2048 * k) 2048 → more ≡ min (length old - f) (2048 - start)
+    → f ≡ min (length old) (2048 * k - at) → start ≡ min (at - 2048 * k) 2048
+    → more ≡ min (length old - f) (2048 - start)
     → now ≡ take f (drop at (bytes_of bs)) ++ drop f old → piece ≡ take more (drop start b.bytes)
     → new ≡ take f now ++ piece ++ drop (f + length piece) now
     → new ≡ take (f + more) (drop at (bytes_of bs)) ++ drop (f + more) old

@@ -57,7 +57,7 @@ fn bring<N: Nic>(alloc: Global, nic: &mut N, frame: Octets) -> Result<Arrived, P
     }
 }
 
-/// The same refusal without its event, which lends no block.
+/// A refusal without its event, where the event lends no block.
 fn without_event(fault: CallFault) -> CallFault<()>
     requires { lent_block (event_of fault) ≡ None }
     ensures { result ≡ fault_with fault tt }

@@ -81,7 +81,8 @@ impl Running {
         }
     }
 
-    /// The same as `tx_burst`, where room was made.
+    /// Accepts packets from the front as long as slots are vacant, and moves the tail once, as `tx_burst` does after it
+    /// has reaped.
     fn send_burst<N: Nic>(
         &mut self,
         alloc: Global,

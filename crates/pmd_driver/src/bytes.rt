@@ -13,7 +13,7 @@ use std::alloc::{AllocError, Global};
 /// A packet in hand is read as it is written, by places of its bytes: the first is at 0. They are its first `len`, or
 /// all that its Bufs have, where these are fewer.
 pub trait PacketBytes {
-    /// The bytes.
+    /// The bytes of the packet, the first at place 0.
     ghost content: { Self → List ℕ };
 
     /// Copies its bytes from a place on, as many as `to` has. Where they would go beyond the last, nothing is copied,

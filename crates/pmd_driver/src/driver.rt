@@ -33,7 +33,7 @@ use std::marker::Model;
 
 /// The rings of a driver.
 pub(crate) enum Rings {
-    /// They are up.
+    /// Both rings are up: the driver runs.
     Up(Running),
     /// They are on their way down.
     Down(Halted),
@@ -55,7 +55,7 @@ impl Model for Pmd {
 
 /// A stop that is refused.
 pub struct StopRefused {
-    /// Why.
+    /// Why it was refused.
     pub fault: PmdFault,
     /// The driver, which doesn't run any more. `stop` may be tried again.
     pub pmd: Pmd,
@@ -301,8 +301,8 @@ impl Pmd {
         }
     }
 
-    /// A packet of these bytes in free blocks. None where too few blocks are free, or the bytes are above 10,240: nothing
-    /// is taken then.
+    /// A packet of these bytes in free blocks. None where too few blocks are free, or where there are more than 10,240
+    /// bytes: nothing is taken then.
     pub fn packet_of(&mut self, bytes: &[u8]) -> Option<Packet>
         ensures none { IsNone result ↔ ((10240 < length bytes.now)
             ⊎ (free_count (arena_of self.old.rings) < bufs_for (length bytes.now))) }

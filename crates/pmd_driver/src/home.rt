@@ -18,8 +18,8 @@ pub struct Home {
 
 /// A stop that failed: why, and the driver where it was left. It may be tried again.
 pub struct StopFailed {
-    /// Why it failed.
+    /// Why the stop failed.
     pub fault: PmdFault,
-    /// The driver.
+    /// The driver, which doesn't run any more. Blocks may still be lent.
     pub halted: Halted,
 }

@@ -1,9 +1,9 @@
 //! The poll-mode driver of one queue, put together from its two halves.
 //!
 //! `running.rt` has a driver whose two rings are up: what it receives and sends, and where each block is; `bursts.rt`
-//! sends several packets at once, and `bytes.rt` reads those in hand. `rings.rt` has the steps by which they come up, `start.rt` looks for the blocks that
-//! they take and has these steps in order, and `driver.rt` is the driver as a whole, `Pmd`: started, running, and
-//! stopped.
+//! sends several packets at once, `bytes.rt` reads the bytes of a packet, and `arriving.rt` lets a frame arrive.
+//! `rings.rt` has the steps by which the rings come up, `start.rt` looks for the blocks that they take and has these
+//! steps in order, and `driver.rt` is the driver as a whole, `Pmd`: started, running, and stopped.
 //!
 //! `Halted` is a driver whose start went wrong with a block lent, or whose stop has begun. `Halted::stop` switches
 //! both sides of its queue off and takes its blocks home; it may be tried again. `ends.rt` has its two halves, each

@@ -27,7 +27,7 @@ use std::alloc::Global;
 
 /// What a start leaves that is refused.
 pub enum Rest {
-    /// Nothing was lent.
+    /// The arena, of which no block was lent.
     Home(Home),
     /// A driver that doesn't run, with what was lent. `stop` takes it home.
     Running(Pmd),
@@ -35,9 +35,9 @@ pub enum Rest {
 
 /// A start that is refused.
 pub struct StartRefused {
-    /// Why.
+    /// Why it was refused.
     pub fault: PmdFault,
-    /// What is left.
+    /// What has to be ended: an arena, or a driver that doesn't run.
     pub rest: Rest,
 }
 

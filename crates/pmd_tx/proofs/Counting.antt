@@ -14,7 +14,8 @@ ends-paired [] [] all = refl
 ends-paired [] (q ∷ qs) all = absurd all
 ends-paired (p ∷ ps) [] all = absurd all
 ends-paired (p ∷ ps) (q ∷ qs) all =
-    sum_by-cons (λ (s : Segment). cond s.part.last 1 0) (record { block = p.block; part = q }) (paired (places_of ps) qs)
+    sum_by-cons (λ (s : Segment). cond s.part.last 1 0) (record { block = p.block; part = q })
+    (paired (places_of ps) qs)
     ∙ ap (λ (b : Bool). cond b 1 0 + packets_in (paired (places_of ps) qs)) (sym all.0.last)
     ∙ ap (λ (n : ℕ). cond p.last 1 0 + n) (ends-paired ps qs all.1)
     ∙ sym (sum_by-cons (λ (x : Piece). cond x.last 1 0) p ps)

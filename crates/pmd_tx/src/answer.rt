@@ -4,7 +4,7 @@ use pmd_access::{Packet, PmdFault};
 
 /// What the driver answers to a packet.
 pub enum TxAnswer {
-    /// It is accepted.
+    /// The packet is accepted: it will be sent, and its blocks are the driver's.
     Taken,
     /// As many packets are outstanding as the ring has room for. This one comes back.
     RingFull(Packet),
@@ -12,13 +12,13 @@ pub enum TxAnswer {
 
 /// Why a packet is not sent now. It comes back where its block wasn't lent; else it is accepted.
 pub struct TxFault {
-    /// Why.
+    /// Why it isn't sent now.
     pub fault: PmdFault,
     /// The packet. None where it is accepted: the next call goes on with it.
     pub packet: Option<Packet>,
 }
 
-/// What was reaped.
+/// What a reap found of the packets that were sent.
 #[derive(Clone, Copy, Debug, PartialEq, Eq)]
 pub struct Reaped {
     /// How many packets were sent and their blocks freed.
@@ -30,7 +30,7 @@ pub struct Reaped {
 /// What a packet meets before any event is made.
 #[derive(Drop)]
 pub(crate) enum Gate {
-    /// It is refused.
+    /// The packet is refused, and comes back.
     Refused(PmdFault),
     /// The ring is full.
     Full,

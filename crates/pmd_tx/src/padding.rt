@@ -45,7 +45,7 @@ pub(crate) fn start_of(packet: &Packet) -> [u8; 60]
     start
 }
 
-/// Undoes a padding.
+/// Undoes a padding: the length and the first bytes of the packet are those from before it.
 pub(crate) fn unpad(packet: Packet, len: u16, start: &[u8; 60]) -> Packet
     requires { 0 < length packet.bufs }
     ensures { result ≡ unpadded packet len start.now }

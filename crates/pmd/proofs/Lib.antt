@@ -1,2 +1,3 @@
+pub use Rattle.driver_judge.proofs as DriverJudge
 pub use Rattle.pmd_driver.proofs as PmdDriver
 pub use Rattle.workers.proofs as Workers

@@ -4,10 +4,11 @@ ghost use Rattle.std.specs.Prelude.{◌≡◌, ◌≤◌, false};
 
 use crate::typed::is;
 use bench::{Input, Outcome, Output};
-use device_lock::{Pass, Shared};
+use device_lock::{Entry, Pass, Shared, Watched};
 use nic_device::{Arena, Port};
 use pmd::{
-    Gate, Job, Lockstep, PmdFault, Ran, Report, Rest, RunFault, RunRefused, WorkerEnd, WorkerFault,
+    Doubt, Driven, Gate, Given, Job, Lockstep, PmdFault, Ran, Report, Rest, RunFault, RunRefused,
+    WorkerEnd, WorkerFault,
 };
 use std::alloc::Global;
 use std::io::{Read, Write};
@@ -30,6 +31,35 @@ pub fn lockstep_new<R>(rt: &R, members: usize) -> Lockstep<'_, R>
 
 pub fn lockstep_pass<R: Wait>(gate: &Lockstep<'_, R>, worker: usize, point: u8) -> bool {
     gate_pass::<Lockstep<'_, R>>(gate, worker, point)
+}
+
+pub fn driven(driven: &Driven) {
+    let Driven {
+        watched,
+        from,
+        given,
+        first,
+        count,
+    } = driven;
+    is::<Watched>(watched);
+    is::<usize>(from);
+    is::<Given>(given);
+    is::<u32>(first);
+    is::<u32>(count);
+}
+
+pub fn doubt(doubt: Doubt) -> u8 {
+    match doubt {
+        Doubt::Disturbed => 1,
+        Doubt::BeganOtherwise => 2,
+        Doubt::AskedOnBefore => 3,
+        Doubt::LentByOthers => 4,
+        Doubt::TooLong => 5,
+    }
+}
+
+pub fn judge(driven: &Driven, history: &[Entry]) -> Result<(), Doubt> {
+    pmd::judge(driven, history)
 }
 
 pub fn job(job: &Job) {

@@ -1,0 +1,37 @@
+-- What a closed history is asked of a driver, one question after the other.
+use Rattle.std.specs.Prelude.{◌*◌, List, ⊤}
+use Rattle.device_lock.specs.Alone.{LeavesAlone}
+use Rattle.device_lock.specs.declared.entry.Entry.{Entry}
+use Rattle.workers.specs.PmdAccess.Frames.{most_blocks}
+use Rattle.workers.specs.Beginning.{BeginsWell}
+use Rattle.workers.specs.Fitting.{FramesFit}
+use Rattle.workers.specs.Lending.{OthersLendNone, are_from}
+use Rattle.workers.specs.Quiet.{NeverAskedOn}
+use Rattle.driver_judge.specs.declared.Doubt.{Doubt}
+use Rattle.driver_judge.specs.declared.Doubt.TheVariants.{Disturbed, BeganOtherwise, AskedOnBefore, LentByOthers, TooLong}
+use Rattle.driver_judge.specs.declared.Driven.{Driven}
+
+-- there is no such doubt
+abbrev pub Clears : Driven → List Entry → Doubt → Type 0
+Clears d h Disturbed = LeavesAlone d.watched h
+Clears d h BeganOtherwise = BeginsWell d.watched d.from d.given h
+Clears d h AskedOnBefore = NeverAskedOn d.watched d.from h
+Clears d h LentByOthers = OthersLendNone d.watched d.from (are_from d.first d.count) h
+Clears d h TooLong = FramesFit d.watched d.from (2048 * most_blocks d.given.frame) h
+
+-- nor any before it in the order of asking
+abbrev pub ClearsBefore : Driven → List Entry → Doubt → Type 0
+ClearsBefore d h Disturbed = ⊤
+ClearsBefore d h BeganOtherwise = Clears d h Disturbed
+ClearsBefore d h AskedOnBefore = Clears d h Disturbed × Clears d h BeganOtherwise
+ClearsBefore d h LentByOthers = Clears d h Disturbed × Clears d h BeganOtherwise × Clears d h AskedOnBefore
+ClearsBefore d h TooLong =
+    Clears d h Disturbed × Clears d h BeganOtherwise × Clears d h AskedOnBefore × Clears d h LentByOthers
+
+-- there is none at all
+abbrev pub IsClear : Driven → List Entry → Type 0
+IsClear d h = ClearsBefore d h TooLong × Clears d h TooLong
+
+-- this is the first that there is
+abbrev pub IsFirst : Driven → List Entry → Doubt → Type 0
+IsFirst d h doubt = ClearsBefore d h doubt × (Clears d h doubt → ⊥)

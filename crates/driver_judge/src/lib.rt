@@ -1,0 +1,70 @@
+//! What a closed history tells of a driver, by one call: `judge` asks all that the laws on a driver's packets and
+//! blocks ask of a history, and names the first that doesn't hold.
+#![tactic(auto)]
+
+ghost use Rattle.std.specs.Prelude.{◌↔◌, IsOk, IfErr};
+ghost use Rattle.driver_judge.specs.Judged.{IsClear, IsFirst};
+
+use device_lock::{Entry, Watched, left_alone};
+use workers::{Given, begins_well, frames_fit, never_asked_on, others_lend_none};
+
+/// A driver of which a history is asked.
+#[derive(Clone, Copy)]
+pub struct Driven {
+    /// The number of virtual functions, the driver's pass, and its queue.
+    pub watched: Watched,
+    /// How many calls its pass had made before it started.
+    pub from: usize,
+    /// The queue and the frames that it was started for.
+    pub given: Given,
+    /// The first block of its arena.
+    pub first: u32,
+    /// How many blocks its arena has, from that on.
+    pub count: u32,
+}
+
+/// What a history has against a driver, in the order of asking.
+#[derive(Clone, Copy, PartialEq, Eq, Debug)]
+pub enum Doubt {
+    /// Somebody else touched its queue or the blocks that it lent: `left_alone` is false.
+    Disturbed,
+    /// It started where its port and queue named another queue, or the frame limit was another: `begins_well` is.
+    BeganOtherwise,
+    /// Its queue was asked on before it started: `never_asked_on` is.
+    AskedOnBefore,
+    /// A block of its arena was lent as it started, or another pass lends one: `others_lend_none` is.
+    LentByOthers,
+    /// A frame was let in before it started that is too long for its packets: `frames_fit` is.
+    TooLong,
+}
+
+/// Asks a history from a new device of a driver: first `left_alone`, and then `begins_well`, `never_asked_on`,
+/// `others_lend_none` and `frames_fit`. Answers the first doubt. No memory is asked for.
+pub fn judge(driven: &Driven, history: &[Entry]) -> Result<(), Doubt>
+    ensures clear { IsOk result ↔ IsClear driven.now history.now }
+    ensures first { IfErr result (λ doubt. IsFirst driven.now history.now doubt) }
+{
+    let Driven {
+        watched,
+        from,
+        given,
+        first,
+        count,
+    } = *driven;
+    if !left_alone(watched, history) {
+        return Err(Doubt::Disturbed);
+    }
+    if !begins_well(watched, from, given, history) {
+        return Err(Doubt::BeganOtherwise);
+    }
+    if !never_asked_on(watched, from, history) {
+        return Err(Doubt::AskedOnBefore);
+    }
+    if !others_lend_none(watched, from, first, count, history) {
+        return Err(Doubt::LentByOthers);
+    }
+    if !frames_fit(watched, from, given.frame, history) {
+        return Err(Doubt::TooLong);
+    }
+    Ok(())
+}

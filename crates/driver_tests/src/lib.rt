@@ -37,6 +37,8 @@ mod queues;
 #[cfg(test)]
 mod random;
 #[cfg(test)]
+mod reading;
+#[cfg(test)]
 mod rig;
 #[cfg(test)]
 mod runs;

@@ -1,8 +1,8 @@
 //! The poll-mode driver: a driver of one queue, the ways to access a device, and workers that drive queues of one
 //! device on threads of their own.
 //!
-//! This crate declares nothing, and re-exports three crates: `pmd_driver` has the driver of one queue with what it needs,
-//! `workers` has the workers, and `driver_judge` has what a closed history tells of a driver.
+//! This crate declares nothing, and re-exports three crates: `pmd_driver` has the driver of one queue with what it
+//! needs, `workers` has the workers, and `driver_judge` has what a closed history tells of a driver.
 #![tactic(auto)]
 
 pub use driver_judge::{Doubt, Driven, judge};

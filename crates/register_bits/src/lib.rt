@@ -1,8 +1,8 @@
 //! The named bits of the registers of the Intel 82599, under the datasheet's names.
 //!
 //! Each register has a type of its own, a set of its bits, whose constants are masks: `Fctrl::BAM.0` is that of BAM.
-//! [`has_flag`], [`with_flag`] and [`without_flag`] read and change one of them in a word. Contracts state once more, by
-//! its number, which bit a name stands for. No call takes memory.
+//! [`has_flag`], [`with_flag`] and [`without_flag`] read and change one of them in a word. Contracts state once more,
+//! by its number, which bit a name stands for. No call takes memory.
 //!
 //! Source: Intel 82599 datasheet, sections on registers.
 #![tactic(auto)]

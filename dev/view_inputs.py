@@ -94,6 +94,8 @@ USES = [
     (["niclint", "-"], "w 0x10140 1\n", 1, "0x10140 is SWSM, which the bench hasn't"),
     (["niclint", "-"], "w RDT[1] 1\nw RXDCTL[1] 0x02000000\n", 1, "RDT[1] is written before RXDCTL[1].ENABLE reads 1"),
     (["niclint", "-"], "w EIMS 0x100000\n", 1, "IVAR_MISC gives no vector"),
+    (["niclint", "-"], "#: nic vfs 2 fifo 64 blocks 256\nvr 1 0x0 # 0\n", 0, "1 instructions, nothing to say"),
+    (["niclint", "-", "--trace"], "#: nic vfs 2 fifo 1 blocks 256\nvr 2 0x0 # 0\n", 1, "stray"),
     (["niclint", "-"], "w GPIE 0x10000\n", 1, "bits 0x00010000 of the word are reserved"),
     (["niclint", "examples/first.nic"], "", 0, "nothing to say"),
     (["niclint", "-"], "w TXDCTL[0] 0x02000000\nw DMATXCTL 1\nqstep tx 0\n", 1, "before DMATXCTL.TE is 1"),

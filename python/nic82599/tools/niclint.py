@@ -3,7 +3,8 @@
     tools/niclint SCRIPT            the refusal with its word and what comes near, or warnings
     tools/niclint SCRIPT --trace    also runs it, and says why steps were idle, dropped frames, met faults or failed
 
-SCRIPT is a register script, a session of the debugger (what stands in front of its line `%`), or - for standard input.
+SCRIPT is a register script, a recording, a session of the debugger (what stands in front of its line `%`), or - for
+standard input. A recording has the sizes of its device in its first line.
 Exit status: 0 nothing is wrong; 1 there are warnings, or with --trace a failed expect, a fault, a dropped frame or a
 refused access; 2 the script is refused or can't be read; 3 the words are wrong;
 4 ./nicbench gave no answer.
@@ -50,7 +51,8 @@ def refusal(path: str, text: str, refused: Refused) -> None:
 
 def main() -> int:
     asked = words()
-    bench, text = Bench(asked.vfs, asked.fifo), read_text(asked.script)
+    text = read_text(asked.script)
+    bench = Bench.of(text, asked.vfs, asked.fifo)
     try:
         script = of_text(bench, asked.script, text)
     except Refused as refused:

@@ -9,7 +9,6 @@ something came before, the first step is a read of STATUS, which changes nothing
 from __future__ import annotations
 
 import contextlib
-import re
 from dataclasses import dataclass, field
 from pathlib import Path
 
@@ -18,10 +17,9 @@ from nic82599 import Nic, NicError, Snapshot
 
 from .regs import ENABLE, REGISTERS, first
 from .run import Run, of_trace
-from .script import Bench, Fault, Instruction, Op, Script
+from .script import HEAD, Bench, Fault, Instruction, Op, Script
 from .trace import Plan, Step, Trace
 
-HEAD = re.compile(r"#: nic vfs (\d+) fifo (\d+) blocks (\d+)")
 OPS = {
     "w": Op.WRITE, "r": Op.READ, "vw": Op.VF_WRITE, "vr": Op.VF_READ, "lend": Op.LEND, "unlend": Op.UNLEND,
     "poke": Op.POKE, "peek": Op.PEEK, "arrive": Op.ARRIVE, "rx": Op.RX, "tx": Op.TX, "int": Op.INT, "qstep": Op.QSTEP,

@@ -109,6 +109,9 @@ class Instruction:
         return self.op >= Op.EXPECT
 
 
+# The first line of a recording, with the sizes of its device.
+HEAD = re.compile(r"#: nic vfs (\d+) fifo (\d+) blocks (\d+)")
+
 # The starter compiles the program where there is none: that is done once, before any calls side by side.
 _STARTED = Lock()
 
@@ -124,6 +127,14 @@ class Bench:
         self.options: list[str] = []
         for name, value in (("--vfs", vfs), ("--fifo", fifo)):
             self.options += [name, str(value)] if value is not None else []
+
+    @classmethod
+    def of(cls, text: str, vfs: int | None, fifo: int | None) -> Bench:
+        """The bench for a text: with the sizes that are given, else those of the first line, if it is a recording."""
+        head = HEAD.match(text)
+        if head is None:
+            return cls(vfs, fifo)
+        return cls(int(head[1]) if vfs is None else vfs, int(head[2]) if fifo is None else fifo)
 
     def call(self, words: list[str], text: bytes) -> tuple[int, bytes]:
         """Its status and output; Refused where it refuses the input, Fault where it gives no answer."""

@@ -374,8 +374,9 @@ impl Nic {
     /// then its transmit enable; the EEPROM; one transmit step of each such queue; one receive step; one message of
     /// each function. Gives what happened, in order. After each 256 events a round begins anew.
     ///
-    /// All steps are made when the call returns. [`Nic::steps`] makes each when it is asked for. A queue that isn't below
-    /// `queues` is never enabled, and a driver that polls its RXDCTL or TXDCTL polls for ever.
+    /// All steps are made when the call returns. [`Nic::steps`] makes each when it is asked for. A
+    /// queue that isn't below `queues` is never enabled, and a driver that polls its RXDCTL or
+    /// TXDCTL polls for ever.
     ///
     /// # Errors
     ///

@@ -1,6 +1,6 @@
-//! Captures of Ethernet frames: reads pcap files (microseconds or nanoseconds, either byte order) and writes them with
-//! microseconds. Of pcapng, which Wireshark writes, `editcap -F pcap` makes pcap; `tools/pcap2nic` and the Python module
-//! read it too.
+//! Captures of Ethernet frames: reads pcap files (microseconds or nanoseconds, either byte order)
+//! and writes them with microseconds. Of pcapng, which Wireshark writes, `editcap -F pcap` makes
+//! pcap; `tools/pcap2nic` and the Python module read it too.
 //!
 //! ```
 //! use nic82599::pcap::{Reader, Writer};

@@ -46,10 +46,11 @@
 //! and isn't dropped. So a task holds nothing over a call of its `Bus` whose drop somebody counts on: no guard of a
 //! `RefCell` (which another task then finds borrowed), no lock of `std` (use [`Lock`]), and no thread.
 //!
-//! While a search runs, all memory that the library takes is the search's, which puts it back and gives it up. So no other
-//! thread of the process opens, uses or drops a [`Nic`] or a snapshot meanwhile, and none is kept over a search on its
-//! thread: that would be memory which isn't there any more. Tests with a `Nic` and tests with a search are files of their
-//! own in `tests`, since the tests of a file run beside each other.
+//! While a search runs, all memory that the library takes is the search's, which puts it back and
+//! gives it up. So no other thread of the process opens, uses or drops a [`Nic`] or a snapshot
+//! meanwhile, and none is kept over a search on its thread: that would be memory which isn't there
+//! any more. Tests with a `Nic` and tests with a search are files of their own in `tests`, since
+//! the tests of a file run beside each other.
 
 mod raw;
 

@@ -1,3 +1,4 @@
+pub use Rattle.nic_device.proofs as NicDevice
 pub mod AtRest
 pub mod Closing
 pub mod Fresh

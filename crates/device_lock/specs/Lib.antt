@@ -1,3 +1,4 @@
+pub use Rattle.nic_device.specs as NicDevice
 pub mod Alone
 pub mod Calling
 pub mod Calls

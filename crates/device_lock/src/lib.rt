@@ -32,6 +32,12 @@ pub use closed::Closed;
 pub use entry::{Call, Entry};
 pub use fault::{CallFault, CloseFault, NewFault};
 pub use locked::Locked;
+pub use nic_device::{
+    Arena, BLOCK_BYTES, BLOCK_NUMBERS, Buf, Device, Dir, Event, EventNote, Mode, Octets,
+    OutOfMemory, Place, Port, QUEUES, Reply, RowId, Why, addr_of, data_descriptor_word, first_half,
+    hash_told, is_last, is_sent, is_written_back, length_told, of_halves, posted_word, queues_of,
+    rss_told, second_half,
+};
 pub use packed::{Packed, Rested};
 pub use pass::Pass;
 pub use shared::{CloseRefused, MAX_LIMIT, MAX_PASSES, Shared};

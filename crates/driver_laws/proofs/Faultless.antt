@@ -20,11 +20,11 @@ use Rattle.driver_laws.proofs.{Lent.unlent_before, Order.some_on}
 use Rattle.driver_laws.specs.{Asked.OthersLendNone, Asked.asked_of, Faultless.IsQuietAndFresh, Faultless.SendsAtFault}
 use Rattle.driver_laws.specs.{Faultless.met_by, Told.now}
 use Rattle.driver_laws.{proofs.Order.On, specs.Prelude.Laid, specs.Prelude.Off}
-use Rattle.pmd_driver.proofs.{Followed.both_own, Followed.others_own, Followed.others_played, Followed.own_length}
-use Rattle.pmd_driver.proofs.{PmdAccess.Steps.steps_both, PmdAccess.Steps.steps_last, PmdRx.Earlier.free_before}
-use Rattle.pmd_driver.proofs.{Starting.preparing_drawn}
-use Rattle.pmd_driver.specs.{Apart.FindsBy, Halves.OthersStep}
-use Rattle.pmd_driver.{proofs.Finding.wrong_by, specs.Bursts.FailedAmid, specs.Bursts.SendsWith}
+use Rattle.start_laws.proofs.PmdDriver.{Followed.both_own, Followed.others_own, Followed.others_played, Followed.own_length}
+use Rattle.start_laws.proofs.PmdDriver.{PmdAccess.Steps.steps_both, PmdAccess.Steps.steps_last, PmdRx.Earlier.free_before}
+use Rattle.start_laws.proofs.PmdDriver.{Starting.preparing_drawn}
+use Rattle.start_laws.specs.PmdDriver.{Apart.FindsBy, Halves.OthersStep}
+use Rattle.start_laws.{proofs.PmdDriver.Finding.wrong_by, specs.PmdDriver.Bursts.FailedAmid, specs.PmdDriver.Bursts.SendsWith}
 use Rattle.start_laws.proofs.{Filling.no_fault_is_early, Healthy.no_fault, Made.before_made}
 use Rattle.start_laws.specs.Prelude.{Elsewhere, FindsFault, doers_other, is_neither}
 use Rattle.start_laws.proofs.{Asked.asked_ahead, Asked.asked_behind, Asked.asked_last, Parts.begun as begun_by}

@@ -28,11 +28,11 @@ use Rattle.driver_laws.proofs.{Prelude.◌&&◌, Prelude.◌≡◌, Prelude.◌�
 use Rattle.driver_laws.{proofs.Order.first, proofs.Told.led, specs.Prelude.Empty, specs.Prelude.Laid, specs.Prelude.Off}
 use Rattle.driver_laws.specs.{Asked.OthersLendNone, Asked.asked_of, Told.now}
 use Rattle.std.proofs.lemmas.{Bool.or_left, Bool.or_right, List.Folds.list_any-append}
-use Rattle.nic_device.specs.declared.event.Event.TheVariants as event
-use Rattle.nic_device.specs.declared.event.Reply.TheVariants as reply
-use Rattle.pmd_driver.specs.PmdRx.Keeping as received
-use Rattle.pmd_driver.specs.PmdTx.Leaving as leaving
-use Rattle.pmd_driver.specs.PmdTx.Sending as sending
+use Rattle.start_laws.specs.NicDevice.declared.event.Event.TheVariants as event
+use Rattle.start_laws.specs.NicDevice.declared.event.Reply.TheVariants as reply
+use Rattle.start_laws.specs.PmdDriver.PmdRx.Keeping as received
+use Rattle.start_laws.specs.PmdDriver.PmdTx.Leaving as leaving
+use Rattle.start_laws.specs.PmdDriver.PmdTx.Sending as sending
 
 -- what is so of each event and reply by which calls lay out is so of each call
 

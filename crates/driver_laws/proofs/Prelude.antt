@@ -1,6 +1,6 @@
 -- The names that the proofs here cite most, passed on from one place. Declares nothing.
-pub use Rattle.device_lock.proofs.Histories.{events-append, leads-append, legal-append, legal_behind}
-pub use Rattle.device_lock.specs.Alone.{has_begun, lent_in}
+pub use Rattle.start_laws.proofs.DeviceLock.Histories.{events-append, leads-append, legal-append, legal_behind}
+pub use Rattle.start_laws.specs.DeviceLock.Alone.{has_begun, lent_in}
 pub use Rattle.driver_laws.specs.Places.{EachInOnePlace, IsToldAlone, LentIsOut, OutIsLent, is_out, memory_after}
 pub use Rattle.driver_laws.specs.Prelude.{AreMadeOf, BeforeLast, EndsOnceOff, FaultsEarly, FaultsFilling, TakesOnceOff}
 pub use Rattle.driver_laws.specs.Prelude.{AreOn, Ends, HasGround, IsAlong, IsAsking, IsEnding, IsQuiet, IsSilent}
@@ -9,19 +9,19 @@ pub use Rattle.driver_laws.specs.{Beside.Beside, Beside.GoesOn, Beside.IsToldBy,
 pub use Rattle.driver_laws.specs.{Course.Course, Faultless.BeginsApart, Faultless.IsFresh, Faultless.NoneLent}
 pub use Rattle.driver_laws.specs.{Life.IsLife, Life.Life}
 pub use Rattle.driver_laws.{specs.Ends.Ended, specs.Ends.IsOver, specs.Lends.first_of, specs.Stopped.IsStopping}
-pub use Rattle.nic_device.proofs.{Cases.either_way, DmaArena.Arenas.is_own-of_free, Steps.new_sound}
-pub use Rattle.nic_device.specs.{DmaArena.Numbers.count_of, State.Waiting, State.cleared, VfMap.Owner.has_queue}
-pub use Rattle.pmd_driver.proofs.PmdAccess.Rings.{among_times, ring_block_among, times_among}
-pub use Rattle.pmd_driver.proofs.{Apart.apart_on, Apart.receiving_apart, Followed.receiving_drives}
-pub use Rattle.pmd_driver.proofs.{Followed.sending_drives}
-pub use Rattle.pmd_driver.specs.{Apart.OwnsSame, Halves.Drives, PmdAccess.Begun.LeadsTo, PmdAccess.Both.receive_polled}
-pub use Rattle.pmd_driver.specs.{PmdAccess.QueueMade.IsStrayRead, PmdRx.Plays.PlaysFrom, PmdTx.Plays.LooksLast}
-pub use Rattle.pmd_driver.specs.{Starting.IsTransmitReady, Starting.LendsEach, Starting.PreparingFails}
-pub use Rattle.pmd_driver.specs.{Starting.ReceiveFails, Stopping.closed}
-pub use Rattle.pmd_driver.{proofs.PmdAccess.Outside.times-append, specs.Life.HasLived, specs.Life.IsStopped}
-pub use Rattle.pmd_driver.{specs.Life.Lives, specs.PmdAccess.Home.IsDrawn, specs.PmdAccess.Scheduled.own_calls}
-pub use Rattle.pmd_driver.{specs.PmdAccess.Sides.PollsEnd, specs.PmdAccess.Sides.missed, specs.PmdAccess.Sides.polled}
-pub use Rattle.pmd_driver.{specs.PmdAccess.Sides.quiet}
+pub use Rattle.start_laws.proofs.NicDevice.{Cases.either_way, DmaArena.Arenas.is_own-of_free, Steps.new_sound}
+pub use Rattle.start_laws.specs.NicDevice.{DmaArena.Numbers.count_of, State.Waiting, State.cleared, VfMap.Owner.has_queue}
+pub use Rattle.start_laws.proofs.PmdDriver.PmdAccess.Rings.{among_times, ring_block_among, times_among}
+pub use Rattle.start_laws.proofs.PmdDriver.{Apart.apart_on, Apart.receiving_apart, Followed.receiving_drives}
+pub use Rattle.start_laws.proofs.PmdDriver.{Followed.sending_drives}
+pub use Rattle.start_laws.specs.PmdDriver.{Apart.OwnsSame, Halves.Drives, PmdAccess.Begun.LeadsTo, PmdAccess.Both.receive_polled}
+pub use Rattle.start_laws.specs.PmdDriver.{PmdAccess.QueueMade.IsStrayRead, PmdRx.Plays.PlaysFrom, PmdTx.Plays.LooksLast}
+pub use Rattle.start_laws.specs.PmdDriver.{Starting.IsTransmitReady, Starting.LendsEach, Starting.PreparingFails}
+pub use Rattle.start_laws.specs.PmdDriver.{Starting.ReceiveFails, Stopping.closed}
+pub use Rattle.start_laws.{proofs.PmdDriver.PmdAccess.Outside.times-append, specs.PmdDriver.Life.HasLived, specs.PmdDriver.Life.IsStopped}
+pub use Rattle.start_laws.{specs.PmdDriver.Life.Lives, specs.PmdDriver.PmdAccess.Home.IsDrawn, specs.PmdDriver.PmdAccess.Scheduled.own_calls}
+pub use Rattle.start_laws.{specs.PmdDriver.PmdAccess.Sides.PollsEnd, specs.PmdDriver.PmdAccess.Sides.missed, specs.PmdDriver.PmdAccess.Sides.polled}
+pub use Rattle.start_laws.{specs.PmdDriver.PmdAccess.Sides.quiet}
 pub use Rattle.start_laws.proofs.Beside.{LeadsApart, drives_lead, harmless_apart, leads_on, left}
 pub use Rattle.start_laws.proofs.Parts.{Parts, around, calls_joined, none_behind, one_begins, parts}
 pub use Rattle.start_laws.proofs.Retold.{events_same, legal_same, same_delivers, same_leads, same_sends}

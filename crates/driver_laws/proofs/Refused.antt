@@ -3,9 +3,9 @@
 use Rattle.start_laws.proofs.{Fitting.drive_same, Laid.laid_queue_is_silent, StopCalls.each_such}
 use Rattle.start_laws.specs.Prelude.{drive}
 use Rattle.start_laws.specs.{Laid.Lays, Laid.LaysOn, Prelude.Rdt, Prelude.StartRefused, Prelude.StopsStarting}
-use Rattle.pmd_driver.specs.{Life.ComesDown, Life.NeverLived, PmdRx.Plays.AllOwn, PmdRx.Plays.OthersStep}
-use Rattle.pmd_driver.specs.{PmdRx.Receive.at_start, Started.IsHalfStarted, Started.IsLeftWith, Started.is_size}
-use Rattle.pmd_driver.specs.{Started.start_gate, Starting.GoingOnFails}
+use Rattle.start_laws.specs.PmdDriver.{Life.ComesDown, Life.NeverLived, PmdRx.Plays.AllOwn, PmdRx.Plays.OthersStep}
+use Rattle.start_laws.specs.PmdDriver.{PmdRx.Receive.at_start, Started.IsHalfStarted, Started.IsLeftWith, Started.is_size}
+use Rattle.start_laws.specs.PmdDriver.{Started.start_gate, Starting.GoingOnFails}
 use Rattle.driver_laws.proofs.Laying.{LaysTo, Steps, StepsOn, prepared_lays, preparing_lays, receive_fails}
 use Rattle.driver_laws.proofs.Laying.{receive_ready, stay, switched_lays, then_lays, then_some, unswitched_lay}
 use Rattle.driver_laws.proofs.Prelude.{AreSteps, AtPort, Block, Blocks, Bool, Call, Course, Each, Entry, Event, Halted}

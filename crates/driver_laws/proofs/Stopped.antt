@@ -10,7 +10,7 @@ use Rattle.start_laws.proofs.{InOrder.runs_on, Meeting.Meets, Meeting.driven_mee
 use Rattle.start_laws.proofs.{Meeting.neither_keeps, On.ground_at, Parts.more_some, Reached.KeptOver}
 use Rattle.start_laws.proofs.{RingLaws.InOrder.grows, RingLaws.Kept.each_map, StopCalls.stays_some}
 use Rattle.start_laws.{proofs.Words.side_driven, specs.Histories.doers_after, specs.Moves.IsMet, specs.Standing.IsLeft}
-use Rattle.pmd_driver.specs.PmdAccess.Packet.{Kept}
+use Rattle.start_laws.specs.PmdDriver.PmdAccess.Packet.{Kept}
 use Rattle.driver_laws.proofs.Order.{agree, begun, driven, ends, handed, in_parts, life_before, life_of, ran, settled}
 use Rattle.driver_laws.proofs.Prelude.{AtEntries, AtPort, Block, Blocks, BothAgree, Call, Dir, Doer, Ended, EndsOnceOff}
 use Rattle.driver_laws.proofs.Prelude.{Entry, Event, Halves, HasGround, IsAsking, IsEnding, IsEvent, IsOver, IsPrefixOf}
@@ -26,7 +26,7 @@ use Rattle.driver_laws.proofs.StopCalls.{first_made, off_asks, stopped_ends}
 use Rattle.driver_laws.proofs.{Order.some_on, Order.there_is, Order.whole, Prelude.AreLent, Prelude.Asks}
 use Rattle.start_laws.proofs.RingLaws.HistoryLaws.Steady as steady
 use Rattle.start_laws.specs.RingLaws.Delivered as receive
-use Rattle.nic_device.specs.declared.event.Event.TheVariants as event
+use Rattle.start_laws.specs.NicDevice.declared.event.Event.TheVariants as event
 
 -- port and queue name the queue, and the frame limit stays, as long as the halves are led on: no entry writes a setting
 ground_along : {w : Watched} {mine : Blocks} (q : AtPort) (frame : ℕ) (doers : List Doer) (es : List Entry) {s : State}

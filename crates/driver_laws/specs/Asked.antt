@@ -2,7 +2,7 @@
 use Rattle.std.specs.Prelude.{◌&&◌, ◌++◌, ◌∷◌, ◌≡◌, ◌≢◌, IsTrue, List, ℕ}
 use Rattle.start_laws.specs.{Before.is_asked, Prelude.Blocks, Prelude.Entry, Prelude.Numbers, Prelude.Watched}
 use Rattle.start_laws.specs.{Prelude.calls_of, Prelude.is_own, RingLaws.HistoryLaws.Lent.LendsNone}
-use Rattle.device_lock.specs.Alone.{has_begun}
+use Rattle.start_laws.specs.DeviceLock.Alone.{has_begun}
 
 -- those that the driver's pass asks to lend, whatever the reply
 abbrev pub asked_of : Watched → Numbers → List Entry → Blocks

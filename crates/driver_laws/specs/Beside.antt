@@ -7,9 +7,9 @@ use Rattle.start_laws.specs.Prelude.{entries_in, halves_of, handed_of, leads_to,
 use Rattle.driver_laws.specs.{Life.IsLife, Looks.EndsAt, Prelude.BeforeLast, Prelude.HasGround, Waits.Waits}
 use Rattle.driver_laws.specs.Course.{Course, IsAllSent, IsHandedInOrder, IsSentInOrder}
 use Rattle.driver_laws.specs.Told.{Drove, HasNoneOut, IsTold, LooksInVain, Moment, last}
-use Rattle.pmd_driver.specs.{Life.KeepsHalves, PmdAccess.Begun.From, PmdAccess.Begun.began_handled}
-use Rattle.pmd_driver.specs.{PmdAccess.Begun.began_in_hand, PmdAccess.Made.InHand, PmdAccess.Scheduled.Handled}
-use Rattle.pmd_driver.specs.{PmdAccess.Scheduled.own_calls, Started.HasStarted}
+use Rattle.start_laws.specs.PmdDriver.{Life.KeepsHalves, PmdAccess.Begun.From, PmdAccess.Begun.began_handled}
+use Rattle.start_laws.specs.PmdDriver.{PmdAccess.Begun.began_in_hand, PmdAccess.Made.InHand, PmdAccess.Scheduled.Handled}
+use Rattle.start_laws.specs.PmdDriver.{PmdAccess.Scheduled.own_calls, Started.HasStarted}
 
 -- a legal history of a sound device, whichever its state at first, and how it is told anew: the same calls, of which
 -- those that the driver's author made beside it have another pass's tag

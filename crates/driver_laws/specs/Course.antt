@@ -1,7 +1,7 @@
 -- A driver that is started over a history.
 use Rattle.std.specs.Prelude.{ℕ, ◌≡◌, List, []}
 use Rattle.start_laws.specs.Prelude.{Numbers, State, Watched, Call, Entry, AtPort, delivered, bytes_of, sent_since}
-use Rattle.pmd_driver.specs.PmdAccess.Packet.{Kept}
+use Rattle.start_laws.specs.PmdDriver.PmdAccess.Packet.{Kept}
 use Rattle.start_laws.specs.RingLaws.Delivered as receive
 use Rattle.start_laws.specs.RingLaws.Laws as transmit
 

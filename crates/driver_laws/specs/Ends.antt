@@ -3,7 +3,7 @@ use Rattle.std.specs.Prelude.{◌≡◌, List, ◌++◌, Option}
 use Rattle.start_laws.specs.Prelude.{calls_of, Call, left_accepted, left_handed, Rest, PmdFault}
 use Rattle.driver_laws.specs.Course.{Course, IsHandedInOrder, IsSentInOrder}
 use Rattle.driver_laws.specs.Prelude.{IsAlong, BeginsWell}
-use Rattle.pmd_driver.specs.Life.{HasLived}
+use Rattle.start_laws.specs.PmdDriver.Life.{HasLived}
 
 -- a driver that lived over a legal history of a sound device that leaves the queue alone, and was stopped
 pub record Ended : Type 0 where

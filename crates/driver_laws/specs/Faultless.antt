@@ -7,8 +7,8 @@ use Rattle.start_laws.specs.Prelude.{StopsStarting}
 use Rattle.driver_laws.specs.Asked.{OthersLendNone, asked_of}
 use Rattle.driver_laws.specs.Course.{Course}
 use Rattle.driver_laws.specs.Prelude.{BeforeLast, IsAlong, IsQuiet, BeforeNext, FaultsFilling}
-use Rattle.pmd_driver.specs.Apart.{FindsBy}
-use Rattle.pmd_driver.specs.Bursts.{IsSendBurst, SendsWith}
+use Rattle.start_laws.specs.PmdDriver.Apart.{FindsBy}
+use Rattle.start_laws.specs.PmdDriver.Bursts.{IsSendBurst, SendsWith}
 use Rattle.driver_laws.specs.Told.{Moment, Told, now}
 
 -- none of these blocks is lent

@@ -5,13 +5,13 @@ use Rattle.start_laws.specs.Prelude.{IsSound, State, AreEvents, IsLegal, calls_o
 use Rattle.start_laws.specs.Prelude.{LeavesAloneFrom, entries_in, marked_entries, new_state}
 use Rattle.driver_laws.specs.Prelude.{IsAlong}
 use Rattle.driver_laws.specs.Closed.{UpTo}
-use Rattle.device_lock.specs.Alone.{LeavesAlone}
-use Rattle.device_lock.specs.Closing.{Closes}
-use Rattle.device_lock.specs.Pass.{PassValue}
-use Rattle.pmd_driver.specs.PmdAccess.Begun.{From, began_handled, began_in_hand}
-use Rattle.pmd_driver.specs.PmdAccess.Made.{InHand}
-use Rattle.pmd_driver.specs.PmdAccess.Scheduled.{Handled, made_of}
-use Rattle.pmd_driver.specs.PmdAccess.Stepped.{AtLock}
+use Rattle.start_laws.specs.DeviceLock.Alone.{LeavesAlone}
+use Rattle.start_laws.specs.DeviceLock.Closing.{Closes}
+use Rattle.start_laws.specs.DeviceLock.Pass.{PassValue}
+use Rattle.start_laws.specs.PmdDriver.PmdAccess.Begun.{From, began_handled, began_in_hand}
+use Rattle.start_laws.specs.PmdDriver.PmdAccess.Made.{InHand}
+use Rattle.start_laws.specs.PmdDriver.PmdAccess.Scheduled.{Handled, made_of}
+use Rattle.start_laws.specs.PmdDriver.PmdAccess.Stepped.{AtLock}
 
 -- what is known to have been made of a device from this state on, before it came into hand, and it may be nothing: a
 -- legal history, in which no entry is of pass 0. The state is any that a device can be in, new or used, with an EEPROM

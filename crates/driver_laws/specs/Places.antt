@@ -7,7 +7,7 @@ use Rattle.start_laws.specs.Prelude.{halted_of, halves_of, has_block, is_free, i
 use Rattle.start_laws.specs.Prelude.{times_in_hand}
 use Rattle.driver_laws.specs.{Asked.OthersLendNone, Asked.asked_of, Faultless.NoneLent, Prelude.BeforeLast}
 use Rattle.driver_laws.specs.Told.{IsToldOf, Told, now}
-use Rattle.pmd_driver.specs.Blocks.{KeepsBlocks}
+use Rattle.start_laws.specs.PmdDriver.Blocks.{KeepsBlocks}
 
 -- whether a driver that runs has the block of this number out with a half: it is a ring's own, one that is posted or
 -- about to be, or that of a part of an outstanding packet which is lent

@@ -4,7 +4,7 @@ use Rattle.start_laws.specs.Prelude.{calls_of, leads_to, Call, Entry, left_accep
 use Rattle.start_laws.specs.Prelude.{AreSteps, delivered, bytes_of, sent_in, sent_since}
 use Rattle.driver_laws.specs.Course.{Course}
 use Rattle.driver_laws.specs.Prelude.{IsAlong, IsQuiet}
-use Rattle.pmd_driver.specs.Life.{NeverLived}
+use Rattle.start_laws.specs.PmdDriver.Life.{NeverLived}
 use Rattle.start_laws.specs.RingLaws.Delivered as receive
 use Rattle.start_laws.specs.RingLaws.Laws as transmit
 

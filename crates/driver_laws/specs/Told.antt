@@ -6,8 +6,8 @@ use Rattle.start_laws.specs.Prelude.{AtPort, Call, Down, Entry, Numbers, Rings, 
 use Rattle.start_laws.specs.Prelude.{delivered, handed_of}
 use Rattle.driver_laws.specs.{Looks.EndsAt, Prelude.BeginsWell, Prelude.IsAlong}
 use Rattle.driver_laws.specs.Course.{Course, IsAllSent, IsHandedInOrder, IsSentInOrder}
-use Rattle.pmd_driver.specs.{Driver.Driver, Life.KeepsHalves, Life.RunsOn, Started.HasStarted}
-use Rattle.pmd_driver.specs.PmdRx.Plays as receiving
+use Rattle.start_laws.specs.PmdDriver.{Driver.Driver, Life.KeepsHalves, Life.RunsOn, Started.HasStarted}
+use Rattle.start_laws.specs.PmdDriver.PmdRx.Plays as receiving
 
 -- when a call of the driver, or of its way to the device, has returned: the driver, and the calls of its pass so far
 pub record Moment : Type 0 where

@@ -2,7 +2,7 @@
 use Rattle.std.specs.Prelude.{[], ◌++◌, ◌≡◌, ◌≢◌, List}
 use Rattle.start_laws.specs.Beside.{AddsHarmless}
 use Rattle.start_laws.specs.Prelude.{Call, Entry, Sender, WhereUp, accepted_of, bytes_of, calls_of, sent_since}
-use Rattle.pmd_driver.specs.PmdTx.Plays.{LooksLast}
+use Rattle.start_laws.specs.PmdDriver.PmdTx.Plays.{LooksLast}
 use Rattle.driver_laws.specs.{Life.Life, Looks.EndsAt, Told.Moment, Told.Told, Told.now}
 
 -- behind a life one call of the driver accepted none, and looked at last at the oldest outstanding packet, which wasn't

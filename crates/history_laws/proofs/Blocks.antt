@@ -7,13 +7,13 @@ use Rattle.history_laws.specs.Prelude.{Event, Filled, IsEvent, IsSound, LeavesBl
 use Rattle.history_laws.specs.Prelude.{Waiting, WritesOutside, Wrote, after, reply_to, step_of, told_back, write_at}
 use Rattle.history_laws.specs.{Left.IsOutside, Left.SendsNone, Prelude.Avoids, Prelude.Block, Prelude.Blocks}
 use Rattle.history_laws.specs.{Reports.ReportsLieInBlocks, Segments.pieces, Segments.pieces_told}
-use Rattle.nic_device.proofs.DmaArena.{Blocks.get-write_at_out, Inside.inside_avoids}
-use Rattle.nic_device.proofs.{DmaRing.Fields.halves_come_back, QueueCases.filled_by, QueueCases.received_cases}
-use Rattle.nic_device.proofs.{RegisterLaws.SoundWords.rings_aligned, RxRing.Fills.takes_piece}
+use Rattle.device_lock.proofs.NicDevice.DmaArena.{Blocks.get-write_at_out, Inside.inside_avoids}
+use Rattle.device_lock.proofs.NicDevice.{DmaRing.Fields.halves_come_back, QueueCases.filled_by, QueueCases.received_cases}
+use Rattle.device_lock.proofs.NicDevice.{RegisterLaws.SoundWords.rings_aligned, RxRing.Fills.takes_piece}
 use Rattle.std.proofs.Common.{List, Ok, Some, [], arith, inl, inr, length, ℕ, ◌*◌, ◌/◌, ◌<◌, ◌≡◌, ◌≢◌}
 use Rattle.std.proofs.lemmas.{Bool.cases_eq, Bool.eq-eqb, Grind.common_steps}
 use Rattle.std.specs.Prelude.{IsFalse, IsTrue, ⊤}
-use Rattle.nic_device.specs.declared.event.Event.TheVariants as event
+use Rattle.device_lock.specs.NicDevice.declared.event.Event.TheVariants as event
 use Rattle.std.specs.FinMap as map
 
 -- What a step of transmitting reports lies in the block where it begins, since rings are aligned.

@@ -9,17 +9,17 @@ use Rattle.history_laws.specs.Prelude.{State, Tx, Waiting, Watched, gives, recei
 use Rattle.history_laws.specs.Sides.{LeavesSide, as_wanted, side_of}
 use Rattle.history_laws.specs.{Prelude.transmit_queue_of, Segments.frames_added, Segments.pieces, Sides.IsTried}
 use Rattle.history_laws.{proofs.Leaving.step_is, proofs.Leaving.switch_is, specs.Left.Deed, specs.Left.IsLeft}
-use Rattle.nic_device.proofs.RegisterLaws.{Stands.receive_stands, Switches.receive-switched, Switches.transmit-switched}
-use Rattle.nic_device.proofs.{Cases.switched_cases, Coming.counted_in, Raising.comes-itself, Raising.have_counters}
-use Rattle.nic_device.specs.declared.event.{Reply.TheVariants.Idle, Why.TheVariants.NoSlot, Why.TheVariants.QueueOff}
-use Rattle.nic_device.specs.{Receive.slotless_counted, RegisterFile.Settings.drops, Transmit.is_silent}
-use Rattle.nic_device.specs.{Transmit.slot_done, declared.event.Reply.TheVariants.Dropped}
+use Rattle.device_lock.proofs.NicDevice.RegisterLaws.{Stands.receive_stands, Switches.receive-switched, Switches.transmit-switched}
+use Rattle.device_lock.proofs.NicDevice.{Cases.switched_cases, Coming.counted_in, Raising.comes-itself, Raising.have_counters}
+use Rattle.device_lock.specs.NicDevice.declared.event.{Reply.TheVariants.Idle, Why.TheVariants.NoSlot, Why.TheVariants.QueueOff}
+use Rattle.device_lock.specs.NicDevice.{Receive.slotless_counted, RegisterFile.Settings.drops, Transmit.is_silent}
+use Rattle.device_lock.specs.NicDevice.{Transmit.slot_done, declared.event.Reply.TheVariants.Dropped}
 use Rattle.std.proofs.Common.{List, [], arith, false, inl, inr, refl, subst, true, ℕ, ◌<◌, ◌∷◌, ◌≡◌, ◌⊎◌}
 use Rattle.std.proofs.lemmas.Bool.{cases_Bool, cases_eq, eq-eqb, eqb-true, lt-ltb, or_parts}
 use Rattle.std.specs.Prelude.{Result, ◌&&◌, ◌==◌}
 use Rattle.std.{proofs.lemmas.Grind.common_steps, proofs.lemmas.List.get_or-set_same, specs.Prelude.IsFalse}
-use Rattle.nic_device.specs.Receive as receive
-use Rattle.nic_device.specs.declared.event.Event.TheVariants as event
+use Rattle.device_lock.specs.NicDevice.Receive as receive
+use Rattle.device_lock.specs.NicDevice.declared.event.Event.TheVariants as event
 
 -- A step of receiving, by what it rests on: only where a queue is on and a slot is the device's is a slot tried.
 

@@ -10,14 +10,14 @@ use Rattle.history_laws.specs.Prelude.{asks_pool_reset, asks_reset, has_queue, m
 use Rattle.history_laws.specs.Sides.{LeavesSide, Side, receive_side, transmit_side}
 use Rattle.history_laws.specs.{Left.is_switch_of, Prelude.Block, Prelude.Dir, Prelude.Event, Prelude.LeavesQueues}
 use Rattle.history_laws.{proofs.Written.place_in, proofs.Written.place_named, specs.Left.is_step_of}
-use Rattle.nic_device.proofs.RegisterLaws.Covers.{covers-renewed, misses-narrower}
-use Rattle.nic_device.specs.RegisterLaws.Footprint.{Misses, of_side, pool_renews}
-use Rattle.nic_device.specs.VfMap.Owner.{is_of_pool_by}
-use Rattle.nic_device.specs.{RegTable.declared.bank.Bank.Bank, RegisterFile.Owner.is_owner, RegisterFile.Owner.owner_in}
+use Rattle.device_lock.proofs.NicDevice.RegisterLaws.Covers.{covers-renewed, misses-narrower}
+use Rattle.device_lock.specs.NicDevice.RegisterLaws.Footprint.{Misses, of_side, pool_renews}
+use Rattle.device_lock.specs.NicDevice.VfMap.Owner.{is_of_pool_by}
+use Rattle.device_lock.specs.NicDevice.{RegTable.declared.bank.Bank.Bank, RegisterFile.Owner.is_owner, RegisterFile.Owner.owner_in}
 use Rattle.std.proofs.Common.{ap, arith, false, inl, inr, true, ℕ, ◌≡◌}
 use Rattle.std.proofs.lemmas.{Bool.cases_Bool, Bool.eqb-true, Grind.common_steps}
-use Rattle.nic_device.specs.RegisterFile.declared.owner.Owner.TheVariants as owner
-use Rattle.nic_device.specs.declared.event.Event.TheVariants as event
+use Rattle.device_lock.specs.NicDevice.RegisterFile.declared.owner.Owner.TheVariants as owner
+use Rattle.device_lock.specs.NicDevice.declared.event.Event.TheVariants as event
 
 -- A side of a queue and its direction's own records.
 

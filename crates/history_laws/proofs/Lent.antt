@@ -5,15 +5,15 @@ use Rattle.history_laws.specs.Prelude.{Block, Blocks, Done, Event, Named, Nothin
 use Rattle.history_laws.specs.Prelude.{Waiting, after, asks_pool_reset, asks_reset, frame_limit, gives, has_queue}
 use Rattle.history_laws.specs.Prelude.{is_lent, is_wanted, mode_in, named, named_written, reply_to, row_of, step_of}
 use Rattle.history_laws.specs.Prelude.{write_at}
-use Rattle.nic_device.proofs.{Cases.arrived_cases, DmaArena.Bus.get-insert_other, DmaArena.Bus.get-remove_other}
-use Rattle.nic_device.specs.declared.event.Reply.TheVariants.{Buf}
-use Rattle.nic_device.specs.{RxFilter.declared.target.Target.Target, Switching.without_part}
-use Rattle.nic_device.{proofs.DmaArena.Bus.get-remove_same, proofs.KeptBlocks.keeps_blocks, specs.Arrival.let_in}
+use Rattle.device_lock.proofs.NicDevice.{Cases.arrived_cases, DmaArena.Bus.get-insert_other, DmaArena.Bus.get-remove_other}
+use Rattle.device_lock.specs.NicDevice.declared.event.Reply.TheVariants.{Buf}
+use Rattle.device_lock.specs.NicDevice.{RxFilter.declared.target.Target.Target, Switching.without_part}
+use Rattle.device_lock.{proofs.NicDevice.DmaArena.Bus.get-remove_same, proofs.NicDevice.KeptBlocks.keeps_blocks, specs.NicDevice.Arrival.let_in}
 use Rattle.std.proofs.Common.{Bool, List, Some, [], arith, false, length, not, refl, subst, sym, true, ℕ, ◌%◌, ◌++◌}
 use Rattle.std.proofs.{Common.◌||◌, Common.◌∷◌, Common.◌≡◌, Common.◌≢◌, Common.◌≤◌, lemmas.Grind.common_steps}
 use Rattle.std.specs.Prelude.{filter, ⊤, ◌==◌}
 use Rattle.std.specs.FinMap as map
-use Rattle.nic_device.specs.declared.event.Event.TheVariants as event
+use Rattle.device_lock.specs.NicDevice.declared.event.Event.TheVariants as event
 
 -- Memory calls that are done.
 

@@ -14,18 +14,18 @@ use Rattle.history_laws.specs.Prelude.{GcrExt, Maxfrs, mode_through, named_writt
 use Rattle.history_laws.specs.{Alone.AllAlone, Laws.BeginningIsAlone, Laws.HistoriesKeepSound, Laws.NewIsPlain}
 use Rattle.history_laws.specs.{Alone.LeavesAloneFrom, Laws.AloneByEntries, Laws.PlainIsLeftAlone, Laws.RestIsAlone}
 use Rattle.history_laws.specs.{Laws.ModeIsTold, Laws.SettingsAreTold, Prelude.asks_reset, Prelude.leads_to}
-use Rattle.nic_device.proofs.{EepromImage.Blank.triples_of-blank, RegisterLaws.Owners.is_place-other, Steps.keeps_sound}
-use Rattle.nic_device.proofs.{RegisterFile.ResetWords.word_at-reset, RegisterLaws.Accessed.none_written_by}
-use Rattle.nic_device.proofs.{RegisterLaws.Covers.lacks-renewed, RegisterLaws.Footprints.word_stands, Steps.step_leads}
-use Rattle.nic_device.specs.RegTable.declared.rows.RowId.TheVariants.{Ctrl, Hlreg0}
-use Rattle.nic_device.specs.{EepromImage.Triples.triples_of, RegTable.declared.kind.Kind.TheVariants.Rw}
-use Rattle.nic_device.specs.{RegisterFile.Bits.merged, RegisterLaws.Laws.word_after, State.cleared, VfMap.Pools.mode_of}
-use Rattle.nic_device.{proofs.RegisterLaws.Shape.put_stands, specs.Eeprom.with_triples, specs.EepromImage.Image.blank}
+use Rattle.device_lock.proofs.NicDevice.{EepromImage.Blank.triples_of-blank, RegisterLaws.Owners.is_place-other, Steps.keeps_sound}
+use Rattle.device_lock.proofs.NicDevice.{RegisterFile.ResetWords.word_at-reset, RegisterLaws.Accessed.none_written_by}
+use Rattle.device_lock.proofs.NicDevice.{RegisterLaws.Covers.lacks-renewed, RegisterLaws.Footprints.word_stands, Steps.step_leads}
+use Rattle.device_lock.specs.NicDevice.RegTable.declared.rows.RowId.TheVariants.{Ctrl, Hlreg0}
+use Rattle.device_lock.specs.NicDevice.{EepromImage.Triples.triples_of, RegTable.declared.kind.Kind.TheVariants.Rw}
+use Rattle.device_lock.specs.NicDevice.{RegisterFile.Bits.merged, RegisterLaws.Laws.word_after, State.cleared, VfMap.Pools.mode_of}
+use Rattle.device_lock.{proofs.NicDevice.RegisterLaws.Shape.put_stands, specs.NicDevice.Eeprom.with_triples, specs.NicDevice.EepromImage.Image.blank}
 use Rattle.std.proofs.Common.{List, Option, ap, append_assoc, arith, refl, sym, true, ℕ, ◌++◌, ◌/◌, ◌≡◌, ◌≢◌}
 use Rattle.std.proofs.{Common.Some, Common.[], Common.◌^◌, Common.◌∙◌, lemmas.Bool.or_left, lemmas.Bool.or_right}
 use Rattle.std.proofs.{Common.false, Common.◌∷◌, Math.Nat.le_refl, lemmas.Bool.cond-true, lemmas.Grind.common_steps}
 use Rattle.std.specs.Prelude.{IsFalse, IsTrue, bit_and, ◌||◌}
-use Rattle.nic_device.specs.declared.event.Event.TheVariants as event
+use Rattle.device_lock.specs.NicDevice.declared.event.Event.TheVariants as event
 
 -- no step of the device changes GCR_EXT, HLREG0 or MAXFRS
 told_setting : (row : RowId) → is_setting row ≡ true → row ≢ Ctrl → IsSetting row

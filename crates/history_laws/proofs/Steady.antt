@@ -4,11 +4,11 @@ use Rattle.history_laws.specs.Prelude.{Port, Register, State, after, has_bit, na
 use Rattle.history_laws.specs.Sides.{IsOff, IsTried, IsUnwanted, IsUp, LeavesSide, Side, as_wanted, shut, side_of}
 use Rattle.history_laws.specs.{Left.IsSilent, Left.Shuts, Prelude.Block, Prelude.Dir, Prelude.Event, Prelude.IsSound}
 use Rattle.history_laws.{proofs.Leaving.queues_left, specs.Left.Deed, specs.Left.Rests, specs.Sides.taken}
-use Rattle.nic_device.proofs.RegisterLaws.Switches.{receive-asked, transmit-asked}
-use Rattle.nic_device.specs.{RegisterFile.Queue.enable_row, declared.event.Reply.TheVariants.Word}
+use Rattle.device_lock.proofs.NicDevice.RegisterLaws.Switches.{receive-asked, transmit-asked}
+use Rattle.device_lock.specs.NicDevice.{RegisterFile.Queue.enable_row, declared.event.Reply.TheVariants.Word}
 use Rattle.std.proofs.Common.{Bool, List, [], arith, cond, false, not, true, ℕ, ◌&&◌, ◌<◌, ◌≡◌, ◌⊎◌}
 use Rattle.std.{proofs.lemmas.Grind.common_steps, specs.Prelude.IsFalse, specs.Prelude.IsTrue}
-use Rattle.nic_device.specs.declared.event.Event.TheVariants as event
+use Rattle.device_lock.specs.NicDevice.declared.event.Event.TheVariants as event
 
 -- What stays of a side whatever the device does to it.
 

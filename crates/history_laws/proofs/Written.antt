@@ -2,11 +2,11 @@
 use Rattle.device_lock.specs.Alone.{place_at}
 use Rattle.history_laws.specs.Prelude.{Maxfrs, Named, Nothing, Place, Port, Rdt, Register, Registers, State, Tdt}
 use Rattle.history_laws.specs.Prelude.{after_write, mode_in, named, place, receive_queue_of, row_of, transmit_queue_of}
-use Rattle.nic_device.proofs.RegTable.{Finding.found-named, InRange.named_in_range}
-use Rattle.nic_device.proofs.RegisterLaws.SideWords.{receive-written, transmit-written}
-use Rattle.nic_device.specs.RegTable.{Place.view_among, Rows.number_of, Run.Run, Run.has_address, Runs.runs}
-use Rattle.nic_device.specs.{RegisterFile.Bits.merged, RegisterLaws.Laws.HasShape}
-use Rattle.nic_device.{proofs.VfMap.Owners.located_in_range, specs.Named.at_place, specs.RegTable.Place.place_among}
+use Rattle.device_lock.proofs.NicDevice.RegTable.{Finding.found-named, InRange.named_in_range}
+use Rattle.device_lock.proofs.NicDevice.RegisterLaws.SideWords.{receive-written, transmit-written}
+use Rattle.device_lock.specs.NicDevice.RegTable.{Place.view_among, Rows.number_of, Run.Run, Run.has_address, Runs.runs}
+use Rattle.device_lock.specs.NicDevice.{RegisterFile.Bits.merged, RegisterLaws.Laws.HasShape}
+use Rattle.device_lock.{proofs.NicDevice.VfMap.Owners.located_in_range, specs.NicDevice.Named.at_place, specs.NicDevice.RegTable.Place.place_among}
 use Rattle.std.proofs.Common.{List, None, Option, Some, [], arith, inl, inr, not, refl, true, ℕ, ◌%◌, ◌&&◌, ◌/◌, ◌<◌}
 use Rattle.std.proofs.lemmas.Nat.{and_mask, and_mod, and_shr, or_mod, or_shr}
 use Rattle.std.proofs.lemmas.{Bool.and_parts, Bool.cases_Bool, Bool.eq-eqb, Grind.common_steps, Nat.and_le_r}

@@ -2,7 +2,7 @@
 use Rattle.std.specs.Prelude.{[], ◌++◌, ◌∷◌, ◌≡◌, IsTrue, List, ⊤}
 use Rattle.history_laws.specs.Prelude.{Blocks, Entry, EntryLeavesAlone, Off, State, Watched, after, has_begun, leads_to}
 use Rattle.history_laws.specs.Prelude.{lent_by, mode_in}
-use Rattle.nic_device.specs.EepromImage.Image.{blank}
+use Rattle.device_lock.specs.NicDevice.EepromImage.Image.{blank}
 
 -- a history leaves the queue of a pass alone, from a state of the device on, which any sound device may be in: each
 -- entry after the pass's first does, while the queues are separated as the device says there, and spares all blocks

@@ -4,14 +4,14 @@ use Rattle.history_laws.specs.Prelude.{Avoids, Block, Blocks, Dir, Event, Fetche
 use Rattle.history_laws.specs.Prelude.{LeavesBlock, LeavesBlocks, LeavesRegisters, RingFault, Rx, State, Tx, Waiting}
 use Rattle.history_laws.specs.Prelude.{Watched, WritesOutside, Wrote, after, frame_limit, mode_in, receive_queue_of}
 use Rattle.history_laws.specs.Prelude.{reply_to, rest_of, sending_of, staged_by, step_of, transmit_queue_of}
-use Rattle.nic_device.specs.Transmit.{is_silent}
+use Rattle.device_lock.specs.NicDevice.Transmit.{is_silent}
 use Rattle.history_laws.specs.Sides.{IsTried, LeavesSide, as_wanted, shut, side_of, taken}
 use Rattle.history_laws.specs.Segments.{piece_in, pieces, sent_by}
 use Rattle.device_laws.specs.Leaving.{LeavesMemory}
-use Rattle.nic_device.specs.RxRing.Fill as rx
-use Rattle.nic_device.specs.TxRing.Fetch as tx
-use Rattle.nic_device.specs.Transmit as transmit
-use Rattle.nic_device.specs.declared.event.Event.TheVariants as event
+use Rattle.device_lock.specs.NicDevice.RxRing.Fill as rx
+use Rattle.device_lock.specs.NicDevice.TxRing.Fetch as tx
+use Rattle.device_lock.specs.NicDevice.Transmit as transmit
+use Rattle.device_lock.specs.NicDevice.declared.event.Event.TheVariants as event
 
 -- an event that leaves a queue and these blocks alone, by the clauses by which a closed history is judged, made on a
 -- sound device

@@ -1,8 +1,8 @@
 -- Which blocks are lent to a device, and whose they are.
 use Rattle.std.specs.Prelude.{◌&&◌, ◌==◌, ◌||◌, ◌≡◌, IsFalse, IsTrue, not, ℕ, ⊤}
 use Rattle.history_laws.specs.Prelude.{Block, Blocks, Done, Event, Memory, Reply, State, after, has_block, reply_to}
-use Rattle.nic_device.specs.declared.event.Reply.TheVariants.{Buf}
-use Rattle.nic_device.specs.declared.event.Event.TheVariants as event
+use Rattle.device_lock.specs.NicDevice.declared.event.Reply.TheVariants.{Buf}
+use Rattle.device_lock.specs.NicDevice.declared.event.Event.TheVariants as event
 
 -- of these numbers, an arena's for one, only those are lent that its driver knows to be
 abbrev pub OnlyLent : Blocks → Blocks → Memory → Type 0

@@ -1,8 +1,8 @@
 -- Where a step of transmitting reports.
 use Rattle.std.specs.Prelude.{◌/◌, ◌≡◌, Some, ℕ}
 use Rattle.history_laws.specs.Prelude.{IsSound, LiesIn, State, reply_to, told_back, transmit_queue_of}
-use Rattle.nic_device.specs.TxRing.Report.{report_length}
-use Rattle.nic_device.specs.declared.event.Event.TheVariants as event
+use Rattle.device_lock.specs.NicDevice.TxRing.Report.{report_length}
+use Rattle.device_lock.specs.NicDevice.declared.event.Event.TheVariants as event
 
 -- what is written back lies in the block where it begins
 abbrev pub ReportsLieInBlocks : Type 0

@@ -2,8 +2,8 @@
 use Rattle.std.specs.Prelude.{[], if◌then◌else◌, ◌==◌, ◌∷◌, Bool, List, drop, false, length, map, take, ℕ}
 use Rattle.history_laws.specs.Prelude.{Block, Event, Filled, Reply, Rest, State, Waiting, Wrote, after, piece_of}
 use Rattle.history_laws.specs.Prelude.{reply_to}
-use Rattle.nic_device.specs.{DmaRing.Receive.told_of, Receive.packet_of}
-use Rattle.nic_device.specs.declared.event.Event.TheVariants as event
+use Rattle.device_lock.specs.NicDevice.{DmaRing.Receive.told_of, Receive.packet_of}
+use Rattle.device_lock.specs.NicDevice.declared.event.Event.TheVariants as event
 
 -- what one step writes on a queue: the bytes, the first half of the descriptor, and whether the frame ends there
 pub record Piece : Type 0 where

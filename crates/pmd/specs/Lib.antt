@@ -1,3 +1,2 @@
-pub use Rattle.driver_judge.specs as DriverJudge
-pub use Rattle.pmd_driver.specs as PmdDriver
+pub use Rattle.workers.specs.PmdDriver
 pub use Rattle.workers.specs as Workers

@@ -1,7 +1,7 @@
 -- The parts of the set-up, one after the other.
 use Rattle.std.proofs.Common.{ℕ, Bool, List, [], ◌∷◌, ◌++◌, All, ◌*◌, rules, Result, Ok, Err, OnErr}
 use Rattle.device_lock.specs.declared.entry.Call.{Call}
-use Rattle.nic_device.specs.RegTable.declared.rows.RowId.TheVariants.{Rxcsum, Fctrl, Maxfrs, Hlreg0, Dmatxctl, Rxctrl}
+use Rattle.device_lock.specs.NicDevice.RegTable.declared.rows.RowId.TheVariants.{Rxcsum, Fctrl, Maxfrs, Hlreg0, Dmatxctl, Rxctrl}
 use Rattle.pmd_access.specs.Setup.{AreSet, StopsSetting, IsInRow, setting, fctrl_word, opening_short, opening_long}
 use Rattle.pmd_access.specs.declared.fault.PmdFault.{PmdFault}
 use Rattle.pmd_access.specs.declared.setup.Setting.{Setting}

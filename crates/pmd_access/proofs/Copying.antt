@@ -1,7 +1,7 @@
 -- The bytes of a packet, copied Buf by Buf.
 use Rattle.std.proofs.Common.{◌≡◌, ℕ, zero, suc, ◌+◌, ◌*◌, ◌-◌, ◌<◌, min, List, [], ◌∷◌, ◌++◌, length, get_or, take, refl, sym, ap, ◌∙◌, append_assoc, arith}
 use Rattle.std.proofs.lemmas.List.{append-nil, take_more, take_min, length-take}
-use Rattle.nic_device.specs.DmaArena.Block.{Block}
+use Rattle.device_lock.specs.NicDevice.DmaArena.Block.{Block}
 use Rattle.pmd_access.specs.Bufs.{bytes_of}
 
 pub bytes-append : (bs cs : List Block) → bytes_of (bs ++ cs) ≡ bytes_of bs ++ bytes_of cs

@@ -1,8 +1,8 @@
 -- Blocks that are drawn from an arena, and given back to it.
 use Rattle.std.proofs.Common.{◌≡◌, ℕ, ◌+◌, true, false, List, [], ◌∷◌, ◌++◌, map, refl, sym, ap, ◌∙◌, subst, arith}
 use Rattle.std.proofs.lemmas.List.{length_push}
-use Rattle.nic_device.specs.DmaArena.Block.{Block, zero_block}
-use Rattle.nic_device.specs.DmaArena.Numbers.{Numbers, is_free, with_free}
+use Rattle.device_lock.specs.NicDevice.DmaArena.Block.{Block, zero_block}
+use Rattle.device_lock.specs.NicDevice.DmaArena.Numbers.{Numbers, is_free, with_free}
 use Rattle.pmd_access.specs.Bufs.{numbers_of}
 use Rattle.pmd_access.specs.Fresh.{IsDrawnAs}
 use Rattle.pmd_access.specs.Home.{IsDrawn}

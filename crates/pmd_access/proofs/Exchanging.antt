@@ -1,6 +1,6 @@
 -- Blocks that are exchanged with the arena that they are out of.
 use Rattle.std.proofs.Common.{ℕ, false, List, [], ◌∷◌, ◌++◌, arith}
-use Rattle.nic_device.specs.DmaArena.Numbers.{Numbers, with_free}
+use Rattle.device_lock.specs.NicDevice.DmaArena.Numbers.{Numbers, with_free}
 use Rattle.pmd_access.specs.Home.{AreOut, IsDrawn, Exchanges}
 use Rattle.pmd_access.proofs.Outside.{times-append, all_drawn}
 

@@ -1,7 +1,7 @@
 -- Places around a driver's ring.
 use Rattle.std.proofs.Common.{◌≡◌, ◌≢◌, ℕ, ◌+◌, ◌<◌, arith}
 use Rattle.std.proofs.lemmas.Bool.Decides.{nat_tests}
-use Rattle.nic_device.specs.DmaRing.Ring.{next_of}
+use Rattle.device_lock.specs.NicDevice.DmaRing.Ring.{next_of}
 use Rattle.pmd_access.specs.Slots.{wrapped}
 
 pub wrapped_below : (size at : ℕ) → at < size + size → wrapped size at < size

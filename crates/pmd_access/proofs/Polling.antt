@@ -3,9 +3,9 @@ use Rattle.std.proofs.Common.{◌≡◌, ℕ, ◌+◌, ◌-◌, ◌<◌, ◌≤�
 use Rattle.std.proofs.lemmas.List.{replicate-append-replicate}
 use Rattle.std.proofs.Math.Bool.{beq}
 use Rattle.device_lock.specs.declared.entry.Call.{Call}
-use Rattle.nic_device.specs.RegisterFile.Queue.{enable_row}
-use Rattle.nic_device.specs.DmaRing.declared.dir.Dir.{Dir}
-use Rattle.nic_device.specs.DmaRing.declared.dir.Dir.TheVariants.{Rx, Tx}
+use Rattle.device_lock.specs.NicDevice.RegisterFile.Queue.{enable_row}
+use Rattle.device_lock.specs.NicDevice.DmaRing.declared.dir.Dir.{Dir}
+use Rattle.device_lock.specs.NicDevice.DmaRing.declared.dir.Dir.TheVariants.{Rx, Tx}
 use Rattle.pmd_access.specs.declared.fault.PmdFault.{PmdFault}
 use Rattle.pmd_access.specs.Named.{AtPort}
 use Rattle.pmd_access.specs.QueueMade.{Access, Sees, AreMade, IsSeen}

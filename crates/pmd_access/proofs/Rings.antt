@@ -5,8 +5,8 @@ use Rattle.std.specs.List.{list_any, range_with_len}
 use Rattle.std.proofs.lemmas.Bool.{cases_eq, cases_Bool, cases_lt, both_ways, or_from, or_left, or_right, ne_eqb}
 use Rattle.std.proofs.lemmas.Bool.Decides.{nat_tests}
 use Rattle.std.proofs.lemmas.List.FromFn.{length-range_with_len}
-use Rattle.nic_device.specs.DmaArena.Memory.{LiesIn}
-use Rattle.nic_device.specs.DmaArena.Whereabouts.{times_in_hand}
+use Rattle.device_lock.specs.NicDevice.DmaArena.Memory.{LiesIn}
+use Rattle.device_lock.specs.NicDevice.DmaArena.Whereabouts.{times_in_hand}
 use Rattle.pmd_access.specs.Slots.{descriptor_in, blocks_for, ring_blocks, is_ring_block, EachRingBlock}
 use Rattle.pmd_access.proofs.Outside.{times_first, times_rest}
 

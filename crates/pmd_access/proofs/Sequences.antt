@@ -2,7 +2,7 @@
 use Rattle.std.proofs.Common.{◌≡◌, ℕ, zero, suc, ◌+◌, ◌-◌, ◌<◌, List, [], ◌∷◌, ◌++◌, length, get_or, take, drop, sym, ap, ◌∙◌, subst, append_assoc, add-zero, add-suc, add-one, arith}
 use Rattle.std.proofs.lemmas.List.{append-nil, take_more, take-append-drop}
 use Rattle.device_lock.specs.declared.entry.Call.{Call}
-use Rattle.nic_device.specs.RegTable.declared.rows.RowId.{RowId}
+use Rattle.device_lock.specs.NicDevice.RegTable.declared.rows.RowId.{RowId}
 use Rattle.pmd_access.specs.Setup.{AreSet, SettingFails, StopsSetting, packed, setting, word_in}
 use Rattle.pmd_access.specs.declared.fault.PmdFault.{PmdFault}
 use Rattle.pmd_access.specs.declared.setup.Setting.{Setting}

@@ -1,7 +1,7 @@
 -- Bufs of a packet, in their places.
 use Rattle.std.proofs.Common.{◌≡◌, ℕ, zero, suc, ◌+◌, ◌<◌, ◌≤◌, List, [], ◌∷◌, ◌++◌, length, get_or, set, drop, take, ◌-◌, Option, Some, None, refl, subst, sym, ap, ◌∙◌, arith}
 use Rattle.std.proofs.lemmas.List.{length_push}
-use Rattle.nic_device.specs.DmaArena.Block.{Block}
+use Rattle.device_lock.specs.NicDevice.DmaArena.Block.{Block}
 use Rattle.pmd_access.specs.Bufs.{blocks_in, StandFirst}
 
 pub stand_count : (n : ℕ) (places : List (Option Block)) → StandFirst n places → length (blocks_in places) ≡ n

@@ -1,8 +1,8 @@
 -- Steps of the device, among calls that are marked in turn.
 use Rattle.std.proofs.Common.{◌≡◌, Bool, false, List, [], ◌∷◌, ◌++◌, length, map, arith}
 use Rattle.std.specs.Prelude.{IsTrue, ⊤}
-use Rattle.nic_device.specs.DmaArena.Block.{Block}
-use Rattle.nic_device.specs.declared.event.Event.{Event}
+use Rattle.device_lock.specs.NicDevice.DmaArena.Block.{Block}
+use Rattle.device_lock.specs.NicDevice.declared.event.Event.{Event}
 use Rattle.device_lock.specs.declared.entry.Call.{Call}
 use Rattle.device_lock.specs.Events.{is_step}
 use Rattle.pmd_access.specs.Made.{AreSteps, StepsWhere}

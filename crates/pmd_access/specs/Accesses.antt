@@ -1,9 +1,9 @@
 -- The accesses that a driver makes: each adds its event with one of the replies that it can have.
 use Rattle.std.specs.Prelude.{ℕ, Bool, true, false, ◌⊎◌, List, Option, Some, None}
-use Rattle.nic_device.specs.DmaArena.Block.{Block}
-use Rattle.nic_device.specs.declared.event.Event.TheVariants as event
-use Rattle.nic_device.specs.declared.event.Port.{Port}
-use Rattle.nic_device.specs.declared.event.Reply.TheVariants as reply
+use Rattle.device_lock.specs.NicDevice.DmaArena.Block.{Block}
+use Rattle.device_lock.specs.NicDevice.declared.event.Event.TheVariants as event
+use Rattle.device_lock.specs.NicDevice.declared.event.Port.{Port}
+use Rattle.device_lock.specs.NicDevice.declared.event.Reply.TheVariants as reply
 use Rattle.device_lock.specs.declared.entry.Call.{Call}
 use Rattle.pmd_access.specs.Made.{Adds}
 

@@ -1,6 +1,6 @@
 -- Where the calls of a way to a device began, and whose they are.
 use Rattle.std.specs.Prelude.{◌≡◌, ℕ, Bool, true, false, List, [], ◌∷◌, map}
-use Rattle.nic_device.specs.State.{State}
+use Rattle.device_lock.specs.NicDevice.State.{State}
 use Rattle.device_lock.specs.History.{AreEvents, IsLegal, entry_of, leads_to}
 use Rattle.device_lock.specs.declared.entry.Call.{Call}
 use Rattle.device_lock.specs.declared.entry.Entry.{Entry}

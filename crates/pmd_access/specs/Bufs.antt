@@ -1,7 +1,7 @@
 -- The Bufs that a packet is in.
 use Rattle.std.specs.Prelude.{ℕ, zero, suc, ◌≡◌, List, [], ◌∷◌, ◌++◌, map, Option, Some, None, true}
-use Rattle.nic_device.specs.DmaArena.Block.{Block}
-use Rattle.nic_device.specs.DmaArena.Numbers.{Numbers, with_free}
+use Rattle.device_lock.specs.NicDevice.DmaArena.Block.{Block}
+use Rattle.device_lock.specs.NicDevice.DmaArena.Numbers.{Numbers, with_free}
 
 -- the bytes of blocks, one block after the other
 abbrev pub bytes_of : List Block → List ℕ

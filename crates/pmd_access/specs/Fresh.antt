@@ -1,7 +1,7 @@
 -- Fresh packets.
 use Rattle.std.specs.Prelude.{◌≡◌, ℕ, ◌+◌, ◌/◌, max, List, length, map, Option, Some, None}
-use Rattle.nic_device.specs.DmaArena.Block.{Block, zero_block}
-use Rattle.nic_device.specs.DmaArena.Numbers.{Numbers}
+use Rattle.device_lock.specs.NicDevice.DmaArena.Block.{Block, zero_block}
+use Rattle.device_lock.specs.NicDevice.DmaArena.Numbers.{Numbers}
 use Rattle.pmd_access.specs.Bufs.{numbers_of}
 use Rattle.pmd_access.specs.Home.{IsDrawn}
 use Rattle.pmd_access.specs.declared.packet.Packet.{Packet}

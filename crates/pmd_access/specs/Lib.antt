@@ -1,5 +1,6 @@
 pub use Rattle.device_lock.specs as DeviceLock
 pub use Rattle.device_lock.specs.Events
+pub use Rattle.device_lock.specs.NicDevice
 pub mod Accesses
 pub mod Begun
 pub mod Both

@@ -1,12 +1,12 @@
 -- The registers of a queue, as a port names them.
 use Rattle.std.specs.Prelude.{ℕ, ◌≡◌, ◌+◌, ◌*◌, ◌<◌, ◌≤◌, Bool, true, false, if◌then◌else◌}
-use Rattle.nic_device.specs.declared.event.Port.{Port}
-use Rattle.nic_device.specs.declared.event.Port.TheVariants.{Pf, Vf}
-use Rattle.nic_device.specs.RegTable.Rows.{row_of}
-use Rattle.nic_device.specs.RegTable.declared.rows.RowId.{RowId}
-use Rattle.nic_device.specs.RegTable.declared.rows.RowId.TheVariants.{Rdbal, Rdbah, Rdlen, Rdh, Srrctl, Rdt, Rxdctl, Tdbal, Tdbah, Tdlen, Tdh, Tdt, Txdctl, Tdwbal}
-use Rattle.nic_device.specs.VfMap.Map.{behind}
-use Rattle.nic_device.specs.VfMap.Owner.{is_receive}
+use Rattle.device_lock.specs.NicDevice.declared.event.Port.{Port}
+use Rattle.device_lock.specs.NicDevice.declared.event.Port.TheVariants.{Pf, Vf}
+use Rattle.device_lock.specs.NicDevice.RegTable.Rows.{row_of}
+use Rattle.device_lock.specs.NicDevice.RegTable.declared.rows.RowId.{RowId}
+use Rattle.device_lock.specs.NicDevice.RegTable.declared.rows.RowId.TheVariants.{Rdbal, Rdbah, Rdlen, Rdh, Srrctl, Rdt, Rxdctl, Tdbal, Tdbah, Tdlen, Tdh, Tdt, Txdctl, Tdwbal}
+use Rattle.device_lock.specs.NicDevice.VfMap.Map.{behind}
+use Rattle.device_lock.specs.NicDevice.VfMap.Owner.{is_receive}
 use Rattle.pmd_access.specs.Setup.{IsAddressOf}
 
 -- how many queues a port can name: the device has 128, and a virtual function's offsets have room for 64 of its own

@@ -1,10 +1,10 @@
 -- The accesses of a queue's registers that a driver makes, in order, and where they stop.
 use Rattle.std.specs.Prelude.{ℕ, ◌≡◌, ◌⊎◌, List, [], ◌∷◌, ◌++◌, Bool, not}
-use Rattle.nic_device.specs.declared.event.Event.TheVariants as event
-use Rattle.nic_device.specs.declared.event.Reply.TheVariants as reply
+use Rattle.device_lock.specs.NicDevice.declared.event.Event.TheVariants as event
+use Rattle.device_lock.specs.NicDevice.declared.event.Reply.TheVariants as reply
 use Rattle.device_lock.specs.declared.entry.Call.{Call}
-use Rattle.nic_device.specs.RegTable.declared.rows.RowId.{RowId}
-use Rattle.nic_device.specs.RegisterFile.Bits.{has_bit}
+use Rattle.device_lock.specs.NicDevice.RegTable.declared.rows.RowId.{RowId}
+use Rattle.device_lock.specs.NicDevice.RegisterFile.Bits.{has_bit}
 use Rattle.pmd_access.specs.Made.{Adds, AddsSome}
 use Rattle.pmd_access.specs.declared.fault.PmdFault.{PmdFault}
 use Rattle.pmd_access.specs.declared.fault.PmdFault.TheVariants.{BadSize, ForeignBlock, StartTimeout, NoBuffer}

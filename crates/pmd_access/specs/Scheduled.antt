@@ -1,10 +1,10 @@
 -- A device in hand, and lists of foreign events, the next of which is made before each call.
 use Rattle.std.specs.Prelude.{◌≡◌, ◌⊎◌, Bool, true, false, List, [], ◌∷◌, ◌++◌}
-use Rattle.nic_device.specs.DmaArena.Block.{Block}
-use Rattle.nic_device.specs.State.{State}
-use Rattle.nic_device.specs.Step.{step_of}
-use Rattle.nic_device.specs.declared.event.Event.{Event}
-use Rattle.nic_device.specs.declared.event.Reply.{Reply}
+use Rattle.device_lock.specs.NicDevice.DmaArena.Block.{Block}
+use Rattle.device_lock.specs.NicDevice.State.{State}
+use Rattle.device_lock.specs.NicDevice.Step.{step_of}
+use Rattle.device_lock.specs.NicDevice.declared.event.Event.{Event}
+use Rattle.device_lock.specs.NicDevice.declared.event.Reply.{Reply}
 use Rattle.device_lock.specs.declared.entry.Call.{Call}
 use Rattle.device_lock.specs.Pass.{call_of}
 

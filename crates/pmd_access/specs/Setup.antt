@@ -1,18 +1,18 @@
 -- The set-up of the whole device.
 use Rattle.std.specs.Prelude.{ℕ, zero, suc, ◌≡◌, ◌+◌, ◌*◌, ◌<◌, List, [], ◌∷◌, ◌++◌, Bool, nat_lt, Some, if◌then◌else◌, slice_range}
 use Rattle.std.specs.Int.{w32, from_le_bytes}
-use Rattle.nic_device.specs.declared.event.Event.TheVariants as event
-use Rattle.nic_device.specs.declared.event.Port.TheVariants.{Pf}
-use Rattle.nic_device.specs.declared.event.Reply.TheVariants as reply
-use Rattle.nic_device.specs.RegTable.Place.{place_among, view_among, address_among}
-use Rattle.nic_device.specs.RegTable.Rows.{row_of}
-use Rattle.nic_device.specs.RegTable.Runs.{runs}
-use Rattle.nic_device.specs.RegTable.declared.place.Place.{Place}
-use Rattle.nic_device.specs.RegTable.declared.rows.RowId.{RowId}
-use Rattle.nic_device.specs.RegTable.declared.rows.RowId.TheVariants.{GcrExt, VtCtl, Vfre, Vfte, Mrqc, Rssrk, Reta, Rxcsum, Fctrl, Maxfrs, Hlreg0, Dmatxctl, Rxctrl}
-use Rattle.nic_device.specs.RegisterFile.Columns.{place}
-use Rattle.nic_device.specs.VfMap.declared.mode.Mode.{Mode}
-use Rattle.nic_device.specs.VfMap.declared.mode.Mode.TheVariants.{Off, Pools16, Pools32, Pools64}
+use Rattle.device_lock.specs.NicDevice.declared.event.Event.TheVariants as event
+use Rattle.device_lock.specs.NicDevice.declared.event.Port.TheVariants.{Pf}
+use Rattle.device_lock.specs.NicDevice.declared.event.Reply.TheVariants as reply
+use Rattle.device_lock.specs.NicDevice.RegTable.Place.{place_among, view_among, address_among}
+use Rattle.device_lock.specs.NicDevice.RegTable.Rows.{row_of}
+use Rattle.device_lock.specs.NicDevice.RegTable.Runs.{runs}
+use Rattle.device_lock.specs.NicDevice.RegTable.declared.place.Place.{Place}
+use Rattle.device_lock.specs.NicDevice.RegTable.declared.rows.RowId.{RowId}
+use Rattle.device_lock.specs.NicDevice.RegTable.declared.rows.RowId.TheVariants.{GcrExt, VtCtl, Vfre, Vfte, Mrqc, Rssrk, Reta, Rxcsum, Fctrl, Maxfrs, Hlreg0, Dmatxctl, Rxctrl}
+use Rattle.device_lock.specs.NicDevice.RegisterFile.Columns.{place}
+use Rattle.device_lock.specs.NicDevice.VfMap.declared.mode.Mode.{Mode}
+use Rattle.device_lock.specs.NicDevice.VfMap.declared.mode.Mode.TheVariants.{Off, Pools16, Pools32, Pools64}
 use Rattle.device_lock.specs.declared.entry.Call.{Call}
 use Rattle.pmd_access.specs.Frames.{shortest_frame}
 use Rattle.pmd_access.specs.Made.{Adds, AddsSome}

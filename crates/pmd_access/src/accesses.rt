@@ -8,8 +8,7 @@ ghost use Rattle.pmd_access.specs.Refusals.{CanRefuse};
 
 use crate::fault::{with_block, without_event};
 use crate::nic::Nic;
-use device_lock::CallFault;
-use nic_device::{Buf, Event, Port, Reply};
+use device_lock::{Buf, CallFault, Event, Port, Reply};
 use std::alloc::Global;
 
 /// Reads a register by its number at the port. None where there is none.

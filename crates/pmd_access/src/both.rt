@@ -10,7 +10,7 @@ use crate::fault::PmdFault;
 use crate::names::Queue;
 use crate::nic::Nic;
 use crate::sides::POLLS;
-use nic_device::Dir;
+use device_lock::Dir;
 use std::alloc::Global;
 
 impl Queue {

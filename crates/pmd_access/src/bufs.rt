@@ -1,11 +1,11 @@
 //! The Bufs that a packet is in: five at most, one after the other.
 
 ghost use Rattle.pmd_access.specs.Bufs.{blocks_in, bytes_of, numbers_of};
-ghost use Rattle.nic_device.specs.DmaArena.Memory.{put_bytes};
-ghost use Rattle.nic_device.specs.DmaArena.Whereabouts.{times_in_hand};
+ghost use Rattle.device_lock.specs.NicDevice.DmaArena.Memory.{put_bytes};
+ghost use Rattle.device_lock.specs.NicDevice.DmaArena.Whereabouts.{times_in_hand};
 ghost use Rattle.std.specs.Prelude.{◌≡◌, ◌≤◌, ◌<◌, ◌+◌, ◌*◌, ◌↔◌, true, false, ◌++◌, ◌∷◌, [], length, slice_index_or, option_to_list, IfNone, IsNone};
 
-use nic_device::{BLOCK_BYTES, Buf};
+use device_lock::{BLOCK_BYTES, Buf};
 use std::marker::Model;
 use std::mem;
 
@@ -20,7 +20,7 @@ pub struct Bufs {
 
 impl Model for Bufs {
     ghost use Rattle.std.specs.Prelude.{◌≡◌, List, length};
-    ghost use Rattle.nic_device.specs.DmaArena.Block.{Block};
+    ghost use Rattle.device_lock.specs.NicDevice.DmaArena.Block.{Block};
     ghost use Rattle.pmd_access.specs.Bufs.{blocks_in, StandFirst};
 
     ghost Value = { List Block };

@@ -1,6 +1,6 @@
 ghost use Rattle.std.specs.Prelude.{◌≡◌, ◌<◌, [], true, false, IfOk, IfErr, OnOk, OnErr};
-ghost use Rattle.nic_device.specs.Answering.{may_answer};
-ghost use Rattle.nic_device.specs.Step.{step_of};
+ghost use Rattle.device_lock.specs.NicDevice.Answering.{may_answer};
+ghost use Rattle.device_lock.specs.NicDevice.Step.{step_of};
 ghost use Rattle.device_lock.specs.Events.{is_step};
 ghost use Rattle.device_lock.specs.Stepping.{steps_of_queue};
 ghost use Rattle.pmd_access.specs.Begun.{BeganAs, From, began_in_hand};
@@ -9,8 +9,7 @@ ghost use Rattle.pmd_access.specs.Refusals.{memory_alone};
 
 use crate::fault::no_memory;
 use crate::nic::Nic;
-use device_lock::{CallFault, Calls};
-use nic_device::{Device, Dir, Event, OutOfMemory, Reply};
+use device_lock::{CallFault, Calls, Device, Dir, Event, OutOfMemory, Reply};
 use std::alloc::Global;
 use std::marker::Model;
 
@@ -24,7 +23,7 @@ pub struct Direct {
 
 impl Model for Direct {
     ghost use Rattle.std.specs.Coded.{codes};
-    ghost use Rattle.nic_device.specs.State.{state_code};
+    ghost use Rattle.device_lock.specs.NicDevice.State.{state_code};
     ghost use Rattle.pmd_access.specs.Made.{InHand};
 
     ghost Value = { InHand };

@@ -2,10 +2,9 @@
 
 ghost use Rattle.std.specs.Prelude.{◌≡◌, true, None, Some, is_some};
 ghost use Rattle.device_lock.specs.Fault.{event_of, fault_with};
-ghost use Rattle.nic_device.specs.Step.{lent_block};
+ghost use Rattle.device_lock.specs.NicDevice.Step.{lent_block};
 
-use device_lock::CallFault;
-use nic_device::{Buf, Event, OutOfMemory};
+use device_lock::{Buf, CallFault, Event, OutOfMemory};
 
 /// Why a call of the driver fails.
 #[derive(Debug, Drop)]

@@ -1,14 +1,13 @@
 //! A device in hand, with what was made of it.
 
 ghost use Rattle.std.specs.Prelude.{◌≡◌, ◌<◌, [], ◌∷◌, ◌++◌, length, IfOk, IfErr, OnOk, OnErr, true};
-ghost use Rattle.nic_device.specs.Answering.{may_answer};
-ghost use Rattle.nic_device.specs.Step.{step_of};
+ghost use Rattle.device_lock.specs.NicDevice.Answering.{may_answer};
+ghost use Rattle.device_lock.specs.NicDevice.Step.{step_of};
 ghost use Rattle.device_lock.specs.Pass.{call_of};
 ghost use Rattle.pmd_access.specs.Begun.{BeganAs, began_handled};
 ghost use Rattle.pmd_access.specs.Scheduled.{after_own, after_foreign, after_list, made_of, IsMadeTo};
 
-use device_lock::{CallFault, Calls};
-use nic_device::{Device, Event, OutOfMemory, Reply};
+use device_lock::{CallFault, Calls, Device, Event, OutOfMemory, Reply};
 use std::alloc::Global;
 use std::collections::VecDeque;
 use std::marker::Model;
@@ -24,7 +23,7 @@ pub(crate) struct Handled {
 impl Model for Handled {
     ghost use Rattle.std.specs.Prelude.{◌≡◌, length};
     ghost use Rattle.std.specs.Coded.{codes};
-    ghost use Rattle.nic_device.specs.State.{state_code};
+    ghost use Rattle.device_lock.specs.NicDevice.State.{state_code};
     ghost use Rattle.pmd_access.specs.Scheduled.{Handled as HandledValue};
 
     ghost Value = { HandledValue };

@@ -1,8 +1,8 @@
 //! Blocks on their way home to the arena that they were taken from.
 
 ghost use Rattle.std.specs.Prelude.{◌≡◌, ◌<◌, ◌+◌, ◌++◌, ◌∷◌, [], length, IsTrue, ◌↔◌, true, false, OnOk, OnErr, IfErr};
-ghost use Rattle.nic_device.specs.DmaArena.Numbers.{is_own, is_free, with_free};
-ghost use Rattle.nic_device.specs.DmaArena.Whereabouts.{times_in_hand};
+ghost use Rattle.device_lock.specs.NicDevice.DmaArena.Numbers.{is_own, is_free, with_free};
+ghost use Rattle.device_lock.specs.NicDevice.DmaArena.Whereabouts.{times_in_hand};
 ghost use Rattle.pmd_access.specs.Begun.{BeganAs};
 ghost use Rattle.pmd_access.specs.Home.{AreOut, BringsOne, BringsAll, StopsBringing};
 ghost use Rattle.pmd_access.specs.Made.{AddsSome};
@@ -10,8 +10,7 @@ ghost use Rattle.pmd_access.specs.Refusals.{CanRefuse};
 
 use crate::accesses::take;
 use crate::nic::Nic;
-use device_lock::CallFault;
-use nic_device::{Arena, Buf};
+use device_lock::{Arena, Buf, CallFault};
 use std::alloc::{AllocError, Global};
 use std::collections::VecDeque;
 use std::marker::Model;

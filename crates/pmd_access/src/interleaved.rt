@@ -2,8 +2,8 @@
 
 ghost use Rattle.std.specs.Prelude.{◌≡◌, [], length, map, true, IfOk, IfErr, OnOk, OnErr};
 ghost use Rattle.device_lock.specs.Fault.{event_of};
-ghost use Rattle.nic_device.specs.Answering.{may_answer};
-ghost use Rattle.nic_device.specs.Step.{step_of};
+ghost use Rattle.device_lock.specs.NicDevice.Answering.{may_answer};
+ghost use Rattle.device_lock.specs.NicDevice.Step.{step_of};
 ghost use Rattle.pmd_access.specs.Begun.{BeganAs, From, began_handled, began_scheduled};
 ghost use Rattle.pmd_access.specs.Made.{Adds, AddsSome};
 ghost use Rattle.pmd_access.specs.Refusals.{CanRefuse, memory_alone};
@@ -12,8 +12,7 @@ ghost use Rattle.pmd_access.specs.Scheduled.{with_list_made};
 
 use crate::handled::Handled;
 use crate::nic::Nic;
-use device_lock::{CallFault, Calls};
-use nic_device::{Device, Event, OutOfMemory, Reply};
+use device_lock::{CallFault, Calls, Device, Event, OutOfMemory, Reply};
 use std::alloc::Global;
 use std::collections::VecDeque;
 use std::marker::Model;
@@ -28,7 +27,7 @@ pub struct Interleaved {
 impl Model for Interleaved {
     ghost use Rattle.std.specs.Prelude.{map};
     ghost use Rattle.std.specs.Coded.{codes};
-    ghost use Rattle.nic_device.specs.State.{state_code};
+    ghost use Rattle.device_lock.specs.NicDevice.State.{state_code};
     ghost use Rattle.pmd_access.specs.Scheduled.{Scheduled};
 
     ghost Value = { Scheduled };

@@ -3,9 +3,9 @@
 ghost use Rattle.std.specs.Prelude.{◌≡◌, ◌+◌, ◌*◌, ◌<◌, ◌↔◌, true, IfSome, IsNone};
 ghost use Rattle.pmd_access.specs.Setup.{IsAddressOf};
 ghost use Rattle.pmd_access.specs.Named.{CanName, IsNumberOf, IsDriven, is_driven, offset_of};
-ghost use Rattle.nic_device.specs.RegisterFile.Queue.{tail_row};
+ghost use Rattle.device_lock.specs.NicDevice.RegisterFile.Queue.{tail_row};
 
-use nic_device::{Dir, Place, Port, QUEUES, RowId, addr_of};
+use device_lock::{Dir, Place, Port, QUEUES, RowId, addr_of};
 use std::marker::Model;
 
 /// How many queues of its own a virtual function's offsets have room for.

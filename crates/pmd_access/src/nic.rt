@@ -1,13 +1,12 @@
 ghost use Rattle.std.specs.Prelude.{◌≡◌, List, true, IfOk, IfErr};
 ghost use Rattle.device_lock.specs.Fault.{event_of};
 ghost use Rattle.device_lock.specs.declared.entry.Call.{Call};
-ghost use Rattle.nic_device.specs.Answering.{may_answer};
+ghost use Rattle.device_lock.specs.NicDevice.Answering.{may_answer};
 ghost use Rattle.pmd_access.specs.Begun.{BeganAs, Origin};
 ghost use Rattle.pmd_access.specs.Made.{Adds, AddsSome};
 ghost use Rattle.pmd_access.specs.Refusals.{Refusals, CanRefuse};
 
-use device_lock::CallFault;
-use nic_device::{Event, Reply};
+use device_lock::{CallFault, Event, Reply};
 use std::alloc::Global;
 
 /// A way to a device. A call makes some steps of the device, and then this event; others may make events of their own

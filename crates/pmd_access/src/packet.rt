@@ -2,8 +2,8 @@
 
 ghost use Rattle.std.specs.Prelude.{◌≡◌, ◌<◌, ◌≤◌, ◌+◌, ◌*◌, ◌⊎◌, ◌↔◌, true, false, [], length, take, min, IsNone};
 ghost use Rattle.std.specs.Vec.{vec_capacity};
-ghost use Rattle.nic_device.specs.DmaArena.Memory.{put_bytes};
-ghost use Rattle.nic_device.specs.DmaArena.Numbers.{free_count};
+ghost use Rattle.device_lock.specs.NicDevice.DmaArena.Memory.{put_bytes};
+ghost use Rattle.device_lock.specs.NicDevice.DmaArena.Numbers.{free_count};
 ghost use Rattle.pmd_access.specs.Bufs.{bytes_of, numbers_of, with_all_free};
 ghost use Rattle.pmd_access.specs.Fresh.{IsFresh, IsDrawnAs, bufs_for};
 ghost use Rattle.pmd_access.specs.Home.{AreOut};
@@ -11,7 +11,7 @@ ghost use Rattle.pmd_access.specs.Packet.{kept_of};
 
 use crate::bufs::{Bufs, MOST_BUFS};
 use crate::home::give_back;
-use nic_device::{Arena, BLOCK_BYTES, Octets};
+use device_lock::{Arena, BLOCK_BYTES, Octets};
 use std::marker::Model;
 
 /// A packet in hand. Its bytes are the first `len` of its Bufs', one Buf after the other.

@@ -1,7 +1,7 @@
 //! The set-up of the whole device, before any queue is started.
 
 ghost use Rattle.std.specs.Prelude.{◌≡◌, ◌+◌, ◌*◌, ◌/◌, ◌<◌, ◌≤◌, [], ◌∷◌, All, length, Err, IsTrue, IsFalse, OnOk, IfErr};
-ghost use Rattle.nic_device.specs.RegTable.Rows.{row_of};
+ghost use Rattle.device_lock.specs.NicDevice.RegTable.Rows.{row_of};
 ghost use Rattle.pmd_access.specs.Begun.{BeganAs};
 ghost use Rattle.pmd_access.specs.Frames.{is_frame};
 ghost use Rattle.pmd_access.specs.Setup.{AreSet, SettingFails, StopsSetting, IsAddressOf, IsInRow, mode_word};
@@ -14,7 +14,7 @@ use crate::fault::PmdFault;
 use crate::frames::{SHORTEST_FRAME, is_frame};
 use crate::nic::Nic;
 use byteorder::{ByteOrder, LittleEndian};
-use nic_device::{Mode, Place, Port, RowId, addr_of};
+use device_lock::{Mode, Place, Port, RowId, addr_of};
 use register_bits::{Dmatxctl, Fctrl, Hlreg0, Rxcsum, Rxctrl, VtCtl};
 use std::alloc::Global;
 

@@ -1,8 +1,8 @@
 //! The sides of a queue, made ready and switched.
 
 ghost use Rattle.std.specs.Prelude.{◌≡◌, ◌<◌, ◌≤◌, ◌-◌, true, false, All, map, IfOk, IfErr, OnOk};
-ghost use Rattle.nic_device.specs.RegisterFile.Bits.{has_bit};
-ghost use Rattle.nic_device.specs.RegisterFile.Queue.{enable_row};
+ghost use Rattle.device_lock.specs.NicDevice.RegisterFile.Bits.{has_bit};
+ghost use Rattle.device_lock.specs.NicDevice.RegisterFile.Queue.{enable_row};
 ghost use Rattle.pmd_access.specs.Begun.{BeganAs};
 ghost use Rattle.pmd_access.specs.QueueMade.{Sees, Sets, IsSeen, IsSet, AreMade, StopsBy, FailsBy, ReadFails};
 ghost use Rattle.pmd_access.specs.Named.{IsDriven};
@@ -13,7 +13,7 @@ use crate::accesses::{read, write};
 use crate::fault::PmdFault;
 use crate::names::Queue;
 use crate::nic::Nic;
-use nic_device::{Dir, RowId};
+use device_lock::{Dir, RowId};
 use register_bits::{Rxdctl, Txdctl, has_flag};
 use std::alloc::Global;
 

@@ -1,7 +1,7 @@
 //! The slots of a driver's ring, which is in blocks of bus memory that follow one another.
 
 ghost use Rattle.std.specs.Prelude.{◌≡◌, ◌<◌, ◌≤◌, ◌+◌};
-ghost use Rattle.nic_device.specs.DmaRing.Ring.{next_of};
+ghost use Rattle.device_lock.specs.NicDevice.DmaRing.Ring.{next_of};
 ghost use Rattle.pmd_access.specs.Slots.{wrapped, descriptor_in, blocks_for, is_ring_block};
 
 /// The slot after one of a ring of `size` slots: 0 after the last.

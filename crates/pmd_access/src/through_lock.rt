@@ -1,15 +1,14 @@
 ghost use Rattle.std.specs.Prelude.{◌≡◌, ◌↔◌, [], ◌∷◌, true, IsTrue, Err, IfOk, IfErr, OnOk, OnErr};
 ghost use Rattle.device_lock.specs.Fault.{event_of};
 ghost use Rattle.device_lock.specs.Pass.{call_of};
-ghost use Rattle.nic_device.specs.Answering.{may_answer};
+ghost use Rattle.device_lock.specs.NicDevice.Answering.{may_answer};
 ghost use Rattle.pmd_access.specs.Begun.{BeganAs, began_at_lock};
 ghost use Rattle.pmd_access.specs.Made.{Adds, AddsSome};
 ghost use Rattle.pmd_access.specs.Refusals.{CanRefuse};
 ghost use Rattle.pmd_access.specs.Stepped.{StepsAndMakes, StopsStepping, is_foreign, refusals_of};
 
 use crate::nic::Nic;
-use device_lock::{CallFault, Calls, Pass, Shared};
-use nic_device::{Event, Reply};
+use device_lock::{CallFault, Calls, Event, Pass, Reply, Shared};
 use std::alloc::Global;
 use std::marker::Model;
 use std::sync::Wait;

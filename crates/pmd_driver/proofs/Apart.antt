@@ -1,12 +1,12 @@
 -- Each block that a half lends is one of the driver's own numbers, and isn't lent by the other half.
 use Rattle.std.proofs.Common.{◌≡◌, ℕ, zero, suc, ◌<◌, Bool, true, false, List, [], ◌∷◌, ◌++◌, length, take, drop, refl, sym, subst, arith}
 use Rattle.std.specs.Prelude.{IsTrue, IsFalse, slice_index_or, ⊤}
-use Rattle.nic_device.specs.DmaArena.Block.{Block}
-use Rattle.nic_device.specs.DmaArena.Numbers.{Numbers, is_free}
-use Rattle.nic_device.specs.declared.event.Event.{Event}
-use Rattle.nic_device.specs.declared.event.Event.TheVariants as event
-use Rattle.nic_device.specs.declared.event.Reply.{Reply}
-use Rattle.nic_device.specs.declared.event.Reply.TheVariants as reply
+use Rattle.pmd_rx.specs.NicDevice.DmaArena.Block.{Block}
+use Rattle.pmd_rx.specs.NicDevice.DmaArena.Numbers.{Numbers, is_free}
+use Rattle.pmd_rx.specs.NicDevice.declared.event.Event.{Event}
+use Rattle.pmd_rx.specs.NicDevice.declared.event.Event.TheVariants as event
+use Rattle.pmd_rx.specs.NicDevice.declared.event.Reply.{Reply}
+use Rattle.pmd_rx.specs.NicDevice.declared.event.Reply.TheVariants as reply
 use Rattle.pmd_rx.specs.DeviceLock.Alone.{Blocks}
 use Rattle.pmd_rx.specs.DeviceLock.declared.entry.Call.{Call}
 use Rattle.pmd_rx.specs.PmdAccess.Events.{is_step}

@@ -1,8 +1,8 @@
 -- A call of one half drives both on, and what it lends is the driver's own.
 use Rattle.std.proofs.Common.{◌≡◌, ℕ, ◌≤◌, true, false, List, [], ◌∷◌, ◌++◌, refl, ◌∙◌, subst, arith}
-use Rattle.nic_device.specs.DmaArena.Numbers.{is_own, is_free}
-use Rattle.nic_device.specs.DmaArena.Whereabouts.{times_in_hand}
-use Rattle.nic_device.proofs.DmaArena.Arenas.{is_own-of_free}
+use Rattle.pmd_rx.specs.NicDevice.DmaArena.Numbers.{is_own, is_free}
+use Rattle.pmd_rx.specs.NicDevice.DmaArena.Whereabouts.{times_in_hand}
+use Rattle.pmd_rx.proofs.NicDevice.DmaArena.Arenas.{is_own-of_free}
 use Rattle.pmd_rx.specs.DeviceLock.Alone.{Blocks}
 use Rattle.pmd_rx.specs.DeviceLock.declared.entry.Call.{Call}
 use Rattle.pmd_rx.specs.PmdAccess.Home.{AreOut}

@@ -2,8 +2,8 @@
 use Rattle.std.proofs.Common.{◌≡◌, ℕ, ◌&&◌, not, true, List, [], ◌++◌, Option, Some, None, Result, Ok, Err, OnOk, refl, ap, subst, sym, arith}
 use Rattle.std.specs.List.{list_any}
 use Rattle.std.proofs.lemmas.Bool.Decides.{nat_tests}
-use Rattle.nic_device.specs.DmaArena.Numbers.{Numbers}
-use Rattle.nic_device.specs.DmaArena.Whereabouts.{times_in_hand}
+use Rattle.pmd_rx.specs.NicDevice.DmaArena.Numbers.{Numbers}
+use Rattle.pmd_rx.specs.NicDevice.DmaArena.Whereabouts.{times_in_hand}
 use Rattle.pmd_rx.specs.PmdAccess.Bufs.{numbers_of, with_all_free}
 use Rattle.pmd_rx.specs.PmdAccess.Fresh.{IsFresh}
 use Rattle.pmd_rx.specs.PmdAccess.Home.{AreOut}

@@ -1,8 +1,8 @@
 -- Where the blocks of a driver are whose stop failed.
 use Rattle.std.proofs.Common.{◌≡◌, ℕ, zero, suc, inl, inr, cond, List, [], ◌++◌, refl, sym, ap, subst, ◌∙◌, arith}
 use Rattle.std.proofs.lemmas.List.{append-nil}
-use Rattle.nic_device.specs.DmaArena.Numbers.{Numbers, is_free}
-use Rattle.nic_device.specs.DmaArena.Whereabouts.{times_in_hand}
+use Rattle.pmd_rx.specs.NicDevice.DmaArena.Numbers.{Numbers, is_free}
+use Rattle.pmd_rx.specs.NicDevice.DmaArena.Whereabouts.{times_in_hand}
 use Rattle.pmd_rx.specs.DeviceLock.declared.entry.Call.{Call}
 use Rattle.pmd_rx.specs.PmdAccess.Bufs.{with_all_free}
 use Rattle.pmd_rx.specs.PmdAccess.Home.{AreOut, Bringing, BringsOne, Brings}

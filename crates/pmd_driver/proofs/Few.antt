@@ -2,8 +2,8 @@
 use Rattle.std.proofs.Common.{ℕ, ◌+◌, ◌-◌, ◌≤◌, Bool, true, false, cond, List, [], ◌∷◌, length, arith}
 use Rattle.std.proofs.lemmas.List.{length-set}
 use Rattle.std.proofs.lemmas.List.Sums.{sum_by-cons}
-use Rattle.nic_device.specs.DmaArena.Numbers.{Numbers, free_count, with_free}
-use Rattle.nic_device.proofs.DmaArena.Arenas.{free_count_given}
+use Rattle.pmd_rx.specs.NicDevice.DmaArena.Numbers.{Numbers, free_count, with_free}
+use Rattle.pmd_rx.proofs.NicDevice.DmaArena.Arenas.{free_count_given}
 use Rattle.pmd_rx.specs.PmdAccess.Home.{AreOut}
 use Rattle.pmd_rx.proofs.PmdAccess.Outside.{out_first, out_given}
 

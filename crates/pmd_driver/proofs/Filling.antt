@@ -1,9 +1,9 @@
 -- Packets that are made of bytes.
 use Rattle.std.proofs.Common.{◌≡◌, ℕ, ◌+◌, ◌-◌, ◌*◌, ◌≤◌, List, [], ◌∷◌, ◌++◌, map, replicate, length, drop, Some, refl, sym, ap, ◌∙◌, subst, arith}
 use Rattle.std.proofs.lemmas.List.{drop-replicate, length-map, replicate-append-replicate}
-use Rattle.nic_device.specs.DmaArena.Block.{Block, zero_block}
-use Rattle.nic_device.specs.DmaArena.Memory.{put_bytes}
-use Rattle.nic_device.specs.DmaArena.Numbers.{Numbers}
+use Rattle.pmd_rx.specs.NicDevice.DmaArena.Block.{Block, zero_block}
+use Rattle.pmd_rx.specs.NicDevice.DmaArena.Memory.{put_bytes}
+use Rattle.pmd_rx.specs.NicDevice.DmaArena.Numbers.{Numbers}
 use Rattle.pmd_rx.specs.PmdAccess.Bufs.{bytes_of, numbers_of}
 use Rattle.pmd_rx.specs.PmdAccess.Fresh.{IsFresh}
 use Rattle.pmd_rx.specs.PmdAccess.Home.{IsDrawn}

@@ -1,10 +1,10 @@
 -- A call of a half whose reply isn't that of a healthy queue.
 use Rattle.std.proofs.Common.{◌≡◌, ℕ, true, false, List, [], ◌∷◌, ◌++◌, length, length-append, refl, sym, ap, ◌∙◌, subst, arith}
 use Rattle.std.specs.Prelude.{IsTrue}
-use Rattle.nic_device.specs.DmaArena.Block.{Block}
-use Rattle.nic_device.specs.DmaArena.Numbers.{Numbers, is_free}
-use Rattle.nic_device.specs.declared.event.Event.{Event}
-use Rattle.nic_device.specs.declared.event.Reply.{Reply}
+use Rattle.pmd_rx.specs.NicDevice.DmaArena.Block.{Block}
+use Rattle.pmd_rx.specs.NicDevice.DmaArena.Numbers.{Numbers, is_free}
+use Rattle.pmd_rx.specs.NicDevice.declared.event.Event.{Event}
+use Rattle.pmd_rx.specs.NicDevice.declared.event.Reply.{Reply}
 use Rattle.pmd_rx.specs.DeviceLock.Alone.{Blocks}
 use Rattle.pmd_rx.specs.DeviceLock.Pass.{call_of}
 use Rattle.pmd_rx.specs.DeviceLock.declared.entry.Call.{Call}

@@ -1,6 +1,6 @@
 -- The first packet of a burst: it was accepted, or it is back at the front.
 use Rattle.std.proofs.Common.{◌≡◌, ◌⊎◌, inl, inr, ℕ, ◌+◌, ◌≤◌, List, [], ◌∷◌, ◌++◌, length, length-append, Option, Some, None, Result, Ok, Err, IfSome, IfNone, refl, sym, ap, subst, ◌∙◌, arith}
-use Rattle.nic_device.specs.DmaArena.Numbers.{Numbers, is_own}
+use Rattle.pmd_rx.specs.NicDevice.DmaArena.Numbers.{Numbers, is_own}
 use Rattle.pmd_rx.specs.DeviceLock.declared.entry.Call.{Call}
 use Rattle.pmd_rx.specs.PmdAccess.Bufs.{numbers_of}
 use Rattle.pmd_rx.specs.PmdAccess.declared.fault.PmdFault.{PmdFault}

@@ -1,8 +1,8 @@
 -- Where the blocks of a driver are that isn't running.
 use Rattle.std.proofs.Common.{◌≡◌, ℕ, ◌+◌, ◌<◌, ◌||◌, nat_lt, Bool, true, false, cond, List, [], ◌++◌, length, length-append, sym, ap, ◌∙◌, subst, arith}
 use Rattle.std.proofs.lemmas.Bool.Decides.{nat_tests}
-use Rattle.nic_device.specs.DmaArena.Numbers.{Numbers, is_own, is_free}
-use Rattle.nic_device.specs.DmaArena.Whereabouts.{times_in_hand}
+use Rattle.pmd_rx.specs.NicDevice.DmaArena.Numbers.{Numbers, is_own, is_free}
+use Rattle.pmd_rx.specs.NicDevice.DmaArena.Whereabouts.{times_in_hand}
 use Rattle.pmd_rx.specs.PmdAccess.Bufs.{with_all_free}
 use Rattle.pmd_rx.specs.PmdAccess.Home.{AreOut}
 use Rattle.pmd_rx.specs.PmdAccess.Packet.{Kept}

@@ -1,7 +1,7 @@
 -- Two ways home as one.
 use Rattle.std.proofs.Common.{◌≡◌, ℕ, zero, suc, ◌+◌, inl, inr, List, [], ◌++◌, length-append, refl, sym, ap, subst, arith}
 use Rattle.pmd_rx.specs.DeviceLock.declared.entry.Call.{Call}
-use Rattle.nic_device.specs.DmaArena.Numbers.{Numbers}
+use Rattle.pmd_rx.specs.NicDevice.DmaArena.Numbers.{Numbers}
 use Rattle.pmd_rx.specs.PmdAccess.Home.{AreOut, Homebound, Bringing, BringsOne, Brings, BringsAll, StopsBringing}
 use Rattle.pmd_driver.specs.Halted.{both_ways}
 use Rattle.pmd_driver.specs.Leaving.{bringing_both}

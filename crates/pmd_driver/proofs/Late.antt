@@ -1,9 +1,9 @@
 -- Which faults come once events are made.
 use Rattle.std.proofs.Common.{◌≡◌, ℕ, ◌+◌, ◌≤◌, ◌<◌, Bool, List, Result, Ok, Err, IfErr, inl, inr, refl, arith}
-use Rattle.nic_device.specs.DmaArena.Numbers.{Numbers}
+use Rattle.pmd_rx.specs.NicDevice.DmaArena.Numbers.{Numbers}
 use Rattle.pmd_rx.specs.DeviceLock.declared.entry.Call.{Call}
-use Rattle.nic_device.specs.DmaRing.declared.dir.Dir.{Dir}
-use Rattle.nic_device.specs.DmaRing.declared.dir.Dir.TheVariants.{Rx}
+use Rattle.pmd_rx.specs.NicDevice.DmaRing.declared.dir.Dir.{Dir}
+use Rattle.pmd_rx.specs.NicDevice.DmaRing.declared.dir.Dir.TheVariants.{Rx}
 use Rattle.pmd_rx.specs.PmdAccess.declared.fault.PmdFault.{PmdFault}
 use Rattle.pmd_rx.specs.PmdAccess.declared.fault.PmdFault.TheVariants as fault
 use Rattle.pmd_rx.specs.PmdAccess.Both.{SwitchFails}
@@ -13,7 +13,7 @@ use Rattle.pmd_rx.specs.PmdAccess.Sides.{PollsEnd}
 use Rattle.pmd_rx.specs.Filling.{StopsFilling}
 use Rattle.pmd_rx.specs.Receive.{Receive}
 use Rattle.pmd_driver.specs.Starting.{ComesLate, PreparingFails, LendingFails, ReceiveFails}
-use Rattle.nic_device.specs.DmaArena.Block.{Block}
+use Rattle.pmd_rx.specs.NicDevice.DmaArena.Block.{Block}
 
 stops_late : (f : PmdFault) (q : AtPort) (old new : List Call) (all : List Access) → StopsBy f q old new all
     → ComesLate f

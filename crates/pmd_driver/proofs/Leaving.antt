@@ -1,6 +1,6 @@
 -- A driver that a start leaves has handed nothing out, and accepted nothing.
 use Rattle.std.proofs.Common.{◌≡◌, ℕ, List, [], ◌∷◌, inl, inr, refl, ap, ◌∙◌}
-use Rattle.nic_device.specs.DmaArena.Numbers.{Numbers}
+use Rattle.pmd_rx.specs.NicDevice.DmaArena.Numbers.{Numbers}
 use Rattle.pmd_rx.specs.DeviceLock.declared.entry.Call.{Call}
 use Rattle.pmd_driver.specs.Halted.{Halted}
 use Rattle.pmd_rx.specs.PmdAccess.Named.{AtPort}

@@ -2,10 +2,10 @@
 use Rattle.std.proofs.Common.{◌≡◌, ℕ, zero, suc, ◌+◌, ◌-◌, ◌<◌, true, false, List, [], ◌∷◌, ◌++◌, None, refl, sym, ap, subst, ◌∙◌, arith}
 use Rattle.std.specs.List.{range_with_len}
 use Rattle.std.proofs.lemmas.List.{append-nil}
-use Rattle.nic_device.specs.DmaArena.Block.{zero_block}
-use Rattle.nic_device.specs.DmaArena.Numbers.{Numbers, is_free, with_free}
-use Rattle.nic_device.specs.DmaRing.declared.dir.Dir.{Dir}
-use Rattle.nic_device.specs.DmaRing.declared.dir.Dir.TheVariants.{Rx, Tx}
+use Rattle.pmd_rx.specs.NicDevice.DmaArena.Block.{zero_block}
+use Rattle.pmd_rx.specs.NicDevice.DmaArena.Numbers.{Numbers, is_free, with_free}
+use Rattle.pmd_rx.specs.NicDevice.DmaRing.declared.dir.Dir.{Dir}
+use Rattle.pmd_rx.specs.NicDevice.DmaRing.declared.dir.Dir.TheVariants.{Rx, Tx}
 use Rattle.pmd_rx.specs.DeviceLock.declared.entry.Call.{Call}
 use Rattle.pmd_rx.specs.DeviceLock.declared.fault.CallFault.{CallFault}
 use Rattle.pmd_rx.specs.PmdAccess.Accesses.{IsLent}
@@ -16,7 +16,7 @@ use Rattle.pmd_rx.specs.PmdAccess.QueueMade.{StopsBy}
 use Rattle.pmd_rx.specs.PmdAccess.Sides.{ring_words}
 use Rattle.pmd_rx.specs.PmdAccess.declared.fault.PmdFault.{PmdFault}
 use Rattle.pmd_rx.specs.PmdAccess.declared.fault.PmdFault.TheVariants as fault
-use Rattle.nic_device.specs.DmaArena.Run.{IsFreeRun}
+use Rattle.pmd_rx.specs.NicDevice.DmaArena.Run.{IsFreeRun}
 use Rattle.pmd_driver.specs.Starting.{LendsEach, LendingFails, StopsLending}
 use Rattle.pmd_driver.proofs.Starting.{drawn_keeps, none_behind}
 

@@ -1,6 +1,6 @@
 -- A driver's life, call by call.
 use Rattle.std.proofs.Common.{◌≡◌, ℕ, List, Option, sym, ap, ◌∙◌, subst}
-use Rattle.nic_device.specs.DmaArena.Numbers.{Numbers, is_own}
+use Rattle.pmd_rx.specs.NicDevice.DmaArena.Numbers.{Numbers, is_own}
 use Rattle.pmd_rx.specs.DeviceLock.declared.entry.Call.{Call}
 use Rattle.pmd_rx.specs.PmdAccess.declared.fault.PmdFault.{PmdFault}
 use Rattle.pmd_rx.specs.PmdAccess.Named.{AtPort}

@@ -1,7 +1,7 @@
 -- The tail is moved behind the packets that were queued.
 use Rattle.std.proofs.Common.{◌≡◌, inl, inr, ◌==◌, ℕ, if◌then◌else◌, Bool, true, false, List, [], ◌∷◌, length, Option, Some, None, Result, Ok, Err, IfSome, refl, sym, ap, subst, ◌∙◌, append-nil, arith}
 use Rattle.std.proofs.lemmas.Bool.Decides.{nat_tests}
-use Rattle.nic_device.specs.DmaArena.Numbers.{is_own}
+use Rattle.pmd_rx.specs.NicDevice.DmaArena.Numbers.{is_own}
 use Rattle.pmd_rx.specs.DeviceLock.declared.entry.Call.{Call}
 use Rattle.pmd_rx.specs.PmdAccess.declared.fault.PmdFault.{PmdFault}
 use Rattle.pmd_rx.specs.PmdAccess.declared.packet.Packet.{Packet}

@@ -5,7 +5,7 @@ use Rattle.std.proofs.lemmas.List.{drop-append-le, drop-drop, length-append, len
 use Rattle.std.proofs.lemmas.List.Elements.{All-head, All-tail}
 use Rattle.std.proofs.lemmas.Option.{slice_get-get_or}
 use Rattle.std.proofs.lemmas.Slice.{drop-append-drop}
-use Rattle.nic_device.specs.DmaArena.Block.{Block, IsBlock}
+use Rattle.pmd_rx.specs.NicDevice.DmaArena.Block.{Block, IsBlock}
 use Rattle.pmd_rx.specs.PmdAccess.Bufs.{bytes_of}
 
 -- each Buf has 2,048 bytes

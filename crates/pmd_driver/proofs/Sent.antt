@@ -1,6 +1,6 @@
 -- A packet that is sent drives the halves on, and is lent in blocks of the driver's own.
 use Rattle.std.proofs.Common.{◌≡◌, ◌⊎◌, inl, inr, Bool, true, false, ◌&&◌, not, List, ◌++◌, refl, sym, subst}
-use Rattle.nic_device.specs.DmaArena.Numbers.{Numbers, is_own}
+use Rattle.pmd_rx.specs.NicDevice.DmaArena.Numbers.{Numbers, is_own}
 use Rattle.pmd_rx.specs.PmdAccess.Bufs.{numbers_of}
 use Rattle.pmd_rx.specs.PmdAccess.Home.{AreOut}
 use Rattle.pmd_rx.specs.DeviceLock.declared.entry.Call.{Call}

@@ -3,10 +3,10 @@ use Rattle.std.proofs.Common.{◌≡◌, ℕ, zero, suc, ◌+◌, ◌<◌, ◌�
 use Rattle.std.specs.Prelude.{⊤}
 use Rattle.std.specs.List.{list_any}
 use Rattle.std.proofs.lemmas.Bool.Decides.{nat_tests}
-use Rattle.nic_device.specs.DmaArena.Block.{Block}
-use Rattle.nic_device.specs.DmaArena.Numbers.{Numbers, is_own, is_free, with_free}
-use Rattle.nic_device.specs.DmaArena.Whereabouts.{times_in_hand}
-use Rattle.nic_device.proofs.DmaArena.Arenas.{is_own-with_free}
+use Rattle.pmd_rx.specs.NicDevice.DmaArena.Block.{Block}
+use Rattle.pmd_rx.specs.NicDevice.DmaArena.Numbers.{Numbers, is_own, is_free, with_free}
+use Rattle.pmd_rx.specs.NicDevice.DmaArena.Whereabouts.{times_in_hand}
+use Rattle.pmd_rx.proofs.NicDevice.DmaArena.Arenas.{is_own-with_free}
 use Rattle.pmd_rx.specs.PmdAccess.Bufs.{numbers_of, with_all_free}
 use Rattle.pmd_rx.specs.PmdAccess.Home.{AreOut}
 use Rattle.pmd_rx.proofs.PmdAccess.Outside.{times-cons, times-append, out_fewer, out_first, out_given}

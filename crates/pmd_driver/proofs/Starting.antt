@@ -2,12 +2,12 @@
 use Rattle.std.proofs.Common.{◌≡◌, ℕ, zero, suc, ◌+◌, ◌≤◌, inl, inr, Bool, true, false, cond, List, [], ◌∷◌, ◌++◌, length, refl, sym, ap, subst, ◌∙◌, arith}
 use Rattle.std.proofs.lemmas.Bool.{cases_eq}
 use Rattle.std.specs.List.{range_with_len}
-use Rattle.nic_device.specs.DmaArena.Numbers.{Numbers, free_count, is_own, is_free, with_free}
-use Rattle.nic_device.specs.DmaArena.Whereabouts.{times_in_hand}
-use Rattle.nic_device.proofs.DmaArena.Arenas.{is_own-of_free, is_free-with_free_other, free_count_taken}
+use Rattle.pmd_rx.specs.NicDevice.DmaArena.Numbers.{Numbers, free_count, is_own, is_free, with_free}
+use Rattle.pmd_rx.specs.NicDevice.DmaArena.Whereabouts.{times_in_hand}
+use Rattle.pmd_rx.proofs.NicDevice.DmaArena.Arenas.{is_own-of_free, is_free-with_free_other, free_count_taken}
 use Rattle.pmd_rx.specs.DeviceLock.declared.entry.Call.{Call}
-use Rattle.nic_device.specs.DmaRing.declared.dir.Dir.{Dir}
-use Rattle.nic_device.specs.DmaRing.declared.dir.Dir.TheVariants.{Rx, Tx}
+use Rattle.pmd_rx.specs.NicDevice.DmaRing.declared.dir.Dir.{Dir}
+use Rattle.pmd_rx.specs.NicDevice.DmaRing.declared.dir.Dir.TheVariants.{Rx, Tx}
 use Rattle.pmd_rx.specs.PmdAccess.Home.{AreOut, IsDrawn}
 use Rattle.pmd_rx.specs.PmdAccess.Slots.{blocks_for, ring_blocks}
 use Rattle.pmd_rx.specs.PmdAccess.declared.fault.PmdFault.{PmdFault}
@@ -18,7 +18,7 @@ use Rattle.pmd_rx.specs.Keeping.{Keeps, blocks_out}
 use Rattle.pmd_rx.specs.Receive.{Receive, no_packet}
 use Rattle.pmd_rx.specs.declared.ring.Stage.TheVariants.{Looks}
 use Rattle.pmd_tx.specs.Sending.{Sender}
-use Rattle.nic_device.specs.DmaArena.Run.{IsFreeRun}
+use Rattle.pmd_rx.specs.NicDevice.DmaArena.Run.{IsFreeRun}
 use Rattle.pmd_driver.specs.Running.{kept_out}
 use Rattle.pmd_driver.specs.Starting.{IsPrepared, IsReceiveReady, IsTransmitReady, PreparingFails, ReceiveFails}
 

@@ -1,10 +1,10 @@
 -- What the halves of a driver lend: blocks of its own numbers alone, and none that the other half has lent.
 use Rattle.std.specs.Prelude.{ℕ, ◌≡◌, Bool, IsTrue, IsFalse, ⊤, List, [], ◌∷◌}
-use Rattle.nic_device.specs.DmaArena.Block.{Block}
-use Rattle.nic_device.specs.DmaArena.Numbers.{Numbers, is_own}
-use Rattle.nic_device.specs.declared.event.Event.{Event}
-use Rattle.nic_device.specs.declared.event.Event.TheVariants as event
-use Rattle.nic_device.specs.declared.event.Reply.{Reply}
+use Rattle.pmd_rx.specs.NicDevice.DmaArena.Block.{Block}
+use Rattle.pmd_rx.specs.NicDevice.DmaArena.Numbers.{Numbers, is_own}
+use Rattle.pmd_rx.specs.NicDevice.declared.event.Event.{Event}
+use Rattle.pmd_rx.specs.NicDevice.declared.event.Event.TheVariants as event
+use Rattle.pmd_rx.specs.NicDevice.declared.event.Reply.{Reply}
 use Rattle.pmd_rx.specs.DeviceLock.Alone.{Blocks}
 use Rattle.pmd_rx.specs.DeviceLock.Pass.{call_of}
 use Rattle.pmd_rx.specs.DeviceLock.declared.entry.Call.{Call}

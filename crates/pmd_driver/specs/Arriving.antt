@@ -1,9 +1,9 @@
 -- Frames that arrive.
 use Rattle.std.specs.Prelude.{ℕ, List, ⊤}
-use Rattle.nic_device.specs.DmaArena.Block.{Block}
-use Rattle.nic_device.specs.declared.event.Event.TheVariants as event
-use Rattle.nic_device.specs.declared.event.Reply.{Reply}
-use Rattle.nic_device.specs.declared.event.Reply.TheVariants as reply
+use Rattle.pmd_rx.specs.NicDevice.DmaArena.Block.{Block}
+use Rattle.pmd_rx.specs.NicDevice.declared.event.Event.TheVariants as event
+use Rattle.pmd_rx.specs.NicDevice.declared.event.Reply.{Reply}
+use Rattle.pmd_rx.specs.NicDevice.declared.event.Reply.TheVariants as reply
 use Rattle.pmd_rx.specs.DeviceLock.declared.entry.Call.{Call}
 use Rattle.pmd_rx.specs.PmdAccess.Made.{Adds}
 use Rattle.pmd_rx.specs.PmdAccess.declared.fault.PmdFault.{PmdFault}

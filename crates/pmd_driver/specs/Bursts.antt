@@ -1,9 +1,9 @@
 -- What a driver whose rings are up answers and leaves where it is asked for several packets at once, or is given
 -- several to send: as by so many calls for one, with one move of the tail for all.
 use Rattle.std.specs.Prelude.{ℕ, ◌≡◌, ◌⊎◌, ◌-◌, ◌<◌, ◌≤◌, ◌++◌, ◌∷◌, [], ⊤, false, length, drop, map, List, Option, Some, None, Result, Ok, Err, IfOk, IfErr, IfSome, OnErr}
-use Rattle.nic_device.specs.DmaArena.Block.{Block}
-use Rattle.nic_device.specs.DmaArena.Numbers.{Numbers, is_own}
-use Rattle.nic_device.specs.declared.event.Event.{Event}
+use Rattle.pmd_rx.specs.NicDevice.DmaArena.Block.{Block}
+use Rattle.pmd_rx.specs.NicDevice.DmaArena.Numbers.{Numbers, is_own}
+use Rattle.pmd_rx.specs.NicDevice.declared.event.Event.{Event}
 use Rattle.pmd_rx.specs.DeviceLock.Alone.{Blocks}
 use Rattle.pmd_rx.specs.DeviceLock.declared.entry.Call.{Call}
 use Rattle.pmd_rx.specs.PmdAccess.Bufs.{numbers_of, with_all_free}

@@ -1,6 +1,6 @@
 -- A driver of one queue, which runs or doesn't.
 use Rattle.std.specs.Prelude.{Bool, List, ⊤}
-use Rattle.nic_device.specs.DmaArena.Numbers.{Numbers}
+use Rattle.pmd_rx.specs.NicDevice.DmaArena.Numbers.{Numbers}
 use Rattle.pmd_rx.specs.PmdAccess.Packet.{Kept}
 use Rattle.pmd_rx.specs.PmdAccess.Named.{AtPort}
 use Rattle.pmd_rx.specs.PmdAccess.declared.packet.Packet.{Packet}

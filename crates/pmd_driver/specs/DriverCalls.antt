@@ -1,7 +1,7 @@
 -- What each call of a driver whose rings are up answers and leaves: from the calls that were made before it and the
 -- driver there, to those that were made after it and the driver there.
 use Rattle.std.specs.Prelude.{ℕ, ◌≡◌, ◌↔◌, ◌++◌, ◌∷◌, [], false, length, List, Option, Result, Ok, Err, IfOk, IfErr, IfSome, IfNone, OnErr, IsTrue}
-use Rattle.nic_device.specs.DmaArena.Numbers.{is_own}
+use Rattle.pmd_rx.specs.NicDevice.DmaArena.Numbers.{is_own}
 use Rattle.pmd_rx.specs.DeviceLock.declared.entry.Call.{Call}
 use Rattle.pmd_rx.specs.PmdAccess.Packet.{kept_of}
 use Rattle.pmd_rx.specs.PmdAccess.declared.fault.PmdFault.{PmdFault}

@@ -1,6 +1,6 @@
 -- Packets that are made of bytes.
 use Rattle.std.specs.Prelude.{ℕ, ◌≡◌, ◌-◌, ◌*◌, ◌++◌, List, length, replicate, Option, Some, None}
-use Rattle.nic_device.specs.DmaArena.Numbers.{Numbers}
+use Rattle.pmd_rx.specs.NicDevice.DmaArena.Numbers.{Numbers}
 use Rattle.pmd_rx.specs.PmdAccess.Bufs.{bytes_of, numbers_of}
 use Rattle.pmd_rx.specs.PmdAccess.Fresh.{bufs_for}
 use Rattle.pmd_rx.specs.PmdAccess.Home.{IsDrawn}

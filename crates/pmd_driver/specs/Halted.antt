@@ -1,8 +1,8 @@
 -- A driver that isn't running: its blocks are on their way home.
 use Rattle.std.specs.Prelude.{ℕ, ◌+◌, ◌<◌, ◌&&◌, ◌||◌, nat_lt, not, Bool, List, [], ◌++◌, length}
 use Rattle.std.specs.List.{list_any}
-use Rattle.nic_device.specs.DmaArena.Numbers.{Numbers, is_free}
-use Rattle.nic_device.specs.DmaArena.Whereabouts.{times_in_hand}
+use Rattle.pmd_rx.specs.NicDevice.DmaArena.Numbers.{Numbers, is_free}
+use Rattle.pmd_rx.specs.NicDevice.DmaArena.Whereabouts.{times_in_hand}
 use Rattle.pmd_rx.specs.PmdAccess.Bufs.{numbers_of}
 use Rattle.pmd_rx.specs.PmdAccess.Home.{AreOut, Homebound}
 use Rattle.pmd_rx.specs.PmdAccess.Packet.{Kept}

@@ -1,6 +1,6 @@
 -- A driver whose rings are closed.
 use Rattle.std.specs.Prelude.{List, []}
-use Rattle.nic_device.specs.DmaArena.Numbers.{Numbers}
+use Rattle.pmd_rx.specs.NicDevice.DmaArena.Numbers.{Numbers}
 use Rattle.pmd_rx.specs.DeviceLock.declared.entry.Call.{Call}
 use Rattle.pmd_rx.specs.PmdAccess.Home.{Homebound, Bringing}
 use Rattle.pmd_driver.specs.Halted.{Halted, both_ways}

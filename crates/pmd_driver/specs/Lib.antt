@@ -1,6 +1,8 @@
 pub use Rattle.pmd_rx.specs.PmdAccess
 pub use Rattle.pmd_rx.specs as PmdRx
 pub use Rattle.pmd_tx.specs as PmdTx
+pub use Rattle.pmd_rx.specs.DeviceLock
+pub use Rattle.pmd_rx.specs.NicDevice
 pub mod Apart
 pub mod Arriving
 pub mod Blocks

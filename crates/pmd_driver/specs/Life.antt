@@ -1,6 +1,6 @@
 -- A driver's life: its start, the calls that drove its halves on, and its end.
 use Rattle.std.specs.Prelude.{ℕ, ◌≡◌, List, [], Option, Some, None, Err}
-use Rattle.nic_device.specs.DmaArena.Numbers.{Numbers}
+use Rattle.pmd_rx.specs.NicDevice.DmaArena.Numbers.{Numbers}
 use Rattle.pmd_rx.specs.DeviceLock.declared.entry.Call.{Call}
 use Rattle.pmd_rx.specs.PmdAccess.declared.fault.PmdFault.{PmdFault}
 use Rattle.pmd_rx.specs.PmdAccess.Named.{AtPort}

@@ -1,6 +1,6 @@
 -- How the packets of a burst are queued, before the tail is moved behind them.
 use Rattle.std.specs.Prelude.{ℕ, ◌≡◌, ◌+◌, ◌≤◌, ◌++◌, length, List, Option, Some, IfSome}
-use Rattle.nic_device.specs.DmaArena.Numbers.{is_own}
+use Rattle.pmd_rx.specs.NicDevice.DmaArena.Numbers.{is_own}
 use Rattle.pmd_rx.specs.DeviceLock.declared.entry.Call.{Call}
 use Rattle.pmd_rx.specs.PmdAccess.declared.fault.PmdFault.{PmdFault}
 use Rattle.pmd_rx.specs.PmdAccess.declared.packet.Packet.{Packet}

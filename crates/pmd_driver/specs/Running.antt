@@ -1,8 +1,8 @@
 -- A driver whose two rings are up.
 use Rattle.std.specs.Prelude.{◌≡◌, ℕ, ◌<◌, ◌&&◌, nat_lt, not, Bool, List, ◌++◌}
 use Rattle.std.specs.List.{list_any}
-use Rattle.nic_device.specs.DmaArena.Numbers.{Numbers}
-use Rattle.nic_device.specs.DmaArena.Whereabouts.{times_in_hand}
+use Rattle.pmd_rx.specs.NicDevice.DmaArena.Numbers.{Numbers}
+use Rattle.pmd_rx.specs.NicDevice.DmaArena.Whereabouts.{times_in_hand}
 use Rattle.pmd_rx.specs.PmdAccess.Bufs.{numbers_of, with_all_free}
 use Rattle.pmd_rx.specs.PmdAccess.Home.{AreOut}
 use Rattle.pmd_rx.specs.PmdAccess.Slots.{ring_blocks}

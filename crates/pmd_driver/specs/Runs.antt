@@ -1,7 +1,7 @@
 -- Where the rings of a driver are made in its arena.
 use Rattle.std.specs.Prelude.{ℕ, ◌+◌, ◌≤◌, Option, Some, None}
-use Rattle.nic_device.specs.DmaArena.Numbers.{Numbers}
-use Rattle.nic_device.specs.DmaArena.Run.{run_behind, run_in, IsFreeRun}
+use Rattle.pmd_rx.specs.NicDevice.DmaArena.Numbers.{Numbers}
+use Rattle.pmd_rx.specs.NicDevice.DmaArena.Run.{run_behind, run_in, IsFreeRun}
 
 -- the lowest run of so many free blocks behind another, where there is that
 abbrev pub behind_run : Numbers → ℕ → Option ℕ → Option ℕ

@@ -1,8 +1,8 @@
 -- What a start leaves, and why it is refused.
 use Rattle.std.specs.Prelude.{true, ℕ, ◌≡◌, ◌⊎◌, ◌&&◌, ◌==◌, ◌+◌, ◌-◌, ◌*◌, ◌%◌, nat_le, nat_lt, is_some, Bool, List, [], ◌∷◌, Option, Some, None, Result, Ok, Err, ⊤, if◌then◌else◌}
-use Rattle.nic_device.specs.DmaArena.Numbers.{Numbers, free_count}
+use Rattle.pmd_rx.specs.NicDevice.DmaArena.Numbers.{Numbers, free_count}
 use Rattle.pmd_rx.specs.DeviceLock.declared.entry.Call.{Call}
-use Rattle.nic_device.specs.DmaRing.declared.dir.Dir.TheVariants.{Tx}
+use Rattle.pmd_rx.specs.NicDevice.DmaRing.declared.dir.Dir.TheVariants.{Tx}
 use Rattle.pmd_rx.specs.PmdAccess.Packet.{Kept}
 use Rattle.pmd_rx.specs.PmdAccess.declared.fault.PmdFault.{PmdFault}
 use Rattle.pmd_rx.specs.PmdAccess.declared.fault.PmdFault.TheVariants.{BadSize, NoBuffer, DeviceFault}

@@ -1,11 +1,11 @@
 -- How the rings of a driver come up, one after the other.
 use Rattle.std.specs.Prelude.{ℕ, ◌≡◌, ◌⊎◌, ⊤, true, List, [], ◌∷◌, ◌++◌, Some, None}
-use Rattle.nic_device.specs.DmaArena.Block.{Block, zero_block}
-use Rattle.nic_device.specs.DmaArena.Numbers.{Numbers, is_free}
+use Rattle.pmd_rx.specs.NicDevice.DmaArena.Block.{Block, zero_block}
+use Rattle.pmd_rx.specs.NicDevice.DmaArena.Numbers.{Numbers, is_free}
 use Rattle.pmd_rx.specs.DeviceLock.declared.entry.Call.{Call}
-use Rattle.nic_device.specs.RegisterFile.Queue.{tail_row}
-use Rattle.nic_device.specs.DmaRing.declared.dir.Dir.{Dir}
-use Rattle.nic_device.specs.DmaRing.declared.dir.Dir.TheVariants.{Rx, Tx}
+use Rattle.pmd_rx.specs.NicDevice.RegisterFile.Queue.{tail_row}
+use Rattle.pmd_rx.specs.NicDevice.DmaRing.declared.dir.Dir.{Dir}
+use Rattle.pmd_rx.specs.NicDevice.DmaRing.declared.dir.Dir.TheVariants.{Rx, Tx}
 use Rattle.pmd_rx.specs.PmdAccess.Accesses.{IsLent}
 use Rattle.pmd_rx.specs.PmdAccess.Made.{AddsSome}
 use Rattle.pmd_rx.specs.PmdAccess.declared.fault.PmdFault.{PmdFault}
@@ -23,7 +23,7 @@ use Rattle.pmd_rx.specs.Receive.{Receive}
 use Rattle.pmd_rx.specs.Receive as receive
 use Rattle.pmd_tx.specs.Sending.{Sender}
 use Rattle.pmd_tx.specs.Sending as transmit
-use Rattle.nic_device.specs.DmaArena.Run.{IsFreeRun}
+use Rattle.pmd_rx.specs.NicDevice.DmaArena.Run.{IsFreeRun}
 
 -- a fault that comes once events are made
 abbrev pub ComesLate : PmdFault → Type 0

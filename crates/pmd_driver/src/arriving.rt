@@ -1,15 +1,14 @@
 //! A frame that arrives from the link.
 
 ghost use Rattle.std.specs.Prelude.{◌≡◌, None, IfOk, IfErr, OnErr};
-ghost use Rattle.nic_device.specs.Step.{lent_block};
+ghost use Rattle.pmd_rx.specs.NicDevice.Step.{lent_block};
 ghost use Rattle.pmd_rx.specs.DeviceLock.Fault.{event_of, fault_with};
 ghost use Rattle.pmd_rx.specs.PmdAccess.Begun.{BeganAs};
 ghost use Rattle.pmd_rx.specs.PmdAccess.Made.{AddsSome};
 ghost use Rattle.pmd_rx.specs.PmdAccess.Refusals.{CanFail};
 ghost use Rattle.pmd_driver.specs.Arriving.{Arrives, IsRefusal};
 
-use nic_device::{Event, Octets, Reply, Why};
-use pmd_rx::{CallFault, Nic, PmdFault};
+use pmd_rx::{CallFault, Event, Nic, Octets, PmdFault, Reply, Why};
 use std::alloc::Global;
 
 /// What became of a frame that arrived.

@@ -1,7 +1,7 @@
 //! Several packets at once: as many as wait, with one move of the tail.
 
 ghost use Rattle.std.specs.Prelude.{◌≡◌, ◌<◌, ◌+◌, ◌==◌, if◌then◌else◌, [], true, false, None, length, IfErr, IfSome};
-ghost use Rattle.nic_device.specs.DmaArena.Numbers.{is_own};
+ghost use Rattle.pmd_rx.specs.NicDevice.DmaArena.Numbers.{is_own};
 ghost use Rattle.pmd_rx.specs.Keeping.{numbers_of_all};
 ghost use Rattle.pmd_tx.specs.Sends.{IsLate};
 ghost use Rattle.pmd_driver.specs.Apart.{DrivesRings, FindsBy};

@@ -1,12 +1,11 @@
 //! The bytes of a packet in hand.
 
 ghost use Rattle.std.specs.Prelude.{◌≡◌, ◌≤◌, ◌+◌, ◌*◌, ◌++◌, ◌↔◌, ℕ, List, true, false, length, take, drop, min, All, IfOk, slice_get};
-ghost use Rattle.nic_device.specs.DmaArena.Block.{IsBlock};
-ghost use Rattle.nic_device.specs.DmaArena.Memory.{put_bytes};
+ghost use Rattle.pmd_rx.specs.NicDevice.DmaArena.Block.{IsBlock};
+ghost use Rattle.pmd_rx.specs.NicDevice.DmaArena.Memory.{put_bytes};
 ghost use Rattle.pmd_rx.specs.PmdAccess.Bufs.{bytes_of, numbers_of};
 
-use nic_device::BLOCK_BYTES;
-use pmd_rx::{Bufs, Packet, Record};
+use pmd_rx::{BLOCK_BYTES, Bufs, Packet, Record};
 use pmd_tx::bytes_in;
 use std::alloc::{AllocError, Global};
 

@@ -1,7 +1,7 @@
 //! A driver of one queue.
 
 ghost use Rattle.std.specs.Prelude.{ℕ, ◌≡◌, ◌<◌, ◌⊎◌, ◌++◌, ◌∷◌, ◌↔◌, [], true, Some, Err, All, drop, length, IfOk, IfErr, IfSome, IsNone, IsOk, OnOk, OnErr};
-ghost use Rattle.nic_device.specs.DmaArena.Numbers.{free_count, is_own, is_free};
+ghost use Rattle.pmd_rx.specs.NicDevice.DmaArena.Numbers.{free_count, is_own, is_free};
 ghost use Rattle.pmd_rx.specs.PmdAccess.Begun.{BeganAs};
 ghost use Rattle.pmd_rx.specs.PmdAccess.Bufs.{numbers_of, with_all_free};
 ghost use Rattle.pmd_rx.specs.PmdAccess.Fresh.{IsFresh, bufs_for};

@@ -1,13 +1,12 @@
 //! The two halves of a driver that isn't running.
 
 ghost use Rattle.std.specs.Prelude.{◌≡◌, ◌<◌, ◌↔◌, ◌++◌, true, None, IfOk, IfErr, OnOk, OnErr};
-ghost use Rattle.nic_device.specs.DmaArena.Whereabouts.{times_in_hand};
+ghost use Rattle.pmd_rx.specs.NicDevice.DmaArena.Whereabouts.{times_in_hand};
 ghost use Rattle.pmd_rx.specs.PmdAccess.Home.{AreOut};
 ghost use Rattle.pmd_rx.specs.PmdAccess.Bufs.{with_all_free};
 ghost use Rattle.pmd_driver.specs.Ends.{received_way, held_of, handed_of, sent_way, waiting_of, accepted_of};
 
-use nic_device::Arena;
-use pmd_rx::{ReceiveRing, Reclaim, Record, give_bufs};
+use pmd_rx::{Arena, ReceiveRing, Reclaim, Record, give_bufs};
 use pmd_tx::TransmitRing;
 use std::alloc::Global;
 

@@ -2,7 +2,7 @@
 
 ghost use Rattle.std.specs.Prelude.{◌≡◌, ◌↔◌, ◌<◌, ◌++◌, ◌⊎◌, ℕ, [], true, None, IfOk, IfErr, IsOk, IsNone, OnOk, OnErr};
 ghost use Rattle.std.specs.List.{list_any};
-ghost use Rattle.nic_device.specs.DmaArena.Numbers.{free_count, is_own, is_free};
+ghost use Rattle.pmd_rx.specs.NicDevice.DmaArena.Numbers.{free_count, is_own, is_free};
 ghost use Rattle.pmd_rx.specs.PmdAccess.Begun.{BeganAs};
 ghost use Rattle.pmd_rx.specs.PmdAccess.Bufs.{numbers_of, with_all_free};
 ghost use Rattle.pmd_rx.specs.PmdAccess.Home.{AreOut};
@@ -19,10 +19,9 @@ ghost use Rattle.pmd_rx.specs.PmdAccess.Refusals.{CanFail};
 use crate::ends::{Receiving, Sending};
 use crate::home::{Home, StopFailed};
 use crate::stopping::Leaving;
-use nic_device::Arena;
 use pmd_rx::{
-    Bufs, CallFault, Nic, Packet, PmdFault, Queue, ReceiveRing, Reclaim, Record, fresh_packet,
-    give_packet,
+    Arena, Bufs, CallFault, Nic, Packet, PmdFault, Queue, ReceiveRing, Reclaim, Record,
+    fresh_packet, give_packet,
 };
 use pmd_tx::{TransmitRing, are_out};
 use std::alloc::Global;

@@ -1,8 +1,7 @@
 //! What a driver leaves.
 
 use crate::halted::Halted;
-use nic_device::Arena;
-use pmd_rx::{PmdFault, Record};
+use pmd_rx::{Arena, PmdFault, Record};
 
 /// What a driver leaves that has stopped. It can't be dropped, as its arena can't.
 pub struct Home {

@@ -28,8 +28,11 @@ pub use driver::{Pmd, StopRefused};
 pub use halted::Halted;
 pub use home::{Home, StopFailed};
 pub use pmd_rx::{
-    Bufs, Calls, Direct, Finished, Interleaved, LONGEST_FRAME, Made, Nic, POLLS, Packet, PmdFault,
-    Queue, Record, SHORTEST_FRAME, Setup, ThroughLock, history_of, marked_history, pf_setup,
+    Arena, BLOCK_BYTES, BLOCK_NUMBERS, Bufs, Call, CallFault, Calls, CloseFault, CloseRefused,
+    Closed, Direct, Entry, Event, EventNote, Finished, Interleaved, LONGEST_FRAME, Made, Mode,
+    NewFault, Nic, Octets, POLLS, Packet, Pass, Place, PmdFault, Port, QUEUES, Queue, Record,
+    Reply, RowId, SHORTEST_FRAME, Settings, Setup, Shared, ThroughLock, Watched, history_of,
+    left_alone, marked_history, pf_setup, place_at, queues_of,
 };
 pub use pmd_tx::{Reaped, TxAnswer, TxFault, bytes_in};
 pub use running::Running;

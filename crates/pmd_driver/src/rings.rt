@@ -4,8 +4,8 @@
 ghost use Rattle.std.specs.Prelude.{◌≡◌, ◌≤◌, ◌+◌, [], true, false, None, IfOk, IfErr, OnOk, OnErr};
 ghost use Rattle.std.specs.List.{range_with_len};
 ghost use Rattle.std.specs.VecDeque.{deque_capacity};
-ghost use Rattle.nic_device.specs.DmaArena.Block.{zero_block};
-ghost use Rattle.nic_device.specs.DmaArena.Numbers.{free_count, is_free, with_free};
+ghost use Rattle.pmd_rx.specs.NicDevice.DmaArena.Block.{zero_block};
+ghost use Rattle.pmd_rx.specs.NicDevice.DmaArena.Numbers.{free_count, is_free, with_free};
 ghost use Rattle.pmd_rx.specs.PmdAccess.Accesses.{IsLent};
 ghost use Rattle.pmd_rx.specs.PmdAccess.Begun.{BeganAs};
 ghost use Rattle.pmd_rx.specs.PmdAccess.Home.{AreOut, IsDrawn};
@@ -14,16 +14,15 @@ ghost use Rattle.pmd_rx.specs.Keeping.{blocks_out, IsRunning, Keeps};
 ghost use Rattle.pmd_rx.specs.Receive.{no_packet};
 ghost use Rattle.pmd_rx.specs.PmdAccess.Frames.{is_frame};
 ghost use Rattle.pmd_rx.specs.declared.ring.Stage.TheVariants.{Looks};
-ghost use Rattle.nic_device.specs.DmaArena.Run.{IsFreeRun};
+ghost use Rattle.pmd_rx.specs.NicDevice.DmaArena.Run.{IsFreeRun};
 ghost use Rattle.pmd_driver.specs.Starting.{ComesLate, LendsEach, LendingFails, StopsLending, IsPrepared};
 ghost use Rattle.pmd_driver.specs.Starting.{PreparingFails, IsReceiveReady, ReceiveFails, IsTransmitReady, GoesOn};
 ghost use Rattle.pmd_driver.specs.Starting.{GoingOnFails};
 ghost use Rattle.pmd_rx.specs.PmdAccess.Refusals.{CanFail};
 
-use nic_device::{Arena, Dir};
 use pmd_rx::{
-    CallFault, Nic, PmdFault, Queue, ReceiveRing, blocks_for, give_back, lend, most_blocks,
-    packet_limit,
+    Arena, CallFault, Dir, Nic, PmdFault, Queue, ReceiveRing, blocks_for, give_back, lend,
+    most_blocks, packet_limit,
 };
 use pmd_tx::TransmitRing;
 use std::alloc::Global;

@@ -2,8 +2,8 @@
 
 ghost use Rattle.std.specs.Prelude.{◌≡◌, ◌<◌, ◌≤◌, ◌+◌, ◌⊎◌, ◌↔◌, [], ◌∷◌, nat_lt, true, drop, length, All, IfOk, IfErr, IfSome, IfNone, IsNone, IsOk, OnOk, OnErr};
 ghost use Rattle.std.specs.List.{list_any};
-ghost use Rattle.nic_device.specs.DmaArena.Numbers.{free_count, is_own};
-ghost use Rattle.nic_device.specs.DmaArena.Whereabouts.{times_in_hand};
+ghost use Rattle.pmd_rx.specs.NicDevice.DmaArena.Numbers.{free_count, is_own};
+ghost use Rattle.pmd_rx.specs.NicDevice.DmaArena.Whereabouts.{times_in_hand};
 ghost use Rattle.pmd_rx.specs.PmdAccess.Begun.{BeganAs};
 ghost use Rattle.pmd_rx.specs.PmdAccess.Bufs.{numbers_of};
 ghost use Rattle.pmd_rx.specs.PmdAccess.Fresh.{IsFresh, bufs_for};
@@ -18,8 +18,7 @@ ghost use Rattle.pmd_driver.specs.Halves.{halves_of};
 ghost use Rattle.pmd_driver.specs.Running.{IsUp, IsReleased, goes_back, receives};
 ghost use Rattle.pmd_rx.specs.PmdAccess.Refusals.{CanFail};
 
-use nic_device::Arena;
-use pmd_rx::{Bufs, Nic, Packet, PmdFault, ReceiveRing, Record, fresh_packet, give_packet};
+use pmd_rx::{Arena, Bufs, Nic, Packet, PmdFault, ReceiveRing, Record, fresh_packet, give_packet};
 use pmd_tx::{Reaped, TransmitRing, TxAnswer, TxFault, bytes_in};
 use std::alloc::Global;
 use std::collections::VecDeque;

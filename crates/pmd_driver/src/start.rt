@@ -1,7 +1,7 @@
 //! How a driver starts.
 
 ghost use Rattle.std.specs.Prelude.{◌≡◌, ◌↔◌, ◌≤◌, ◌+◌, ◌-◌, ◌*◌, ◌++◌, [], true, None, Some, IsSome, IfSome, OnSome, IfOk, IfErr, OnOk};
-ghost use Rattle.nic_device.specs.DmaArena.Numbers.{free_count};
+ghost use Rattle.pmd_rx.specs.NicDevice.DmaArena.Numbers.{free_count};
 ghost use Rattle.pmd_driver.specs.Halted.{Halted, with_receive_ring};
 ghost use Rattle.pmd_rx.specs.Keeping.{blocks_out};
 ghost use Rattle.pmd_driver.specs.Starting.{ComesLate};
@@ -21,8 +21,7 @@ use crate::halted::Halted;
 use crate::home::Home;
 use crate::rings::{Unprepared, go_on, receive_ring, transmit_ring};
 use crate::running::Running;
-use nic_device::{Arena, Port};
-use pmd_rx::{Nic, PmdFault, Queue, ReceiveRing, blocks_for, is_frame};
+use pmd_rx::{Arena, Nic, PmdFault, Port, Queue, ReceiveRing, blocks_for, is_frame};
 use std::alloc::Global;
 
 /// What a start leaves that is refused.

@@ -10,8 +10,7 @@ ghost use Rattle.pmd_rx.specs.PmdAccess.Refusals.{CanFail, CanRefuse};
 
 use crate::halted::Halted;
 use crate::home::{Home, StopFailed};
-use nic_device::Arena;
-use pmd_rx::{CallFault, Nic, PmdFault, Queue, Reclaim, Record};
+use pmd_rx::{Arena, CallFault, Nic, PmdFault, Queue, Reclaim, Record};
 use std::alloc::Global;
 
 /// A driver whose rings are closed: their blocks are on their way home.

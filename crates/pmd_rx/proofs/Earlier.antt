@@ -1,8 +1,8 @@
 -- What a ring that is filled lends was free before it was begun.
 use Rattle.std.proofs.Common.{◌≡◌, ◌≢◌, ℕ, ◌⊎◌, inl, inr, true, false, List, [], ◌∷◌, Result, Ok, Err, IfErr, sym, subst}
 use Rattle.std.proofs.lemmas.Bool.{cases_eq}
-use Rattle.nic_device.specs.DmaArena.Numbers.{Numbers, is_free, with_free}
-use Rattle.nic_device.proofs.DmaArena.Arenas.{is_own-of_free, is_free-with_free_other}
+use Rattle.pmd_access.specs.NicDevice.DmaArena.Numbers.{Numbers, is_free, with_free}
+use Rattle.pmd_access.proofs.NicDevice.DmaArena.Arenas.{is_own-of_free, is_free-with_free_other}
 use Rattle.pmd_access.specs.DeviceLock.declared.entry.Call.{Call}
 use Rattle.pmd_access.specs.Home.{IsDrawn}
 use Rattle.pmd_rx.specs.Filling.{PostsSome}

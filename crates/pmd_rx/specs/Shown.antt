@@ -1,10 +1,10 @@
 -- The driver's receive ring as its code keeps it.
 use Rattle.std.specs.Prelude.{ℕ, ◌≡◌, ◌+◌, ◌*◌, ◌<◌, ◌≤◌, List, Bool, true, false, IsFalse, Option, IfSome, length, drop, All, ⊤, [], ◌∷◌, ◌++◌}
-use Rattle.nic_device.specs.DmaArena.Numbers.{Numbers, free_count}
-use Rattle.nic_device.specs.DmaRing.Descriptor.{second_half}
-use Rattle.nic_device.specs.DmaRing.Receive.{is_done, bytes_in}
-use Rattle.nic_device.specs.declared.event.Event.TheVariants as event
-use Rattle.nic_device.specs.declared.event.Reply.TheVariants as reply
+use Rattle.pmd_access.specs.NicDevice.DmaArena.Numbers.{Numbers, free_count}
+use Rattle.pmd_access.specs.NicDevice.DmaRing.Descriptor.{second_half}
+use Rattle.pmd_access.specs.NicDevice.DmaRing.Receive.{is_done, bytes_in}
+use Rattle.pmd_access.specs.NicDevice.declared.event.Event.TheVariants as event
+use Rattle.pmd_access.specs.NicDevice.declared.event.Reply.TheVariants as reply
 use Rattle.pmd_access.specs.Bufs.{numbers_of}
 use Rattle.pmd_access.specs.Accesses.{IsPeeked, IsPoked, IsWritten}
 use Rattle.pmd_access.specs.Slots.{blocks_for}

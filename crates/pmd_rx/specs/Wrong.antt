@@ -1,13 +1,13 @@
 -- Why a call of the driver fails.
 use Rattle.std.specs.Prelude.{ℕ, ◌≡◌, ◌+◌, ◌<◌, ◌||◌, not, Bool, true, false, List, length, IsFalse, ⊤}
-use Rattle.nic_device.specs.DmaArena.Block.{Block}
-use Rattle.nic_device.specs.DmaArena.Numbers.{Numbers, free_count}
-use Rattle.nic_device.specs.DmaRing.Descriptor.{second_half}
-use Rattle.nic_device.specs.DmaRing.Receive.{is_done}
-use Rattle.nic_device.specs.declared.event.Event.{Event}
-use Rattle.nic_device.specs.declared.event.Event.TheVariants as event
-use Rattle.nic_device.specs.declared.event.Reply.{Reply}
-use Rattle.nic_device.specs.declared.event.Reply.TheVariants as reply
+use Rattle.pmd_access.specs.NicDevice.DmaArena.Block.{Block}
+use Rattle.pmd_access.specs.NicDevice.DmaArena.Numbers.{Numbers, free_count}
+use Rattle.pmd_access.specs.NicDevice.DmaRing.Descriptor.{second_half}
+use Rattle.pmd_access.specs.NicDevice.DmaRing.Receive.{is_done}
+use Rattle.pmd_access.specs.NicDevice.declared.event.Event.{Event}
+use Rattle.pmd_access.specs.NicDevice.declared.event.Event.TheVariants as event
+use Rattle.pmd_access.specs.NicDevice.declared.event.Reply.{Reply}
+use Rattle.pmd_access.specs.NicDevice.declared.event.Reply.TheVariants as reply
 use Rattle.pmd_access.specs.DeviceLock.declared.entry.Call.{Call}
 use Rattle.pmd_access.specs.Made.{Adds}
 use Rattle.pmd_access.specs.declared.fault.PmdFault.{PmdFault}

@@ -1,7 +1,7 @@
 //! Packets that come in: one by one, or several by one move of the tail.
 
 ghost use Rattle.std.specs.Prelude.{ℕ, ◌≡◌, ◌≢◌, ◌<◌, ◌≤◌, ◌+◌, ◌++◌, ◌∷◌, [], length, true, false, Ok, Err, IfOk, IfErr, IfSome, IfNone, OnErr};
-ghost use Rattle.nic_device.specs.DmaArena.Numbers.{Numbers};
+ghost use Rattle.pmd_access.specs.NicDevice.DmaArena.Numbers.{Numbers};
 ghost use Rattle.pmd_access.specs.Begun.{BeganAs};
 ghost use Rattle.pmd_access.specs.Home.{AreOut};
 ghost use Rattle.pmd_access.specs.Packet.{kept_of};
@@ -13,8 +13,7 @@ ghost use Rattle.pmd_rx.specs.Wrong.{AsksNext, FailsBy, IsFault, PacketWaits};
 ghost use Rattle.pmd_access.specs.Refusals.{CanFail};
 
 use crate::ring::ReceiveRing;
-use nic_device::Arena;
-use pmd_access::{CallFault, Nic, Packet, PmdFault};
+use pmd_access::{Arena, CallFault, Nic, Packet, PmdFault};
 use std::alloc::Global;
 use std::collections::VecDeque;
 

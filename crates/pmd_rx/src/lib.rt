@@ -13,9 +13,11 @@ mod ring;
 mod tail;
 
 pub use pmd_access::{
-    Bufs, CallFault, Calls, Direct, Finished, Interleaved, LONGEST_FRAME, Made, Nic, POLLS, Packet,
-    PmdFault, Queue, Reclaim, Record, SHORTEST_FRAME, Setup, ThroughLock, blocks_for, fresh_packet,
-    give_back, give_bufs, give_packet, history_of, is_frame, lend, marked_history, most_blocks,
-    packet_limit, pf_setup,
+    Arena, BLOCK_BYTES, BLOCK_NUMBERS, Bufs, Call, CallFault, Calls, CloseFault, CloseRefused,
+    Closed, Dir, Direct, Entry, Event, EventNote, Finished, Interleaved, LONGEST_FRAME, Made, Mode,
+    NewFault, Nic, Octets, POLLS, Packet, Pass, Place, PmdFault, Port, QUEUES, Queue, Reclaim,
+    Record, Reply, RowId, SHORTEST_FRAME, Settings, Setup, Shared, ThroughLock, Watched, Why,
+    blocks_for, fresh_packet, give_back, give_bufs, give_packet, history_of, is_frame, left_alone,
+    lend, marked_history, most_blocks, packet_limit, pf_setup, place_at, queues_of,
 };
 pub use ring::ReceiveRing;

@@ -3,8 +3,8 @@
 ghost use Rattle.std.specs.Prelude.{◌≡◌, ◌<◌, ◌≤◌, ◌+◌, ◌*◌, ◌++◌, length, IsFalse, if◌then◌else◌, Ok, true, false, IfOk, IfErr, OnOk, OnErr, OnSome, IfSome, [], min, vec_len};
 ghost use Rattle.std.specs.Vec.{vec_capacity};
 ghost use Rattle.std.specs.VecDeque.{deque_len, deque_capacity};
-ghost use Rattle.nic_device.specs.DmaArena.Numbers.{Numbers, is_free};
-ghost use Rattle.nic_device.specs.DmaRing.Receive.{is_done, ends_packet};
+ghost use Rattle.pmd_access.specs.NicDevice.DmaArena.Numbers.{Numbers, is_free};
+ghost use Rattle.pmd_access.specs.NicDevice.DmaRing.Receive.{is_done, ends_packet};
 ghost use Rattle.pmd_rx.specs.Plays.{PlaysFrom};
 ghost use Rattle.pmd_rx.specs.Receive.{took, lent_one, names, if_any, records_of, is_part, descriptor_at, slot_at, block_at, vacant, reach, naming, MayLend, CanLend, HasLent};
 ghost use Rattle.pmd_rx.specs.Wrong.{EndsWrong, IsFault};
@@ -15,13 +15,10 @@ ghost use Rattle.pmd_access.specs.Begun.{BeganAs};
 ghost use Rattle.pmd_access.specs.Refusals.{CanFail};
 
 use crate::ring::{ReceiveRing, Stage, Told, no_packet};
-use nic_device::{
-    BLOCK_BYTES, Buf, first_half, hash_told, is_last, is_written_back, length_told, of_halves,
-    posted_word, rss_told, second_half,
-};
 use pmd_access::{
-    CallFault, Nic, Packet, PmdFault, Record, descriptor_address, lend, next_slot, peek, poke,
-    slot_after, take,
+    BLOCK_BYTES, Buf, CallFault, Nic, Packet, PmdFault, Record, descriptor_address, first_half,
+    hash_told, is_last, is_written_back, lend, length_told, next_slot, of_halves, peek, poke,
+    posted_word, rss_told, second_half, slot_after, take,
 };
 use std::alloc::Global;
 use std::collections::VecDeque;

@@ -2,7 +2,7 @@
 
 ghost use Rattle.std.specs.Prelude.{◌≡◌, ◌<◌, ◌≤◌, ◌+◌, ◌++◌, ◌∷◌, [], length, take, true, All, OnOk, OnErr, IfOk, IfErr};
 ghost use Rattle.std.specs.VecDeque.{deque_len, deque_capacity};
-ghost use Rattle.nic_device.specs.DmaArena.Numbers.{Numbers};
+ghost use Rattle.pmd_access.specs.NicDevice.DmaArena.Numbers.{Numbers};
 ghost use Rattle.pmd_rx.specs.Burst.{HasPart};
 ghost use Rattle.pmd_rx.specs.Keeping.{numbers_of_all};
 ghost use Rattle.pmd_rx.specs.Plays.{PlaysFrom};

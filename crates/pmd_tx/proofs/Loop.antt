@@ -1,7 +1,7 @@
 -- What the loop over the segments that were sent keeps.
 use Rattle.std.proofs.Common.{◌≡◌, ℕ, ◌+◌, List, length, refl, ap, ◌∙◌, add-zero, subst, arith}
 use Rattle.std.proofs.lemmas.List.{length-drop}
-use Rattle.nic_device.specs.DmaArena.Numbers.{Numbers}
+use Rattle.pmd_access.specs.NicDevice.DmaArena.Numbers.{Numbers}
 use Rattle.pmd_access.specs.DeviceLock.declared.entry.Call.{Call}
 use Rattle.pmd_access.specs.Home.{AreOut}
 use Rattle.pmd_tx.specs.Plays.{PlaysWith}

@@ -1,9 +1,9 @@
 -- What a call adds to a driver's plays.
 use Rattle.std.proofs.Common.{◌≡◌, ℕ, suc, false, List, [], ◌∷◌, ◌++◌, length, map, refl, sym, ap, ◌∙◌, subst, append_assoc}
 use Rattle.std.proofs.lemmas.List.{append-nil}
-use Rattle.nic_device.specs.DmaArena.Block.{Block}
-use Rattle.nic_device.specs.declared.event.Event.{Event}
-use Rattle.nic_device.specs.declared.event.Reply.{Reply}
+use Rattle.pmd_access.specs.NicDevice.DmaArena.Block.{Block}
+use Rattle.pmd_access.specs.NicDevice.declared.event.Event.{Event}
+use Rattle.pmd_access.specs.NicDevice.declared.event.Reply.{Reply}
 use Rattle.pmd_access.specs.DeviceLock.declared.entry.Call.{Call}
 use Rattle.pmd_access.specs.DeviceLock.Pass.{call_of}
 use Rattle.pmd_access.specs.Made.{Adds, AddsSome}

@@ -1,16 +1,16 @@
 -- What a driver knows of its transmit ring, and how that follows from its own calls.
 use Rattle.std.specs.Prelude.{ℕ, zero, suc, ◌≡◌, ◌+◌, ◌-◌, ◌*◌, ◌/◌, ◌<◌, ◌≤◌, ◌==◌, ◌||◌, Bool, true, false, ⊤, List, [], ◌∷◌, ◌++◌, length, take, drop, map, slice_index_or, if◌then◌else◌}
 use Rattle.std.specs.List.{list_any}
-use Rattle.nic_device.specs.DmaArena.Block.{Block}
-use Rattle.nic_device.specs.DmaRing.Bits.{has_bit}
-use Rattle.nic_device.specs.DmaRing.Descriptor.{second_half, of_halves}
-use Rattle.nic_device.specs.DmaRing.Driver.{data_word}
-use Rattle.nic_device.specs.DmaRing.Ring.{next_of}
-use Rattle.nic_device.specs.declared.event.Event.{Event}
-use Rattle.nic_device.specs.declared.event.Event.TheVariants as event
-use Rattle.nic_device.specs.declared.event.Port.{Port}
-use Rattle.nic_device.specs.declared.event.Reply.{Reply}
-use Rattle.nic_device.specs.declared.event.Reply.TheVariants as reply
+use Rattle.pmd_access.specs.NicDevice.DmaArena.Block.{Block}
+use Rattle.pmd_access.specs.NicDevice.DmaRing.Bits.{has_bit}
+use Rattle.pmd_access.specs.NicDevice.DmaRing.Descriptor.{second_half, of_halves}
+use Rattle.pmd_access.specs.NicDevice.DmaRing.Driver.{data_word}
+use Rattle.pmd_access.specs.NicDevice.DmaRing.Ring.{next_of}
+use Rattle.pmd_access.specs.NicDevice.declared.event.Event.{Event}
+use Rattle.pmd_access.specs.NicDevice.declared.event.Event.TheVariants as event
+use Rattle.pmd_access.specs.NicDevice.declared.event.Port.{Port}
+use Rattle.pmd_access.specs.NicDevice.declared.event.Reply.{Reply}
+use Rattle.pmd_access.specs.NicDevice.declared.event.Reply.TheVariants as reply
 use Rattle.pmd_access.specs.Packet.{Kept}
 use Rattle.pmd_access.specs.Slots.{wrapped, descriptor_in, is_ring_block}
 

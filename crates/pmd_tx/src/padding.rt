@@ -1,11 +1,10 @@
 //! Padding: a packet is sent with 60 bytes at least.
 
 ghost use Rattle.std.specs.Prelude.{◌≡◌, ◌≤◌, ◌<◌, ◌∷◌, ◌+◌, ◌*◌, length, take, drop, All};
-ghost use Rattle.nic_device.specs.DmaArena.Block.{IsBlock};
+ghost use Rattle.pmd_access.specs.NicDevice.DmaArena.Block.{IsBlock};
 ghost use Rattle.pmd_tx.specs.Padding.{first_bytes, padded_packet, unpadded, with_first};
 
-use nic_device::Buf;
-use pmd_access::{Bufs, Packet};
+use pmd_access::{Buf, Bufs, Packet};
 use std::mem;
 
 /// How many bytes a packet has at least, as it is sent.

@@ -10,8 +10,7 @@ ghost use Rattle.pmd_access.specs.Refusals.{CanFail};
 
 use crate::answer::Reaped;
 use crate::ring::TransmitRing;
-use nic_device::Arena;
-use pmd_access::{Nic, PmdFault, give_back};
+use pmd_access::{Arena, Nic, PmdFault, give_back};
 use std::alloc::Global;
 
 impl TransmitRing {

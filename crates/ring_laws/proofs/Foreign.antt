@@ -11,9 +11,9 @@ use Rattle.history_laws.specs.{Left.Deed, Left.Did, Prelude.Entry, Prelude.Event
 use Rattle.history_laws.specs.{Left.IsLeft, Left.Rested, Left.Rests, Left.Takes, Left.Took, Prelude.Tx, Prelude.Waiting}
 use Rattle.history_laws.{proofs.Deeds.receiving_did, proofs.Steady.up_kept, specs.Prelude.IsWhole, specs.Sides.IsTried}
 use Rattle.history_laws.{proofs.Leaving.left-setting, specs.Left.fill_on, specs.Prelude.Wrote, specs.Segments.piece_in}
-use Rattle.nic_device.proofs.{DmaArena.Blocks.is_lent_in, RxRing.Fills.writes_inside_slot, RxRing.Tests.fill_healthy}
-use Rattle.nic_device.{proofs.RxRing.Fills.driver_reads, proofs.RxRing.Fills.takes_piece, specs.RxRing.Laws.IsHealthy}
-use Rattle.nic_device.{proofs.RxRing.Fills.fill_keeps_blocks, specs.RxRing.Fill.buffer_address, specs.Sound.AreWaiting}
+use Rattle.pmd_rx.proofs.NicDevice.{DmaArena.Blocks.is_lent_in, RxRing.Fills.writes_inside_slot, RxRing.Tests.fill_healthy}
+use Rattle.pmd_rx.{proofs.NicDevice.RxRing.Fills.driver_reads, proofs.NicDevice.RxRing.Fills.takes_piece, specs.NicDevice.RxRing.Laws.IsHealthy}
+use Rattle.pmd_rx.{proofs.NicDevice.RxRing.Fills.fill_keeps_blocks, specs.NicDevice.RxRing.Fill.buffer_address, specs.NicDevice.Sound.AreWaiting}
 use Rattle.pmd_rx.proofs.PmdAccess.Rings.{slot_block, slot_lies}
 use Rattle.ring_laws.proofs.Blocks.{IsRingAt, Stays, buffer_and_slot, bytes_inside, reads_stay, slot_lent}
 use Rattle.ring_laws.specs.ReceivePrelude.{Layout, Receive, block_at, descriptor_at, is_step, reach, slot_at}
@@ -28,7 +28,7 @@ use Rattle.std.proofs.Common.{Err, Ok, [], ap, append_assoc, eq-eqb, inr, length
 use Rattle.std.proofs.Common.{IsTrue, List, arith, inl, length-take-le, suc, sym, ◌*◌, ◌++◌, ◌/◌, ◌∙◌}
 use Rattle.std.proofs.{Common.◌+◌, Common.◌<◌, Common.◌^◌, Common.◌≡◌, lemmas.List.get_or_push, lemmas.List.length_push}
 use Rattle.std.proofs.{Common.◌∷◌, Common.◌⊎◌, lemmas.Bool.cases_lt, lemmas.Grind.common_steps, lemmas.List.append-nil}
-use Rattle.nic_device.specs.declared.event.Event.TheVariants as event
+use Rattle.pmd_rx.specs.NicDevice.declared.event.Event.TheVariants as event
 use Rattle.std.specs.FinMap as map
 use Rattle.history_laws.specs.Sides as sides
 

@@ -2,7 +2,7 @@
 pub use Rattle.history_laws.specs.Segments.{Piece, no_piece, first_of, pieces_told, pieces}
 use Rattle.std.specs.Prelude.{[], if◌then◌else◌, ◌++◌, ◌+◌, ◌<◌, ◌∷◌, ◌≡◌, List, false, length, slice_index_or, ℕ, ⊤}
 use Rattle.ring_laws.specs.ReceivePrelude.{Kept}
-use Rattle.nic_device.specs.DmaRing.Driver.{hash_in, rss_in}
+use Rattle.pmd_rx.specs.NicDevice.DmaRing.Driver.{hash_in, rss_in}
 
 -- a packet of these bytes, with what the first half of its descriptor reports
 abbrev pub packet_told : List ℕ → ℕ → Kept

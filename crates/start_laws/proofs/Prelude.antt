@@ -1,13 +1,13 @@
 -- The definitions of these laws that their proofs cite most, passed on from one place. Declares nothing.
-unfoldable pub use Rattle.nic_device.specs.Step.{step_of}
-pub use Rattle.device_lock.proofs.Histories.{events_before, events_behind, leads-append, legal_behind}
-pub use Rattle.device_lock.specs.Alone.{WritesOutside, is_setting}
-pub use Rattle.nic_device.specs.RegTable.{Rows.row_of, Runs.runs, declared.rows.RowId.TheVariants.Tdwbah}
-pub use Rattle.nic_device.specs.RegisterFile.Access.{asks_pool_reset, asks_reset}
-pub use Rattle.nic_device.specs.RegisterFile.{Owner.owner_of, Registers.word_of}
-pub use Rattle.nic_device.specs.declared.event.Reply.TheVariants.{Done, Wrote}
-pub use Rattle.nic_device.specs.{Access.named_written, Outcome.Outcome, Outcome.gives, VfMap.Owner.is_transmit}
-pub use Rattle.nic_device.{proofs.Cases.lent_cases, proofs.Steps.keeps_sound, specs.VfMap.Owner.is_receive}
+unfoldable pub use Rattle.pmd_driver.specs.NicDevice.Step.{step_of}
+pub use Rattle.pmd_driver.proofs.DeviceLock.Histories.{events_before, events_behind, leads-append, legal_behind}
+pub use Rattle.pmd_driver.specs.DeviceLock.Alone.{WritesOutside, is_setting}
+pub use Rattle.pmd_driver.specs.NicDevice.RegTable.{Rows.row_of, Runs.runs, declared.rows.RowId.TheVariants.Tdwbah}
+pub use Rattle.pmd_driver.specs.NicDevice.RegisterFile.Access.{asks_pool_reset, asks_reset}
+pub use Rattle.pmd_driver.specs.NicDevice.RegisterFile.{Owner.owner_of, Registers.word_of}
+pub use Rattle.pmd_driver.specs.NicDevice.declared.event.Reply.TheVariants.{Done, Wrote}
+pub use Rattle.pmd_driver.specs.NicDevice.{Access.named_written, Outcome.Outcome, Outcome.gives, VfMap.Owner.is_transmit}
+pub use Rattle.pmd_driver.{proofs.NicDevice.Cases.lent_cases, proofs.NicDevice.Steps.keeps_sound, specs.NicDevice.VfMap.Owner.is_receive}
 pub use Rattle.pmd_driver.specs.PmdAccess.QueueMade.{IsOtherwise, IsStrayRead, StopsBy}
 pub use Rattle.pmd_driver.{proofs.Apart.both_apart, specs.PmdAccess.Sides.PollsEnd, specs.PmdTx.Sending.IsOwn}
 pub use Rattle.ring_laws.proofs.InOrder.{calls_other, calls_own, since-append, vfs_stays}

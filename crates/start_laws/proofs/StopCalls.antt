@@ -17,9 +17,9 @@ use Rattle.std.proofs.Common.{Bool, List, [], ap, append_assoc, arith, false, in
 use Rattle.std.proofs.Common.{zero, ℕ, ◌++◌, ◌+◌, ◌-◌, ◌<◌, ◌∙◌, ◌∷◌, ◌≡◌, ◌≢◌}
 use Rattle.std.proofs.lemmas.{Bool.eq-eqb, Bool.or_left, Bool.or_right, Grind.common_steps, List.append-nil}
 use Rattle.std.specs.{List.range_with_len, Prelude.IsFalse, Prelude.⊤, Prelude.◌==◌}
-use Rattle.{device_lock.specs.Alone.lends, ring_laws.proofs.HistoryLaws.Alone.lent_behind}
-use Rattle.nic_device.specs.declared.event.Event.TheVariants as event
-use Rattle.nic_device.specs.declared.event.Reply.TheVariants as reply
+use Rattle.{pmd_driver.specs.DeviceLock.Alone.lends, ring_laws.proofs.HistoryLaws.Alone.lent_behind}
+use Rattle.pmd_driver.specs.NicDevice.declared.event.Event.TheVariants as event
+use Rattle.pmd_driver.specs.NicDevice.declared.event.Reply.TheVariants as reply
 use Rattle.pmd_driver.specs.PmdAccess.declared.fault.PmdFault.TheVariants as fault
 
 pub each_such : (P Q : Event Block → Type 0) → ((e : Event Block) → P e → Q e) → (cs : List Call)

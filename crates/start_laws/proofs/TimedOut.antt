@@ -23,9 +23,9 @@ use Rattle.std.proofs.Common.{Bool, List, [], ap, append_assoc, arith, false, in
 use Rattle.std.proofs.Common.{true, zero, ℕ, ◌++◌, ◌+◌, ◌-◌, ◌∙◌, ◌∷◌, ◌≡◌, ◌≢◌, ◌⊎◌}
 use Rattle.std.proofs.lemmas.{Bool.both_ways, Bool.eq-eqb, Bool.ne_eqb, Grind.common_steps, List.append-nil}
 use Rattle.std.specs.Prelude.{Err, IsFalse, None, Option, Some, ◌==◌}
-use Rattle.{nic_device.specs.RegTable.Rows.rows, ring_laws.proofs.HistoryLaws.Lent.anew_is_done}
-use Rattle.nic_device.specs.declared.event.Event.TheVariants as event
-use Rattle.nic_device.specs.declared.event.Reply.TheVariants as reply
+use Rattle.{pmd_driver.specs.NicDevice.RegTable.Rows.rows, ring_laws.proofs.HistoryLaws.Lent.anew_is_done}
+use Rattle.pmd_driver.specs.NicDevice.declared.event.Event.TheVariants as event
+use Rattle.pmd_driver.specs.NicDevice.declared.event.Reply.TheVariants as reply
 
 -- so many reads of a side that is asked on, in vain
 

@@ -1,6 +1,9 @@
 pub use Rattle.ring_laws.specs as RingLaws
 pub use Rattle.ring_laws.specs.DeviceLaws
 pub use Rattle.ring_laws.specs.HistoryLaws
+pub use Rattle.pmd_driver.specs as PmdDriver
+pub use Rattle.pmd_driver.specs.DeviceLock
+pub use Rattle.pmd_driver.specs.NicDevice
 pub mod Agreeing
 pub mod Along
 pub mod Before

@@ -1,24 +1,24 @@
 -- The names that the laws on a driver cite most, passed on from one place. Declares nothing.
-pub use Rattle.nic_device.specs.{DmaArena.Memory.Memory, DmaArena.Memory.has_block, DmaRing.declared.dir.Dir.Dir}
-pub use Rattle.nic_device.specs.{DmaRing.declared.ring.Ring.Ring, Named.named, Receive.is_empty, RegTable.Rows.row_of}
-pub use Rattle.nic_device.specs.{RegTable.declared.place.Place.Place, RegTable.declared.rows.RowId.RowId}
-pub use Rattle.nic_device.specs.{RegisterFile.Access.asks_pool_reset, RegisterFile.Bits.has_bit}
-pub use Rattle.nic_device.specs.{RegisterFile.Columns.place, RegisterFile.Pools.mode_in, RegisterFile.Queue.enable_row}
-pub use Rattle.nic_device.specs.{RegisterFile.Queue.is_on, RegisterFile.Settings.frame_limit, Sound.IsEvent}
-pub use Rattle.nic_device.specs.{Sound.IsSound, State.State, State.new_state, Step.after, Step.reply_to}
-pub use Rattle.nic_device.specs.{VfMap.declared.mode.Mode.Mode, declared.event.Event.Event, declared.event.Port.Port}
-pub use Rattle.nic_device.specs.{declared.event.Reply.Reply, declared.named.Named.TheVariants.Register}
-pub use Rattle.nic_device.specs.DmaArena.Block.{Block, zero_block}
-pub use Rattle.nic_device.specs.DmaArena.Numbers.{Numbers, is_free, is_own}
-pub use Rattle.nic_device.specs.DmaArena.Whereabouts.{places_of, times_in_hand}
-pub use Rattle.nic_device.specs.DmaRing.declared.dir.Dir.TheVariants.{Rx, Tx}
-pub use Rattle.nic_device.specs.RegTable.declared.rows.RowId.TheVariants.{Rdbah, Rdbal, Rdh, Rdlen, Rdt, Rxdctl, Srrctl}
-pub use Rattle.nic_device.specs.RegTable.declared.rows.RowId.TheVariants.{Tdbah, Tdbal, Tdh, Tdlen, Tdt, Tdwbal, Txdctl}
-pub use Rattle.nic_device.specs.declared.event.Port.TheVariants.{Pf, Vf}
-pub use Rattle.device_lock.specs.Alone.{Blocks, LeavesBlocks, LeavesRegisters, WritesOutside, lends, lent_by}
-pub use Rattle.device_lock.specs.History.{AreEvents, IsLegal, call_in, calls_of, leads_to}
-pub use Rattle.device_lock.specs.Pass.{call_of}
-pub use Rattle.device_lock.specs.declared.{alone.Watched.Watched, entry.Call.Call, entry.Entry.Entry}
+pub use Rattle.pmd_driver.specs.NicDevice.{DmaArena.Memory.Memory, DmaArena.Memory.has_block, DmaRing.declared.dir.Dir.Dir}
+pub use Rattle.pmd_driver.specs.NicDevice.{DmaRing.declared.ring.Ring.Ring, Named.named, Receive.is_empty, RegTable.Rows.row_of}
+pub use Rattle.pmd_driver.specs.NicDevice.{RegTable.declared.place.Place.Place, RegTable.declared.rows.RowId.RowId}
+pub use Rattle.pmd_driver.specs.NicDevice.{RegisterFile.Access.asks_pool_reset, RegisterFile.Bits.has_bit}
+pub use Rattle.pmd_driver.specs.NicDevice.{RegisterFile.Columns.place, RegisterFile.Pools.mode_in, RegisterFile.Queue.enable_row}
+pub use Rattle.pmd_driver.specs.NicDevice.{RegisterFile.Queue.is_on, RegisterFile.Settings.frame_limit, Sound.IsEvent}
+pub use Rattle.pmd_driver.specs.NicDevice.{Sound.IsSound, State.State, State.new_state, Step.after, Step.reply_to}
+pub use Rattle.pmd_driver.specs.NicDevice.{VfMap.declared.mode.Mode.Mode, declared.event.Event.Event, declared.event.Port.Port}
+pub use Rattle.pmd_driver.specs.NicDevice.{declared.event.Reply.Reply, declared.named.Named.TheVariants.Register}
+pub use Rattle.pmd_driver.specs.NicDevice.DmaArena.Block.{Block, zero_block}
+pub use Rattle.pmd_driver.specs.NicDevice.DmaArena.Numbers.{Numbers, is_free, is_own}
+pub use Rattle.pmd_driver.specs.NicDevice.DmaArena.Whereabouts.{places_of, times_in_hand}
+pub use Rattle.pmd_driver.specs.NicDevice.DmaRing.declared.dir.Dir.TheVariants.{Rx, Tx}
+pub use Rattle.pmd_driver.specs.NicDevice.RegTable.declared.rows.RowId.TheVariants.{Rdbah, Rdbal, Rdh, Rdlen, Rdt, Rxdctl, Srrctl}
+pub use Rattle.pmd_driver.specs.NicDevice.RegTable.declared.rows.RowId.TheVariants.{Tdbah, Tdbal, Tdh, Tdlen, Tdt, Tdwbal, Txdctl}
+pub use Rattle.pmd_driver.specs.NicDevice.declared.event.Port.TheVariants.{Pf, Vf}
+pub use Rattle.pmd_driver.specs.DeviceLock.Alone.{Blocks, LeavesBlocks, LeavesRegisters, WritesOutside, lends, lent_by}
+pub use Rattle.pmd_driver.specs.DeviceLock.History.{AreEvents, IsLegal, call_in, calls_of, leads_to}
+pub use Rattle.pmd_driver.specs.DeviceLock.Pass.{call_of}
+pub use Rattle.pmd_driver.specs.DeviceLock.declared.{alone.Watched.Watched, entry.Call.Call, entry.Entry.Entry}
 pub use Rattle.pmd_driver.specs.{Blocks.HasAll, Halted.Halted, PmdAccess.Events.is_step, PmdAccess.Made.Adds}
 pub use Rattle.pmd_driver.specs.{PmdAccess.Made.AreSteps, PmdAccess.declared.fault.PmdFault.PmdFault}
 pub use Rattle.pmd_driver.specs.{PmdAccess.declared.packet.Packet.Packet, Running.Running, declared.driver.Rings.Rings}

@@ -20,8 +20,8 @@ use Rattle.workers.specs.Order.{EndsAreInOrder, IsEndAmong, LeavesJob, given_of,
 use Rattle.workers.specs.Points.{JustBefore}
 use Rattle.workers.specs.declared.{ends.WorkerEnd.WorkerEnd, fault.WorkerFault.TheVariants.NoThread, job.Job.Job}
 use Rattle.workers.specs.{Ends.AreEnds, Ends.IsEnd, Lived.HasRun, Starts.Starts}
-use Rattle.nic_device.specs.declared.event.Event.TheVariants as event
-use Rattle.nic_device.specs.declared.event.Reply.TheVariants as reply
+use Rattle.pmd_driver.specs.NicDevice.declared.event.Event.TheVariants as event
+use Rattle.pmd_driver.specs.NicDevice.declared.event.Reply.TheVariants as reply
 use Rattle.driver_laws.specs.StartLaws.RingLaws.Delivered as receive
 use Rattle.driver_laws.specs.StartLaws.RingLaws.Laws as transmit
 

@@ -1,3 +1,4 @@
+pub use Rattle.pmd_driver.proofs as PmdDriver
 pub mod Arriving
 pub mod Asked
 pub mod Coming

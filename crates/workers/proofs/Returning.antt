@@ -1,9 +1,9 @@
 -- Packets that come back, whose blocks can go home still.
 use Rattle.std.proofs.Common.{◌≡◌, ℕ, ◌&&◌, not, nat_lt, Bool, true, List, Option, Some, None, Result, Ok, Err, IfSome, sym, ap, ◌∙◌, subst}
 use Rattle.std.specs.List.{list_any}
-use Rattle.device_lock.specs.declared.entry.Call.{Call}
-use Rattle.nic_device.specs.DmaArena.Numbers.{Numbers}
-use Rattle.nic_device.specs.DmaArena.Whereabouts.{times_in_hand}
+use Rattle.pmd_driver.specs.DeviceLock.declared.entry.Call.{Call}
+use Rattle.pmd_driver.specs.NicDevice.DmaArena.Numbers.{Numbers}
+use Rattle.pmd_driver.specs.NicDevice.DmaArena.Whereabouts.{times_in_hand}
 use Rattle.pmd_driver.specs.PmdAccess.Bufs.{numbers_of}
 use Rattle.pmd_driver.specs.PmdAccess.declared.fault.PmdFault.{PmdFault}
 use Rattle.pmd_driver.specs.PmdAccess.declared.fault.PmdFault.TheVariants as fault

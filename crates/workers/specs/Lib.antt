@@ -1,5 +1,6 @@
-pub use Rattle.device_lock.specs as DeviceLock
+pub use Rattle.pmd_driver.specs.DeviceLock as DeviceLock
 pub use Rattle.pmd_driver.specs.PmdAccess
+pub use Rattle.pmd_driver.specs as PmdDriver
 pub mod AtFirst
 pub mod Before
 pub mod Beginning
@@ -8,6 +9,7 @@ pub mod Ended
 pub mod Ends
 pub mod Feeding
 pub mod Fitting
+pub mod Judged
 pub mod Kept
 pub mod Lending
 pub mod Lived

@@ -1,7 +1,7 @@
 -- What became of a worker's driver.
 use Rattle.std.specs.Prelude.{ℕ, ◌≡◌, ◌⊎◌, List, Option, Some, Result}
-use Rattle.nic_device.specs.DmaArena.Numbers.{Numbers}
-use Rattle.device_lock.specs.declared.entry.Call.{Call}
+use Rattle.pmd_driver.specs.NicDevice.DmaArena.Numbers.{Numbers}
+use Rattle.pmd_driver.specs.DeviceLock.declared.entry.Call.{Call}
 use Rattle.pmd_driver.specs.PmdAccess.declared.fault.PmdFault.{PmdFault}
 use Rattle.pmd_driver.specs.PmdAccess.Named.{AtPort}
 use Rattle.pmd_driver.specs.Life.{HasLived, NeverLived}

@@ -1,8 +1,8 @@
 -- Where a driver starts in a history.
 use Rattle.std.specs.Prelude.{ℕ, ◌≡◌, IsFalse, List, ◌∷◌, ◌++◌}
-use Rattle.device_lock.specs.History.{calls_of}
-use Rattle.device_lock.specs.declared.entry.Call.{Call}
-use Rattle.device_lock.specs.declared.entry.Entry.{Entry}
+use Rattle.pmd_driver.specs.DeviceLock.History.{calls_of}
+use Rattle.pmd_driver.specs.DeviceLock.declared.entry.Call.{Call}
+use Rattle.pmd_driver.specs.DeviceLock.declared.entry.Entry.{Entry}
 use Rattle.pmd_driver.specs.PmdAccess.Events.{is_step}
 use Rattle.pmd_driver.specs.PmdAccess.Made.{AreSteps}
 

@@ -1,13 +1,11 @@
 //! What the entries of a history tell up to the first of a driver's own.
 
 ghost use Rattle.std.specs.Prelude.{◌≡◌};
-ghost use Rattle.device_lock.specs.Alone.{place_at};
 ghost use Rattle.pmd_driver.specs.PmdAccess.Events.{is_step};
 ghost use Rattle.workers.specs.Before.{first_told, is_first, left_behind, told_after, told_before};
 ghost use Rattle.workers.specs.Quiet.{asks_on, is_enable};
 
-use device_lock::{Entry, Settings, Watched};
-use nic_device::{Event, EventNote, Located, Mode, Place, Port, RowId, locate, place_of};
+use pmd_driver::{Entry, Event, EventNote, Mode, Place, RowId, Settings, Watched, place_at};
 use register_bits::{Rxdctl, has_flag};
 
 /// What the entries before a point report: the settings, and whether the watched queue was asked on.
@@ -17,19 +15,6 @@ pub(crate) struct Told {
     pub settings: Settings,
     /// Whether one of them asks the watched queue on.
     pub asked: bool,
-}
-
-/// The register that a number names at a port, while the queues are parted by a mode.
-fn place_at(mode: Mode, vfs: u8, port: Port, number: u32) -> Option<Place>
-    ensures { result ≡ place_at mode vfs port number }
-{
-    match port {
-        Port::Pf => place_of(number),
-        Port::Vf(v) => match locate(mode, vfs, v, number) {
-            Located::Absent | Located::Hole => None,
-            Located::Register(place) => Some(place),
-        },
-    }
 }
 
 /// Whether a place is the enable register of a side of a queue.
@@ -45,7 +30,7 @@ fn is_enable(queue: u16, place: Option<Place>) -> bool
     }
 }
 
-/// Whether an event asks the watched queue on, while the queues are parted by a mode: by one bit for receive and
+/// Whether an event asks the watched queue on, in the device's mode before it. The bit is the same for receive and
 /// transmit.
 fn asks_on(watched: Watched, mode: Mode, event: &EventNote) -> bool
     ensures { result ≡ asks_on watched mode event.now }

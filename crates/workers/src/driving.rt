@@ -2,8 +2,8 @@
 
 ghost use Rattle.std.specs.Prelude.{ℕ, ◌≡◌, ◌≤◌, List, [], length, true, false, IfErr, IfSome, IfNone, OnErr};
 ghost use Rattle.rtrb.specs.Ring.{sent, known_free, SameProducer};
-ghost use Rattle.nic_device.specs.DmaArena.Numbers.{Numbers};
-ghost use Rattle.device_lock.specs.declared.entry.Call.{Call};
+ghost use Rattle.pmd_driver.specs.NicDevice.DmaArena.Numbers.{Numbers};
+ghost use Rattle.pmd_driver.specs.DeviceLock.declared.entry.Call.{Call};
 ghost use Rattle.pmd_driver.specs.PmdAccess.Begun.{BeganAs};
 ghost use Rattle.pmd_driver.specs.PmdAccess.Named.{AtPort};
 ghost use Rattle.pmd_driver.specs.Blocks.{HasAll, LosesNone, IsWhole};
@@ -19,8 +19,7 @@ use crate::fault::WorkerFault;
 use crate::gate::Gate;
 use crate::reports::Report;
 use crate::turns::{do_rounds, reap_all};
-use nic_device::{Arena, Port};
-use pmd_driver::{Nic, Pmd, PmdFault, Rest, StartRefused, StopRefused};
+use pmd_driver::{Arena, Nic, Pmd, PmdFault, Port, Rest, StartRefused, StopRefused};
 use rtrb::Producer;
 use std::alloc::Global;
 

@@ -7,8 +7,7 @@ ghost use Rattle.workers.specs.Fitting.{FramesFit, let_in_by, longest_behind};
 
 use crate::before::{is_first, left_behind};
 use crate::beginning::FRAME_CHECK;
-use device_lock::{Entry, Watched};
-use nic_device::{BLOCK_BYTES, Event, Reply};
+use pmd_driver::{BLOCK_BYTES, Entry, Event, Reply, Watched};
 
 /// How many bytes the frame has that an entry let in; none where it let none in.
 fn let_in_by(entry: &Entry) -> usize

@@ -3,8 +3,7 @@
 ghost use Rattle.std.specs.Prelude.{ℕ, ◌<◌, ◌↔◌, IsTrue, IfSome, IfNone, length};
 ghost use Rattle.workers.specs.Overlap.{Share, SharesEarlier, IsFirstToShare};
 
-use device_lock::Pass;
-use nic_device::{Arena, Port};
+use pmd_driver::{Arena, Pass, Port};
 
 /// What a worker is to do. It can't be dropped.
 pub struct Job {

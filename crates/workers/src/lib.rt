@@ -16,7 +16,7 @@
 //! What a closed history tells of a driver: `before.rt` goes through its entries up to the first of the driver's own,
 //! `beginning.rt` says whether the driver begins well there, `quiet.rt` whether its queue was asked on before,
 //! `lending.rt` whether others lend none of its blocks, and `fitting.rt` whether the frames let in before fit its
-//! packets.
+//! packets; `verdict.rt` asks all of it, and whether the queue was left alone, by one call.
 #![tactic(auto)]
 
 mod assignment;
@@ -42,14 +42,11 @@ mod standing;
 mod start;
 mod team;
 mod turns;
+mod verdict;
 mod widening;
 mod worker_task;
 
 pub use beginning::{Given, begins_well};
-pub use device_lock::{
-    Call, CallFault, Calls, CloseFault, CloseRefused, Closed, Entry, Made, NewFault, Pass,
-    Settings, Shared, Watched, left_alone,
-};
 pub use driving::{Order, run_worker};
 pub use ends::{Ran, RunFault, RunRefused, WorkerEnd};
 pub use fault::WorkerFault;
@@ -61,12 +58,15 @@ pub use job::{Job, overlap};
 pub use lending::others_lend_none;
 pub use meeting::{Lockstep, MAX_MEMBERS};
 pub use pmd_driver::{
-    Bufs, Direct, Finished, Home, Interleaved, Nic, POLLS, Packet, Pmd, PmdFault, Queue, Record,
-    Rest, Setup, StartRefused, StopRefused, ThroughLock, TxAnswer, TxFault, history_of,
-    marked_history, pf_setup,
+    Arrived, Bufs, Call, CallFault, Calls, CloseFault, CloseRefused, Closed, Direct, Entry,
+    Finished, Home, Interleaved, LONGEST_FRAME, Made, NewFault, Nic, POLLS, Packet, PacketBytes,
+    Pass, Pmd, PmdFault, Queue, Reaped, Record, Rest, SHORTEST_FRAME, Settings, Setup, Shared,
+    StartRefused, StopRefused, ThroughLock, TxAnswer, TxFault, Watched, arrive, history_of,
+    left_alone, marked_history, pf_setup,
 };
 pub use quiet::never_asked_on;
 pub use reports::{Collector, Report};
 pub use seat::{Seat, Task};
 pub use start::Start;
 pub use team::run_workers;
+pub use verdict::{Doubt, Driven, judge};

@@ -8,7 +8,7 @@ use Rattle.driver_laws.proofs.{Prelude.Entry, Prelude.IsTrue, Prelude.new_sound,
 use Rattle.driver_laws.proofs.{StartLaws.HistoryLaws.Alone.new_is_left_alone}
 use Rattle.driver_laws.specs.InHand.{IsClosed, IsHistoryAtLock, IsHistoryOf, WasMade, at_lock, in_hand}
 use Rattle.driver_laws.specs.Closed.{UpTo}
-use Rattle.device_lock.specs.{Alone.LeavesAlone, Pass.PassValue}
+use Rattle.start_laws.specs.DeviceLock.{Alone.LeavesAlone, Pass.PassValue}
 
 history : (s : State) (queue : ℕ) (before h : List Entry) (calls : List Call) (device : State) → queue < 128
     → WasMade s before → LeadsTo (leads_to s before) h device → calls_of 0 h ≡ calls

@@ -1,7 +1,7 @@
 -- What a driver has of an arena's blocks, over its calls.
 use Rattle.driver_laws.proofs.Prelude.{[], append_assoc, arith, halted_of, times-append, ◌++◌}
-use Rattle.pmd_driver.{proofs.Whole.keeps_beside, proofs.Whole.keeps_counted, proofs.Whole.keeps_then}
-use Rattle.pmd_driver.{specs.Halted.all_out}
+use Rattle.start_laws.{proofs.PmdDriver.Whole.keeps_beside, proofs.PmdDriver.Whole.keeps_counted, proofs.PmdDriver.Whole.keeps_then}
+use Rattle.start_laws.{specs.PmdDriver.Halted.all_out}
 
 pub returns : Rattle.driver_laws.proofs.calls_keep_the_books.Goals.returns
 returns c = record {

@@ -1,4 +1,4 @@
-use Rattle.nic_device.specs.declared.event.Event.TheVariants as event
+use Rattle.device_lock.specs.NicDevice.declared.event.Event.TheVariants as event
 use Rattle.pmd_access.proofs.Refusals.{without_refuses}
 use Rattle.pmd_access.proofs.Replying.{adds_as}
 use Rattle.pmd_access.proofs.accesses.write.Goals as goal

@@ -1,6 +1,6 @@
 use Rattle.std.proofs.Common.{ap, arith}
-use Rattle.nic_device.specs.DmaArena.Numbers.{free_count}
-use Rattle.nic_device.proofs.DmaArena.Arenas.{free_count_taken}
+use Rattle.device_lock.specs.NicDevice.DmaArena.Numbers.{free_count}
+use Rattle.device_lock.proofs.NicDevice.DmaArena.Arenas.{free_count_taken}
 use Rattle.pmd_access.proofs.Drawing.{draws_one}
 use Rattle.pmd_access.proofs.packet.draw.Goals as goal
 

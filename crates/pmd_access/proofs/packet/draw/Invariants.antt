@@ -1,5 +1,5 @@
 use Rattle.std.proofs.Common.{◌≡◌, ◌+◌}
-use Rattle.nic_device.specs.DmaArena.Numbers.{free_count}
+use Rattle.device_lock.specs.NicDevice.DmaArena.Numbers.{free_count}
 use Rattle.pmd_access.specs.Fresh.{IsDrawnAs}
 use Rattle.pmd_access.proofs.packet.draw.Given as goal
 

@@ -1,5 +1,5 @@
 use Rattle.std.proofs.Common.{ap, arith, length, List}
-use Rattle.nic_device.specs.DmaArena.Block.{Block}
+use Rattle.device_lock.specs.NicDevice.DmaArena.Block.{Block}
 use Rattle.pmd_access.proofs.packet.give_bufs.Goals as goal
 
 pub unreachable-requires : goal.unreachable-requires

@@ -1,6 +1,6 @@
 use Rattle.std.proofs.Common.{List, [], ◌∷◌, ◌∙◌, subst}
 use Rattle.std.proofs.lemmas.Result.{err_from_is_err_and}
-use Rattle.nic_device.specs.RegTable.declared.rows.RowId.TheVariants.{Mrqc, Rssrk, Reta}
+use Rattle.device_lock.specs.NicDevice.RegTable.declared.rows.RowId.TheVariants.{Mrqc, Rssrk, Reta}
 use Rattle.pmd_access.specs.Setup.{AreSet, StopsSetting, pool_settings, opening, setting, packed}
 use Rattle.pmd_access.specs.declared.setup.Setting.{Setting}
 use Rattle.pmd_access.proofs.Amid.{in_first, in_second, in_third, in_fourth, in_fifth, all_five}

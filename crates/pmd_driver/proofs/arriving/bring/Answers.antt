@@ -1,4 +1,4 @@
-use Rattle.nic_device.specs.declared.event.Event.TheVariants as event
+use Rattle.pmd_rx.specs.NicDevice.declared.event.Event.TheVariants as event
 use Rattle.pmd_rx.proofs.PmdAccess.Refusals.{without_refuses}
 use Rattle.pmd_rx.proofs.PmdAccess.Replying.{adds_as}
 use Rattle.pmd_driver.proofs.arriving.bring.Goals as goal

@@ -1,5 +1,5 @@
 use Rattle.std.proofs.Common.{true, inl, refl}
-use Rattle.nic_device.specs.DmaArena.Numbers.{free_count}
+use Rattle.pmd_rx.specs.NicDevice.DmaArena.Numbers.{free_count}
 use Rattle.pmd_driver.proofs.Late.{switching_late, filling_late}
 use Rattle.pmd_driver.proofs.rings.go_on.Goals as goal
 

@@ -1,5 +1,5 @@
 use Rattle.std.proofs.Common.{[], ◌<◌, ◌∙◌, inl, inr, sym, ap, subst, arith}
-use Rattle.nic_device.specs.DmaRing.declared.dir.Dir.TheVariants.{Tx}
+use Rattle.pmd_rx.specs.NicDevice.DmaRing.declared.dir.Dir.TheVariants.{Tx}
 use Rattle.pmd_driver.specs.Halted.{Halted}
 use Rattle.pmd_rx.specs.PmdAccess.Slots.{blocks_for}
 use Rattle.pmd_rx.specs.Keeping.{blocks_out}

@@ -1,5 +1,5 @@
 use Rattle.std.proofs.Common.{◌≡◌, ◌*◌, All, take}
-use Rattle.nic_device.specs.DmaArena.Block.{Block, IsBlock}
+use Rattle.pmd_access.specs.NicDevice.DmaArena.Block.{Block, IsBlock}
 use Rattle.pmd_tx.proofs.padding.bytes_in.Given as goal
 
 abbrev pub invariant-loop-number : goal.invariant-loop-number

@@ -1,5 +1,5 @@
 use Rattle.std.proofs.Common.{◌∙◌, arith, sym, ap, List, length}
-use Rattle.nic_device.specs.DmaArena.Block.{Block}
+use Rattle.device_lock.specs.NicDevice.DmaArena.Block.{Block}
 use Rattle.pmd_access.proofs.Standing.{stand_count, stand_few}
 use Rattle.pmd_access.proofs.bufs.Bufs.count.Goals as goal
 

@@ -1,5 +1,5 @@
 use Rattle.std.proofs.Common.{◌≡◌, ◌<◌, ℕ, List, [], Option, Some, None, length, get_or, sym, ap, ◌∙◌, arith}
-use Rattle.nic_device.specs.DmaArena.Block.{Block}
+use Rattle.device_lock.specs.NicDevice.DmaArena.Block.{Block}
 use Rattle.pmd_access.specs.Bufs.{StandFirst, blocks_in}
 use Rattle.pmd_access.proofs.Standing.{stand_count, stand_few, stand_at}
 use Rattle.pmd_access.proofs.bufs.Bufs.get.Goals as goal

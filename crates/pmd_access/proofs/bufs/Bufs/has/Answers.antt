@@ -1,6 +1,6 @@
 use Rattle.std.proofs.Common.{◌≡◌, ◌<◌, ℕ, zero, suc, List, [], ◌∷◌, length, get_or, subst, sym, ◌∙◌, refl, arith}
-use Rattle.nic_device.specs.DmaArena.Block.{Block}
-use Rattle.nic_device.specs.DmaArena.Whereabouts.{times_in_hand}
+use Rattle.device_lock.specs.NicDevice.DmaArena.Block.{Block}
+use Rattle.device_lock.specs.NicDevice.DmaArena.Whereabouts.{times_in_hand}
 use Rattle.pmd_access.specs.Bufs.{numbers_of}
 use Rattle.pmd_access.proofs.Outside.{times_first, times-cons}
 use Rattle.pmd_access.proofs.bufs.Bufs.has.Goals as goal

@@ -1,6 +1,6 @@
 use Rattle.std.proofs.Common.{◌≡◌, ◌++◌, ◌∷◌, ◌∙◌, ℕ, ◌-◌, List, Option, Some, None, length, get_or, set, drop, take, sym, arith}
 use Rattle.std.proofs.lemmas.List.{length-set}
-use Rattle.nic_device.specs.DmaArena.Block.{Block}
+use Rattle.device_lock.specs.NicDevice.DmaArena.Block.{Block}
 use Rattle.pmd_access.specs.Bufs.{StandFirst, blocks_in}
 use Rattle.pmd_access.proofs.Standing.{rest_of, rotated_length}
 use Rattle.pmd_access.proofs.bufs.Bufs.take_first.Goals as goal

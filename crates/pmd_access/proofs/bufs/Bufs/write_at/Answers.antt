@@ -1,7 +1,7 @@
 use Rattle.std.proofs.Common.{◌≡◌, ◌≤◌, ◌∙◌, ◌+◌, ◌*◌, ◌-◌, ◌++◌, ◌∷◌, List, ap, sym, subst, refl, length, take, drop, arith}
 use Rattle.std.proofs.lemmas.List.{take_all, length-drop, length_push}
-use Rattle.nic_device.specs.DmaArena.Block.{Block}
-use Rattle.nic_device.specs.DmaArena.Memory.{put_bytes}
+use Rattle.device_lock.specs.NicDevice.DmaArena.Block.{Block}
+use Rattle.device_lock.specs.NicDevice.DmaArena.Memory.{put_bytes}
 use Rattle.pmd_access.specs.Bufs.{bytes_of, numbers_of}
 use Rattle.pmd_access.proofs.Writing.{writes_one, fits_behind, nothing_left, numbers_one}
 use Rattle.pmd_access.proofs.bufs.Bufs.write_at.Goals as goal

@@ -1,5 +1,5 @@
 use Rattle.std.proofs.Common.{◌≡◌, ◌≤◌, ◌+◌, ◌*◌, ◌++◌, length}
-use Rattle.nic_device.specs.DmaArena.Memory.{put_bytes}
+use Rattle.device_lock.specs.NicDevice.DmaArena.Memory.{put_bytes}
 use Rattle.pmd_access.specs.Bufs.{bytes_of, numbers_of}
 use Rattle.pmd_access.proofs.bufs.Bufs.write_at.Given as goal
 

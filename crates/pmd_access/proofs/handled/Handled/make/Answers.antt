@@ -1,6 +1,6 @@
 use Rattle.std.proofs.Common.{Bool, true, List, [], ◌∷◌, ◌++◌, sym, ap, ◌∙◌}
-use Rattle.nic_device.specs.DmaArena.Block.{Block}
-use Rattle.nic_device.specs.declared.event.Reply.{Reply}
+use Rattle.device_lock.specs.NicDevice.DmaArena.Block.{Block}
+use Rattle.device_lock.specs.NicDevice.declared.event.Reply.{Reply}
 use Rattle.device_lock.specs.Pass.{call_of}
 use Rattle.pmd_access.specs.Scheduled.{Handled}
 use Rattle.pmd_access.proofs.Begun.{call_more_begins}

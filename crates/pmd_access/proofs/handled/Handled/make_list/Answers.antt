@@ -1,6 +1,6 @@
 use Rattle.std.proofs.Common.{List, subst, ◌∙◌}
-use Rattle.nic_device.specs.DmaArena.Block.{Block}
-use Rattle.nic_device.specs.declared.event.Event.{Event}
+use Rattle.device_lock.specs.NicDevice.DmaArena.Block.{Block}
+use Rattle.device_lock.specs.NicDevice.declared.event.Event.{Event}
 use Rattle.pmd_access.specs.Scheduled.{IsMadeTo}
 use Rattle.pmd_access.proofs.Making.{one_more}
 use Rattle.pmd_access.proofs.handled.Handled.make_list.Goals as goal

@@ -1,7 +1,7 @@
 use Rattle.std.proofs.Common.{List, ◌∷◌, map, sym, ap, ◌∙◌, Vec, Global}
-use Rattle.nic_device.specs.DmaArena.Block.{Block}
-use Rattle.nic_device.specs.DmaArena.declared.buf.Buf.{Buf}
-use Rattle.nic_device.specs.declared.event.Event.{Event}
+use Rattle.device_lock.specs.NicDevice.DmaArena.Block.{Block}
+use Rattle.device_lock.specs.NicDevice.DmaArena.declared.buf.Buf.{Buf}
+use Rattle.device_lock.specs.NicDevice.declared.event.Event.{Event}
 use Rattle.pmd_access.specs.Scheduled.{Scheduled}
 use Rattle.pmd_access.proofs.Making.{stops_in_list}
 use Rattle.pmd_access.proofs.interleaved.Interleaved.make_next_list.Goals as goal

@@ -1,5 +1,5 @@
 use Rattle.std.proofs.Common.{ℕ, [], subst}
-use Rattle.nic_device.specs.RegisterFile.Queue.{enable_row}
+use Rattle.device_lock.specs.NicDevice.RegisterFile.Queue.{enable_row}
 use Rattle.pmd_access.specs.QueueMade.{Sets, FailsBy, IsSet}
 use Rattle.pmd_access.specs.Sides.{enable_word}
 use Rattle.pmd_access.proofs.QueueSequences.{later, later_ok, one_made, stops_first}

@@ -1,5 +1,5 @@
 use Rattle.std.proofs.lemmas.Result.{err_from_is_err_and}
-use Rattle.nic_device.specs.DmaRing.declared.dir.Dir.TheVariants.{Rx, Tx}
+use Rattle.device_lock.specs.NicDevice.DmaRing.declared.dir.Dir.TheVariants.{Rx, Tx}
 use Rattle.pmd_access.specs.Sides.{asked}
 use Rattle.pmd_access.proofs.QueueSequences.{later, later_ok, both_made, stops_before, stops_after}
 use Rattle.pmd_access.proofs.names.Queue.ask_both.Goals as goal

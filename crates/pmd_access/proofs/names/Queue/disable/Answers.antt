@@ -1,6 +1,6 @@
 use Rattle.std.proofs.Common.{false, [], ◌∷◌}
 use Rattle.std.proofs.lemmas.Result.{err_from_is_err_and}
-use Rattle.nic_device.specs.RegisterFile.Queue.{enable_row}
+use Rattle.device_lock.specs.NicDevice.RegisterFile.Queue.{enable_row}
 use Rattle.pmd_access.specs.QueueMade.{Sees, Sets}
 use Rattle.pmd_access.proofs.QueueSequences.{later, later_ok, stops_first, stops_second, stops_third, three_made}
 use Rattle.pmd_access.proofs.names.Queue.disable.Goals as goal

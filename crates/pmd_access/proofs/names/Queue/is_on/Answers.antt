@@ -1,8 +1,8 @@
 use Rattle.std.proofs.Common.{sym, subst}
-use Rattle.nic_device.specs.RegTable.declared.rows.RowId.{RowId}
-use Rattle.nic_device.specs.declared.event.Event.TheVariants as event
-use Rattle.nic_device.specs.declared.event.Port.{Port}
-use Rattle.nic_device.specs.declared.event.Reply.TheVariants as reply
+use Rattle.device_lock.specs.NicDevice.RegTable.declared.rows.RowId.{RowId}
+use Rattle.device_lock.specs.NicDevice.declared.event.Event.TheVariants as event
+use Rattle.device_lock.specs.NicDevice.declared.event.Port.{Port}
+use Rattle.device_lock.specs.NicDevice.declared.event.Reply.TheVariants as reply
 use Rattle.pmd_access.specs.Made.{Adds}
 use Rattle.pmd_access.specs.Named.{IsNumberOf}
 use Rattle.pmd_access.proofs.names.Queue.is_on.Goals as goal

@@ -1,7 +1,7 @@
 use Rattle.std.proofs.Common.{◌≡◌, ℕ, List, Result, IfOk, inr, sym, subst, inl, refl}
 use Rattle.std.proofs.lemmas.Result.{IfOk-weaker, IfErr-weaker}
 use Rattle.pmd_rx.specs.DeviceLock.declared.entry.Call.{Call}
-use Rattle.nic_device.specs.DmaArena.Numbers.{is_own, is_free}
+use Rattle.pmd_rx.specs.NicDevice.DmaArena.Numbers.{is_own, is_free}
 use Rattle.pmd_rx.specs.PmdAccess.Named.{AtPort}
 use Rattle.pmd_driver.specs.Halted.{Halted, IsHalted, all_out, is_free_or_out}
 use Rattle.pmd_driver.specs.Leaving.{leaving_as}

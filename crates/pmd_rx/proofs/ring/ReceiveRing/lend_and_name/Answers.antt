@@ -1,5 +1,5 @@
 use Rattle.std.proofs.Common.{[], refl, sym, ap, subst, ◌∙◌}
-use Rattle.nic_device.specs.DmaArena.Numbers.{Numbers}
+use Rattle.pmd_access.specs.NicDevice.DmaArena.Numbers.{Numbers}
 use Rattle.pmd_rx.specs.Keeping.{Keeps}
 use Rattle.pmd_rx.specs.Receive.{Receive, lent_one}
 use Rattle.pmd_rx.proofs.Failing.{faults_after, fails_all, fails_of, never_short, no_short, err_same}

@@ -1,5 +1,5 @@
 use Rattle.std.proofs.Common.{◌∙◌, [], Ok, refl, ap, arith}
-use Rattle.nic_device.specs.DmaArena.Numbers.{Numbers}
+use Rattle.pmd_access.specs.NicDevice.DmaArena.Numbers.{Numbers}
 use Rattle.pmd_rx.specs.Receive.{Receive}
 use Rattle.pmd_rx.specs.declared.receive.Look.{Look}
 use Rattle.pmd_rx.proofs.Failing.{wrong_after, fault_after}

@@ -1,5 +1,5 @@
 use Rattle.std.proofs.Common.{◌≡◌, ◌≤◌, [], length}
-use Rattle.nic_device.specs.DmaArena.Numbers.{Numbers}
+use Rattle.pmd_access.specs.NicDevice.DmaArena.Numbers.{Numbers}
 use Rattle.pmd_access.specs.Begun.{BeganAs}
 use Rattle.pmd_rx.specs.Keeping.{Keeps, IsRunning}
 use Rattle.pmd_rx.specs.Plays.{PlaysFrom}

@@ -1,5 +1,5 @@
 use Rattle.std.proofs.Common.{◌≡◌, ◌∙◌, ◌-◌, ◌<◌, ◌++◌, ◌∷◌, [], ℕ, List, take, drop, sym, ap, arith}
-use Rattle.nic_device.specs.DmaArena.Block.{Block}
+use Rattle.pmd_access.specs.NicDevice.DmaArena.Block.{Block}
 use Rattle.pmd_access.specs.Bufs.{numbers_of}
 use Rattle.pmd_access.specs.Packet.{Kept}
 use Rattle.pmd_tx.specs.Pieces.{pieces_in}

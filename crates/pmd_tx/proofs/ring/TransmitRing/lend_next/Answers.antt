@@ -1,5 +1,5 @@
 use Rattle.std.proofs.Common.{◌≡◌, ◌∙◌, ◌-◌, ℕ, List, length, sym, ap, subst, arith}
-use Rattle.nic_device.specs.DmaArena.Memory.{put_bytes}
+use Rattle.pmd_access.specs.NicDevice.DmaArena.Memory.{put_bytes}
 use Rattle.pmd_access.specs.Packet.{Kept}
 use Rattle.pmd_tx.specs.Plays.{PlaysWith}
 use Rattle.pmd_tx.specs.Sending.{lent_more}

@@ -1,6 +1,6 @@
 use Rattle.std.proofs.Common.{◌≤◌, length, refl, rules, sym, ap, ◌∙◌, subst}
 use Rattle.rtrb.specs.Ring.{sent, SameProducer}
-use Rattle.device_lock.specs.Pass.{PassValue}
+use Rattle.pmd_driver.specs.DeviceLock.Pass.{PassValue}
 use Rattle.pmd_driver.specs.Blocks.{IsWhole}
 use Rattle.pmd_driver.specs.PmdAccess.Begun.{OfPass, began_at_lock}
 use Rattle.pmd_driver.specs.PmdAccess.Stepped.{AtLock}

@@ -1,15 +1,15 @@
 -- What a closed history is asked of a driver, one question after the other.
 use Rattle.std.specs.Prelude.{◌*◌, List, ⊤}
-use Rattle.device_lock.specs.Alone.{LeavesAlone}
-use Rattle.device_lock.specs.declared.entry.Entry.{Entry}
+use Rattle.pmd_driver.specs.DeviceLock.Alone.{LeavesAlone}
+use Rattle.pmd_driver.specs.DeviceLock.declared.entry.Entry.{Entry}
 use Rattle.workers.specs.PmdAccess.Frames.{most_blocks}
 use Rattle.workers.specs.Beginning.{BeginsWell}
 use Rattle.workers.specs.Fitting.{FramesFit}
 use Rattle.workers.specs.Lending.{OthersLendNone, are_from}
 use Rattle.workers.specs.Quiet.{NeverAskedOn}
-use Rattle.driver_judge.specs.declared.Doubt.{Doubt}
-use Rattle.driver_judge.specs.declared.Doubt.TheVariants.{Disturbed, BeganOtherwise, AskedOnBefore, LentByOthers, TooLong}
-use Rattle.driver_judge.specs.declared.Driven.{Driven}
+use Rattle.workers.specs.declared.verdict.Doubt.{Doubt}
+use Rattle.workers.specs.declared.verdict.Doubt.TheVariants.{Disturbed, BeganOtherwise, AskedOnBefore, LentByOthers, TooLong}
+use Rattle.workers.specs.declared.verdict.Driven.{Driven}
 
 -- there is no such doubt
 abbrev pub Clears : Driven → List Entry → Doubt → Type 0

@@ -1,10 +1,10 @@
 use Rattle.std.proofs.Common.{◌≡◌, ◌↔◌, ◌∙◌, Bool, List, true, false, IsTrue, refl, sym}
 use Rattle.std.proofs.lemmas.Bool.{true≢false}
-use Rattle.device_lock.specs.declared.entry.Entry.{Entry}
-use Rattle.driver_judge.specs.Judged.{Clears}
-use Rattle.driver_judge.specs.declared.Doubt.TheVariants.{Disturbed, BeganOtherwise, AskedOnBefore, LentByOthers, TooLong}
-use Rattle.driver_judge.specs.declared.Driven.{Driven}
-use Rattle.driver_judge.proofs.judge.Goals as goal
+use Rattle.pmd_driver.specs.DeviceLock.declared.entry.Entry.{Entry}
+use Rattle.workers.specs.Judged.{Clears}
+use Rattle.workers.specs.declared.verdict.Doubt.TheVariants.{Disturbed, BeganOtherwise, AskedOnBefore, LentByOthers, TooLong}
+use Rattle.workers.specs.declared.verdict.Driven.{Driven}
+use Rattle.workers.proofs.verdict.judge.Goals as goal
 
 -- what a question that was answered by yes says, and one that was answered by no
 

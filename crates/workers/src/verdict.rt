@@ -1,12 +1,14 @@
 //! What a closed history tells of a driver, by one call: `judge` asks all that the laws on a driver's packets and
 //! blocks ask of a history, and names the first that doesn't hold.
-#![tactic(auto)]
 
 ghost use Rattle.std.specs.Prelude.{◌↔◌, IsOk, IfErr};
-ghost use Rattle.driver_judge.specs.Judged.{IsClear, IsFirst};
+ghost use Rattle.workers.specs.Judged.{IsClear, IsFirst};
 
-use device_lock::{Entry, Watched, left_alone};
-use workers::{Given, begins_well, frames_fit, never_asked_on, others_lend_none};
+use crate::beginning::{Given, begins_well};
+use crate::fitting::frames_fit;
+use crate::lending::others_lend_none;
+use crate::quiet::never_asked_on;
+use pmd_driver::{Entry, Watched, left_alone};
 
 /// A driver of which a history is asked.
 #[derive(Clone, Copy)]

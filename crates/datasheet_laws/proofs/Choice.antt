@@ -20,7 +20,7 @@ use Rattle.rss_hash.specs.declared.choice.RssType.{RssType}
 use Rattle.rss_hash.specs.declared.choice.RssType.TheVariants.{NoHash, TcpIpv4, Ipv4, TcpIpv6, Ipv6, UdpIpv4, UdpIpv6}
 use Rattle.rss_hash.specs.declared.flow.Flow.{Flow}
 use Rattle.rss_hash.specs.declared.mrqc.QueueMode.{QueueMode}
-use Rattle.rss_hash.specs.declared.mrqc.QueueMode.TheVariants.{Single, Rss, Pools64, Pools32Rss, Pools64Rss}
+use Rattle.rss_hash.specs.declared.mrqc.QueueMode.TheVariants.{Single, Rss, Vmdq64, Vmdq32Rss, Vmdq64Rss}
 use Rattle.rss_hash.proofs.RegisterBytes.{register_byte_at}
 use Rattle.rss_hash.proofs.Types.{ipv4_types, ipv6_types, no_types}
 use Rattle.rx_filter.specs.Address.{passes}
@@ -38,9 +38,9 @@ use Rattle.datasheet_laws.proofs.Accesses.{word-at}
 abbrev mode_by : ℕ → QueueMode
 mode_by n =
     if n == 0x1 then Rss
-    else (if n == 0x8 then Pools64
-    else (if n == 0xA then Pools32Rss
-    else (if n == 0xB then Pools64Rss else Single)))
+    else (if n == 0x8 then Vmdq64
+    else (if n == 0xA then Vmdq32Rss
+    else (if n == 0xB then Vmdq64Rss else Single)))
 
 by_bits : (mrqc : ℕ) → queue_mode_of mrqc ≡ mode_by (mrqc % 16)
 unfolding queue_mode_of
@@ -54,7 +54,7 @@ hashes mrqc (inl one) = ap is_hashing (coded mrqc 1 one)
 hashes mrqc (inr (inl ten)) = ap is_hashing (coded mrqc 0xA ten)
 hashes mrqc (inr (inr eleven)) = ap is_hashing (coded mrqc 0xB eleven)
 
-last : (b : Bool) → is_hashing (cond b Pools64 Single) ≡ false
+last : (b : Bool) → is_hashing (cond b Vmdq64 Single) ≡ false
 last true = refl
 last false = refl
 
@@ -181,7 +181,7 @@ module _ (r : Registers) (h : HasShape r) (frame : List ℕ) (t : Target) (goes 
   tells = ap (has_bit 13) (word-at r row.Rxcsum 0 (lit< tt))
 
   either : (word r 0x05818 % 16 ≡ 0xA) ⊎ (word r 0x05818 % 16 ≡ 0xB)
-      → (queue_mode_of (word_of r row.Mrqc 0) ≡ Pools32Rss) ⊎ (queue_mode_of (word_of r row.Mrqc 0) ≡ Pools64Rss)
+      → (queue_mode_of (word_of r row.Mrqc 0) ≡ Vmdq32Rss) ⊎ (queue_mode_of (word_of r row.Mrqc 0) ≡ Vmdq64Rss)
   either (inl ten) = inl (code 0xA ten)
   either (inr eleven) = inr (code 0xB eleven)
 

@@ -2,7 +2,7 @@
 use Rattle.std.specs.Prelude.{ℕ, ◌≡◌, ◌≢◌, ◌<◌, ◌+◌, ◌*◌, ◌/◌, ◌%◌, ◌==◌, ◌⊎◌, ◌↔◌, true, false, List, slice_index, Some, None, Err, if◌then◌else◌}
 use Rattle.register_file.specs.Bits.{has_bit}
 use Rattle.register_file.specs.Registers.{Registers}
-use Rattle.rx_filter.specs.Pools.{uses_pools, takes_frames, pool_of}
+use Rattle.rx_filter.specs.Pools.{uses_pools, takes_frames, selected_pool}
 use Rattle.rx_filter.specs.Sorting.{sorted}
 use Rattle.rx_filter.specs.declared.unwanted.Unwanted.TheVariants.{Filter}
 use Rattle.datasheet_laws.specs.Accesses.{word, holds}
@@ -73,9 +73,10 @@ pub record IsChosen (r : Registers) (frame : List ℕ) (i pool : ℕ) : Type 0 w
 -- bit 29 for none; VFRE says which pools take frames
 pub record ChoosesPools (r : Registers) (frame : List ℕ) : Type 0 where
   pub parts : uses_pools r ≡ holds r 0x051B0 0
-  pub matched : (i pool : ℕ) → IsChosen r frame i pool → pool_of r frame ≡ Some pool
-  pub default : ¬ IsAddressed r frame → holds r 0x051B0 29 ≡ false → pool_of r frame ≡ Some (word r 0x051B0 / 128 % 64)
-  pub none : ¬ IsAddressed r frame → holds r 0x051B0 29 ≡ true → pool_of r frame ≡ None
+  pub matched : (i pool : ℕ) → IsChosen r frame i pool → selected_pool r frame ≡ Some pool
+  pub default : ¬ IsAddressed r frame → holds r 0x051B0 29 ≡ false →
+      selected_pool r frame ≡ Some (word r 0x051B0 / 128 % 64)
+  pub none : ¬ IsAddressed r frame → holds r 0x051B0 29 ≡ true → selected_pool r frame ≡ None
   pub takes : (pool : ℕ) → pool < 64 → takes_frames r pool ≡ holds r (0x051E0 + 4 * (pool / 32)) (pool % 32)
 
 abbrev pub PoolsAreChosen : Type 0

@@ -7,7 +7,7 @@ use Rattle.nic_device.specs.RegTable.declared.rows.RowId.TheVariants.{Rxctrl, Gp
 use Rattle.nic_device.specs.RegisterFile.Registers.{word_of}
 use Rattle.nic_device.specs.RegisterFile.Settings.{can_receive, frame_limit}
 use Rattle.nic_device.specs.RxFilter.Address.{passes}
-use Rattle.nic_device.specs.RxFilter.Pools.{uses_pools, checked_pool, chosen_pool, pool_of}
+use Rattle.nic_device.specs.RxFilter.Pools.{uses_pools, checked_pool, chosen_pool, selected_pool}
 use Rattle.nic_device.specs.RxFilter.Sorting.{sorted, pool_target, target_of}
 use Rattle.nic_device.specs.RxFilter.declared.target.Target.{Target}
 use Rattle.nic_device.specs.RxFilter.declared.unwanted.Unwanted.{Unwanted}

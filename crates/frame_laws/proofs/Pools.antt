@@ -6,18 +6,18 @@ use Rattle.nic_device.specs.RegTable.declared.rows.RowId.TheVariants.{VtCtl, Mrq
 use Rattle.nic_device.specs.RegisterFile.Registers.{Registers, word_of}
 use Rattle.nic_device.specs.RssHash.Mrqc.{queue_mode_of}
 use Rattle.nic_device.specs.RssHash.declared.mrqc.QueueMode.{QueueMode}
-use Rattle.nic_device.specs.RssHash.declared.mrqc.QueueMode.TheVariants.{Single, Rss, Pools64, Pools32Rss, Pools64Rss}
+use Rattle.nic_device.specs.RssHash.declared.mrqc.QueueMode.TheVariants.{Single, Rss, Vmdq64, Vmdq32Rss, Vmdq64Rss}
 use Rattle.nic_device.specs.VfMap.Pools.{mode_of}
 use Rattle.nic_device.specs.VfMap.declared.mode.Mode.{Mode}
 use Rattle.nic_device.specs.VfMap.declared.mode.Mode.TheVariants.{Off, Pools16, Pools32}
 use Rattle.nic_device.specs.VfMap.declared.mode.Mode.TheVariants as pools
 use Rattle.nic_device.specs.RegisterFile.Pools.{mode_in}
 use Rattle.nic_device.specs.RxFilter.Address.{passes}
-use Rattle.nic_device.specs.RxFilter.Pools.{uses_pools, takes_frames, parting_in, has_queues, checked_pool, chosen_pool, pool_of}
+use Rattle.nic_device.specs.RxFilter.Pools.{uses_pools, takes_frames, parting_in, has_queues, checked_pool, chosen_pool, selected_pool}
 use Rattle.nic_device.specs.RxFilter.Sorting.{sorted, pool_target}
 use Rattle.nic_device.specs.RxFilter.Laws.{has_pools}
 use Rattle.nic_device.proofs.RxFilter.Queues.{beyond, lacks_beyond}
-use Rattle.nic_device.proofs.RxFilter.Small.{pool_of-small}
+use Rattle.nic_device.proofs.RxFilter.Small.{selected_pool-small}
 use Rattle.nic_device.specs.RxFilter.declared.unwanted.Unwanted.{Unwanted}
 use Rattle.nic_device.specs.RxFilter.declared.unwanted.Unwanted.TheVariants as unwanted
 use Rattle.frame_laws.specs.Arrival.{PartsByMrqc, LacksQueues, HasPool, HasNoPool, HasPoolOn, HasPoolOff, receive_bit}
@@ -29,7 +29,7 @@ use Rattle.frame_laws.proofs.Bits.{has-one, has-zero, one-has, zero-has}
 
 abbrev code_by : ℕ → QueueMode
 code_by n =
-    cond (n == 0x1) Rss (cond (n == 0x8) Pools64 (cond (n == 0xA) Pools32Rss (cond (n == 0xB) Pools64Rss Single)))
+    cond (n == 0x1) Rss (cond (n == 0x8) Vmdq64 (cond (n == 0xA) Vmdq32Rss (cond (n == 0xB) Vmdq64Rss Single)))
 
 pub code-is : (w n : ℕ) → field 3 0 w ≡ n → queue_mode_of w ≡ code_by n
 unfolding queue_mode_of
@@ -58,20 +58,20 @@ has-parts r =
     let w = word_of r Mrqc 0 in
     let Is : QueueMode → Type 0 = λ c. has_pools c ≡ true → PartsByMrqc r in
     cond_both (w % 16 == 0x1) Rss _ Is (λ is e. cc) (λ no.
-    cond_both (w % 16 == 0x8) Pools64 _ Is (λ is e. let low = eqb-true (w % 16) 0x8 is in inl (omega arith)) (λ no.
-    cond_both (w % 16 == 0xA) Pools32Rss _ Is
+    cond_both (w % 16 == 0x8) Vmdq64 _ Is (λ is e. let low = eqb-true (w % 16) 0x8 is in inl (omega arith)) (λ no.
+    cond_both (w % 16 == 0xA) Vmdq32Rss _ Is
     (λ is e. let low = eqb-true (w % 16) 0xA is in inr (inl (omega arith))) (λ no.
-    cond_both (w % 16 == 0xB) Pools64Rss Single Is
+    cond_both (w % 16 == 0xB) Vmdq64Rss Single Is
     (λ is e. let low = eqb-true (w % 16) 0xB is in inr (inr (omega arith))) (λ no e. cc))))
 
-32-is : (w : ℕ) → queue_mode_of w ≡ Pools32Rss → field 3 0 w ≡ 0xA
+32-is : (w : ℕ) → queue_mode_of w ≡ Vmdq32Rss → field 3 0 w ≡ 0xA
 unfolding queue_mode_of
 32-is w =
-    let Is : QueueMode → Type 0 = λ c. c ≡ Pools32Rss → field 3 0 w ≡ 0xA in
+    let Is : QueueMode → Type 0 = λ c. c ≡ Vmdq32Rss → field 3 0 w ≡ 0xA in
     cond_both (w % 16 == 0x1) Rss _ Is (λ is e. cc) (λ no.
-    cond_both (w % 16 == 0x8) Pools64 _ Is (λ is e. cc) (λ no.
-    cond_both (w % 16 == 0xA) Pools32Rss _ Is (λ is e. let low = eqb-true (w % 16) 0xA is in omega arith) (λ no.
-    cond_both (w % 16 == 0xB) Pools64Rss Single Is (λ is e. cc) (λ no e. cc))))
+    cond_both (w % 16 == 0x8) Vmdq64 _ Is (λ is e. cc) (λ no.
+    cond_both (w % 16 == 0xA) Vmdq32Rss _ Is (λ is e. let low = eqb-true (w % 16) 0xA is in omega arith) (λ no.
+    cond_both (w % 16 == 0xB) Vmdq64Rss Single Is (λ is e. cc) (λ no e. cc))))
 
 lacks-none : (r : Registers) (pool : ℕ) → LacksQueues r pool → has_queues (parting_in r) pool ≡ false
 lacks-none r pool (inl l) =
@@ -96,8 +96,8 @@ exists-has r pool small has =
 has-exists : (r : Registers) (pool : ℕ) → has_queues (parting_in r) pool ≡ true → ¬ LacksQueues r pool
 has-exists r pool has lacks = both_ways (has_queues (parting_in r) pool) (lacks-none r pool lacks) has
 
-small-pool : (r : Registers) (frame : List ℕ) (pool : ℕ) → pool_of r frame ≡ Some pool → pool < 64
-small-pool r frame pool e = subst (λ o. IfSome o (λ p. p < 64)) e (pool_of-small r frame)
+small-pool : (r : Registers) (frame : List ℕ) (pool : ℕ) → selected_pool r frame ≡ Some pool → pool < 64
+small-pool r frame pool e = subst (λ o. IfSome o (λ p. p < 64)) e (selected_pool-small r frame)
 
 -- where a frame goes
 
@@ -115,13 +115,13 @@ sorted-passed r frame e =
 pub chosen-whole : (r : Registers) (frame : List ℕ) → bit 0 (word_of r VtCtl 0) ≡ 0 → chosen_pool r frame ≡ Ok 0
 unfolding chosen_pool
 chosen-whole r frame e =
-    cond-false (uses_pools r) (checked_pool r (pool_of r frame)) (Ok 0) (has-zero 0 (word_of r VtCtl 0) e)
+    cond-false (uses_pools r) (checked_pool r (selected_pool r frame)) (Ok 0) (has-zero 0 (word_of r VtCtl 0) e)
 
 pub chosen-parted : (r : Registers) (frame : List ℕ) → PartsAmongPools r
-    → chosen_pool r frame ≡ checked_pool r (pool_of r frame)
+    → chosen_pool r frame ≡ checked_pool r (selected_pool r frame)
 unfolding chosen_pool
 chosen-parted r frame e =
-    cond-true (uses_pools r) (checked_pool r (pool_of r frame)) (Ok 0) (has-one 0 (word_of r VtCtl 0) e)
+    cond-true (uses_pools r) (checked_pool r (selected_pool r frame)) (Ok 0) (has-one 0 (word_of r VtCtl 0) e)
 
 checked-some : (r : Registers) (pool : ℕ) → has_queues (parting_in r) pool ≡ true
     → checked_pool r (Some pool) ≡ cond (takes_frames r pool) (Ok pool) (Err unwanted.PoolOff)
@@ -130,7 +130,7 @@ checked-some r pool has =
     (cond (takes_frames r pool) (Ok pool) (Err unwanted.PoolOff)) (Err unwanted.NoPool) has
 
 checked-pool : (r : Registers) (frame : List ℕ) (pool : ℕ) → HasPool r frame pool
-    → checked_pool r (pool_of r frame) ≡ cond (takes_frames r pool) (Ok pool) (Err unwanted.PoolOff)
+    → checked_pool r (selected_pool r frame) ≡ cond (takes_frames r pool) (Ok pool) (Err unwanted.PoolOff)
 checked-pool r frame pool h =
     ap (checked_pool r) h.meant
     ∙ checked-some r pool (exists-has r pool (small-pool r frame pool h.meant) h.exists)
@@ -160,7 +160,7 @@ chosen-on r frame parts h =
 
 -- and what is known of a frame by its checked pool
 
-pub has_pool : (r : Registers) (frame : List ℕ) (pool : ℕ) → pool_of r frame ≡ Some pool
+pub has_pool : (r : Registers) (frame : List ℕ) (pool : ℕ) → selected_pool r frame ≡ Some pool
     → has_queues (parting_in r) pool ≡ true → HasPool r frame pool
 has_pool r frame pool e has = record { meant = e; exists = has-exists r pool has }
 
@@ -174,7 +174,7 @@ has_pool_off : (r : Registers) (frame : List ℕ) (pool : ℕ) → HasPool r fra
 has_pool_off r frame pool has off =
     record { pool = pool; has = has; off = zero-has (pool % 32) (word_of r Vfre (pool / 32)) off }
 
-has_none : (r : Registers) (frame : List ℕ) (pool : ℕ) → pool_of r frame ≡ Some pool
+has_none : (r : Registers) (frame : List ℕ) (pool : ℕ) → selected_pool r frame ≡ Some pool
     → has_queues (parting_in r) pool ≡ false → HasNoPool r frame
 has_none r frame pool e none =
     inr (record { pool = pool; meant = e; lacks = none-lacks r pool (small-pool r frame pool e) none })
@@ -185,7 +185,7 @@ pub record Checked (P : Result ℕ Unwanted → Type 0) (r : Registers) (frame :
   pub on : (pool : ℕ) → HasPoolOn r frame → P (Ok pool)
 
 pub checked_cases : (P : Result ℕ Unwanted → Type 0) (r : Registers) (frame : List ℕ) → Checked P r frame
-    → (o : Option ℕ) → pool_of r frame ≡ o → P (checked_pool r o)
+    → (o : Option ℕ) → selected_pool r frame ≡ o → P (checked_pool r o)
 checked_cases P r frame c None e = c.none (inl e)
 checked_cases P r frame c (Some pool) e =
     cond_both (has_queues (parting_in r) pool)
@@ -201,7 +201,7 @@ pub chosen_cases : (P : Result ℕ Unwanted → Type 0) (r : Registers) (frame :
     → P (chosen_pool r frame)
 unfolding chosen_pool
 chosen_cases P r frame whole parted =
-    cond_both (uses_pools r) (checked_pool r (pool_of r frame)) (Ok 0) P
+    cond_both (uses_pools r) (checked_pool r (selected_pool r frame)) (Ok 0) P
     (λ parts.
-    checked_cases P r frame (parted (one-has 0 (word_of r VtCtl 0) parts)) (pool_of r frame) refl)
+    checked_cases P r frame (parted (one-has 0 (word_of r VtCtl 0) parts)) (selected_pool r frame) refl)
     (λ off. whole (zero-has 0 (word_of r VtCtl 0) off))

@@ -14,11 +14,11 @@ use Rattle.nic_device.specs.RssHash.Registers.{bytes_of_registers, entry_of}
 use Rattle.nic_device.specs.RssHash.Toeplitz.{toeplitz_hash}
 use Rattle.nic_device.specs.RssHash.declared.choice.RssType.{RssType}
 use Rattle.nic_device.specs.RssHash.declared.mrqc.QueueMode.{QueueMode}
-use Rattle.nic_device.specs.RssHash.declared.mrqc.QueueMode.TheVariants.{Single, Rss, Pools64, Pools32Rss, Pools64Rss}
+use Rattle.nic_device.specs.RssHash.declared.mrqc.QueueMode.TheVariants.{Single, Rss, Vmdq64, Vmdq32Rss, Vmdq64Rss}
 use Rattle.nic_device.specs.VfMap.declared.mode.Mode.{Mode}
 use Rattle.nic_device.specs.VfMap.declared.mode.Mode.TheVariants.{Pools16}
 use Rattle.nic_device.specs.RxFilter.Address.{passes}
-use Rattle.nic_device.specs.RxFilter.Pools.{uses_pools, takes_frames, parting_in, has_queues, checked_pool, chosen_pool, pool_of}
+use Rattle.nic_device.specs.RxFilter.Pools.{uses_pools, takes_frames, parting_in, has_queues, checked_pool, chosen_pool, selected_pool}
 use Rattle.nic_device.specs.RxFilter.Sorting.{queue_of, rss_type, rss_entry, target_of, pool_target, sorted}
 use Rattle.nic_device.specs.RxFilter.declared.target.Target.{Target}
 use Rattle.nic_device.specs.RxFilter.declared.unwanted.Unwanted.{Unwanted}
@@ -37,7 +37,8 @@ module _ (r : Registers) (frame : List ℕ) (pool : ℕ) where
   abbrev IsOwn : ℕ → Type 0
   IsOwn n = HasPool r frame n × (receive_bit r n ≡ 1)
 
-  of_ok : (p : ℕ) → pool_of r frame ≡ Some p → (b c : Bool) → has_queues (parting_in r) p ≡ b → takes_frames r p ≡ c
+  of_ok : (p : ℕ) → selected_pool r frame ≡ Some p → (b c : Bool)
+      → has_queues (parting_in r) p ≡ b → takes_frames r p ≡ c
       → cond b (cond c (Ok p) (Err PoolOff)) (Err NoPool) ≡ Ok pool → IsOwn pool
   of_ok p meant true true has on e =
       let same : p ≡ pool = cc in
@@ -45,7 +46,7 @@ module _ (r : Registers) (frame : List ℕ) (pool : ℕ) where
   of_ok p meant true false has on e = cc
   of_ok p meant false c has on e = cc
 
-  checked : (o : Option ℕ) → pool_of r frame ≡ o → checked_pool r o ≡ Ok pool → IsOwn pool
+  checked : (o : Option ℕ) → selected_pool r frame ≡ o → checked_pool r o ≡ Ok pool → IsOwn pool
   checked None meant e = cc
   checked (Some p) meant e = of_ok p meant (has_queues (parting_in r) p) (takes_frames r p) refl refl e
 
@@ -55,9 +56,9 @@ module _ (r : Registers) (frame : List ℕ) (pool : ℕ) where
   chosen : chosen_pool r frame ≡ Ok pool → IsFor r frame pool
   unfolding chosen_pool
   chosen =
-      cond_both (uses_pools r) (checked_pool r (pool_of r frame)) (Ok 0) (λ c. c ≡ Ok pool → IsFor r frame pool)
+      cond_both (uses_pools r) (checked_pool r (selected_pool r frame)) (Ok 0) (λ c. c ≡ Ok pool → IsFor r frame pool)
       (λ parts e.
-      let own = checked (pool_of r frame) refl e in
+      let own = checked (selected_pool r frame) refl e in
       inr (one-has 0 (word_of r VtCtl 0) parts, own.0, own.1))
       (λ off e. inl (zero-has 0 (word_of r VtCtl 0) off, whole (Ok 0) refl e))
 
@@ -68,9 +69,9 @@ single-is : (w : ℕ) → field 3 0 w ≢ 1 → field 3 0 w ≢ 8 → field 3 0 
 unfolding queue_mode_of
 single-is w rss one four two =
     cond-false (w % 16 == 0x1) Rss _ (ne_eqb (w % 16) 0x1 (λ e. rss (omega arith)))
-    ∙ cond-false (w % 16 == 0x8) Pools64 _ (ne_eqb (w % 16) 0x8 (λ e. one (omega arith)))
-    ∙ cond-false (w % 16 == 0xA) Pools32Rss _ (ne_eqb (w % 16) 0xA (λ e. four (omega arith)))
-    ∙ cond-false (w % 16 == 0xB) Pools64Rss Single (ne_eqb (w % 16) 0xB (λ e. two (omega arith)))
+    ∙ cond-false (w % 16 == 0x8) Vmdq64 _ (ne_eqb (w % 16) 0x8 (λ e. one (omega arith)))
+    ∙ cond-false (w % 16 == 0xA) Vmdq32Rss _ (ne_eqb (w % 16) 0xA (λ e. four (omega arith)))
+    ∙ cond-false (w % 16 == 0xB) Vmdq64Rss Single (ne_eqb (w % 16) 0xB (λ e. two (omega arith)))
 
 hash-nothing : (key : List ℕ) → toeplitz_hash key [] ≡ 0
 unfolding toeplitz_hash
@@ -105,27 +106,27 @@ queue-is : (r : Registers) (frame : List ℕ) (pool : ℕ) (code : QueueMode) �
 unfolding target_of
 queue-is r frame pool code e = ap (λ c. queue_of c (mode_in r) pool (rss_entry r frame)) e
 
-first-of : (m : Mode) (pool : ℕ) → m ≢ Pools16 → queue_of Pools64 m pool 0 ≡ 2 * pool
+first-of : (m : Mode) (pool : ℕ) → m ≢ Pools16 → queue_of Vmdq64 m pool 0 ≡ 2 * pool
 first-of Pools16 pool other = absurd (other refl)
 first-of m pool other = omega arith
 
-by_four : (m : Mode) (pool entry : ℕ) → m ≢ Pools16 → queue_of Pools32Rss m pool entry ≡ 4 * pool + entry % 4
+by_four : (m : Mode) (pool entry : ℕ) → m ≢ Pools16 → queue_of Vmdq32Rss m pool entry ≡ 4 * pool + entry % 4
 by_four Pools16 pool entry other = absurd (other refl)
 by_four m pool entry other = omega arith
 
-by_two : (m : Mode) (pool entry : ℕ) → m ≢ Pools16 → queue_of Pools64Rss m pool entry ≡ 2 * pool + entry % 2
+by_two : (m : Mode) (pool entry : ℕ) → m ≢ Pools16 → queue_of Vmdq64Rss m pool entry ≡ 2 * pool + entry % 2
 by_two Pools16 pool entry other = absurd (other refl)
 by_two m pool entry other = omega arith
 
-by_eight : (m : Mode) (code : QueueMode) (pool entry : ℕ) → m ≡ Pools16 → (code ≡ Pools32Rss) ⊎ (code ≡ Pools64Rss)
+by_eight : (m : Mode) (code : QueueMode) (pool entry : ℕ) → m ≡ Pools16 → (code ≡ Vmdq32Rss) ⊎ (code ≡ Vmdq64Rss)
     → queue_of code m pool entry ≡ 8 * pool + entry % 8
 by_eight m code pool entry is (inl e) =
     (λ k. queue_of (e k) (is k) pool entry) ∙ (omega arith)
 by_eight m code pool entry is (inr e) =
     (λ k. queue_of (e k) (is k) pool entry) ∙ (omega arith)
 
-first-of-eight : (m : Mode) (pool : ℕ) → m ≡ Pools16 → queue_of Pools64 m pool 0 ≡ 8 * pool
-first-of-eight m pool is = ap (λ n. queue_of Pools64 n pool 0) is ∙ (omega arith)
+first-of-eight : (m : Mode) (pool : ℕ) → m ≡ Pools16 → queue_of Vmdq64 m pool 0 ≡ 8 * pool
+first-of-eight m pool is = ap (λ n. queue_of Vmdq64 n pool 0) is ∙ (omega arith)
 
 module _ (r : Registers) (frame : List ℕ) where
   abbrev code : ℕ
@@ -140,19 +141,19 @@ module _ (r : Registers) (frame : List ℕ) where
   sixteen : parts_in r ≡ 1 → mode_in r ≡ Pools16
   sixteen e = is-16 (word_of r GcrExt 0) e
 
-  first-queue : (pool : ℕ) → queue_mode_of code ≡ Pools64
-      → (target_of r frame pool).queue ≡ queue_of Pools64 (mode_in r) pool 0
+  first-queue : (pool : ℕ) → queue_mode_of code ≡ Vmdq64
+      → (target_of r frame pool).queue ≡ queue_of Vmdq64 (mode_in r) pool 0
   first-queue pool e =
-      queue-is r frame pool Pools64 e ∙ ap (queue_of Pools64 (mode_in r) pool) (entry-unhashed r frame e)
+      queue-is r frame pool Vmdq64 e ∙ ap (queue_of Vmdq64 (mode_in r) pool) (entry-unhashed r frame e)
 
   eighth : (pool : ℕ) → parts_in r ≡ 1 → (code_in r ≡ 0xA) ⊎ (code_in r ≡ 0xB)
       → (target_of r frame pool).queue ≡ 8 * pool + rss_entry r frame % 8
   eighth pool is (inl e) =
-      queue-is r frame pool Pools32Rss (code-is code 0xA e)
-      ∙ by_eight (mode_in r) Pools32Rss pool (rss_entry r frame) (sixteen is) (inl refl)
+      queue-is r frame pool Vmdq32Rss (code-is code 0xA e)
+      ∙ by_eight (mode_in r) Vmdq32Rss pool (rss_entry r frame) (sixteen is) (inl refl)
   eighth pool is (inr e) =
-      queue-is r frame pool Pools64Rss (code-is code 0xB e)
-      ∙ by_eight (mode_in r) Pools64Rss pool (rss_entry r frame) (sixteen is) (inr refl)
+      queue-is r frame pool Vmdq64Rss (code-is code 0xB e)
+      ∙ by_eight (mode_in r) Vmdq64Rss pool (rss_entry r frame) (sixteen is) (inr refl)
 
   goes : (pool : ℕ) → IsFor r frame pool → GoesByMrqc r frame (target_of r frame pool)
   goes pool is = record {
@@ -161,9 +162,9 @@ module _ (r : Registers) (frame : List ℕ) where
     none = λ rss one four two. target-single r frame pool (single-is code rss one four two);
     hashing = λ e. queue-is r frame pool Rss (code-is code 1 e);
     first = λ not e. first-queue pool (code-is code 8 e) ∙ first-of (mode_in r) pool (other not);
-    four = λ not e. queue-is r frame pool Pools32Rss (code-is code 0xA e)
+    four = λ not e. queue-is r frame pool Vmdq32Rss (code-is code 0xA e)
         ∙ by_four (mode_in r) pool (rss_entry r frame) (other not);
-    two = λ not e. queue-is r frame pool Pools64Rss (code-is code 0xB e)
+    two = λ not e. queue-is r frame pool Vmdq64Rss (code-is code 0xB e)
         ∙ by_two (mode_in r) pool (rss_entry r frame) (other not);
     first_16 = λ is e. first-queue pool (code-is code 8 e) ∙ first-of-eight (mode_in r) pool (sixteen is);
     eight = λ is e. eighth pool is e;

@@ -4,7 +4,7 @@ use Rattle.nic_device.specs.DmaArena.Block.{Block}
 use Rattle.nic_device.specs.RegTable.declared.rows.RowId.TheVariants.{Rxctrl, Hlreg0, Maxfrs, VtCtl, Mrqc, GcrExt, Vfre}
 use Rattle.nic_device.specs.RegisterFile.Registers.{Registers, word_of}
 use Rattle.nic_device.specs.RxFilter.Address.{passes}
-use Rattle.nic_device.specs.RxFilter.Pools.{pool_of}
+use Rattle.nic_device.specs.RxFilter.Pools.{selected_pool}
 use Rattle.nic_device.specs.RxFilter.Sorting.{sorted}
 use Rattle.nic_device.specs.RxFilter.declared.target.Target.{Target}
 use Rattle.nic_device.specs.Sound.{IsSound}
@@ -46,20 +46,20 @@ LacksQueues r pool =
     ((field 1 0 (word_of r GcrExt 0) ≡ 1) × PartsByMrqc r × (15 < pool))
     ⊎ ((field 1 0 (word_of r GcrExt 0) ≢ 1) × (field 3 0 (word_of r Mrqc 0) ≡ 0xA) × (31 < pool))
 
--- a frame has a pool: `pool_of` is the lowest pool of the first address that is its destination, or the default; and it
--- has queues
+-- a frame has a pool: `selected_pool` is the lowest pool of the first address that is its destination, or the default;
+-- and it has queues
 pub record HasPool (r : Registers) (frame : List ℕ) (pool : ℕ) : Type 0 where
-  pub meant : pool_of r frame ≡ Some pool
+  pub meant : selected_pool r frame ≡ Some pool
   pub exists : ¬ LacksQueues r pool
 
 -- a frame has none
 pub record IsBeyond (r : Registers) (frame : List ℕ) : Type 0 where
   pub pool : ℕ
-  pub meant : pool_of r frame ≡ Some pool
+  pub meant : selected_pool r frame ≡ Some pool
   pub lacks : LacksQueues r pool
 
 abbrev pub HasNoPool : Registers → List ℕ → Type 0
-HasNoPool r frame = (pool_of r frame ≡ None) ⊎ IsBeyond r frame
+HasNoPool r frame = (selected_pool r frame ≡ None) ⊎ IsBeyond r frame
 
 -- the bit of a pool in VFRE: VFRE[0] has pools 0 to 31, VFRE[1] pools 32 to 63
 abbrev pub receive_bit : Registers → ℕ → ℕ

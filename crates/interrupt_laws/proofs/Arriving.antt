@@ -6,17 +6,17 @@ use Rattle.nic_device.specs.RegTable.declared.rows.RowId.TheVariants.{GcrExt, Mr
 use Rattle.nic_device.proofs.RegTable.FirstAddresses.{first_address}
 use Rattle.nic_device.specs.RssHash.Mrqc.{queue_mode_of}
 use Rattle.nic_device.specs.RssHash.declared.mrqc.QueueMode.{QueueMode}
-use Rattle.nic_device.specs.RssHash.declared.mrqc.QueueMode.TheVariants.{Single, Rss, Pools64, Pools32Rss, Pools64Rss}
+use Rattle.nic_device.specs.RssHash.declared.mrqc.QueueMode.TheVariants.{Single, Rss, Vmdq64, Vmdq32Rss, Vmdq64Rss}
 use Rattle.nic_device.specs.VfMap.declared.mode.Mode.TheVariants.{Pools16}
 use Rattle.nic_device.specs.RegisterFile.Pools.{mode_in}
 use Rattle.nic_device.specs.RegisterFile.Columns.{place}
 use Rattle.nic_device.specs.RegisterFile.Registers.{Registers, word_of}
 use Rattle.nic_device.specs.RxFilter.Address.{passes}
-use Rattle.nic_device.specs.RxFilter.Pools.{uses_pools, pool_of, parting_in, has_queues, takes_frames, checked_pool, chosen_pool}
+use Rattle.nic_device.specs.RxFilter.Pools.{uses_pools, selected_pool, parting_in, has_queues, takes_frames, checked_pool, chosen_pool}
 use Rattle.nic_device.specs.RxFilter.Sorting.{queue_of, rss_entry, target_of, pool_target, sorted}
 use Rattle.nic_device.specs.RxFilter.Laws.{GoesToPool}
 use Rattle.nic_device.proofs.RxFilter.Queues.{queues_by_mode}
-use Rattle.nic_device.proofs.RxFilter.Small.{pool_of-small}
+use Rattle.nic_device.proofs.RxFilter.Small.{selected_pool-small}
 use Rattle.nic_device.proofs.RxFilter.Sorted.{sorted-let_in}
 use Rattle.nic_device.specs.RxFilter.declared.target.Target.{Target}
 use Rattle.nic_device.specs.RxFilter.declared.unwanted.Unwanted.{Unwanted}
@@ -37,7 +37,7 @@ use Rattle.interrupt_laws.proofs.Words.{whole-read}
 -- the pool of a frame is below 64 and takes frames
 
 record IsOpen (r : Registers) (frame : List ℕ) (pool : ℕ) : Type 0 where
-  meant : pool_of r frame ≡ Some pool
+  meant : selected_pool r frame ≡ Some pool
   small : pool < 64
   on : takes_frames r pool ≡ true
 
@@ -45,7 +45,7 @@ abbrev Chosen : Registers → List ℕ → Result ℕ Unwanted → Type 0
 Chosen r frame (Ok pool) = IsOpen r frame pool
 Chosen r frame (Err why) = ⊤
 
-checked : (r : Registers) (frame : List ℕ) (o : Option ℕ) → pool_of r frame ≡ o → IfSome o (λ pool. pool < 64)
+checked : (r : Registers) (frame : List ℕ) (o : Option ℕ) → selected_pool r frame ≡ o → IfSome o (λ pool. pool < 64)
     → Chosen r frame (checked_pool r o)
 checked r frame None meant found = tt
 checked r frame (Some pool) meant found =
@@ -57,8 +57,8 @@ checked r frame (Some pool) meant found =
 chosen : (r : Registers) (frame : List ℕ) → uses_pools r ≡ true → Chosen r frame (chosen_pool r frame)
 unfolding chosen_pool
 chosen r frame uses =
-    subst (Chosen r frame) (sym (cond-true (uses_pools r) (checked_pool r (pool_of r frame)) (Ok 0) uses))
-    (checked r frame (pool_of r frame) refl (pool_of-small r frame))
+    subst (Chosen r frame) (sym (cond-true (uses_pools r) (checked_pool r (selected_pool r frame)) (Ok 0) uses))
+    (checked r frame (selected_pool r frame) refl (selected_pool-small r frame))
 
 -- so a frame that is sorted goes to such a pool
 
@@ -85,7 +85,7 @@ all_sorted r frame uses =
 mode_by : ℕ → QueueMode
 mode_by n =
     if n == 1 then Rss
-    else (if n == 8 then Pools64 else (if n == 10 then Pools32Rss else (if n == 11 then Pools64Rss else Single)))
+    else (if n == 8 then Vmdq64 else (if n == 10 then Vmdq32Rss else (if n == 11 then Vmdq64Rss else Single)))
 
 mode_is : (m n : ℕ) → m % 16 ≡ n → queue_mode_of m ≡ mode_by n
 unfolding queue_mode_of mode_by
@@ -109,8 +109,8 @@ eighth r frame pool t e = omega arith
 single_by : (n : ℕ) → n ≢ 1 → n ≢ 8 → n ≢ 10 → n ≢ 11 → mode_by n ≡ Single
 unfolding mode_by
 single_by n rss one four two =
-    cond-false (n == 1) Rss _ (ne_eqb n 1 rss) ∙ cond-false (n == 8) Pools64 _ (ne_eqb n 8 one)
-    ∙ cond-false (n == 10) Pools32Rss _ (ne_eqb n 10 four) ∙ cond-false (n == 11) Pools64Rss Single (ne_eqb n 11 two)
+    cond-false (n == 1) Rss _ (ne_eqb n 1 rss) ∙ cond-false (n == 8) Vmdq64 _ (ne_eqb n 8 one)
+    ∙ cond-false (n == 10) Vmdq32Rss _ (ne_eqb n 10 four) ∙ cond-false (n == 11) Vmdq64Rss Single (ne_eqb n 11 two)
 
 -- with a single queue it is queue 0, whichever the pool
 

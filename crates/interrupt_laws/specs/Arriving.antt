@@ -1,6 +1,6 @@
 -- Which pools VFRE lets frames into.
 use Rattle.std.specs.Prelude.{ℕ, ◌≡◌, ◌≢◌, ◌⊎◌, ◌<◌, ◌*◌, ◌/◌, ◌%◌, List, [], ◌∷◌, ◌++◌, IsTrue, Some}
-use Rattle.nic_device.specs.RxFilter.Pools.{pool_of}
+use Rattle.nic_device.specs.RxFilter.Pools.{selected_pool}
 use Rattle.nic_device.specs.Sound.{IsSound}
 use Rattle.nic_device.specs.State.{State, Waiting}
 use Rattle.nic_device.specs.Step.{after, reply_to}
@@ -37,7 +37,7 @@ pub record JoinsOpenPool (s : State) (arrived : List ℕ) (new : State) : Type 0
   pub frame : Waiting
   pub bytes : frame.frame ≡ arrived
   pub pool : ℕ
-  pub meant : pool_of s.registers arrived ≡ Some pool
+  pub meant : selected_pool s.registers arrived ≡ Some pool
   pub joins : new.waiting ≡ s.waiting ++ frame ∷ []
   pub is_of : IsOfOpenPool s frame.queue pool
 

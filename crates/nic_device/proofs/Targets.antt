@@ -17,7 +17,7 @@ use Rattle.register_file.specs.Pools.{mode_in}
 use Rattle.register_file.specs.Registers.{Registers, word_of}
 use Rattle.register_file.specs.Words.{row_words}
 use Rattle.rx_filter.specs.Address.{passes}
-use Rattle.rx_filter.specs.Pools.{uses_pools, pool_of, parting, parting_in, has_queues, takes_frames, checked_pool, chosen_pool}
+use Rattle.rx_filter.specs.Pools.{uses_pools, selected_pool, parting, parting_in, has_queues, takes_frames, checked_pool, chosen_pool}
 use Rattle.rx_filter.specs.Sorting.{queue_of, rss_hash, rss_entry, rss_type, target_of, pool_target, sorted}
 use Rattle.rx_filter.specs.declared.target.Target.{Target}
 use Rattle.rx_filter.specs.declared.unwanted.Unwanted.{Unwanted}
@@ -45,20 +45,20 @@ has_first other = refl
 Chosen-pool : (r : Registers) (frame : List ℕ) → Chosen (parting_in r) (chosen_pool r frame)
 unfolding chosen_pool
 Chosen-pool r frame =
-    either_way (Chosen (parting_in r)) (uses_pools r) (checked_pool r (pool_of r frame)) (Ok 0)
-    (Chosen-checked r (pool_of r frame)) (has_first (parting_in r))
+    either_way (Chosen (parting_in r)) (uses_pools r) (checked_pool r (selected_pool r frame)) (Ok 0)
+    (Chosen-checked r (selected_pool r frame)) (has_first (parting_in r))
 
 -- so its queues are below 128
 queue-lt : (c : QueueMode) (m : Mode) (pool entry : ℕ) → has_queues (parting c m) pool ≡ true → entry < 16
     → queue_of c m pool entry < 128
 queue-lt code.Single m pool entry has small = omega arith
 queue-lt code.Rss m pool entry has small = omega arith
-queue-lt code.Pools64 Pools16 pool entry has small = all_queues Pools16 pool entry (ltb-true pool 16 has)
-queue-lt code.Pools64 other pool entry has small = all_queues Pools64 pool entry (ltb-true pool 64 has)
-queue-lt code.Pools32Rss Pools16 pool entry has small = all_queues Pools16 pool entry (ltb-true pool 16 has)
-queue-lt code.Pools32Rss other pool entry has small = all_queues Pools32 pool entry (ltb-true pool 32 has)
-queue-lt code.Pools64Rss Pools16 pool entry has small = all_queues Pools16 pool entry (ltb-true pool 16 has)
-queue-lt code.Pools64Rss other pool entry has small = all_queues Pools64 pool entry (ltb-true pool 64 has)
+queue-lt code.Vmdq64 Pools16 pool entry has small = all_queues Pools16 pool entry (ltb-true pool 16 has)
+queue-lt code.Vmdq64 other pool entry has small = all_queues Pools64 pool entry (ltb-true pool 64 has)
+queue-lt code.Vmdq32Rss Pools16 pool entry has small = all_queues Pools16 pool entry (ltb-true pool 16 has)
+queue-lt code.Vmdq32Rss other pool entry has small = all_queues Pools32 pool entry (ltb-true pool 32 has)
+queue-lt code.Vmdq64Rss Pools16 pool entry has small = all_queues Pools16 pool entry (ltb-true pool 16 has)
+queue-lt code.Vmdq64Rss other pool entry has small = all_queues Pools64 pool entry (ltb-true pool 64 has)
 
 entry-lt : (table : List ℕ) (hash : ℕ) → entry_of table hash < 16
 unfolding entry_of

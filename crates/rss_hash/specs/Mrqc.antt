@@ -2,7 +2,7 @@
 use Rattle.std.specs.Prelude.{ℕ, ◌%◌, ◌==◌, Bool, true, false, if◌then◌else◌}
 use Rattle.std.specs.Int.{bit_at}
 use Rattle.rss_hash.specs.declared.mrqc.QueueMode.{QueueMode}
-use Rattle.rss_hash.specs.declared.mrqc.QueueMode.TheVariants.{Single, Rss, Pools64, Pools32Rss, Pools64Rss}
+use Rattle.rss_hash.specs.declared.mrqc.QueueMode.TheVariants.{Single, Rss, Vmdq64, Vmdq32Rss, Vmdq64Rss}
 
 -- a bit of MRQC is 1
 abbrev pub enables : ℕ → ℕ → Bool
@@ -12,14 +12,14 @@ enables mrqc bit = bit_at mrqc bit == 1
 unfoldable pub queue_mode_of : ℕ → QueueMode
 queue_mode_of mrqc =
     if mrqc % 16 == 0x1 then Rss
-    else (if mrqc % 16 == 0x8 then Pools64
-    else (if mrqc % 16 == 0xA then Pools32Rss
-    else (if mrqc % 16 == 0xB then Pools64Rss else Single)))
+    else (if mrqc % 16 == 0x8 then Vmdq64
+    else (if mrqc % 16 == 0xA then Vmdq32Rss
+    else (if mrqc % 16 == 0xB then Vmdq64Rss else Single)))
 
 -- the modes that look at the hash
 abbrev pub is_hashing : QueueMode → Bool
 is_hashing Single = false
 is_hashing Rss = true
-is_hashing Pools64 = false
-is_hashing Pools32Rss = true
-is_hashing Pools64Rss = true
+is_hashing Vmdq64 = false
+is_hashing Vmdq32Rss = true
+is_hashing Vmdq64Rss = true

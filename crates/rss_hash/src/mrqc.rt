@@ -13,11 +13,11 @@ pub enum QueueMode {
     /// By the hash alone.
     Rss,
     /// By the pool alone, in 64 pools.
-    Pools64,
+    Vmdq64,
     /// By the pool, in 32 pools, and by the hash.
-    Pools32Rss,
+    Vmdq32Rss,
     /// By the pool, in 64 pools, and by the hash.
-    Pools64Rss,
+    Vmdq64Rss,
 }
 
 impl QueueMode {
@@ -28,9 +28,9 @@ impl QueueMode {
     {
         match mrqc % 16 {
             0x1 => QueueMode::Rss,
-            0x8 => QueueMode::Pools64,
-            0xA => QueueMode::Pools32Rss,
-            0xB => QueueMode::Pools64Rss,
+            0x8 => QueueMode::Vmdq64,
+            0xA => QueueMode::Vmdq32Rss,
+            0xB => QueueMode::Vmdq64Rss,
             _ => QueueMode::Single,
         }
     }
@@ -40,8 +40,8 @@ impl QueueMode {
         ensures { result ≡ is_hashing self }
     {
         match self {
-            QueueMode::Rss | QueueMode::Pools32Rss | QueueMode::Pools64Rss => true,
-            QueueMode::Single | QueueMode::Pools64 => false,
+            QueueMode::Rss | QueueMode::Vmdq32Rss | QueueMode::Vmdq64Rss => true,
+            QueueMode::Single | QueueMode::Vmdq64 => false,
         }
     }
 }

@@ -5,7 +5,7 @@ use Rattle.std.specs.Prelude.{Result}
 use Rattle.std.proofs.lemmas.Bool.{cond-false}
 use Rattle.register_file.specs.Registers.{Registers}
 use Rattle.rx_filter.specs.Address.{passes}
-use Rattle.rx_filter.specs.Pools.{uses_pools, takes_frames, parting_in, has_queues, checked_pool, pool_of, chosen_pool}
+use Rattle.rx_filter.specs.Pools.{uses_pools, takes_frames, parting_in, has_queues, checked_pool, selected_pool, chosen_pool}
 use Rattle.rx_filter.specs.Sorting.{pool_target, sorted}
 use Rattle.rx_filter.specs.Laws.{FilteredIsNotLetIn}
 use Rattle.rx_filter.specs.declared.unwanted.Unwanted.{Unwanted}
@@ -39,7 +39,7 @@ let_in-other : (r : Registers) (frame : List ℕ) (goes_in : Bool) →
     cond goes_in (pool_target r frame (chosen_pool r frame)) (Err Filter) ≡ Err Filter → goes_in ≡ false
 unfolding chosen_pool
 let_in-other r frame true e =
-    absurd (target-other r frame (chosen_pool r frame) (chosen-other r (pool_of r frame) (uses_pools r)) e)
+    absurd (target-other r frame (chosen_pool r frame) (chosen-other r (selected_pool r frame) (uses_pools r)) e)
 let_in-other r frame false e = refl
 
 pub filtered : FilteredIsNotLetIn

@@ -13,7 +13,7 @@ use Rattle.register_file.specs.RssHash.Mrqc.{queue_mode_of}
 use Rattle.register_file.specs.RssHash.Flow.{flow_of}
 use Rattle.register_file.specs.RssHash.Registers.{entry_of}
 use Rattle.register_file.specs.RssHash.declared.mrqc.QueueMode.{QueueMode}
-use Rattle.register_file.specs.RssHash.declared.mrqc.QueueMode.TheVariants.{Single, Rss, Pools64, Pools32Rss, Pools64Rss}
+use Rattle.register_file.specs.RssHash.declared.mrqc.QueueMode.TheVariants.{Single, Rss, Vmdq64, Vmdq32Rss, Vmdq64Rss}
 use Rattle.register_file.specs.Pools.{mode_in}
 use Rattle.register_file.specs.VfMap.Owner.{has_queue, is_pool}
 use Rattle.register_file.specs.VfMap.declared.mode.Mode.{Mode}
@@ -21,7 +21,7 @@ use Rattle.register_file.specs.VfMap.declared.mode.Mode.TheVariants as mode
 use Rattle.register_file.proofs.VfMap.Numbers.{placed}
 use Rattle.rx_filter.specs.Address.{passes}
 use Rattle.rx_filter.specs.Pools.{uses_pools, takes_frames, parting, parting_in, has_queues, default_pool, matched_pool, or_default}
-use Rattle.rx_filter.specs.Pools.{checked_pool, pool_of, chosen_pool}
+use Rattle.rx_filter.specs.Pools.{checked_pool, selected_pool, chosen_pool}
 use Rattle.rx_filter.specs.Sorting.{queue_of, rss_type, rss_hash, rss_entry, target_of, pool_target, sorted}
 use Rattle.rx_filter.specs.Laws.{HasNoPool, PoolOfAFrame, GoesToPool, QueuesByMode, has_pools, IsBeyond}
 use Rattle.rx_filter.specs.Laws.{PoolsBeyondGetNone, FunctionsGetTheirs}
@@ -34,7 +34,7 @@ use Rattle.rx_filter.proofs.Sorted.{sorted-let_in, type-unhashed}
 
 -- ---- the pool
 
-no_pool : (r : Registers) (frame : List ℕ) → HasNoPool r frame → pool_of r frame ≡ default_pool r
+no_pool : (r : Registers) (frame : List ℕ) → HasNoPool r frame → selected_pool r frame ≡ default_pool r
 no_pool r frame (inl none) = ap (λ o. or_default r (matched_pool r o)) (first_match-none r frame none)
 no_pool r frame (inr m) =
     ap (λ o. or_default r (matched_pool r o))
@@ -76,11 +76,11 @@ found : (r : Registers) (frame : List ℕ) (t : Target) → sorted r frame ≡ O
 unfolding sorted
 found r frame t e = sorted-let_in (passes r frame) (pool_target r frame (chosen_pool r frame)) t e
 
-chosen-parted : (r : Registers) (frame : List ℕ) (pool : ℕ) → uses_pools r ≡ true → pool_of r frame ≡ Some pool →
+chosen-parted : (r : Registers) (frame : List ℕ) (pool : ℕ) → uses_pools r ≡ true → selected_pool r frame ≡ Some pool →
     chosen_pool r frame ≡ checked_pool r (Some pool)
 unfolding chosen_pool
 chosen-parted r frame pool parted e =
-    cond-true (uses_pools r) (checked_pool r (pool_of r frame)) (Ok 0) parted ∙ ap (checked_pool r) e
+    cond-true (uses_pools r) (checked_pool r (selected_pool r frame)) (Ok 0) parted ∙ ap (checked_pool r) e
 
 queue-parted : (r : Registers) (frame : List ℕ) (pool : ℕ) (t : Target) → GoesToPool r frame pool t →
     (has_queues (parting_in r) pool ≡ true)
@@ -100,34 +100,34 @@ by_sixteen : (r : Registers) (frame : List ℕ) (pool : ℕ) (t : Target) (code 
 by_sixteen r frame pool t code g sixteen e =
     by_code r frame pool t code g e ∙ ap (λ m. queue_of code m pool (rss_entry r frame)) sixteen
 
-by_four : (m : Mode) (pool entry : ℕ) → m ≢ mode.Pools16 → queue_of Pools32Rss m pool entry ≡ 4 * pool + entry % 4
+by_four : (m : Mode) (pool entry : ℕ) → m ≢ mode.Pools16 → queue_of Vmdq32Rss m pool entry ≡ 4 * pool + entry % 4
 by_four mode.Pools16 pool entry other = absurd (other refl)
 by_four m pool entry other = omega arith
 
-by_two : (m : Mode) (pool entry : ℕ) → m ≢ mode.Pools16 → queue_of Pools64Rss m pool entry ≡ 2 * pool + entry % 2
+by_two : (m : Mode) (pool entry : ℕ) → m ≢ mode.Pools16 → queue_of Vmdq64Rss m pool entry ≡ 2 * pool + entry % 2
 by_two mode.Pools16 pool entry other = absurd (other refl)
 by_two m pool entry other = omega arith
 
 -- with code 8 nothing is hashed, so the entry is 0
-pub entry-unhashed : (r : Registers) (frame : List ℕ) → queue_mode_of (word_of r Mrqc 0) ≡ Pools64 →
+pub entry-unhashed : (r : Registers) (frame : List ℕ) → queue_mode_of (word_of r Mrqc 0) ≡ Vmdq64 →
     rss_entry r frame ≡ 0
 entry-unhashed r frame is =
     let none : code_of (rss_type r frame) ≡ 0 =
-    ap code_of (type-unhashed (word_of r Mrqc 0) (flow_of frame) Pools64 is refl) in
+    ap code_of (type-unhashed (word_of r Mrqc 0) (flow_of frame) Vmdq64 is refl) in
     cond-true (code_of (rss_type r frame) == 0) 0 _ (eq-eqb (code_of (rss_type r frame)) 0 none)
 
-first_of_two : (m : Mode) (pool : ℕ) → m ≢ mode.Pools16 → queue_of Pools64 m pool 0 ≡ 2 * pool
+first_of_two : (m : Mode) (pool : ℕ) → m ≢ mode.Pools16 → queue_of Vmdq64 m pool 0 ≡ 2 * pool
 first_of_two mode.Pools16 pool other = absurd (other refl)
 first_of_two m pool other = omega arith
 
 by_hash : (r : Registers) (frame : List ℕ) (pool : ℕ) (t : Target) → GoesToPool r frame pool t →
     mode_in r ≡ mode.Pools16 →
-    (queue_mode_of (word_of r Mrqc 0) ≡ Pools32Rss) ⊎ (queue_mode_of (word_of r Mrqc 0) ≡ Pools64Rss) →
+    (queue_mode_of (word_of r Mrqc 0) ≡ Vmdq32Rss) ⊎ (queue_mode_of (word_of r Mrqc 0) ≡ Vmdq64Rss) →
     t.queue ≡ 8 * pool + rss_entry r frame % 8
 by_hash r frame pool t g sixteen (inl is) =
-    let queue = by_sixteen r frame pool t Pools32Rss g sixteen is in queue ∙ (omega arith)
+    let queue = by_sixteen r frame pool t Vmdq32Rss g sixteen is in queue ∙ (omega arith)
 by_hash r frame pool t g sixteen (inr is) =
-    let queue = by_sixteen r frame pool t Pools64Rss g sixteen is in queue ∙ (omega arith)
+    let queue = by_sixteen r frame pool t Vmdq64Rss g sixteen is in queue ∙ (omega arith)
 
 entry-hashed : (r : Registers) (frame : List ℕ) → (code_of (rss_type r frame) ≡ 0 → ⊥) →
     rss_entry r frame ≡ entry_of (row_words r.words Reta) (rss_hash r frame)
@@ -145,16 +145,16 @@ queues_by_mode = record {
   no_entry = λ r frame none.
       cond-true (code_of (rss_type r frame) == 0) 0 _ (eq-eqb (code_of (rss_type r frame)) 0 none);
   pools_32_hashing = λ r frame pool t g other e.
-      by_code r frame pool t Pools32Rss g e ∙ by_four (mode_in r) pool (rss_entry r frame) other;
+      by_code r frame pool t Vmdq32Rss g e ∙ by_four (mode_in r) pool (rss_entry r frame) other;
   pools_64_hashing = λ r frame pool t g other e.
-      by_code r frame pool t Pools64Rss g e ∙ by_two (mode_in r) pool (rss_entry r frame) other;
+      by_code r frame pool t Vmdq64Rss g e ∙ by_two (mode_in r) pool (rss_entry r frame) other;
   pools_64 = λ r frame pool t g other e.
-      by_code r frame pool t Pools64 g e
-      ∙ ap (queue_of Pools64 (mode_in r) pool) (entry-unhashed r frame e) ∙ first_of_two (mode_in r) pool other;
+      by_code r frame pool t Vmdq64 g e
+      ∙ ap (queue_of Vmdq64 (mode_in r) pool) (entry-unhashed r frame e) ∙ first_of_two (mode_in r) pool other;
   pools_16_hashing = λ r frame pool t g sixteen is. by_hash r frame pool t g sixteen is;
   pools_16 = λ r frame pool t g sixteen is.
-      by_sixteen r frame pool t Pools64 g sixteen is
-      ∙ ap (queue_of Pools64 mode.Pools16 pool) (entry-unhashed r frame is) ∙ (omega arith);
+      by_sixteen r frame pool t Vmdq64 g sixteen is
+      ∙ ap (queue_of Vmdq64 mode.Pools16 pool) (entry-unhashed r frame is) ∙ (omega arith);
 }
 
 -- ---- which pools have queues
@@ -163,11 +163,11 @@ none_of_16 : (code : QueueMode) (pool : ℕ) → has_pools code ≡ true → 15 
     has_queues (parting code mode.Pools16) pool ≡ false
 none_of_16 Single pool pools above = cc
 none_of_16 Rss pool pools above = cc
-none_of_16 Pools64 pool pools above = le-ltb pool 16 (omega arith)
-none_of_16 Pools32Rss pool pools above = le-ltb pool 16 (omega arith)
-none_of_16 Pools64Rss pool pools above = le-ltb pool 16 (omega arith)
+none_of_16 Vmdq64 pool pools above = le-ltb pool 16 (omega arith)
+none_of_16 Vmdq32Rss pool pools above = le-ltb pool 16 (omega arith)
+none_of_16 Vmdq64Rss pool pools above = le-ltb pool 16 (omega arith)
 
-none_of_32 : (m : Mode) (pool : ℕ) → m ≢ mode.Pools16 → 31 < pool → has_queues (parting Pools32Rss m) pool ≡ false
+none_of_32 : (m : Mode) (pool : ℕ) → m ≢ mode.Pools16 → 31 < pool → has_queues (parting Vmdq32Rss m) pool ≡ false
 none_of_32 mode.Pools16 pool other above = absurd (other refl)
 none_of_32 m pool other above = le-ltb pool 32 (omega arith)
 
@@ -181,15 +181,15 @@ beyond r pool (inr b) =
 -- and the other way round
 lacking : (code : QueueMode) (m : Mode) (pool : ℕ) → pool < 64 → has_queues (parting code m) pool ≡ false →
     ((m ≡ mode.Pools16) × (has_pools code ≡ true) × (15 < pool))
-    ⊎ ((m ≢ mode.Pools16) × (code ≡ Pools32Rss) × (31 < pool))
+    ⊎ ((m ≢ mode.Pools16) × (code ≡ Vmdq32Rss) × (31 < pool))
 lacking Single m pool small e = cc
 lacking Rss m pool small e = cc
-lacking Pools64 mode.Pools16 pool small e = let past = ltb-false pool 16 e in inl (refl, refl, omega arith)
-lacking Pools64 m pool small e = let past = ltb-false pool 64 e in absurd (omega arith)
-lacking Pools32Rss mode.Pools16 pool small e = let past = ltb-false pool 16 e in inl (refl, refl, omega arith)
-lacking Pools32Rss m pool small e = let past = ltb-false pool 32 e in inr (λ s. cc, refl, omega arith)
-lacking Pools64Rss mode.Pools16 pool small e = let past = ltb-false pool 16 e in inl (refl, refl, omega arith)
-lacking Pools64Rss m pool small e = let past = ltb-false pool 64 e in absurd (omega arith)
+lacking Vmdq64 mode.Pools16 pool small e = let past = ltb-false pool 16 e in inl (refl, refl, omega arith)
+lacking Vmdq64 m pool small e = let past = ltb-false pool 64 e in absurd (omega arith)
+lacking Vmdq32Rss mode.Pools16 pool small e = let past = ltb-false pool 16 e in inl (refl, refl, omega arith)
+lacking Vmdq32Rss m pool small e = let past = ltb-false pool 32 e in inr (λ s. cc, refl, omega arith)
+lacking Vmdq64Rss mode.Pools16 pool small e = let past = ltb-false pool 16 e in inl (refl, refl, omega arith)
+lacking Vmdq64Rss m pool small e = let past = ltb-false pool 64 e in absurd (omega arith)
 
 pub lacks_beyond : (r : Registers) (pool : ℕ) → pool < 64 → has_queues (parting_in r) pool ≡ false → IsBeyond r pool
 lacks_beyond r pool small e = lacking (queue_mode_of (word_of r Mrqc 0)) (mode_in r) pool small e
@@ -208,17 +208,17 @@ some_of_16 : (code : QueueMode) (pool : ℕ) → has_pools code ≡ true →
     has_queues (parting code mode.Pools16) pool ≡ true → pool < 16
 some_of_16 Single pool pools has = cc
 some_of_16 Rss pool pools has = cc
-some_of_16 Pools64 pool pools has = ltb-true pool 16 has
-some_of_16 Pools32Rss pool pools has = ltb-true pool 16 has
-some_of_16 Pools64Rss pool pools has = ltb-true pool 16 has
+some_of_16 Vmdq64 pool pools has = ltb-true pool 16 has
+some_of_16 Vmdq32Rss pool pools has = ltb-true pool 16 has
+some_of_16 Vmdq64Rss pool pools has = ltb-true pool 16 has
 
 in_sixteen : (code : QueueMode) (pool entry : ℕ) → has_pools code ≡ true →
     queue_of code mode.Pools16 pool entry ≡ pool * 8 + entry % 8
 in_sixteen Single pool entry pools = cc
 in_sixteen Rss pool entry pools = cc
-in_sixteen Pools64 pool entry pools = refl
-in_sixteen Pools32Rss pool entry pools = refl
-in_sixteen Pools64Rss pool entry pools = refl
+in_sixteen Vmdq64 pool entry pools = refl
+in_sixteen Vmdq32Rss pool entry pools = refl
+in_sixteen Vmdq64Rss pool entry pools = refl
 
 pub functions_queues : FunctionsGetTheirs
 functions_queues r frame pool t sixteen pools g =

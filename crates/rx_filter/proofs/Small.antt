@@ -7,7 +7,7 @@ use Rattle.register_file.specs.RegTable.declared.rows.RowId.TheVariants.{VtCtl}
 use Rattle.register_file.specs.Bits.{has_bit}
 use Rattle.register_file.specs.Registers.{Registers, word_of}
 use Rattle.rx_filter.specs.Address.{first_match}
-use Rattle.rx_filter.specs.Pools.{selects, lowest_pool, matched_pool, or_default, pool_of}
+use Rattle.rx_filter.specs.Pools.{selects, lowest_pool, matched_pool, or_default, selected_pool}
 use Rattle.rx_filter.specs.Fields.{DIS_DEF_POOL}
 
 abbrev IsSmall : Option ℕ → Type 0
@@ -30,6 +30,6 @@ default-small r None small =
     (λ none. tt) (λ some. omega arith)
 default-small r (Some pool) small = small
 
-pub pool_of-small : (r : Registers) (frame : List ℕ) → IfSome (pool_of r frame) (λ pool. pool < 64)
-pool_of-small r frame =
+pub selected_pool-small : (r : Registers) (frame : List ℕ) → IfSome (selected_pool r frame) (λ pool. pool < 64)
+selected_pool-small r frame =
     default-small r (matched_pool r (first_match r frame)) (matched-small r (first_match r frame))

@@ -19,9 +19,9 @@ use Rattle.register_file.specs.RssHash.declared.choice.RssType.{RssType}
 use Rattle.register_file.specs.RssHash.declared.choice.RssType.TheVariants.{NoHash}
 use Rattle.register_file.specs.RssHash.declared.flow.Flow.{Flow}
 use Rattle.register_file.specs.RssHash.declared.mrqc.QueueMode.{QueueMode}
-use Rattle.register_file.specs.RssHash.declared.mrqc.QueueMode.TheVariants.{Single, Rss, Pools64, Pools32Rss, Pools64Rss}
+use Rattle.register_file.specs.RssHash.declared.mrqc.QueueMode.TheVariants.{Single, Rss, Vmdq64, Vmdq32Rss, Vmdq64Rss}
 use Rattle.rx_filter.specs.Address.{passes}
-use Rattle.rx_filter.specs.Pools.{uses_pools, takes_frames, parting_in, has_queues, checked_pool, pool_of, chosen_pool}
+use Rattle.rx_filter.specs.Pools.{uses_pools, takes_frames, parting_in, has_queues, checked_pool, selected_pool, chosen_pool}
 use Rattle.rx_filter.specs.Sorting.{queue_of, rss_type, rss_entry, target_of, pool_target, sorted}
 use Rattle.rx_filter.specs.Laws.{has_pools, pool_of_queue}
 use Rattle.rx_filter.specs.Fields.{PCSD}
@@ -69,7 +69,7 @@ pub sorted-single : (r : Registers) (frame : List ℕ) → uses_pools r ≡ fals
 unfolding sorted chosen_pool
 sorted-single r frame whole single goes_in =
     cond-true (passes r frame) (pool_target r frame (chosen_pool r frame)) (Err Filter) goes_in
-    ∙ ap (pool_target r frame) (cond-false (uses_pools r) (checked_pool r (pool_of r frame)) (Ok 0) whole)
+    ∙ ap (pool_target r frame) (cond-false (uses_pools r) (checked_pool r (selected_pool r frame)) (Ok 0) whole)
     ∙ ap Ok (target-single r frame single)
 
 -- ---- pools
@@ -78,12 +78,12 @@ pool-queue_of : (code : QueueMode) (mode : Mode) (pool entry : ℕ) → has_pool
     pool_of_queue code mode (queue_of code mode pool entry) ≡ pool
 pool-queue_of Single mode pool entry e = cc
 pool-queue_of Rss mode pool entry e = cc
-pool-queue_of Pools64 Pools16 pool entry e = omega arith
-pool-queue_of Pools64 other pool entry e = omega arith
-pool-queue_of Pools32Rss Pools16 pool entry e = omega arith
-pool-queue_of Pools32Rss other pool entry e = omega arith
-pool-queue_of Pools64Rss Pools16 pool entry e = omega arith
-pool-queue_of Pools64Rss other pool entry e = omega arith
+pool-queue_of Vmdq64 Pools16 pool entry e = omega arith
+pool-queue_of Vmdq64 other pool entry e = omega arith
+pool-queue_of Vmdq32Rss Pools16 pool entry e = omega arith
+pool-queue_of Vmdq32Rss other pool entry e = omega arith
+pool-queue_of Vmdq64Rss Pools16 pool entry e = omega arith
+pool-queue_of Vmdq64Rss other pool entry e = omega arith
 
 taken-of_ok : (has takes : ℕ → Bool) (p pool : ℕ) (b c : Bool) → has p ≡ b → takes p ≡ c →
     cond b (cond c (Ok p) (Err PoolOff)) (Err NoPool) ≡ Ok pool → takes pool ≡ true
@@ -120,8 +120,8 @@ pub taken-sorted : (r : Registers) (frame : List ℕ) (t : Target) → uses_pool
     takes_frames r (pool_of_queue (queue_mode_of (word_of r Mrqc 0)) (mode_in r) t.queue) ≡ true
 unfolding sorted chosen_pool
 taken-sorted r frame t parted pools e =
-    let chosen : chosen_pool r frame ≡ checked_pool r (pool_of r frame) =
-    cond-true (uses_pools r) (checked_pool r (pool_of r frame)) (Ok 0) parted in
+    let chosen : chosen_pool r frame ≡ checked_pool r (selected_pool r frame) =
+    cond-true (uses_pools r) (checked_pool r (selected_pool r frame)) (Ok 0) parted in
     taken-target r frame (chosen_pool r frame) t
-    (λ pool f. taken-checked r (pool_of r frame) pool (sym chosen ∙ f)) pools
+    (λ pool f. taken-checked r (selected_pool r frame) pool (sym chosen ∙ f)) pools
     (sorted-let_in (passes r frame) (pool_target r frame (chosen_pool r frame)) t e)

@@ -6,7 +6,7 @@ use Rattle.register_file.specs.RssHash.Choice.{code_of}
 use Rattle.register_file.specs.RssHash.Mrqc.{queue_mode_of}
 use Rattle.register_file.specs.RssHash.Registers.{bytes_of_registers}
 use Rattle.register_file.specs.RssHash.declared.mrqc.QueueMode.{QueueMode}
-use Rattle.register_file.specs.RssHash.declared.mrqc.QueueMode.TheVariants.{Single, Rss, Pools64, Pools32Rss, Pools64Rss}
+use Rattle.register_file.specs.RssHash.declared.mrqc.QueueMode.TheVariants.{Single, Rss, Vmdq64, Vmdq32Rss, Vmdq64Rss}
 use Rattle.register_file.specs.VfMap.Owner.{has_queue}
 use Rattle.register_file.specs.VfMap.declared.mode.Mode.{Mode}
 use Rattle.register_file.specs.VfMap.declared.mode.Mode.TheVariants as mode
@@ -15,7 +15,7 @@ use Rattle.register_file.specs.Bits.{has_bit}
 use Rattle.register_file.specs.Registers.{Registers, reset_registers, word_of}
 use Rattle.register_file.specs.Words.{row_words}
 use Rattle.rx_filter.specs.Address.{matches, is_broadcast, is_multicast, passes}
-use Rattle.rx_filter.specs.Pools.{uses_pools, takes_frames, selects, pool_of}
+use Rattle.rx_filter.specs.Pools.{uses_pools, takes_frames, selects, selected_pool}
 use Rattle.rx_filter.specs.Sorting.{rss_type, rss_hash, rss_entry, sorted}
 use Rattle.rx_filter.specs.Fields.{MPE, UPE, BAM, MFE, AV, VT_ENA, DIS_DEF_POOL, PCSD}
 use Rattle.rx_filter.specs.declared.fields.TheConstants.{MO, DEF_PL}
@@ -93,13 +93,13 @@ SingleIsQueue0 =
 abbrev pub has_pools : QueueMode → Bool
 has_pools Single = false
 has_pools Rss = false
-has_pools Pools64 = true
-has_pools Pools32Rss = true
-has_pools Pools64Rss = true
+has_pools Vmdq64 = true
+has_pools Vmdq32Rss = true
+has_pools Vmdq64Rss = true
 
 abbrev pub pool_of_queue : QueueMode → Mode → ℕ → ℕ
 pool_of_queue code mode.Pools16 queue = queue / 8
-pool_of_queue Pools32Rss mode queue = queue / 4
+pool_of_queue Vmdq32Rss mode queue = queue / 4
 pool_of_queue code mode queue = queue / 2
 
 -- a queue gets frames only while its pool takes them
@@ -131,16 +131,16 @@ HasNoPool r frame =
 -- where VT_CTL bit 29, DIS_DEF_POOL, is 1
 pub record PoolOfAFrame : Type 0 where
   pub matched : (r : Registers) (frame : List ℕ) (i pool : ℕ) → IsFirstMatch r frame i → IsLowestPool r i pool →
-      pool_of r frame ≡ Some pool
+      selected_pool r frame ≡ Some pool
   pub default : (r : Registers) (frame : List ℕ) → HasNoPool r frame →
-      IsFalse (has_bit DIS_DEF_POOL (word_of r VtCtl 0)) → pool_of r frame ≡ Some (word_of r VtCtl 0 / 2 ^ 7 % 64)
+      IsFalse (has_bit DIS_DEF_POOL (word_of r VtCtl 0)) → selected_pool r frame ≡ Some (word_of r VtCtl 0 / 2 ^ 7 % 64)
   pub none : (r : Registers) (frame : List ℕ) → HasNoPool r frame →
-      IsTrue (has_bit DIS_DEF_POOL (word_of r VtCtl 0)) → pool_of r frame ≡ None
+      IsTrue (has_bit DIS_DEF_POOL (word_of r VtCtl 0)) → selected_pool r frame ≡ None
 
 -- frames are distributed among pools, and this frame is for this pool and goes there
 pub record GoesToPool (r : Registers) (frame : List ℕ) (pool : ℕ) (t : Target) : Type 0 where
   pub parted : IsTrue (uses_pools r)
-  pub meant : pool_of r frame ≡ Some pool
+  pub meant : selected_pool r frame ≡ Some pool
   pub goes : sorted r frame ≡ Ok t
 
 -- the queue by the code in MRQC: with hashing the entry of the redirection table, which a frame with an RSS type finds
@@ -153,31 +153,31 @@ pub record QueuesByMode : Type 0 where
       rss_entry r frame ≡ slice_index (bytes_of_registers (row_words r.words Reta)) (rss_hash r frame % 128) % 16
   pub no_entry : (r : Registers) (frame : List ℕ) → code_of (rss_type r frame) ≡ 0 → rss_entry r frame ≡ 0
   pub pools_32_hashing : (r : Registers) (frame : List ℕ) (pool : ℕ) (t : Target) → GoesToPool r frame pool t →
-      mode_in r ≢ mode.Pools16 → queue_mode_of (word_of r Mrqc 0) ≡ Pools32Rss →
+      mode_in r ≢ mode.Pools16 → queue_mode_of (word_of r Mrqc 0) ≡ Vmdq32Rss →
       t.queue ≡ 4 * pool + rss_entry r frame % 4
   pub pools_64_hashing : (r : Registers) (frame : List ℕ) (pool : ℕ) (t : Target) → GoesToPool r frame pool t →
-      mode_in r ≢ mode.Pools16 → queue_mode_of (word_of r Mrqc 0) ≡ Pools64Rss →
+      mode_in r ≢ mode.Pools16 → queue_mode_of (word_of r Mrqc 0) ≡ Vmdq64Rss →
       t.queue ≡ 2 * pool + rss_entry r frame % 2
   pub pools_64 : (r : Registers) (frame : List ℕ) (pool : ℕ) (t : Target) → GoesToPool r frame pool t →
-      mode_in r ≢ mode.Pools16 → queue_mode_of (word_of r Mrqc 0) ≡ Pools64 → t.queue ≡ 2 * pool
+      mode_in r ≢ mode.Pools16 → queue_mode_of (word_of r Mrqc 0) ≡ Vmdq64 → t.queue ≡ 2 * pool
   pub pools_16_hashing : (r : Registers) (frame : List ℕ) (pool : ℕ) (t : Target) → GoesToPool r frame pool t →
       mode_in r ≡ mode.Pools16 →
-      (queue_mode_of (word_of r Mrqc 0) ≡ Pools32Rss) ⊎ (queue_mode_of (word_of r Mrqc 0) ≡ Pools64Rss) →
+      (queue_mode_of (word_of r Mrqc 0) ≡ Vmdq32Rss) ⊎ (queue_mode_of (word_of r Mrqc 0) ≡ Vmdq64Rss) →
       t.queue ≡ 8 * pool + rss_entry r frame % 8
   pub pools_16 : (r : Registers) (frame : List ℕ) (pool : ℕ) (t : Target) → GoesToPool r frame pool t →
-      mode_in r ≡ mode.Pools16 → queue_mode_of (word_of r Mrqc 0) ≡ Pools64 → t.queue ≡ 8 * pool
+      mode_in r ≡ mode.Pools16 → queue_mode_of (word_of r Mrqc 0) ≡ Vmdq64 → t.queue ≡ 8 * pool
 
 -- a pool has no queues: it is above 15 of 16 that GCR_EXT has, or above 31 of 32 by MRQC
 abbrev pub IsBeyond : Registers → ℕ → Type 0
 IsBeyond r pool =
     ((mode_in r ≡ mode.Pools16) × (has_pools (queue_mode_of (word_of r Mrqc 0)) ≡ true) × (15 < pool))
-    ⊎ ((mode_in r ≢ mode.Pools16) × (queue_mode_of (word_of r Mrqc 0) ≡ Pools32Rss) × (31 < pool))
+    ⊎ ((mode_in r ≢ mode.Pools16) × (queue_mode_of (word_of r Mrqc 0) ≡ Vmdq32Rss) × (31 < pool))
 
 -- the frames of such a pool go nowhere
 abbrev pub PoolsBeyondGetNone : Type 0
 PoolsBeyondGetNone =
     (r : Registers) (frame : List ℕ) (pool : ℕ) → IsTrue (passes r frame) → IsTrue (uses_pools r) →
-    pool_of r frame ≡ Some pool → IsBeyond r pool → sorted r frame ≡ Err NoPool
+    selected_pool r frame ≡ Some pool → IsBeyond r pool → sorted r frame ≡ Err NoPool
 
 -- where GCR_EXT has 16 pools, a frame that goes to a pool by MRQC goes to a queue that the pool's virtual function has
 abbrev pub FunctionsGetTheirs : Type 0

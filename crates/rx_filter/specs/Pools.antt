@@ -46,8 +46,8 @@ abbrev pub or_default : Registers → Option ℕ → Option ℕ
 or_default r None = default_pool r
 or_default r (Some pool) = Some pool
 
-abbrev pub pool_of : Registers → List ℕ → Option ℕ
-pool_of r frame = or_default r (matched_pool r (first_match r frame))
+abbrev pub selected_pool : Registers → List ℕ → Option ℕ
+selected_pool r frame = or_default r (matched_pool r (first_match r frame))
 
 -- the pools that MRQC's codes for pools separate the queues into: 64, or 32 with code 0xA, but where GCR_EXT has 16
 -- these
@@ -58,9 +58,9 @@ sixteen_or other by_code = by_code
 abbrev pub parting : QueueMode → Mode → Mode
 parting code.Single mode = Off
 parting code.Rss mode = Off
-parting code.Pools64 mode = sixteen_or mode Pools64
-parting code.Pools32Rss mode = sixteen_or mode Pools32
-parting code.Pools64Rss mode = sixteen_or mode Pools64
+parting code.Vmdq64 mode = sixteen_or mode Pools64
+parting code.Vmdq32Rss mode = sixteen_or mode Pools32
+parting code.Vmdq64Rss mode = sixteen_or mode Pools64
 
 abbrev pub parting_in : Registers → Mode
 parting_in r = parting (queue_mode_of (word_of r Mrqc 0)) (mode_in r)
@@ -80,4 +80,4 @@ checked_pool r (Some pool) =
 
 -- the pool that a frame is for: pool 0 where there are no pools
 unfoldable pub chosen_pool : Registers → List ℕ → Result ℕ Unwanted
-chosen_pool r frame = if uses_pools r then checked_pool r (pool_of r frame) else Ok 0
+chosen_pool r frame = if uses_pools r then checked_pool r (selected_pool r frame) else Ok 0

@@ -1,7 +1,7 @@
 //! Pool selection: which pool of queues a frame is for.
 
 ghost use Rattle.std.specs.Prelude.{◌≡◌, ◌<◌, IfSome, IfOk, IsTrue};
-ghost use Rattle.rx_filter.specs.Pools.{uses_pools, selects, lowest_pool, default_pool, pool_of, parting, parting_in, has_queues, checked_pool, chosen_pool};
+ghost use Rattle.rx_filter.specs.Pools.{uses_pools, selects, lowest_pool, default_pool, selected_pool, parting, parting_in, has_queues, checked_pool, chosen_pool};
 
 use crate::address::first_match;
 use crate::fields::{DEF_PL, has_bit};
@@ -20,7 +20,7 @@ pub(crate) fn chosen_pool(registers: &RegisterFile, frame: &[u8]) -> Result<u16,
     ensures queues { IfOk result (λ pool. IsTrue (has_queues (parting_in registers.now) pool)) }
 {
     if uses_pools(registers) {
-        checked_pool(registers, pool_of(registers, frame))
+        checked_pool(registers, selected_pool(registers, frame))
     } else {
         Ok(0)
     }
@@ -34,8 +34,8 @@ pub fn uses_pools(registers: &RegisterFile) -> bool
 }
 
 /// The lowest pool of the first receive address that a frame matches, or else the default pool.
-fn pool_of(registers: &RegisterFile, frame: &[u8]) -> Option<u16>
-    ensures pool { result ≡ pool_of registers.now frame.now }
+fn selected_pool(registers: &RegisterFile, frame: &[u8]) -> Option<u16>
+    ensures pool { result ≡ selected_pool registers.now frame.now }
     ensures range { IfSome result (λ pool. pool < 64) }
 {
     let matched = match first_match(registers, frame) {
@@ -114,8 +114,8 @@ pub(crate) fn parting(code: QueueMode, mode: Mode) -> Mode
 {
     let by_code = match code {
         QueueMode::Single | QueueMode::Rss => return Mode::Off,
-        QueueMode::Pools32Rss => Mode::Pools32,
-        QueueMode::Pools64 | QueueMode::Pools64Rss => Mode::Pools64,
+        QueueMode::Vmdq32Rss => Mode::Pools32,
+        QueueMode::Vmdq64 | QueueMode::Vmdq64Rss => Mode::Pools64,
     };
     match mode {
         Mode::Pools16 => Mode::Pools16,

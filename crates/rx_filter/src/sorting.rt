@@ -93,7 +93,7 @@ fn queue(code: QueueMode, mode: Mode, pool: u16, entry: u8) -> u16
     match code {
         QueueMode::Single => 0,
         QueueMode::Rss => u16::from(entry),
-        QueueMode::Pools64 | QueueMode::Pools32Rss | QueueMode::Pools64Rss => {
+        QueueMode::Vmdq64 | QueueMode::Vmdq32Rss | QueueMode::Vmdq64Rss => {
             queue_in(parting(code, mode), pool, entry)
         }
     }

@@ -8,7 +8,7 @@ from __future__ import annotations
 import re
 import subprocess
 import xml.etree.ElementTree
-from dataclasses import dataclass
+from dataclasses import dataclass, replace
 from pathlib import Path
 
 HERE = Path(__file__).resolve().parent
@@ -337,6 +337,43 @@ def check_sleeping(kit: Kit, scenarios: int) -> str:
     return f"{host}; of a function: {ran([program, scenarios, 1, 'vf'], timeout=900).strip()}"
 
 
+# --- other threads of the process ---
+
+THREAD = ["-g", "-O1", "-fsanitize=thread"]
+
+
+def has_thread_sanitizer(kit: Kit) -> bool:
+    """Whether a program with it is linked and runs here."""
+    source, program = kit.folder / "empty.c", kit.folder / "empty"
+    source.write_text("int main(void) { return 0; }\n")
+    words: list[list[object]] = [[kit.compiler, *THREAD, source, "-o", program], [program]]
+    try:
+        for line in words:
+            ran(line)
+    except (Wrong, OSError):
+        return False
+    return True
+
+
+def check_threads(kit: Kit, searches: int) -> str:
+    """Searches, and another thread's devices beside them; plain also under the thread sanitizer."""
+    kits, more = [kit], ""
+    if "-fsanitize=address,undefined" not in kit.flags:
+        if has_thread_sanitizer(kit):
+            folder = kit.folder / "thread"
+            folder.mkdir(exist_ok=True)
+            explorer = sanitized_explorer(folder, kit.compiler, THREAD)
+            kits.append(replace(kit, folder=folder, flags=THREAD, explorer=explorer))
+        else:
+            more = ", not under the thread sanitizer, which isn't here"
+    for it in kits:
+        threaded = replace(it, flags=[*it.flags, "-pthread"])
+        said = ran([threaded.build(HERE / "tests/threads.c"), it.folder, searches], timeout=600).splitlines()[-1]
+        if said != f"{searches} searches beside another thread's devices":
+            raise Wrong(f"threads: {said}")
+    return said + more
+
+
 def sanitized_explorer(folder: Path, compiler: str, flags: list[str]) -> Path:
     """The engine itself with the sanitizers' checks in it."""
     made = folder / "explorer"
@@ -346,17 +383,18 @@ def sanitized_explorer(folder: Path, compiler: str, flags: list[str]) -> Path:
 
 
 # How many states of the table's test, scenarios of that of sleep sets, and schedules of each twin by chance; to how
-# many preemptions twins are searched; and of the corpus' drivers each how-manieth is tried.
+# many preemptions twins are searched; of the corpus' drivers each how-manieth is tried; and how many searches are made
+# beside another thread.
 AMOUNTS = {
-    "few": (300, 4, 500, 1, 4),  # under the sanitizers
-    "plain": (1_000, 12, 3_000, 1, 1),
-    "full": (10_000, 100, 100_000, 2, 1),
+    "few": (300, 4, 500, 1, 4, 5),  # under the sanitizers
+    "plain": (1_000, 12, 3_000, 1, 1, 20),
+    "full": (10_000, 100, 100_000, 2, 1, 200),
 }
 
 
 def check_all(kit: Kit, amount: str) -> list[str]:
     """All that is here, in so large an amount."""
-    states, scenarios, runs, preemptions, each = AMOUNTS[amount]
+    states, scenarios, runs, preemptions, each, searches = AMOUNTS[amount]
     return [
         check_names(kit),
         check_faults(kit),
@@ -366,4 +404,5 @@ def check_all(kit: Kit, amount: str) -> list[str]:
         check_corpus(kit, runs, preemptions, each),
         check_outside(kit, runs, each),
         check_examples(kit, runs),
+        check_threads(kit, searches),
     ]

@@ -7,7 +7,11 @@
    This part is tested, not proved. Schedules of one process are made one after the other on one thread; tasks run on
    stacks of their own. The calls below are made in the scenario's functions, in tasks and in handlers, and nowhere
    else. A task that a schedule leaves behind isn't ended: what it took from malloc is lost, so a driver's state is
-   better static, and made anew in `begin`. */
+   better static, and made anew in `begin`.
+
+   Other threads of the process may use controllers of their own while a search runs. One that the scenario's functions
+   open goes back to what it was in the bring-up for each schedule, and ends with nicx_close; one that was opened before
+   nicx_open isn't used in them. */
 #ifndef NIC82599_EXPLORE_H
 #define NIC82599_EXPLORE_H
 

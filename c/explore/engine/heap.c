@@ -21,28 +21,43 @@ static char *memory;
 static char *kept;
 static size_t kept_size;
 
+/* The thread whose search it is, by the address of a mark that each thread has of its own. Tasks and handlers run on
+   stacks of that thread. Other threads of the process take their memory from malloc, and may be at it right now: they
+   look at these two words, and at nothing else here. */
+static char *searcher;
+static __thread char mark;
+
 static struct heap *heap(void)
 {
     return (struct heap *)(void *)memory;
 }
 
+void nicxi_heap_is_mine(void)
+{
+    if (memory)
+        __atomic_store_n(&searcher, &mark, __ATOMIC_RELAXED);
+}
+
 bool nicxi_heap_open(void)
 {
-    memory = mmap(NULL, ROOM, PROT_READ | PROT_WRITE, MAP_PRIVATE | MAP_ANONYMOUS | MAP_NORESERVE, -1, 0);
-    if (memory == MAP_FAILED) {
-        memory = NULL;
+    char *room = mmap(NULL, ROOM, PROT_READ | PROT_WRITE, MAP_PRIVATE | MAP_ANONYMOUS | MAP_NORESERVE, -1, 0);
+    if (room == MAP_FAILED)
         return false;
-    }
+    __atomic_store_n(&memory, room, __ATOMIC_RELAXED);
     heap()->used = FIRST;
+    nicxi_heap_is_mine();
     return true;
 }
 
 void nicxi_heap_close(void)
 {
-    if (memory)
-        munmap(memory, ROOM);
+    char *room = memory;
+    __atomic_store_n(&searcher, NULL, __ATOMIC_RELAXED);
+    __atomic_store_n(&memory, NULL, __ATOMIC_RELAXED);
+    if (room)
+        munmap(room, ROOM);
     free(kept);
-    memory = kept = NULL;
+    kept = NULL;
     kept_size = 0;
 }
 
@@ -125,9 +140,15 @@ static void give(char *piece)
     heap()->free[k] = piece;
 }
 
+static bool is_searcher(void)
+{
+    return __atomic_load_n(&searcher, __ATOMIC_RELAXED) == &mark;
+}
+
 static bool is_ours(const void *piece)
 {
-    return memory && (const char *)piece >= memory && (const char *)piece < memory + ROOM;
+    const char *room = __atomic_load_n(&memory, __ATOMIC_RELAXED);
+    return room && (const char *)piece >= room && (const char *)piece < room + ROOM;
 }
 
 /* --- what the toolchain's library calls: two words, of which the first is 1 where there was memory --- */
@@ -153,7 +174,17 @@ void rattle_dealloc(void *piece);
 struct taken rattle_alloc(size_t size, size_t align)
 {
     size_t wanted = size ? size : align;
-    return told(memory ? take(wanted) : malloc(wanted));
+    return told(is_searcher() ? take(wanted) : malloc(wanted));
+}
+
+/* A piece goes back to where it came from. One of the search that another thread gives back is left: it goes with the
+   whole. */
+void rattle_dealloc(void *piece)
+{
+    if (!is_ours(piece))
+        free(piece);
+    else if (is_searcher())
+        give(piece);
 }
 
 struct taken rattle_realloc(void *piece, size_t old, size_t size, size_t align)
@@ -161,18 +192,10 @@ struct taken rattle_realloc(void *piece, size_t old, size_t size, size_t align)
     size_t wanted = size ? size : align;
     if (!is_ours(piece))
         return told(realloc(piece, wanted));
-    void *moved = take(wanted);
+    void *moved = is_searcher() ? take(wanted) : malloc(wanted);
     if (moved) {
         memcpy(moved, piece, old < wanted ? old : wanted);
-        give(piece);
+        rattle_dealloc(piece);
     }
     return told(moved);
-}
-
-void rattle_dealloc(void *piece)
-{
-    if (is_ours(piece))
-        give(piece);
-    else
-        free(piece);
 }

@@ -8,8 +8,11 @@
 #include <stdbool.h>
 #include <stddef.h>
 
-/* From here on memory is taken from the piece; false where the machine has none for it. */
+/* From here on what the library takes on this thread is taken from the piece; false where the machine has none for it.
+   Other threads of the process take from malloc as before. */
 bool nicxi_heap_open(void);
+/* From here on it is this thread whose memory is taken from the piece, and no other: it makes a schedule. */
+void nicxi_heap_is_mine(void);
 void nicxi_heap_close(void);
 
 /* Whether the library took memory of it: then it may be kept and brought back. */

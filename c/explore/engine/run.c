@@ -338,6 +338,8 @@ static void judge_end(void)
 
 void nicx_run(const nicx_chooser *chooser, nicx_result *result)
 {
+    nicxi_heap_is_mine();
+    nicxi.main.bottom = NULL;
     reset();
     nicxi_back();
     nicxi.phase = BEGINNING;

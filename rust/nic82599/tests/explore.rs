@@ -4,14 +4,15 @@
 mod device;
 
 use std::cell::Cell;
+use std::collections::VecDeque;
 use std::path::PathBuf;
-use std::sync::atomic::{AtomicU32, Ordering};
-use std::{env, fs, process};
+use std::sync::atomic::{AtomicBool, AtomicU32, Ordering};
+use std::{env, fs, process, thread};
 
 use device::{start, take};
 use nic82599::explore::{search, Begin, Bus, Look, Outcome, Scenario, Where};
 use nic82599::regs::{vf, *};
-use nic82599::{explore, Device, Sizes};
+use nic82599::{explore, Device, Nic, Sizes};
 
 /// A driver of one or two tasks, which do the same.
 #[derive(Clone, Copy)]
@@ -317,4 +318,33 @@ fn what_is_left_behind_is_given_back() {
     };
     let right = Simple { name: "left", tasks: 1, begin, end, ..SIMPLE };
     assert_eq!(searched(right, &["--runs", "100"]).0, Outcome::Nothing);
+}
+
+/// Devices one after the other, of which some outlive those behind them, until the search is over.
+fn make_devices(is_over: &AtomicBool) -> u32 {
+    let (mut kept, mut made) = (VecDeque::new(), 0);
+    while !is_over.load(Ordering::Acquire) {
+        let nic = Nic::open(Sizes { blocks: 4, ..Sizes::default() }).unwrap();
+        nic.lend_all().unwrap();
+        nic.write(RETA.at(0), made);
+        nic.memory().put64(0x800, u64::from(made)).unwrap();
+        kept.push_back((nic, made));
+        made += 1;
+        if kept.len() > 4 {
+            let (nic, number) = kept.pop_front().unwrap();
+            assert_eq!((nic.read(RETA.at(0)), nic.memory().get64(0x800)), (number, Ok(u64::from(number))));
+        }
+    }
+    made
+}
+
+#[test]
+fn other_threads_have_devices_beside_a_search() {
+    static IS_OVER: AtomicBool = AtomicBool::new(false);
+    let other = thread::spawn(|| make_devices(&IS_OVER));
+    let beside = Simple { name: "beside", ..SIMPLE };
+    let searches: Vec<_> = (0..100).map(|_| searched(beside, &["--runs", "5"]).0).collect();
+    IS_OVER.store(true, Ordering::Release);
+    assert!(other.join().unwrap() > 4);
+    assert!(searches.iter().all(|it| *it == Outcome::Nothing));
 }

@@ -46,11 +46,10 @@
 //! and isn't dropped. So a task holds nothing over a call of its `Bus` whose drop somebody counts on: no guard of a
 //! `RefCell` (which another task then finds borrowed), no lock of `std` (use [`Lock`]), and no thread.
 //!
-//! While a search runs, all memory that the library takes is the search's, which puts it back and
-//! gives it up. So no other thread of the process opens, uses or drops a [`Nic`] or a snapshot
-//! meanwhile, and none is kept over a search on its thread: that would be memory which isn't there
-//! any more. Tests with a `Nic` and tests with a search are files of their own in `tests`, since
-//! the tests of a file run beside each other.
+//! While a search runs, what the library takes on its thread is the search's memory, which puts it back for each
+//! schedule and gives it up at its end. So a [`Nic`] or a snapshot that a scenario's functions open isn't kept behind
+//! the search, and one that was opened before isn't used in them. Other threads of the process open, use and drop
+//! theirs as without a search.
 
 mod raw;
 

@@ -318,7 +318,8 @@ class Files(unittest.TestCase):
             script = (Path(folder) / "race.nic").read_text()
         self.assertEqual(again, caught.exception.result)
         self.assertIn("w RDT[0] 7                   # bring-up\n", script)
-        self.assertIn("r EICR                       # task poll\nexpect 0x00000020 0xffffffff\n", script)
+        self.assertIn("w EICR 0x20                  # task poll\npeek 0x0 2 ", script)
+        self.assertIn("expect 0x00000003 0xffffffff\n", script)
         self.assertEqual(script.splitlines()[-1], "# FAILED end: a frame lies in the ring, and nobody comes for it")
         self.assertEqual(ran(script, "--vfs", "0", "--fifo", "64").splitlines()[-1].split()[0], "ok")
 

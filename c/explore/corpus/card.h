@@ -52,6 +52,7 @@ static inline void bring_up_receive(unsigned posted)
 /* Its interrupt: cause 5, told once for each time that it is raised. */
 static inline void bring_up_interrupt(void)
 {
+    nicx_write32(NIC_GPIE, NIC_GPIE_MULTIPLE_MSIX);
     nicx_write32(NIC_IVAR(0), NIC_IVAR_INT_ALLOC_0_IS(5) | NIC_IVAR_INT_ALLOC_VAL_0);
     nicx_write32(NIC_EIAC, 0);
     nicx_write32(NIC_EIMS, CAUSE);

@@ -26,13 +26,13 @@ static void poll(void *unused)
     for (;;) {
         nicx_wait_until(nicx_is_set, &driver.scheduled);
         driver.scheduled = false;
-        nicx_read32(NIC_EICR);
+        nicx_write32(NIC_EICR, CAUSE);
         while (nicx_get64(16 * driver.next + 8) & 1) {
             driver.next++;
             driver.got++;
         }
 #ifndef FIXED
-        nicx_read32(NIC_EICR); /* nothing old shall interrupt */
+        nicx_write32(NIC_EICR, CAUSE); /* nothing old shall interrupt */
 #endif
         nicx_write32(NIC_EIMS, CAUSE);
     }
@@ -52,6 +52,8 @@ static const char *bring_up(void)
     for (uint32_t slot = 0; slot < 7; slot++)
         nicx_put64(16 * slot, NIC_BLOCK_BYTES);
     nicx_write32(NIC_RDT(QUEUE), 7);
+    /* MSI-X: a queue's cause is cleared by a write of EICR then, and not by a read */
+    nicx_write32(NIC_GPIE, NIC_GPIE_MULTIPLE_MSIX | NIC_GPIE_OCD | NIC_GPIE_PBA_SUPPORT);
     nicx_write32(NIC_IVAR(0), NIC_IVAR_INT_ALLOC_0_IS(5) | NIC_IVAR_INT_ALLOC_VAL_0);
     nicx_write32(NIC_EIAC, 0);
     nicx_write32(NIC_EIMS, CAUSE);

@@ -35,12 +35,12 @@ fn poll(bus: &Bus, driver: &Driver, is_fixed: bool) {
     loop {
         bus.wait_until(|| driver.is_scheduled.get());
         driver.is_scheduled.set(false);
-        bus.read(EICR);
+        bus.write(EICR, CAUSE);
         while bus.get64(16 * driver.next.get() + 8) & 1 == 1 {
             driver.next.set(driver.next.get() + 1);
         }
         if !is_fixed {
-            bus.read(EICR); // nothing old shall interrupt
+            bus.write(EICR, CAUSE); // nothing old shall interrupt
         }
         bus.write(EIMS, CAUSE);
     }
@@ -69,6 +69,8 @@ impl Scenario for Race {
             bus.put64(16 * slot, 2048);
         }
         bus.write(RDT.at(0), 7);
+        // MSI-X: a queue's cause is cleared by a write of EICR then, and not by a read
+        bus.write(GPIE, gpie::MULTIPLE_MSIX | gpie::OCD | gpie::PBA_SUPPORT);
         bus.write(IVAR.at(0), ivar::INT_ALLOC_0.is(5) | ivar::INT_ALLOC_VAL_0);
         bus.write(EIAC, 0);
         bus.write(EIMS, CAUSE);

@@ -23,6 +23,8 @@ static void bring_up(nic *n)
     for (uint32_t slot = 0; slot < 7; slot++)
         nic_put64(n, 16 * slot, NIC_BLOCK_BYTES);
     nic_write32(n, NIC_RDT(QUEUE), 7);
+    /* MSI-X: a queue's cause is cleared by a write of EICR then, and not by a read */
+    nic_write32(n, NIC_GPIE, NIC_GPIE_MULTIPLE_MSIX | NIC_GPIE_OCD | NIC_GPIE_PBA_SUPPORT);
     nic_write32(n, NIC_IVAR(0), NIC_IVAR_INT_ALLOC_0_IS(5) | NIC_IVAR_INT_ALLOC_VAL_0);
     nic_write32(n, NIC_EIMS, CAUSE);
 }
@@ -58,11 +60,11 @@ static void poll(enum ending ending)
     receive(&n);
     printf("message: %s\n", nic_status_name(nic_int_step(&n, 0, &told)));
     nic_write32(&n, NIC_EIMC, CAUSE);
-    nic_get(&n, NIC_EICR);
+    nic_write32(&n, NIC_EICR, CAUSE);
     printf("polled: %u done\n", done(&n));
     receive(&n); /* the driver has looked, and doesn't look again */
     if (ending == CLEAR_AND_UNMASK)
-        nic_get(&n, NIC_EICR);
+        nic_write32(&n, NIC_EICR, CAUSE);
     nic_write32(&n, NIC_EIMS, CAUSE);
     printf("message: %s, and %u are done\n", nic_status_name(nic_int_step(&n, 0, &told)), done(&n));
     nic_close(&n);

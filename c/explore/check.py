@@ -272,6 +272,8 @@ def check_faults(kit: Kit) -> str:
             raise Wrong(f"{mode}: the JUnit file has no failure with its schedule")
         if mode not in ("crash", "exit", "hang", "left"):
             told(ran([program, mode, "--replay", out / "faulty.schedule"], 1), "FAILED", mode)
+    said = ran([program, "check", "--quiet", "--jobs", 2, "--out", f"{out}/"], 1)
+    told(said, f"the schedule is {out}/faulty.schedule, the device's side of it {out}/faulty.nic", "a folder and a /")
     words = [program, "strange", "--quiet", "--jobs", 1, "--strategy", "exhaustive", "--out", out]
     told(ran(words, 1), "misuse: a schedule went another way", "strange")
     for mode, (status, wanted) in NOTES.items():

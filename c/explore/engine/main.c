@@ -129,7 +129,9 @@ static void write_files(struct post *post, void *argument)
 
 static FILE *open_file(const struct options *options, const char *ending, char path[MOST_PATH])
 {
-    snprintf(path, MOST_PATH, "%s/%s.%s", options->out, nicxi.scenario->name, ending);
+    size_t length = strlen(options->out);
+    const char *between = length && options->out[length - 1] == '/' ? "" : "/";
+    snprintf(path, MOST_PATH, "%s%s%s.%s", options->out, between, nicxi.scenario->name, ending);
     FILE *file = fopen(path, "w");
     if (!file)
         fprintf(stderr, "%s: it can't be written\n", path);

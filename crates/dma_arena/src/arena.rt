@@ -170,6 +170,19 @@ impl Arena {
         }
     }
 
+    /// Returns a block to the arena that it was taken from, where it is free from then on. Its number must be this
+    /// arena's and in use here; `give` tests both.
+    pub fn give_back(&mut self, buf: Buf)
+        requires own { is_own self.old buf.number ≡ true }
+        requires away { is_free self.old buf.number ≡ false }
+        ensures { self.new ≡ with_free self.old buf.number true }
+    {
+        match self.give(buf) {
+            Ok(()) => {}
+            Err(_buf) => unreachable!(),
+        }
+    }
+
     /// Splits the arena at a number into one of the numbers below `at` and one of those from `at` on.
     ///
     /// Errors, in this order: `InUse` where a block isn't free, `OutsideArena` where one half would have no number, and

@@ -201,9 +201,26 @@ class Advice:
     def _causes(self) -> Iterator[Warning]:
         """Causes without a vector, without a mask, or that nothing raises."""
         masks = self._of("EIMS")
-        masked = 0
+        entries = [(one, byte, one.word >> 8 * byte & 0xFF) for one in self._of("IVAR") for byte in range(4)]
+        masked = raised = 0
         for one in masks:
             masked |= one.word
+        for one in self._of("EICS"):
+            raised |= one.word
+        for _, _, entry in entries:
+            raised |= 1 << (entry & 63) if entry & 0x80 else 0
+        yield from self._without_vector(masks)
+        for one, byte, entry in entries:
+            if entry:
+                yield from self._untold(one, byte, entry, masked)
+        for one in masks:
+            silent = one.word & 0xFFFF & ~raised
+            if silent:
+                names = ", ".join(regs.bits("EIMS", silent))
+                yield self._at(one.pc, f"{names}: no entry of IVAR names these causes, so nothing raises them")
+
+    def _without_vector(self, masks: list[Access]) -> Iterator[Warning]:
+        """Causes of no queue that are unmasked, and to which IVAR_MISC gives no vector."""
         misc = [one.word for one in self._of("IVAR_MISC")]
         others, timer = any(word & 0x8000 for word in misc), any(word & 0x80 for word in misc)
         for one in masks:
@@ -211,31 +228,17 @@ class Advice:
             if lost:
                 names = ", ".join(regs.bits("EIMS", lost))
                 yield self._at(one.pc, f"{names}: IVAR_MISC gives no vector to these causes, so no message tells them")
-        raised = 0
-        for one in self._of("IVAR"):
-            for byte in range(4):
-                entry = one.word >> 8 * byte & 0xFF
-                queue, side = 2 * one.register.index + byte // 2, "tx" if byte & 1 else "rx"
-                if entry and not entry & 0x80:
-                    yield self._at(
-                        one.pc,
-                        f"{one.register.name} INT_Alloc[{byte}] ({side} {queue}) doesn't count: its bit 7 is 0",
-                    )
-                elif entry and entry & 63 > 15:
-                    yield self._at(
-                        one.pc,
-                        f"{one.register.name} INT_Alloc[{byte}] ({side} {queue}): {entry & 63} is no cause of 0 to 15",
-                    )
-                elif entry and not masked >> (entry & 63) & 1:
-                    yield self._at(
-                        one.pc,
-                        f"{side} {queue} raises cause {entry & 63}, which EIMS never has: no message tells it",
-                    )
-                raised |= 1 << (entry & 63) if entry & 0x80 else 0
-        for one in self._of("EICS"):
-            raised |= one.word
-        for one in masks:
-            silent = one.word & 0xFFFF & ~raised
-            if silent:
-                names = ", ".join(regs.bits("EIMS", silent))
-                yield self._at(one.pc, f"{names}: no entry of IVAR names these causes, so nothing raises them")
+
+    def _untold(self, one: Access, byte: int, entry: int, masked: int) -> Iterator[Warning]:
+        """An entry of IVAR that doesn't count, that names no cause, or whose cause is masked."""
+        queue, side = 2 * one.register.index + byte // 2, "tx" if byte & 1 else "rx"
+        name = f"{one.register.name} INT_Alloc[{byte}] ({side} {queue})"
+        if not entry & 0x80:
+            yield self._at(one.pc, f"{name} doesn't count: its bit 7 is 0")
+        elif entry & 63 > 15:
+            yield self._at(one.pc, f"{name}: {entry & 63} is no cause of 0 to 15")
+        elif not masked >> (entry & 63) & 1:
+            yield self._at(
+                one.pc,
+                f"{side} {queue} raises cause {entry & 63}, which EIMS never has: no message tells it",
+            )

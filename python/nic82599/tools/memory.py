@@ -355,46 +355,68 @@ def _give_hashes(trace: Trace, replay: Replay, arrived: list[Frame]) -> None:
 
 def _account(trace: Trace, replay: Replay) -> tuple[list[Frame], list[Frame]]:
     """The frames that were let in and those that went out, by the replies, and at which step they came and left."""
-    arrived: list[Frame] = []
-    sent: list[Frame] = []
-    waiting: list[int] = []
-    out: list[int] = []
-    earlier, earlier_out = trace.waiting, trace.out
+    frames = _Frames(trace, replay)
     for step in trace.steps:
-        one, reply = trace.instruction(step), step.reply
-        replay.earlier.append(earlier)
-        if earlier and one.op == Op.RX:
-            earlier -= not reply.startswith(("idle", "no ")) and not reply.endswith(" more")
-        elif earlier_out and one.op == Op.COLLECT:
-            earlier_out -= 1
+        replay.earlier.append(frames.earlier)
+        frames.follow(step)
+    replay.earlier.append(frames.earlier)
+    return frames.arrived, frames.sent
+
+
+class _Frames:
+    """The frames of a run, step by step, as the replies tell of them: those of the run, which of these wait and which
+    were sent and not collected, and how many there still are from before the run."""
+
+    def __init__(self, trace: Trace, replay: Replay) -> None:
+        self.trace, self.replay = trace, replay
+        self.arrived: list[Frame] = []
+        self.sent: list[Frame] = []
+        self.waiting: list[int] = []
+        self.out: list[int] = []
+        self.earlier, self.earlier_out = trace.waiting, trace.out
+
+    def follow(self, step: Step) -> None:
+        """Takes in what a step did to them."""
+        one, reply = self.trace.instruction(step), step.reply
+        is_taken = one.op == Op.RX and not reply.startswith(("idle", "no "))
+        if self.earlier and one.op == Op.RX:
+            self.earlier -= is_taken and not reply.endswith(" more")
+        elif self.earlier_out and one.op == Op.COLLECT:
+            self.earlier_out -= 1
         elif one.op == Op.ARRIVE and reply == "done":
-            waiting.append(len(arrived))
-            step.waiting.append(("+", [len(arrived)]))
-            arrived.append(Frame(step.number, trace.script.data[one.x]))
-        elif one.op == Op.RX and waiting and not reply.startswith(("idle", "no ")):
-            frame = arrived[waiting[0]]
-            queue = number_after(reply, "queue")
-            frame.queue = queue if queue is not None else frame.queue
-            if reply.startswith("wrote"):
-                frame.slots.append(f"queue {queue} slot {number_after(reply, 'slot')}")
-            if not reply.endswith(" more"):
-                step.waiting.append(("-", [waiting.pop(0)]))
+            self.waiting.append(len(self.arrived))
+            step.waiting.append(("+", [len(self.arrived)]))
+            self.arrived.append(Frame(step.number, self.trace.script.data[one.x]))
+        elif is_taken and self.waiting:
+            self._receive(step)
         elif one.op == Op.TX and reply.startswith("sent"):
-            out.append(len(sent))
-            step.out.append(("+", [len(sent)]))
-            sent.append(Frame(step.number, None, one.x))
-        elif one.op == Op.COLLECT and reply.startswith("frame") and out:
-            sent[out[0]].data = bytes.fromhex(reply.split()[-1])
-            step.out.append(("-", [out.pop(0)]))
-        elif earlier + len(waiting):
-            front = arrived[waiting[0]] if waiting and not earlier else None
-            places = _forgotten(trace, replay, step, earlier + len(waiting), front)
-            if gone := [waiting[place - earlier] for place in places if place >= earlier]:
-                step.waiting.append(("-", gone))
-            waiting = [one for one in waiting if one not in gone]
-            earlier -= sum(place < earlier for place in places)
-    replay.earlier.append(earlier)
-    return arrived, sent
+            self.out.append(len(self.sent))
+            step.out.append(("+", [len(self.sent)]))
+            self.sent.append(Frame(step.number, None, one.x))
+        elif one.op == Op.COLLECT and reply.startswith("frame") and self.out:
+            self.sent[self.out[0]].data = bytes.fromhex(reply.split()[-1])
+            step.out.append(("-", [self.out.pop(0)]))
+        elif self.earlier + len(self.waiting):
+            self._forget(step)
+
+    def _receive(self, step: Step) -> None:
+        """A receive step took the first of those that wait, or a part of it."""
+        frame, queue = self.arrived[self.waiting[0]], number_after(step.reply, "queue")
+        frame.queue = queue if queue is not None else frame.queue
+        if step.reply.startswith("wrote"):
+            frame.slots.append(f"queue {queue} slot {number_after(step.reply, 'slot')}")
+        if not step.reply.endswith(" more"):
+            step.waiting.append(("-", [self.waiting.pop(0)]))
+
+    def _forget(self, step: Step) -> None:
+        """Another step, after which some may wait no more."""
+        front = self.arrived[self.waiting[0]] if self.waiting and not self.earlier else None
+        places = _forgotten(self.trace, self.replay, step, self.earlier + len(self.waiting), front)
+        gone = [self.waiting[place - self.earlier] for place in places if place >= self.earlier]
+        if gone:
+            step.waiting.append(("-", gone))
+        self.waiting = [one for one in self.waiting if one not in gone]
+        self.earlier -= sum(place < self.earlier for place in places)
 
 
 def _forgotten(trace: Trace, replay: Replay, step: Step, waiting: int, front: Frame | None) -> list[int]:

@@ -192,25 +192,22 @@ static uint64_t some64(void)
 
 static nic_kept kept;
 
-static void one_call(nic *n)
+static void call_of_registers(nic *n, unsigned which)
 {
-    static uint8_t bytes[5000 + GUARD];
-    nic_told told[8];
-    size_t count = 0, length = below(4) ? below(100) : below(5000);
-    uint64_t line = 0;
     uint32_t word = 0;
-    uint8_t key[40];
-    for (size_t k = 0; k < 48; k++)
-        bytes[k] = (uint8_t)chance();
-    memset(bytes + length, 0x5A, GUARD);
-    memset(key, (int)below(256), sizeof key);
-    switch (below(26)) {
+    switch (which) {
     case 0: MAY(nic_read32(n, some32(), &word), NIC_DONE, NIC_STRAY); break;
     case 1: MAY(nic_write32(n, some32(), some32()), NIC_DONE, NIC_STRAY); break;
     case 2: MAY(nic_vf_read32(n, (uint8_t)chance(), some32(), &word), NIC_DONE, NIC_STRAY); break;
     case 3: MAY(nic_vf_write32(n, (uint8_t)chance(), some32(), some32()), NIC_DONE, NIC_STRAY); break;
     case 4: MAY(nic_peek32(n, some32(), &word), NIC_DONE, NIC_STRAY); break;
-    case 5: MAY(nic_vf_peek32(n, (uint8_t)below(70), some32(), &word), NIC_DONE, NIC_STRAY); break;
+    default: MAY(nic_vf_peek32(n, (uint8_t)below(70), some32(), &word), NIC_DONE, NIC_STRAY);
+    }
+}
+
+static void call_of_memory(nic *n, unsigned which, uint8_t *bytes, size_t length)
+{
+    switch (which) {
     case 6: MAY(nic_lend(n, below(3) ? below(20) : some32()), NIC_DONE, NIC_NO_BLOCK); break;
     case 7: MAY(nic_take(n, below(3) ? below(20) : some32()), NIC_DONE, NIC_NOT_LENT); break;
     case 8:
@@ -218,11 +215,26 @@ static void one_call(nic *n)
             MAY(nic_lend_all(n), NIC_DONE);
         break;
     case 9: MAY(nic_dma_read(n, some64(), bytes, length), NIC_DONE, NIC_NOT_LENT); break;
-    case 10: MAY(nic_dma_write(n, some64(), bytes, length), NIC_DONE, NIC_NOT_LENT); break;
-    case 11: MAY(nic_arrive(n, bytes, length, told), NIC_DONE, NIC_DROPPED); break;
-    case 12: MAY(nic_collect(n, bytes, length, told), NIC_FRAME, NIC_IDLE, NIC_NO_ROOM); break;
+    default: MAY(nic_dma_write(n, some64(), bytes, length), NIC_DONE, NIC_NOT_LENT);
+    }
+}
+
+static void call_of_frames(nic *n, unsigned which, uint8_t *bytes, size_t length)
+{
+    nic_told told;
+    switch (which) {
+    case 11: MAY(nic_arrive(n, bytes, length, &told), NIC_DONE, NIC_DROPPED); break;
+    case 12: MAY(nic_collect(n, bytes, length, &told), NIC_FRAME, NIC_IDLE, NIC_NO_ROOM); break;
     case 13: CHECK(nic_next_out(n) < 20000); break;
-    case 14: MAY(nic_link(n, below(8)), NIC_DONE, NIC_IDLE); break;
+    default: MAY(nic_link(n, below(8)), NIC_DONE, NIC_IDLE);
+    }
+}
+
+static void step(nic *n, unsigned which)
+{
+    nic_told told[8];
+    size_t count = 0;
+    switch (which) {
     case 15: MAY(nic_rx_step(n, told), NIC_WROTE, NIC_DROPPED, NIC_FAULT, NIC_IDLE); break;
     case 16:
         MAY(nic_tx_step(n, (uint16_t)some32(), told), NIC_ADVANCED, NIC_SENT, NIC_FAULT, NIC_IDLE, NIC_NO_QUEUE);
@@ -230,27 +242,51 @@ static void one_call(nic *n)
     case 17: MAY(nic_queue_step(n, below(2), (uint16_t)some32(), told), NIC_DONE, NIC_IDLE, NIC_NO_QUEUE); break;
     case 18: MAY(nic_eeprom_step(n, told), NIC_DONE, NIC_IDLE); break;
     case 19: MAY(nic_int_step(n, (uint8_t)some32(), told), NIC_MESSAGE, NIC_IDLE, NIC_NO_GROUP); break;
-    case 20:
+    default:
         MAY(nic_settle(n, (uint16_t)below(140), told, below(9), &count), NIC_DONE, NIC_MORE, NIC_NO_QUEUE);
         CHECK(count <= 8);
-        break;
-    case 21:
+    }
+}
+
+static void keep_or_restore(nic *n, bool keeps)
+{
+    if (keeps && !below(200)) {
+        nic_drop_snapshot(&kept);
+        MAY(nic_snapshot(n, &kept), NIC_DONE);
+    } else if (!keeps && kept.kept && !below(200)) {
+        MAY(nic_restore(n, &kept), NIC_DONE);
+    }
+}
+
+static void one_call(nic *n)
+{
+    static uint8_t bytes[5000 + GUARD];
+    size_t length = below(4) ? below(100) : below(5000);
+    uint64_t line = 0;
+    uint32_t word = 0;
+    uint8_t key[40];
+    for (size_t k = 0; k < 48; k++)
+        bytes[k] = (uint8_t)chance();
+    memset(bytes + length, 0x5A, GUARD);
+    memset(key, (int)below(256), sizeof key);
+    unsigned which = below(26);
+    if (which < 6)
+        call_of_registers(n, which);
+    else if (which < 11)
+        call_of_memory(n, which, bytes, length);
+    else if (which < 15)
+        call_of_frames(n, which, bytes, length);
+    else if (which < 21)
+        step(n, which);
+    else if (which == 21)
         MAY(nic_install_image(n, bytes, length), NIC_DONE, NIC_IMAGE_ODD_LENGTH, NIC_IMAGE_BAD_SIZE,
             NIC_IMAGE_SECTION_OUTSIDE, NIC_IMAGE_BAD_CHECKSUM, NIC_IMAGE_NOT_TRIPLES);
-        break;
-    case 22: MAY(nic_install_text(n, bytes, length, &line), NIC_TEXT_SYNTAX, NIC_TEXT_NOT_UTF8); break;
-    case 23:
-        if (!below(200)) {
-            nic_drop_snapshot(&kept);
-            MAY(nic_snapshot(n, &kept), NIC_DONE);
-        }
-        break;
-    case 24:
-        if (kept.kept && !below(200))
-            MAY(nic_restore(n, &kept), NIC_DONE);
-        break;
-    default: MAY(nic_hash(key, bytes, below(2) ? length : below(37), &word), NIC_DONE, NIC_NO_ROOM);
-    }
+    else if (which == 22)
+        MAY(nic_install_text(n, bytes, length, &line), NIC_TEXT_SYNTAX, NIC_TEXT_NOT_UTF8);
+    else if (which < 25)
+        keep_or_restore(n, which == 23);
+    else
+        MAY(nic_hash(key, bytes, below(2) ? length : below(37), &word), NIC_DONE, NIC_NO_ROOM);
     for (size_t k = length; k < length + GUARD; k++)
         CHECK(bytes[k] == 0x5A);
 }

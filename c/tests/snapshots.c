@@ -135,35 +135,47 @@ static void set_off(nic *n)
 
 /* --- the tests --- */
 
-static void goes_on_alike(void)
+/* A controller goes on alike from what was kept of it, as often as that is restored. */
+static void goes_on_alike(nic *n, const nic_kept *kept, uint64_t before)
 {
     static uint64_t first[CALLS], again[CALLS];
+    for (uint64_t seed = 1; seed < 9; seed++) {
+        course(n, seed, first);
+        ANSWERS(NIC_DONE, nic_restore(n, kept));
+        CHECK(looked(n) == before);
+        course(n, seed, again);
+        CHECK(memcmp(first, again, sizeof first) == 0);
+        ANSWERS(NIC_DONE, nic_restore(n, kept));
+        ANSWERS(NIC_DONE, nic_restore(n, kept));
+    }
+}
+
+/* Another controller, of other sizes, becomes what was kept. */
+static void becomes_another(nic *n, nic *other, const nic_kept *kept, uint64_t before)
+{
+    static uint64_t first[CALLS], again[CALLS];
+    ANSWERS(NIC_DONE, nic_open(other, 63, 1, 40000));
+    ANSWERS(NIC_DONE, nic_lend(other, 39999));
+    ANSWERS(NIC_DONE, nic_restore(other, kept));
+    CHECK(looked(other) == before);
+    ANSWERS(NIC_NOT_LENT, nic_take(other, 39999));
+    ANSWERS(NIC_NO_BLOCK, nic_lend(other, BLOCKS));
+    ANSWERS(NIC_NO_BLOCK, nic_lend(other, 3));
+    course(n, 99, first);
+    course(other, 99, again);
+    CHECK(memcmp(first, again, sizeof first) == 0);
+}
+
+static void restored(void)
+{
     nic n, other;
     nic_kept kept = {NULL}, later = {NULL};
     set_off(&n);
     uint64_t before = looked(&n);
     ANSWERS(NIC_DONE, nic_snapshot(&n, &kept));
     CHECK(looked(&n) == before);
-    for (uint64_t seed = 1; seed < 9; seed++) {
-        course(&n, seed, first);
-        ANSWERS(NIC_DONE, nic_restore(&n, &kept));
-        CHECK(looked(&n) == before);
-        course(&n, seed, again);
-        CHECK(memcmp(first, again, sizeof first) == 0);
-        ANSWERS(NIC_DONE, nic_restore(&n, &kept));
-        ANSWERS(NIC_DONE, nic_restore(&n, &kept));
-    }
-    /* another controller, of other sizes, becomes what was kept */
-    ANSWERS(NIC_DONE, nic_open(&other, 63, 1, 40000));
-    ANSWERS(NIC_DONE, nic_lend(&other, 39999));
-    ANSWERS(NIC_DONE, nic_restore(&other, &kept));
-    CHECK(looked(&other) == before);
-    ANSWERS(NIC_NOT_LENT, nic_take(&other, 39999));
-    ANSWERS(NIC_NO_BLOCK, nic_lend(&other, BLOCKS));
-    ANSWERS(NIC_NO_BLOCK, nic_lend(&other, 3));
-    course(&n, 99, first);
-    course(&other, 99, again);
-    CHECK(memcmp(first, again, sizeof first) == 0);
+    goes_on_alike(&n, &kept, before);
+    becomes_another(&n, &other, &kept, before);
     /* a snapshot outlives the controller that it was taken of, and others of it */
     ANSWERS(NIC_DONE, nic_snapshot(&other, &later));
     nic_close(&n);
@@ -217,44 +229,62 @@ static size_t space(void)
     return pages * 4096;
 }
 
+/* The last word of packet memory. */
+static uint64_t last_word(nic *n)
+{
+    uint64_t word = 0;
+    ANSWERS(NIC_DONE, nic_get64(n, (uint64_t)(MANY - 1) * NIC_BLOCK_BYTES, &word));
+    return word;
+}
+
+/* The most bytes of address space that the process may take. */
+static void set_space(rlim_t most)
+{
+    struct rlimit limit;
+    CHECK(getrlimit(RLIMIT_AS, &limit) == 0);
+    limit.rlim_cur = most;
+    CHECK(setrlimit(RLIMIT_AS, &limit) == 0);
+}
+
+/* Takes another snapshot and restores one, under a limit. How the latter ended. */
+static uint8_t restore_below(nic *n, const nic_kept *kept, rlim_t limit, rlim_t most)
+{
+    nic_kept spare = {NULL};
+    set_space(limit);
+    uint8_t keeps = nic_snapshot(n, &spare);
+    CHECK(keeps == NIC_OUT_OF_MEMORY ? !spare.kept : keeps == NIC_DONE);
+    nic_drop_snapshot(&spare);
+    uint8_t status = nic_restore(n, kept);
+    set_space(most);
+    return status;
+}
+
 /* Under a limit that is raised bit by bit: each call that finds no memory changes nothing. How many did. */
 static unsigned refused(void)
 {
     struct rlimit limit;
     nic n;
-    nic_kept kept = {NULL}, spare = {NULL};
+    nic_kept kept = {NULL};
     unsigned count = 0;
-    uint64_t before, mark = UINT64_C(0x0123456789ABCDEF), got = 0;
-    size_t first;
+    uint64_t mark = UINT64_C(0x0123456789ABCDEF);
     ANSWERS(NIC_DONE, nic_open(&n, 0, 64, MANY));
     ANSWERS(NIC_DONE, nic_lend_all(&n));
     ANSWERS(NIC_DONE, nic_snapshot(&n, &kept));
     ANSWERS(NIC_DONE, nic_put64(&n, (uint64_t)(MANY - 1) * NIC_BLOCK_BYTES, mark));
     ANSWERS(NIC_DONE, nic_write32(&n, NIC_RDBAL(RX), 0x800));
-    before = looked(&n);
-    first = space();
+    uint64_t before = looked(&n);
+    size_t least = space();
     CHECK(getrlimit(RLIMIT_AS, &limit) == 0);
-    rlim_t most = limit.rlim_cur;
-    for (size_t more = 0;; more += (size_t)4 << 20) {
-        limit.rlim_cur = first + more;
-        CHECK(setrlimit(RLIMIT_AS, &limit) == 0);
-        uint8_t keeps = nic_snapshot(&n, &spare);
-        CHECK(keeps == NIC_OUT_OF_MEMORY ? !spare.kept : keeps == NIC_DONE);
-        nic_drop_snapshot(&spare);
-        uint8_t status = nic_restore(&n, &kept);
-        limit.rlim_cur = most;
-        CHECK(setrlimit(RLIMIT_AS, &limit) == 0);
+    for (;; least += (size_t)4 << 20, count++) {
+        uint8_t status = restore_below(&n, &kept, least, limit.rlim_cur);
         if (status == NIC_DONE)
             break;
         CHECK(status == NIC_OUT_OF_MEMORY);
         CHECK(looked(&n) == before);
-        ANSWERS(NIC_DONE, nic_get64(&n, (uint64_t)(MANY - 1) * NIC_BLOCK_BYTES, &got));
-        CHECK(got == mark);
-        count++;
+        CHECK(last_word(&n) == mark);
     }
     CHECK(looked(&n) != before);
-    ANSWERS(NIC_DONE, nic_get64(&n, (uint64_t)(MANY - 1) * NIC_BLOCK_BYTES, &got));
-    CHECK(got == 0);
+    CHECK(last_word(&n) == 0);
     nic_drop_snapshot(&kept);
     nic_close(&n);
     return count;
@@ -262,7 +292,7 @@ static unsigned refused(void)
 
 int main(int count, char **words)
 {
-    goes_on_alike();
+    restored();
     sizes();
     /* (a sanitizer takes more address space than any limit would leave it) */
     if (count > 1 && strcmp(words[1], "limited") == 0 && space())

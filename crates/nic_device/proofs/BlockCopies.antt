@@ -11,7 +11,7 @@ use Rattle.rx_ring.specs.DmaArena.Memory.{Memory, has_block, is_lent, read_at, p
 use Rattle.rx_ring.specs.DmaArena.Numbers.{Numbers, is_free, with_free}
 use Rattle.rx_ring.proofs.DmaArena.Blocks.{read_at_in}
 use Rattle.rx_ring.proofs.DmaArena.Bus.{get-insert_same, get-insert_other, is_lent_first, is_lent_of_each, of_some}
-use Rattle.nic_device.specs.Blocks.{memory_of, AreRising, AreFree, HaveLeft, IsLowestTaken, TellsTaken, IsFrom}
+use Rattle.nic_device.specs.Blocks.{memory_of, AreRising, AreBelow, AreFree, HaveLeft, IsLowestTaken, TellsTaken, IsFrom}
 use Rattle.nic_device.proofs.Leaving.{has-insert_other, left-more}
 
 -- one block of a memory
@@ -55,14 +55,20 @@ copy-of_some m n k lent bytes whole is test has read =
 
 -- the blocks from a number on
 
-past-none : (m : Memory) (n : ℕ) → IsWhole m → 65536 ≤ n → map.get m n ≡ None
-past-none m n whole past = none_of (map.get m n) (λ bytes is.
-    let small : n < 65536 = (whole.block n bytes is).small in omega arith)
+-- a whole block has a number below 65,536
+pub below-whole : (m : Memory) → IsWhole m → AreBelow m 65536
+below-whole m whole n has =
+    let there : (bytes : List ℕ) × (map.get m n ≡ Some bytes) = of_some (map.get m n) has in
+    (whole.block n there.0 there.1).small
 
-pub from_past : (m : Memory) → IsWhole m → IsFrom m map.empty 65536
-from_past m whole = record {
+past-none : (m : Memory) (n end : ℕ) → AreBelow m end → end ≤ n → map.get m n ≡ None
+past-none m n end below past = none_of (map.get m n) (λ bytes is.
+    let small : n < end = below n (ap is_some is) in omega arith)
+
+pub from_past : (m : Memory) (end : ℕ) → AreBelow m end → IsFrom m map.empty end
+from_past m end below = record {
   below = λ n low. map.get-empty nat_cmp n;
-  above = λ n past. map.get-empty nat_cmp n ∙ sym (past-none m n whole past);
+  above = λ n past. map.get-empty nat_cmp n ∙ sym (past-none m n end below past);
 }
 
 pub from_none : (m part : Memory) (at : ℕ) → 0 < at → IsFrom m part at → map.get m (at - 1) ≡ None
@@ -123,7 +129,7 @@ drop-at copies at copy some inside is =
 
 -- what a copy stands for
 
-has-insert_same : (m : Memory) (n : ℕ) (bytes : List ℕ) → has_block (map.insert m n bytes) n ≡ true
+pub has-insert_same : (m : Memory) (n : ℕ) (bytes : List ℕ) → has_block (map.insert m n bytes) n ≡ true
 has-insert_same m n bytes = ap is_some (get-insert_same m n bytes)
 
 -- a copy behind one has another number

@@ -27,7 +27,7 @@ has-remove m n k has is =
     let none : has_block (map.remove m n) k ≡ false = rw is (ap is_some (get-remove_same m n)) in
     let no : true ≡ false = sym has ∙ none in absurd (cc)
 
-has-empty : (n : ℕ) → has_block map.empty n ≡ false
+pub has-empty : (n : ℕ) → has_block map.empty n ≡ false
 has-empty n = ap is_some (map.get-empty {X = List ℕ} nat_cmp n)
 
 -- nothing has left
@@ -165,7 +165,7 @@ module _ (a given : Numbers) (m less : Memory) (n : ℕ) (b : Block) (taken : So
   back-left before was = rw (left, back, number-is) (left-less before a m n was has-taken)
 
 -- a whole block is written into one that was taken
-write-all : (block bytes : List ℕ) → length block ≡ 2048 → length bytes ≡ 2048 → put_bytes block 0 bytes ≡ bytes
+pub write-all : (block bytes : List ℕ) → length block ≡ 2048 → length bytes ≡ 2048 → put_bytes block 0 bytes ≡ bytes
 unfolding put_bytes
 write-all block bytes size long =
     let none : drop (0 + length bytes) block ≡ [] =

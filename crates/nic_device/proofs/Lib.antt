@@ -34,6 +34,7 @@ pub mod Queued
 pub mod Raising
 pub mod Ranges
 pub mod Receiving
+pub mod Returning
 pub mod Sending
 pub mod SidesOn
 pub mod Staging

@@ -22,6 +22,14 @@ AreFree a m = (number : ℕ) → has_block m number ≡ true → is_free a numbe
 abbrev pub AreAway : Numbers → Memory → Type 0
 AreAway a m = (number : ℕ) → has_block m number ≡ true → (is_own a number ≡ true) × (is_free a number ≡ false)
 
+-- each block of one memory is in the other
+abbrev pub AreAmong : Memory → Memory → Type 0
+AreAmong all some = (number : ℕ) → has_block some number ≡ true → has_block all number ≡ true
+
+-- no block of the memory has a number from this one on
+abbrev pub AreBelow : Memory → ℕ → Type 0
+AreBelow m end = (number : ℕ) → has_block m number ≡ true → number < end
+
 -- the lowest block of the memory that isn't free in the arena
 pub record IsLowestTaken (a : Numbers) (m : Memory) (block : ℕ) : Type 0 where
   pub lent : has_block m block ≡ true
@@ -39,6 +47,10 @@ pub record HaveLeft (before after : Numbers) (m : Memory) : Type 0 where
   pub count : length after.free ≡ length before.free
   pub lent : (number : ℕ) → has_block m number ≡ true → (is_free before number ≡ true) × (is_free after number ≡ false)
   pub others : (number : ℕ) → has_block m number ≡ false → is_free after number ≡ is_free before number
+
+-- where the one memory's blocks had left an arena, now the other's have
+abbrev pub StillLeft : Numbers → Memory → Numbers → Memory → Type 0
+StillLeft a m b n = (before : Numbers) → HaveLeft before a m → HaveLeft before b n
 
 -- one memory has the other's blocks from a number on, and none below it
 pub record IsFrom (whole part : Memory) (start : ℕ) : Type 0 where

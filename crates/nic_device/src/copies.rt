@@ -1,12 +1,12 @@
 //! Copies of lent blocks, and blocks that are lent again with the bytes of their copies.
 
-ghost use Rattle.std.specs.Prelude.{◌≡◌, ◌<◌, ◌≤◌, ℕ, true, false, length, Some, None, IfOk, OnOk, OnErr};
+ghost use Rattle.std.specs.Prelude.{◌≡◌, ◌+◌, ◌<◌, ◌≤◌, ℕ, true, false, length, Some, None, IfOk, OnOk, OnErr};
 ghost use Rattle.std.specs.FinMap as map;
 ghost use Rattle.rx_ring.specs.DmaArena.Memory.{Memory, has_block, IsWhole};
-ghost use Rattle.rx_ring.specs.DmaArena.Numbers.{Numbers, is_free, is_own, with_free};
-ghost use Rattle.nic_device.specs.Blocks.{AreFree, AreAway, TellsTaken, HaveLeft, memory_of, AreRising};
+ghost use Rattle.rx_ring.specs.DmaArena.Numbers.{Numbers, count_of, is_free, is_own, with_free};
+ghost use Rattle.nic_device.specs.Blocks.{AreFree, AreAway, AreAmong, AreBelow, TellsTaken, HaveLeft, StillLeft, memory_of, AreRising};
 
-use rx_ring::{Arena, BLOCK_BYTES, BLOCK_NUMBERS, Buf, LendRefused, LentMemory, Octets};
+use rx_ring::{Arena, BLOCK_BYTES, Buf, LendRefused, LentMemory, Octets};
 use std::alloc::{AllocError, Global};
 use std::collections::VecDeque;
 use std::marker::Model;
@@ -33,13 +33,14 @@ impl Model for Blocks {
 }
 
 impl Blocks {
-    /// Copies of all blocks that are lent.
-    pub(crate) fn copied(alloc: Global, memory: &LentMemory) -> Result<Blocks, AllocError>
-        requires { IsWhole memory.now }
+    /// Copies of all blocks that are lent. Each has a number below `end`.
+    pub(crate) fn copied(alloc: Global, memory: &LentMemory, end: u32) -> Result<Blocks, AllocError>
+        requires whole { IsWhole memory.now }
+        requires below { AreBelow memory.now end }
         ensures { IfOk result (λ blocks. blocks ≡ memory.now) }
     {
         let mut copies = VecDeque::new(alloc);
-        let mut number = BLOCK_NUMBERS;
+        let mut number = end;
         'each: while number > 0 {
             number -= 1;
             if let Some(bytes) = copy_of(alloc, memory, number)? {
@@ -68,6 +69,25 @@ impl Blocks {
         lowest
     }
 
+    /// Whether each of these blocks is lent.
+    pub(crate) fn are_lent(&self, memory: &LentMemory) -> bool
+        ensures { result ≡ true → AreAmong memory.now self.now }
+    {
+        all_lent(&self.copies, memory)
+    }
+
+    /// Gives lent blocks the copied bytes, and returns all lent blocks of other numbers to the arena.
+    pub(crate) fn put_back(&self, memory: &mut LentMemory, arena: &mut Arena)
+        requires lent { AreAmong memory.old self.now }
+        requires whole { IsWhole self.now }
+        requires blocks { IsWhole memory.old }
+        requires away { AreAway arena.old memory.old }
+        ensures put { memory.new ≡ self.now }
+        ensures left { StillLeft arena.old memory.old arena.new memory.new }
+    {
+        put_all_back(&self.copies, memory, arena);
+    }
+
     /// Takes the blocks of these numbers out of the arena, where all are free, and lends them with the copied bytes.
     /// Without memory for that the arena is unchanged.
     pub(crate) fn lent(&self, alloc: Global, arena: &mut Arena) -> Result<LentMemory, AllocError>
@@ -88,6 +108,17 @@ impl Blocks {
     }
 }
 
+/// The number behind the highest of the arena's.
+pub(crate) fn end_of(arena: &Arena) -> u32
+    ensures end { result ≡ arena.now.first + count_of arena.now }
+    ensures small { result ≤ 65536 }
+{
+    let first = arena.first();
+    // That its numbers are below 65,536 is told by `owns`.
+    let _ = arena.owns(first);
+    first + arena.count()
+}
+
 /// A copy of a lent block. `None` where no block of the number is lent.
 fn copy_of(alloc: Global, memory: &LentMemory, number: u32) -> Result<Option<Octets>, AllocError>
     ensures { IfOk result (λ copy. copy ≡ map.get memory.now number) }
@@ -100,6 +131,66 @@ fn copy_of(alloc: Global, memory: &LentMemory, number: u32) -> Result<Option<Oct
     memory.read_at(bus, &mut bytes);
     let copy = Vec::from_slice(alloc, &bytes)?;
     Ok(Some(Octets::of(copy)))
+}
+
+/// Whether each of the copied blocks is lent.
+fn all_lent(copies: &[(u32, Octets)], memory: &LentMemory) -> bool
+    ensures { result ≡ true → AreAmong memory.now (memory_of copies.now) }
+{
+    let mut at = copies.len();
+    'each: while at > 0 {
+        at -= 1;
+        if !memory.is_lent(u64::from(copies[at].0) * 2048, BLOCK_BYTES) {
+            return false;
+        }
+    }
+    true
+}
+
+/// Gives lent blocks the bytes of their copies, and returns the lent blocks without a copy to the arena, the highest
+/// first.
+fn put_all_back(copies: &[(u32, Octets)], memory: &mut LentMemory, arena: &mut Arena)
+    requires rising { AreRising copies.now }
+    requires lent { AreAmong memory.old (memory_of copies.now) }
+    requires whole { IsWhole (memory_of copies.now) }
+    requires blocks { IsWhole memory.old }
+    requires away { AreAway arena.old memory.old }
+    ensures put { memory.new ≡ memory_of copies.now }
+    ensures left { StillLeft arena.old memory.old arena.new memory.new }
+{
+    let mut at = copies.len();
+    let mut number = end_of(arena);
+    'each: while number > 0 {
+        number -= 1;
+        if at > 0 && copies[at - 1].0 == number {
+            at -= 1;
+            write_block(memory, number, &copies[at].1);
+        } else {
+            return_block(memory, arena, number);
+        }
+    }
+}
+
+/// Writes all bytes of a lent block.
+fn write_block(memory: &mut LentMemory, number: u32, bytes: &Octets)
+    requires lent { has_block memory.old number ≡ true }
+    requires whole { length bytes.now ≡ 2048 }
+    requires blocks { IsWhole memory.old }
+    ensures { memory.new ≡ map.insert memory.old number bytes.now }
+{
+    memory.write_at(u64::from(number) * 2048, bytes.bytes());
+}
+
+/// Takes a block back, where it is lent, and returns it to the arena.
+fn return_block(memory: &mut LentMemory, arena: &mut Arena, number: u32)
+    requires { AreAway arena.old memory.old }
+    ensures taken { memory.new ≡ map.remove memory.old number }
+    ensures away { AreAway arena.new memory.new }
+    ensures left { StillLeft arena.old memory.old arena.new memory.new }
+{
+    if let Some(buf) = memory.take(number) {
+        give_back(arena, buf);
+    }
 }
 
 /// Lends a block of the arena for each of the copies, the highest first.

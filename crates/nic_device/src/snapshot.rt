@@ -1,17 +1,19 @@
 //! Snapshots of a device, and devices restored from them.
 
-ghost use Rattle.std.specs.Prelude.{◌≡◌, IfOk, IfErr, OnOk, OnErr};
-ghost use Rattle.rx_ring.specs.DmaArena.Memory.{IsWhole};
-ghost use Rattle.nic_device.specs.Blocks.{AreFree, HaveLeft};
+ghost use Rattle.std.specs.Prelude.{◌≡◌, true, IfOk, IfErr, OnOk, OnErr};
+ghost use Rattle.std.specs.FinMap as map;
+ghost use Rattle.nic_device.specs.Blocks.{AreFree, AreAmong, AreAway, AreBelow, HaveLeft, StillLeft};
 ghost use Rattle.nic_device.specs.Restoring.{IsWhy};
+ghost use Rattle.nic_device.specs.Sound.{IsSound};
 
-use crate::copies::Blocks;
+use crate::copies::{Blocks, end_of};
 use crate::device::Device;
 use crate::engine::Engine;
 use crate::rest::Rest;
-use rx_ring::Arena;
+use rx_ring::{Arena, BLOCK_NUMBERS, LentMemory};
 use std::alloc::AllocError;
 use std::marker::Model;
+use std::mem;
 
 /// The state of a device as plain data: its registers, the bytes of the blocks that are lent to it, the receive list,
 /// the staged bytes, the transmitted frames, the link and the image. It can be dropped: its blocks are copies, and
@@ -49,9 +51,40 @@ impl Device {
     pub fn snapshot(&self) -> Result<Snapshot, AllocError>
         ensures { IfOk result (λ snapshot. snapshot ≡ self.now) }
     {
-        let rest = self.engine.rest()?;
-        let blocks = self.engine.blocks()?;
-        Ok(Snapshot { rest, blocks })
+        self.engine.snapshot(BLOCK_NUMBERS)
+    }
+
+    /// As `snapshot`, where all lent blocks are of this arena: only its numbers are looked at.
+    pub fn snapshot_beside(&self, arena: &Arena) -> Result<Snapshot, AllocError>
+        requires { AreAway arena.now self.now.memory }
+        ensures { IfOk result (λ snapshot. snapshot ≡ self.now) }
+    {
+        self.engine.snapshot(end_of(arena))
+    }
+
+    /// Whether each block that was lent when the snapshot was made is lent now.
+    pub fn has_blocks_of(&self, snapshot: &Snapshot) -> bool
+        ensures { result ≡ true → AreAmong self.now.memory snapshot.now.memory }
+    {
+        snapshot.blocks.are_lent(&self.engine.memory)
+    }
+
+    /// Brings the device into the snapshot's state, where the blocks to be lent to it are lent already: they get the
+    /// bytes of the snapshot, and all others return to the arena. After `AllocError` nothing has changed.
+    pub fn go_back(&mut self, snapshot: &Snapshot, arena: &mut Arena) -> Result<(), AllocError>
+        requires away { AreAway arena.old self.old.memory }
+        requires lent { AreAmong self.old.memory snapshot.now.memory }
+        ensures restored { OnOk result (self.new ≡ snapshot.now) }
+        ensures left { OnOk result (StillLeft arena.old self.old.memory arena.new snapshot.now.memory) }
+        ensures unchanged { OnErr result (self.new ≡ self.old) }
+        ensures kept { OnErr result (arena.new ≡ arena.old) }
+    {
+        let rest = snapshot.rest.copy()?;
+        let none = LentMemory::new(rest.alloc);
+        snapshot.blocks.put_back(&mut self.engine.memory, arena);
+        let memory = mem::replace(&mut self.engine.memory, none);
+        end(mem::replace(&mut self.engine, rest.with_memory(memory)));
+        Ok(())
     }
 
     /// A device in the snapshot's state. The blocks that are lent to it are taken out of the arena: each must be free
@@ -94,11 +127,35 @@ impl Snapshot {
 }
 
 impl Engine {
-    /// Copies of the blocks that are lent.
-    fn blocks(&self) -> Result<Blocks, AllocError>
-        requires { IsWhole self.now.memory }
-        ensures { IfOk result (λ blocks. blocks ≡ self.now.memory) }
+    /// A snapshot, where each lent block has a number below `end`.
+    fn snapshot(&self, end: u32) -> Result<Snapshot, AllocError>
+        requires sound { IsSound self.now }
+        requires below { AreBelow self.now.memory end }
+        ensures { IfOk result (λ snapshot. snapshot ≡ self.now) }
     {
-        Blocks::copied(self.alloc, &self.memory)
+        let rest = self.rest()?;
+        let blocks = Blocks::copied(self.alloc, &self.memory, end)?;
+        Ok(Snapshot { rest, blocks })
+    }
+}
+
+/// Ends a device to which no block is lent.
+fn end(engine: Engine)
+    requires { engine.memory ≡ map.empty }
+{
+    let Engine {
+        registers: _,
+        memory,
+        waiting: _,
+        staged: _,
+        out: _,
+        link: _,
+        image: _,
+        config: _,
+        alloc: _,
+    } = engine;
+    match memory.finish() {
+        Ok(()) => {}
+        Err(_memory) => unreachable!(),
     }
 }

@@ -6,9 +6,8 @@ use Rattle.nic_device.proofs.copies.Blocks.copied.Goals as goal
 pub each-init : goal.each-init
 each-init c =
     let none = sym c.new-copies.ensures.items in record {
-      small = omega arith;
-      from = subst (λ (es : List (ℕ × List ℕ)). IsFrom c.args.memory.now (memory_of es) 65536) none
-          (from_past c.args.memory.now c.requires);
+      from = subst (λ (es : List (ℕ × List ℕ)). IsFrom c.args.memory.now (memory_of es) c.args.end) none
+          (from_past c.args.memory.now c.args.end c.requires.below);
       rising = subst AreRising none tt;
     }
 
@@ -16,7 +15,6 @@ pub each-preserved-in-Continue-branch-3 : goal.each-preserved-in-Continue-branch
 each-preserved-in-Continue-branch-3 c =
     let more = sym c.in_ok-push_front.ensures.items in
     let there = sym c.in_ok-bytes.ensures ∙ c.in-Some.is in record {
-      small = omega arith;
       from = subst (λ (es : List (ℕ × List ℕ)). IsFrom c.args.memory.now (memory_of es) (c.each.number - 1)) more
           (from_some c.args.memory.now (memory_of c.each.copies.items) c.each.number c.in-Some.bytes (omega arith)
           c.each.invariant.from there);

@@ -1,11 +1,9 @@
-use Rattle.std.proofs.Common.{◌≤◌}
 use Rattle.nic_device.specs.Blocks.{memory_of, AreRising, IsFrom}
 use Rattle.nic_device.proofs.copies.Blocks.copied.Given as goal
 
 -- the blocks from a number on are copied
 abbrev pub invariant-each : goal.invariant-each
 invariant-each l = record {
-  small : l.number ≤ 65536;
   from : IsFrom l.memory (memory_of l.copies.items) l.number;
   rising : AreRising l.copies.items;
 }

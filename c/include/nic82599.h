@@ -181,8 +181,9 @@ uint8_t nic_snapshot(nic *n, nic_kept *kept);
 
 /* Restores a snapshot, into its own controller or any other, whose blocks and virtual functions become those of the
    snapshot. DONE, and the controller's former state is gone; OUT_OF_MEMORY, and it is unchanged. Either way the
-   snapshot stays, and can be restored again. During the call there is memory for both states. Like a handle, a snapshot
-   isn't thread-safe. */
+   snapshot stays, and can be restored again. During the call there is memory for both states; new packet memory is
+   taken only where the numbers of blocks differ, or a block isn't lent that was. Like a handle, a snapshot isn't
+   thread-safe. */
 uint8_t nic_restore(nic *n, const nic_kept *kept);
 
 /* Ends a snapshot, which must be one that nic_snapshot made and that wasn't ended. No controller is affected.

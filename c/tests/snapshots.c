@@ -216,6 +216,60 @@ static void sizes(void)
     nic_close(&n);
 }
 
+/* Writes into blocks 1 and 3, which the snapshot has lent, and lends others, of which block 0 is written. */
+static void lend_others(nic *n)
+{
+    ANSWERS(NIC_DONE, nic_put64(n, NIC_BLOCK_BYTES, 99));
+    ANSWERS(NIC_DONE, nic_put64(n, 3 * NIC_BLOCK_BYTES, 99));
+    ANSWERS(NIC_DONE, nic_put64(n, 4 * NIC_BLOCK_BYTES - 8, 99));
+    ANSWERS(NIC_DONE, nic_lend(n, 0));
+    ANSWERS(NIC_DONE, nic_lend(n, 2));
+    ANSWERS(NIC_DONE, nic_lend(n, BLOCKS - 1));
+    ANSWERS(NIC_DONE, nic_put64(n, 0, 99));
+}
+
+/* Blocks 1 and 3 have their words again, the others are free again, and one of these is lent anew with bytes of 0. */
+static void has_two_blocks(nic *n)
+{
+    uint64_t got = 0;
+    ANSWERS(NIC_DONE, nic_get64(n, NIC_BLOCK_BYTES, &got));
+    CHECK(got == 11);
+    ANSWERS(NIC_DONE, nic_get64(n, 4 * NIC_BLOCK_BYTES - 8, &got));
+    CHECK(got == 33);
+    ANSWERS(NIC_NOT_LENT, nic_take(n, 0));
+    ANSWERS(NIC_NOT_LENT, nic_take(n, 2));
+    ANSWERS(NIC_NOT_LENT, nic_take(n, BLOCKS - 1));
+    ANSWERS(NIC_DONE, nic_lend(n, 0));
+    ANSWERS(NIC_DONE, nic_get64(n, 0, &got));
+    CHECK(got == 0);
+    ANSWERS(NIC_DONE, nic_take(n, 0));
+}
+
+/* One that has as many blocks keeps its packet memory: blocks get their bytes again, and later ones are free again. */
+static void keeps_its_blocks(void)
+{
+    nic n;
+    nic_kept kept;
+    ANSWERS(NIC_DONE, nic_open(&n, 0, 8, BLOCKS));
+    ANSWERS(NIC_DONE, nic_lend(&n, 1));
+    ANSWERS(NIC_DONE, nic_lend(&n, 3));
+    ANSWERS(NIC_DONE, nic_put64(&n, NIC_BLOCK_BYTES, 11));
+    ANSWERS(NIC_DONE, nic_put64(&n, 4 * NIC_BLOCK_BYTES - 8, 33));
+    ANSWERS(NIC_DONE, nic_snapshot(&n, &kept));
+    uint64_t before = looked(&n);
+    for (unsigned round = 0; round < 3; round++) {
+        lend_others(&n);
+        /* (without one of its blocks it gets other packet memory) */
+        if (round == 2)
+            ANSWERS(NIC_DONE, nic_take(&n, 3));
+        ANSWERS(NIC_DONE, nic_restore(&n, &kept));
+        CHECK(looked(&n) == before);
+        has_two_blocks(&n);
+    }
+    nic_drop_snapshot(&kept);
+    nic_close(&n);
+}
+
 /* How many bytes of address space the process has, or 0 where that isn't told. */
 static size_t space(void)
 {
@@ -259,7 +313,8 @@ static uint8_t restore_below(nic *n, const nic_kept *kept, rlim_t limit, rlim_t 
     return status;
 }
 
-/* Under a limit that is raised bit by bit: each call that finds no memory changes nothing. How many did. */
+/* Under a limit that is raised bit by bit: each call that finds no memory changes nothing. How many did. The controller
+   has one block less than the snapshot, so that a restore takes packet memory. */
 static unsigned refused(void)
 {
     struct rlimit limit;
@@ -267,9 +322,12 @@ static unsigned refused(void)
     nic_kept kept = {NULL};
     unsigned count = 0;
     uint64_t mark = UINT64_C(0x0123456789ABCDEF);
-    ANSWERS(NIC_DONE, nic_open(&n, 0, 64, MANY));
+    ANSWERS(NIC_DONE, nic_open(&n, 0, 64, MANY + 1));
     ANSWERS(NIC_DONE, nic_lend_all(&n));
     ANSWERS(NIC_DONE, nic_snapshot(&n, &kept));
+    nic_close(&n);
+    ANSWERS(NIC_DONE, nic_open(&n, 0, 64, MANY));
+    ANSWERS(NIC_DONE, nic_lend_all(&n));
     ANSWERS(NIC_DONE, nic_put64(&n, (uint64_t)(MANY - 1) * NIC_BLOCK_BYTES, mark));
     ANSWERS(NIC_DONE, nic_write32(&n, NIC_RDBAL(RX), 0x800));
     uint64_t before = looked(&n);
@@ -294,6 +352,7 @@ int main(int count, char **words)
 {
     restored();
     sizes();
+    keeps_its_blocks();
     /* (a sanitizer takes more address space than any limit would leave it) */
     if (count > 1 && strcmp(words[1], "limited") == 0 && space())
         CHECK(refused() > 0);

@@ -1,15 +1,16 @@
 -- A card's blocks beside a device that is kept or restored.
-use Rattle.std.proofs.Common.{◌≡◌, refl, sym, subst, ◌∙◌, ap, ℕ, ◌+◌, ◌-◌, ◌<◌, ◌≤◌, Bool, true, false, not, List, length, map, get_or, arith}
+use Rattle.std.proofs.Common.{◌≡◌, refl, sym, subst, ◌∙◌, ap, ℕ, ◌+◌, ◌-◌, ◌<◌, ◌≤◌, Bool, true, false, not, List, length, map, get_or, Result, Ok, Err, OnOk, OnErr, arith}
 use Rattle.std.specs.List.{range_with_len}
 use Rattle.std.proofs.lemmas.List.{ext_get_or, length-replicate}
 use Rattle.std.proofs.lemmas.List.FromFn.{get_or-map-range_with_len, length-map-range_with_len}
-use Rattle.nic_device.specs.Blocks.{HaveLeft, IsLowestTaken}
+use Rattle.nic_device.specs.Blocks.{AreAway, HaveLeft, IsLowestTaken, StillLeft}
 use Rattle.nic_device.specs.DmaArena.Memory.{Memory, has_block}
 use Rattle.nic_device.specs.DmaArena.Numbers.{Numbers, all_free, are_all_free, count_of, is_free, is_own}
 use Rattle.nic_device.specs.State.{State}
-use Rattle.nic_device.proofs.DmaArena.Arenas.{own_within, own_of_within, is_free_from, is_own-of_free, is_own-all_free, own_within-all_free, is_free-all_free, CountsFree-numbers}
+use Rattle.nic_device.proofs.DmaArena.Arenas.{own_within, own_of_within, is_free_from, is_own-of_free, is_own-all_free, own_within-all_free, is_free-all_free, not_free, CountsFree-numbers}
 use Rattle.card.specs.Card.{Holdings, AreShared}
 use Rattle.card.specs.Kept.{blocks_beside}
+use Rattle.card.proofs.Sharing.{lent_away}
 
 -- which blocks are free follows from which are lent
 
@@ -44,6 +45,10 @@ pub kept-is : (d s : State) (a : Numbers) (count : ℕ) → AreShared d.memory a
     ≡ record { device = d; arena = a }
 kept-is d s a count h is all =
     rw (is, all) (ap (λ x. let c : Holdings = record { device = d; arena = x } in c) (beside-is d.memory a h))
+
+-- a lent block is the arena's, and isn't free there
+pub shared-away : (m : Memory) (a : Numbers) → AreShared m a → AreAway a m
+shared-away m a h n has = (h.few n has, lent_away m a n h has)
 
 -- each block that is lent is one of so many
 
@@ -105,3 +110,56 @@ restored-is s d a b count all is left =
     sym (beside-is s.memory b (shared-left s.memory b count new))
     ∙ ap (λ k. blocks_beside k s.memory) (left-count s.memory b count new) in
     rw (is, blocks) refl
+
+-- a card whose device goes back, and keeps its arena
+
+is_free-not_lent : (m : Memory) (a : Numbers) (n : ℕ) (own : Bool) → AreShared m a → has_block m n ≡ false
+    → is_own a n ≡ own → is_free a n ≡ own
+is_free-not_lent m a n true h none is = h.either n is ∙ ap not none
+is_free-not_lent m a n false h none is = not_free a n (is_free a n) refl is
+
+own-same : (a : Numbers) (n : ℕ) → a.first ≡ 0 → is_own (all_free 0 (count_of a)) n ≡ is_own a n
+own-same a n first = rw (first, length-replicate (count_of a) true) refl
+
+pub shared-count : (m : Memory) (a : Numbers) (n : ℕ) → AreShared m a → has_block m n ≡ true → n < count_of a
+shared-count m a n h lent = let within = own_within a n (h.few n lent) in omega (arith, within.1, h.first)
+
+pub all-left : (m : Memory) (a : Numbers) → AreShared m a → HaveLeft (all_free 0 (count_of a)) a m
+all-left m a h = record {
+  first = h.first;
+  count = sym (length-replicate (count_of a) true);
+  lent = λ n has. (new-free (count_of a) n (shared-count m a n h has), lent_away m a n h has);
+  others = λ n none.
+      is_free-not_lent m a n (is_own a n) h none refl ∙ sym (own-same a n h.first)
+      ∙ sym (is_free-all_free 0 (count_of a) n);
+}
+
+module _ (m : Memory) (s d : State) (a b : Numbers) (count : ℕ) (h : AreShared m a) (all : count ≡ count_of a)
+    (is : d ≡ s) (left : StillLeft a m b s.memory) where
+  left-all : HaveLeft (all_free 0 count) b s.memory
+  left-all = rw all (left (all_free 0 (count_of a)) (all-left m a h))
+
+  pub back-shared : AreShared d.memory b
+  back-shared = restored-shared s d (all_free 0 count) b count refl is left-all
+
+  pub back-is : (let c : Holdings = record { device = d; arena = b } in c)
+      ≡ record { device = s; arena = blocks_beside count s.memory }
+  back-is = restored-is s d (all_free 0 count) b count refl is left-all
+
+-- also where it may have been refused
+
+pub tried-shared : {A E : Type 0} (former s d : State) (a b : Numbers) (count : ℕ) (result : Result A E)
+    → AreShared former.memory a → count ≡ count_of a → OnOk result (d ≡ s)
+    → OnOk result (StillLeft a former.memory b s.memory) → OnErr result (d ≡ former) → OnErr result (b ≡ a)
+    → AreShared d.memory b
+tried-shared former s d a b count (Ok done) h all is left same kept =
+    back-shared former.memory s d a b count h all is left
+tried-shared former s d a b count (Err why) h all is left same kept = rw (same, kept) h
+
+pub tried-is : {A E : Type 0} (former s d : State) (a b : Numbers) (count : ℕ) (result : Result A E)
+    → AreShared former.memory a → count ≡ count_of a → OnOk result (d ≡ s)
+    → OnOk result (StillLeft a former.memory b s.memory)
+    → OnOk result ((let c : Holdings = record { device = d; arena = b } in c)
+    ≡ record { device = s; arena = blocks_beside count s.memory })
+tried-is former s d a b count (Ok done) h all is left = back-is former.memory s d a b count h all is left
+tried-is former s d a b count (Err why) h all is left = tt

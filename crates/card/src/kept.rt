@@ -1,12 +1,13 @@
 //! A card that is kept as plain data.
 
-ghost use Rattle.std.specs.Prelude.{◌≡◌, IsTrue, IfOk};
+ghost use Rattle.std.specs.Prelude.{◌≡◌, IsTrue, IfOk, OnOk, OnErr};
 ghost use Rattle.nic_device.specs.DmaArena.Numbers.{are_all_free};
 
 use crate::card::Card;
 use nic_device::{Arena, Device, RestoreRefused, Snapshot};
 use std::alloc::{AllocError, Global};
 use std::marker::Model;
+use std::mem;
 
 /// The contents of a card: a snapshot of its device, with the bytes of the lent blocks, and the number of its blocks.
 /// Blocks that aren't lent are free.
@@ -44,7 +45,7 @@ impl Card {
     pub fn keep(&self) -> Result<Kept, AllocError>
         ensures { IfOk result (λ kept. kept ≡ self.now) }
     {
-        match self.device.snapshot() {
+        match self.device.snapshot_beside(&self.arena) {
             Ok(device) => Ok(Kept {
                 device,
                 blocks: self.arena.count(),
@@ -70,5 +71,19 @@ impl Kept {
                 Err(AllocError)
             }
         }
+    }
+
+    /// Gives a card the kept contents. It keeps its packet memory, where it has as many blocks and all those that are
+    /// to be lent are lent already; else it gets other. After `AllocError` nothing has changed.
+    pub fn restore(&self, alloc: Global, card: &mut Card) -> Result<(), AllocError>
+        ensures restored { OnOk result (card.new ≡ self.now) }
+        ensures unchanged { OnErr result (card.new ≡ card.old) }
+    {
+        if self.blocks == card.arena.count() && card.device.has_blocks_of(&self.device) {
+            return card.device.go_back(&self.device, &mut card.arena);
+        }
+        let other = self.card(alloc)?;
+        drop(mem::replace(card, other));
+        Ok(())
     }
 }

@@ -7,7 +7,6 @@ use crate::handle::{Handle, KeptHandle};
 use crate::parts::Parts;
 use crate::status::{DONE, OUT_OF_MEMORY};
 use std::alloc::Global;
-use std::mem;
 
 /// Makes a snapshot of the card: its device, with the bytes of the lent blocks, the receive list, the staged bytes and
 /// the transmitted frames, and which blocks are free. The card stays unchanged. Stores the snapshot's pointer in
@@ -33,8 +32,8 @@ pub extern "C" fn nic_snapshot(alloc: Global, nic: &mut Handle, kept: &mut KeptH
     }
 }
 
-/// Replaces the card by one in the snapshot's state, with packet memory of its own, and frees the former one. The
-/// snapshot stays, and may be of another card.
+/// Brings the card into the snapshot's state. Its packet memory stays where it has as many blocks as the snapshot and
+/// all blocks that were lent then are lent now; else it is replaced. The snapshot stays, and may be of another card.
 ///
 /// DONE, or OUT_OF_MEMORY, which leaves the card unchanged.
 #[unsafe(no_mangle)]
@@ -44,10 +43,9 @@ pub extern "C" fn nic_restore(alloc: Global, nic: &mut Handle, kept: &mut KeptHa
     ensures unchanged { result ≡ OUT_OF_MEMORY → nic.new.card ≡ nic.old.card }
     ensures kept { kept.new.kept ≡ kept.old.kept }
 {
-    let Ok(card) = kept.lend().card(alloc) else {
+    let Ok(()) = kept.lend().restore(alloc, nic.lend()) else {
         return OUT_OF_MEMORY;
     };
-    drop(mem::replace(nic.lend(), card));
     DONE
 }
 

@@ -1,9 +1,18 @@
-//! Named bits in words.
+//! Bits in words, by their names or numbers.
 
 ghost use Rattle.std.specs.Prelude.{◌≡◌, ◌<◌, ◌^◌};
 ghost use Rattle.register_bits.specs.Single.{IsSingle, has_flag, with_flag, without_flag};
 
 use bitflags::Flags;
+
+/// Whether a bit of a word, by its number from the lowest on, is 1.
+#[inline(always)]
+pub fn has_bit(word: u32, bit: u32) -> bool
+    requires { bit < 32 }
+    ensures { result ≡ has_flag (2 ^ bit) word }
+{
+    (word >> bit) % 2 == 1
+}
 
 /// Whether a named bit is 1 in a word of its register.
 #[inline(always)]

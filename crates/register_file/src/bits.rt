@@ -1,17 +1,8 @@
 //! Single bits of words.
 
 ghost use Rattle.std.specs.Prelude.{◌≡◌, ◌<◌};
-ghost use Rattle.register_file.specs.Bits.{has_bit, bit_set};
+ghost use Rattle.register_file.specs.Bits.{bit_set};
 ghost use Rattle.register_file.specs.PoolReset.{mixed};
-
-/// Whether a bit of a word, below 32, is 1.
-#[inline(always)]
-pub(crate) fn has_bit(word: u32, bit: u32) -> bool
-    requires { bit < 32 }
-    ensures { result ≡ has_bit bit word }
-{
-    (word >> bit) % 2 == 1
-}
 
 /// The word with this bit, below 32, set.
 #[inline(always)]

@@ -7,11 +7,11 @@ ghost use Rattle.intr_unit.specs.Group.{group_bits};
 ghost use Rattle.register_file.specs.Groups.{index_of};
 ghost use Rattle.register_file.specs.Mailbox.{set_if, function_wrote, released, taken, physical_wrote, told_once, reset_told, cause_set, sends, requests, with_requests, physical_told, function_told, mail_read, function_writes, physical_writes, holders, done_told, resets_told};
 
-use crate::bits::{bit_set, has_bit};
+use crate::bits::bit_set;
 use crate::register_file::RegisterFile;
 use intr_unit::Group;
 use reg_table::RowId;
-use register_bits::{Pfmailbox, Pvfmailbox, has_flag, with_flag, without_flag};
+use register_bits::{Pfmailbox, Pvfmailbox, has_bit, has_flag, with_flag, without_flag};
 
 /// The registers of the mailboxes that a reset doesn't set to 0.
 #[derive(Clone, Copy)]

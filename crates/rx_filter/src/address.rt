@@ -3,8 +3,8 @@
 ghost use Rattle.std.specs.Prelude.{◌≡◌, ◌<◌, slice_index, IfSome};
 ghost use Rattle.rx_filter.specs.Address.{destination_low, destination_high, matches, first_match, is_broadcast, is_multicast, multicast_shift, multicast_number, is_in_table, lets_multicast, lets_unicast, lets_broadcast, passes};
 
-use crate::fields::{MO, has_bit};
-use register_bits::{Fctrl, Mcstctrl, Rah, has_flag};
+use crate::fields::MO;
+use register_bits::{Fctrl, Mcstctrl, Rah, has_bit, has_flag};
 use register_file::{RegisterFile, RowId};
 
 /// The number of receive addresses, RAL and RAH.
@@ -98,8 +98,8 @@ fn is_in_table(registers: &RegisterFile, frame: &[u8]) -> bool
     }
     let number = multicast_number(registers, frame);
     has_bit(
-        u32::from(number % 32),
         registers.word(RowId::Mta, number / 32),
+        u32::from(number % 32),
     )
 }
 

@@ -4,9 +4,9 @@ ghost use Rattle.std.specs.Prelude.{◌≡◌, ◌<◌, IfSome, IfOk, IsTrue};
 ghost use Rattle.rx_filter.specs.Pools.{uses_pools, selects, lowest_pool, default_pool, selected_pool, parting, parting_in, has_queues, checked_pool, chosen_pool};
 
 use crate::address::first_match;
-use crate::fields::{DEF_PL, has_bit};
+use crate::fields::DEF_PL;
 use crate::unwanted::Unwanted;
-use register_bits::{VtCtl, has_flag};
+use register_bits::{VtCtl, has_bit, has_flag};
 use register_file::{Dir, Mode, QueueMode, RegisterFile, RowId, queues_of};
 
 /// The most pools that there can be.
@@ -69,8 +69,8 @@ fn selects(registers: &RegisterFile, index: u16, pool: u16) -> bool
     ensures { result ≡ selects registers.now index pool }
 {
     has_bit(
-        u32::from(pool % 32),
         registers.word(RowId::Mpsar, 2 * index + pool / 32),
+        u32::from(pool % 32),
     )
 }
 

@@ -7,38 +7,23 @@ use nic82599::{regs::RETA, Error, Event, Field, Function, Memory, Nic, Register,
 fn is_send<T: Send>() {}
 fn is_sync<T: Sync>() {}
 
-/// Compiles only where a type isn't `Sync`: of one that is, there would be two answers.
-macro_rules! isnt_sync {
-    ($($kind:ty),+) => {$(
+/// Compiles only where a type hasn't the trait: of one that has it, there would be two answers.
+macro_rules! isnt {
+    ($what:ident: $($kind:ty),+) => {$(
         const _: fn() = || {
             trait Ambiguous<Which> {
                 fn answer() {}
             }
-            struct OfSync;
+            struct OfIt;
             impl<T: ?Sized> Ambiguous<()> for T {}
-            impl<T: ?Sized + Sync> Ambiguous<OfSync> for T {}
+            impl<T: ?Sized + $what> Ambiguous<OfIt> for T {}
             <$kind as Ambiguous<_>>::answer()
         };
     )+};
 }
 
-/// The same for `Send`.
-macro_rules! isnt_send {
-    ($($kind:ty),+) => {$(
-        const _: fn() = || {
-            trait Ambiguous<Which> {
-                fn answer() {}
-            }
-            struct OfSend;
-            impl<T: ?Sized> Ambiguous<()> for T {}
-            impl<T: ?Sized + Send> Ambiguous<OfSend> for T {}
-            <$kind as Ambiguous<_>>::answer()
-        };
-    )+};
-}
-
-isnt_sync!(Nic, Snapshot, Function<'_>, Memory<'_>, Steps<'_>);
-isnt_send!(&Nic, Function<'_>, Memory<'_>, Steps<'_>);
+isnt!(Sync: Nic, Snapshot, Function<'_>, Memory<'_>, Steps<'_>);
+isnt!(Send: &Nic, Function<'_>, Memory<'_>, Steps<'_>);
 
 #[test]
 fn kinds() {

@@ -79,9 +79,9 @@ int main(int argc, char **argv)
 {
     static const nicx_scenario race = {
         .name = "race",
-        .fifo = 64,
-        .blocks = 2,
-        .queues = 1,
+        .fifo = 64,  /* the device: so many frames may wait, */
+        .blocks = 2, /* and packet memory has so many blocks of 2,048 bytes; .vfs are its virtual functions */
+        .queues = 1, /* queues below 1 have their steps made */
         .bring_up = bring_up,
         .begin = begin,
         .end = end,

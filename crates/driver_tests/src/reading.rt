@@ -2,7 +2,7 @@
 
 use crate::bench::{end, in_hand, opened, reap, release, send, started, stops};
 use crate::outcome::{Hand, done, same, same_bytes, sees, some};
-use pmd::{Packet, PacketBytes};
+use pmd::Packet;
 
 /// The bytes of a packet of two blocks: two numbers where the blocks meet.
 fn bytes_of_two_blocks() -> [u8; 3000] {

@@ -7,9 +7,9 @@
 
 pub use workers::{
     Arrived, Bufs, Collector, Direct, Doubt, Driven, Fed, Finished, Gate, Given, Home, Interleaved,
-    Job, LONGEST_FRAME, Lockstep, MAX_MEMBERS, Nic, Order, POLLS, Packet, PacketBytes, Pmd,
-    PmdFault, Queue, Ran, Reaped, Record, Report, Rest, RunFault, RunRefused, SHORTEST_FRAME, Seat,
-    Setup, Start, StartRefused, StopRefused, Task, ThroughLock, TxAnswer, TxFault, WorkerEnd,
-    WorkerFault, arrive, begins_well, feed, frames_fit, history_of, judge, marked_history,
-    never_asked_on, others_lend_none, overlap, pf_setup, run, run_worker, run_workers,
+    Job, LONGEST_FRAME, Lockstep, MAX_MEMBERS, Nic, Order, POLLS, Packet, Pmd, PmdFault, Queue,
+    Ran, Reaped, Record, Report, Rest, RunFault, RunRefused, SHORTEST_FRAME, Seat, Setup, Start,
+    StartRefused, StopRefused, Task, ThroughLock, TxAnswer, TxFault, WorkerEnd, WorkerFault,
+    arrive, begins_well, feed, frames_fit, history_of, judge, marked_history, never_asked_on,
+    others_lend_none, overlap, pf_setup, run, run_worker, run_workers,
 };

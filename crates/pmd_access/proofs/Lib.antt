@@ -12,6 +12,7 @@ pub mod Outside
 pub mod Places
 pub mod Polling
 pub mod QueueSequences
+pub mod Reading
 pub mod Refusals
 pub mod Replying
 pub mod Rings

@@ -1,9 +1,10 @@
 //! The Bufs that a packet is in: five at most, one after the other.
 
 ghost use Rattle.pmd_access.specs.Bufs.{blocks_in, bytes_of, numbers_of};
+ghost use Rattle.device_lock.specs.NicDevice.DmaArena.Block.{IsBlock};
 ghost use Rattle.device_lock.specs.NicDevice.DmaArena.Memory.{put_bytes};
 ghost use Rattle.device_lock.specs.NicDevice.DmaArena.Whereabouts.{times_in_hand};
-ghost use Rattle.std.specs.Prelude.{◌≡◌, ◌≤◌, ◌<◌, ◌+◌, ◌*◌, ◌↔◌, true, false, ◌++◌, ◌∷◌, [], length, slice_index_or, option_to_list, IfNone, IsNone};
+ghost use Rattle.std.specs.Prelude.{◌≡◌, ◌≤◌, ◌<◌, ◌+◌, ◌*◌, ◌↔◌, true, false, ◌++◌, ◌∷◌, [], All, length, take, drop, slice_index_or, option_to_list, IfNone, IsNone};
 
 use device_lock::{BLOCK_BYTES, Buf};
 use std::marker::Model;
@@ -137,6 +138,21 @@ impl Bufs {
         true
     }
 
+    /// Copies bytes of the Bufs from a place on, as many as `to` has, across Bufs: the first Buf's first byte is at 0.
+    /// Where they would go beyond the last Buf nothing is copied, and it answers false.
+    #[tactic(auto, using(crate::proofs::Reading::length_bytes))]
+    pub fn read_at(&self, at: usize, to: &mut [u8]) -> bool
+        ensures fits { (result ≡ true) ↔ (at + length to.old ≤ length (bytes_of self.now)) }
+        ensures read { result ≡ true → to.new ≡ take (length to.old) (drop at (bytes_of self.now)) }
+        ensures unchanged { result ≡ false → to.new ≡ to.old }
+    {
+        if at.saturating_add(to.len()) > bytes_in(self) {
+            return false;
+        }
+        copy_out(self, at, to);
+        true
+    }
+
     /// Ends Bufs of which there are none.
     pub fn finish(self)
         requires { self ≡ [] }
@@ -166,4 +182,42 @@ fn empty(place: Option<Buf>)
         None => {}
         Some(_buf) => unreachable!(),
     }
+}
+
+/// How many bytes Bufs have.
+pub fn bytes_in(bufs: &Bufs) -> usize
+    ensures sum { result ≡ 2048 * length bufs.now }
+    ensures whole { All (λ b. IsBlock b) bufs.now }
+{
+    let mut sum = 0;
+    for number in 0..bufs.count() {
+        sum += bufs.get(number).bytes().len();
+    }
+    sum
+}
+
+/// Copies bytes of Bufs from a place on, as many as `to` has, across Bufs.
+fn copy_out(bufs: &Bufs, at: usize, to: &mut [u8])
+    requires whole { All (λ b. IsBlock b) bufs.now }
+    requires fits { at + length to.old ≤ 2048 * length bufs.now }
+    ensures { to.new ≡ take (length to.old) (drop at (bytes_of bufs.now)) }
+{
+    let mut from = at;
+    let mut filled = 0;
+    for number in 0..bufs.count() {
+        let block: &[u8] = bufs.get(number).bytes();
+        let start = from.min(BLOCK_BYTES);
+        let more = (to.len() - filled).min(BLOCK_BYTES - start);
+        put(to, filled, &block[start..start + more]);
+        from -= start;
+        filled += more;
+    }
+}
+
+/// Puts bytes in place of those from a place on.
+fn put(to: &mut [u8], at: usize, bytes: &[u8])
+    requires { at + length bytes.now ≤ length to.old }
+    ensures { to.new ≡ take at to.old ++ bytes.now ++ drop (at + length bytes.now) to.old }
+{
+    to[at..at + bytes.len()].copy_from_slice(bytes);
 }

@@ -30,7 +30,7 @@ mod slots;
 mod through_lock;
 
 pub use accesses::{lend, peek, poke, read, take, write};
-pub use bufs::{Bufs, MOST_BUFS};
+pub use bufs::{Bufs, MOST_BUFS, bytes_in};
 pub use device_lock::{
     Arena, BLOCK_BYTES, BLOCK_NUMBERS, Buf, Call, CallFault, Calls, CloseFault, CloseRefused,
     Closed, Dir, Entry, Event, EventNote, Made, Mode, NewFault, Octets, Pass, Place, Port, QUEUES,

@@ -1,6 +1,6 @@
 //! Packets in hand, and the records of them.
 
-ghost use Rattle.std.specs.Prelude.{◌≡◌, ◌<◌, ◌≤◌, ◌+◌, ◌*◌, ◌⊎◌, ◌↔◌, true, false, [], length, take, min, IsNone};
+ghost use Rattle.std.specs.Prelude.{◌≡◌, ◌<◌, ◌≤◌, ◌+◌, ◌*◌, ◌⊎◌, ◌↔◌, true, false, [], length, take, drop, min, slice_get, IsNone, IfOk};
 ghost use Rattle.std.specs.Vec.{vec_capacity};
 ghost use Rattle.device_lock.specs.NicDevice.DmaArena.Memory.{put_bytes};
 ghost use Rattle.device_lock.specs.NicDevice.DmaArena.Numbers.{free_count};
@@ -12,6 +12,7 @@ ghost use Rattle.pmd_access.specs.Packet.{kept_of};
 use crate::bufs::{Bufs, MOST_BUFS};
 use crate::home::give_back;
 use device_lock::{Arena, BLOCK_BYTES, Octets};
+use std::alloc::{AllocError, Global};
 use std::marker::Model;
 
 /// A packet in hand. Its bytes are the first `len` of its Bufs', one Buf after the other.
@@ -136,6 +137,43 @@ impl Packet {
         ensures unchanged { result ≡ false → self.new ≡ self.old }
     {
         at.saturating_add(bytes.len()) <= usize::from(self.len) && self.bufs.write_at(at, bytes)
+    }
+
+    /// Copies the packet's bytes from a place on, as many as `to` has, across its Bufs: the packet's first byte is at
+    /// 0. Where they would go beyond its `len` bytes, or beyond its last Buf, nothing is copied, and it answers false.
+    #[tactic(auto, using(crate::proofs::Reading::reading))]
+    pub fn read_at(&self, at: usize, to: &mut [u8]) -> bool
+        ensures fits { (result ≡ true) ↔ (at + length to.old ≤ length (kept_of self.now).bytes) }
+        ensures read { result ≡ true → to.new ≡ take (length to.old) (drop at (kept_of self.now).bytes) }
+        ensures unchanged { result ≡ false → to.new ≡ to.old }
+    {
+        at.saturating_add(to.len()) <= usize::from(self.len) && self.bufs.read_at(at, to)
+    }
+
+    /// The packet's byte at a place, the first at 0. None where `read_at` has none there.
+    #[tactic(auto, using(crate::proofs::Reading::reading, std::proofs::lemmas::Option::slice_get_past))]
+    pub fn byte(&self, at: usize) -> Option<u8>
+        ensures { result ≡ slice_get (kept_of self.now).bytes at }
+    {
+        let mut one = [0];
+        if self.read_at(at, &mut one) {
+            Some(one[0])
+        } else {
+            None
+        }
+    }
+
+    /// A copy of all bytes of the packet that `read_at` can read.
+    pub fn to_vec(&self, alloc: Global) -> Result<Vec<u8>, AllocError>
+        ensures { IfOk result (λ copy. copy.items ≡ (kept_of self.now).bytes) }
+    {
+        let room = Vec::with_capacity(alloc, self.record_room())?;
+        let Record {
+            bytes,
+            rss: _,
+            hash: _,
+        } = Record::of(self, room);
+        Ok(bytes.into_vec())
     }
 }
 

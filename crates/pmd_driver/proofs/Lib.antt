@@ -29,7 +29,6 @@ pub mod Meeting
 pub mod Placed
 pub mod Posting
 pub mod Queueing
-pub mod Reading
 pub mod Receiving
 pub mod Rising
 pub mod Sending

@@ -1,7 +1,7 @@
 //! The poll-mode driver of one queue, put together from its two halves.
 //!
 //! `running.rt` has a driver whose two rings are up: what it receives and sends, and where each block is; `bursts.rt`
-//! sends several packets at once, `bytes.rt` reads the bytes of a packet, and `arriving.rt` lets a frame arrive.
+//! sends several packets at once, `bytes.rt` puts bytes into a packet, and `arriving.rt` lets a frame arrive.
 //! `rings.rt` has the steps by which the rings come up, `start.rt` looks for the blocks that they take and has these
 //! steps in order, and `driver.rt` is the driver as a whole, `Pmd`: started, running, and stopped.
 //!
@@ -23,7 +23,6 @@ mod start;
 mod stopping;
 
 pub use arriving::{Arrived, arrive};
-pub use bytes::PacketBytes;
 pub use driver::{Pmd, StopRefused};
 pub use halted::Halted;
 pub use home::{Home, StopFailed};

@@ -13,6 +13,6 @@ mod ring;
 mod sending;
 
 pub use answer::{Reaped, TxAnswer, TxFault};
-pub use padding::bytes_in;
+pub use pmd_access::bytes_in;
 pub use ring::TransmitRing;
 pub use sending::are_out;

@@ -1,7 +1,6 @@
 //! Padding: a packet is sent with 60 bytes at least.
 
-ghost use Rattle.std.specs.Prelude.{◌≡◌, ◌≤◌, ◌<◌, ◌∷◌, ◌+◌, ◌*◌, length, take, drop, All};
-ghost use Rattle.pmd_access.specs.NicDevice.DmaArena.Block.{IsBlock};
+ghost use Rattle.std.specs.Prelude.{◌≡◌, ◌≤◌, ◌<◌, ◌∷◌, ◌+◌, length, take, drop};
 ghost use Rattle.pmd_tx.specs.Padding.{first_bytes, padded_packet, unpadded, with_first};
 
 use pmd_access::{Buf, Bufs, Packet};
@@ -126,16 +125,4 @@ pub(crate) fn split(bufs: Bufs, count: usize) -> (Bufs, Bufs)
         }
     }
     (first, rest)
-}
-
-/// How many bytes Bufs have.
-pub fn bytes_in(bufs: &Bufs) -> usize
-    ensures sum { result ≡ 2048 * length bufs.now }
-    ensures whole { All (λ b. IsBlock b) bufs.now }
-{
-    let mut sum = 0;
-    for number in 0..bufs.count() {
-        sum += bufs.get(number).bytes().len();
-    }
-    sum
 }

@@ -15,10 +15,10 @@ ghost use Rattle.pmd_tx.specs.Sends.{are_out, gate_of, goes_home, outgoing_of, r
 ghost use Rattle.pmd_tx.specs.Shown.{MaySend};
 
 use crate::answer::{Gate, TxAnswer, TxFault};
-use crate::padding::{bytes_in, pad, start_of, unpad};
+use crate::padding::{pad, start_of, unpad};
 use crate::piece::parts_for;
 use crate::ring::TransmitRing;
-use pmd_access::{Arena, Bufs, Nic, Packet, PmdFault, give_bufs};
+use pmd_access::{Arena, Bufs, Nic, Packet, PmdFault, bytes_in, give_bufs};
 use std::alloc::Global;
 
 /// Whether Bufs can go home to the arena: their numbers are the arena's, aren't free there, and no two are alike.

@@ -4,8 +4,8 @@ use crate::typed::is;
 use device_lock::{CallFault, Calls, Pass, Shared};
 use nic_device::{Arena, Device, Event, Mode, Octets, Port, Reply, Why};
 use pmd::{
-    Arrived, Bufs, Direct, Finished, Home, Interleaved, Nic, Packet, PacketBytes, Pmd, PmdFault,
-    Reaped, Record, Rest, Setup, StartRefused, StopRefused, ThroughLock, TxAnswer, TxFault,
+    Arrived, Bufs, Direct, Finished, Home, Interleaved, Nic, Packet, Pmd, PmdFault, Reaped, Record,
+    Rest, Setup, StartRefused, StopRefused, ThroughLock, TxAnswer, TxFault,
 };
 use std::alloc::{AllocError, Global};
 use std::sync::Wait;

@@ -59,10 +59,10 @@ pub use lending::others_lend_none;
 pub use meeting::{Lockstep, MAX_MEMBERS};
 pub use pmd_driver::{
     Arrived, Bufs, Call, CallFault, Calls, CloseFault, CloseRefused, Closed, Direct, Entry,
-    Finished, Home, Interleaved, LONGEST_FRAME, Made, NewFault, Nic, POLLS, Packet, PacketBytes,
-    Pass, Pmd, PmdFault, Queue, Reaped, Record, Rest, SHORTEST_FRAME, Settings, Setup, Shared,
-    StartRefused, StopRefused, ThroughLock, TxAnswer, TxFault, Watched, arrive, history_of,
-    left_alone, marked_history, pf_setup,
+    Finished, Home, Interleaved, LONGEST_FRAME, Made, NewFault, Nic, POLLS, Packet, Pass, Pmd,
+    PmdFault, Queue, Reaped, Record, Rest, SHORTEST_FRAME, Settings, Setup, Shared, StartRefused,
+    StopRefused, ThroughLock, TxAnswer, TxFault, Watched, arrive, history_of, left_alone,
+    marked_history, pf_setup,
 };
 pub use quiet::never_asked_on;
 pub use reports::{Collector, Report};

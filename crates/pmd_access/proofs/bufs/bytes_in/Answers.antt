@@ -1,8 +1,8 @@
 use Rattle.std.proofs.Common.{◌≡◌, ◌+◌, ◌∙◌, ap, subst, All, ◌++◌, ◌∷◌, [], List, take, arith, sym}
 use Rattle.std.proofs.lemmas.List.{take_all, take_more}
 use Rattle.std.proofs.lemmas.List.Elements.{All-push}
-use Rattle.pmd_access.specs.NicDevice.DmaArena.Block.{Block, IsBlock}
-use Rattle.pmd_tx.proofs.padding.bytes_in.Goals as goal
+use Rattle.device_lock.specs.NicDevice.DmaArena.Block.{Block, IsBlock}
+use Rattle.pmd_access.proofs.bufs.bytes_in.Goals as goal
 
 pub loop-number-preserved : goal.loop-number-preserved
 loop-number-preserved c =

@@ -5,21 +5,20 @@ use Rattle.std.proofs.lemmas.List.{drop-append-le, drop-drop, length-append, len
 use Rattle.std.proofs.lemmas.List.Elements.{All-head, All-tail}
 use Rattle.std.proofs.lemmas.Option.{slice_get-get_or}
 use Rattle.std.proofs.lemmas.Slice.{drop-append-drop}
-use Rattle.pmd_rx.specs.NicDevice.DmaArena.Block.{Block, IsBlock}
-use Rattle.pmd_rx.specs.PmdAccess.Bufs.{bytes_of}
+use Rattle.device_lock.specs.NicDevice.DmaArena.Block.{Block, IsBlock}
+use Rattle.pmd_access.specs.Bufs.{bytes_of}
 
 -- each Buf has 2,048 bytes
-pub length-bytes : (bs : List Block) → All (λ (b : Block). IsBlock b) bs → length (bytes_of bs) ≡ 2048 * length bs
-length-bytes [] whole = refl
-length-bytes (b ∷ bs) whole =
+pub length_bytes : (bs : List Block) → All (λ (b : Block). IsBlock b) bs → length (bytes_of bs) ≡ 2048 * length bs
+length_bytes [] whole = refl
+length_bytes (b ∷ bs) whole =
     let one = (All-head (λ (x : Block). IsBlock x) b bs whole).size in
-    let more = length-bytes bs (All-tail (λ (x : Block). IsBlock x) b bs whole) in
+    let more = length_bytes bs (All-tail (λ (x : Block). IsBlock x) b bs whole) in
     omega (arith, one, more, length-append b.bytes (bytes_of bs))
 
-pub length_first : (len : ℕ) (bs : List Block) → All (λ (b : Block). IsBlock b) bs
-    → length (take len (bytes_of bs)) ≡ min len (2048 * length bs)
-length_first len bs whole =
-    length-take len (bytes_of bs) ∙ ap (λ (n : ℕ). min len n) (length-bytes bs whole)
+-- so many bytes are kept of a packet
+pub length_taken : (len : ℕ) (xs : List ℕ) → length (take len xs) ≡ min len (length xs)
+length_taken len xs = length-take len xs
 
 -- the bytes of Bufs but for the first of them
 drop-bytes : (bs : List Block) → All (λ (b : Block). IsBlock b) bs → (k : ℕ)
@@ -69,7 +68,7 @@ pub copies_one : (bs : List Block) (k : ℕ) (b : Block) (at f start more : ℕ)
     → new ≡ take (f + more) (drop at (bytes_of bs)) ++ drop (f + more) old
 copies_one bs k b at f start more old now piece new whole below is room filled begins many copied part put =
     let wanted = drop at (bytes_of bs) in
-    let size = length-bytes bs whole in
+    let size = length_bytes bs whole in
     let full = subst (λ (x : Block). length x.bytes ≡ 2048) (sym is) (whole k b below).size in
     let front : length (take f wanted) ≡ f =
     length-take-le f wanted (omega (arith, size, length-drop at (bytes_of bs), room, filled)) in
@@ -113,7 +112,7 @@ pub copied_size : (bs : List Block) (at f : ℕ) (old new : List ℕ) → All (�
     → new ≡ take f (drop at (bytes_of bs)) ++ drop f old → length new ≡ length old
 copied_size bs at f old new whole room few copied =
     let wanted = drop at (bytes_of bs) in
-    let size = length-bytes bs whole in
+    let size = length_bytes bs whole in
     let front = length-take-le f wanted (omega (arith, size, length-drop at (bytes_of bs), room, few)) in
     let all = ap (λ (xs : List ℕ). length xs) copied in
     omega (arith, all, front, length-append (take f wanted) (drop f old), length-drop f old, few)
@@ -126,4 +125,4 @@ byte_read xs at one some is =
     slice_get-get_or xs at 0 (omega (arith, some))
     ∙ sym (ap first (is ∙ ap (λ (ys : List ℕ). take 1 ys) (drop-cons xs at 0 (omega (arith, some)))))
 
-pub ruleset reading = (length_first, read_first, byte_read)
+pub ruleset reading = (length_taken, read_first, byte_read)

@@ -1,6 +1,6 @@
 use Rattle.std.proofs.Common.{◌≡◌, ◌*◌, All, take}
-use Rattle.pmd_access.specs.NicDevice.DmaArena.Block.{Block, IsBlock}
-use Rattle.pmd_tx.proofs.padding.bytes_in.Given as goal
+use Rattle.device_lock.specs.NicDevice.DmaArena.Block.{Block, IsBlock}
+use Rattle.pmd_access.proofs.bufs.bytes_in.Given as goal
 
 abbrev pub invariant-loop-number : goal.invariant-loop-number
 invariant-loop-number l = record {

@@ -1,6 +1,6 @@
-use Rattle.std.proofs.Common.{◌≡◌, ◌+◌, ◌*◌, ◌-◌, ◌++◌, min, length, take, drop}
-use Rattle.pmd_rx.specs.PmdAccess.Bufs.{bytes_of}
-use Rattle.pmd_driver.proofs.bytes.copy_out.Given as goal
+use Rattle.std.proofs.Common.{◌≡◌, ◌*◌, ◌-◌, ◌++◌, min, length, take, drop}
+use Rattle.pmd_access.specs.Bufs.{bytes_of}
+use Rattle.pmd_access.proofs.bufs.copy_out.Given as goal
 
 abbrev pub invariant-loop-number : goal.invariant-loop-number
 invariant-loop-number l = record {

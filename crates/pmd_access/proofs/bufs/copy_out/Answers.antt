@@ -1,9 +1,9 @@
 use Rattle.std.proofs.Common.{◌≡◌, ◌+◌, ◌*◌, ◌-◌, ◌∙◌, ◌++◌, ℕ, min, List, length, take, drop, ap, arith}
 use Rattle.std.proofs.Math.ListN.{drop_of_length-le}
 use Rattle.std.proofs.lemmas.List.{append-nil}
-use Rattle.pmd_rx.specs.PmdAccess.Bufs.{bytes_of}
-use Rattle.pmd_driver.proofs.Reading.{copies_one, copied_size}
-use Rattle.pmd_driver.proofs.bytes.copy_out.Goals as goal
+use Rattle.pmd_access.specs.Bufs.{bytes_of}
+use Rattle.pmd_access.proofs.Reading.{copies_one, copied_size}
+use Rattle.pmd_access.proofs.bufs.copy_out.Goals as goal
 
 pub loop-number-preserved : goal.loop-number-preserved
 loop-number-preserved c =

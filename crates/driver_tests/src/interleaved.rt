@@ -111,10 +111,12 @@ fn after_a_fault(rt: &impl Hand, nic: Interleaved) -> Device {
     let Finished {
         device,
         calls,
+        own,
         foreign,
         schedule,
     } = nic.finish();
     same(rt, calls.kept().0.len(), 5);
+    sees(rt, own.as_slice() == [false, false, true, false, true]);
     last_is_a_fault(rt, foreign);
     emptied(rt, schedule);
     device

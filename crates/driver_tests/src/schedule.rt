@@ -59,18 +59,18 @@ pub struct Left {
 
 /// Ends an `Interleaved`, and lets its schedule and the foreign replies go.
 pub fn finish(rt: &impl Hand, nic: Interleaved) -> Left {
-    let (mut marks, mut history) = (empty(rt), empty(rt));
-    done(rt, marks.extend_from_slice(nic.own()));
+    let mut history = empty(rt);
     let Finished {
         device,
         calls,
+        own,
         foreign: mut replies,
         mut schedule,
     } = nic.finish();
     add_marked(
         rt,
         &mut history,
-        marks.as_slice(),
+        own.as_slice(),
         done(rt, calls.into_vec(rt.alloc())),
     );
     let mut bufs = empty(rt);

@@ -3,8 +3,9 @@
 ghost use Rattle.std.specs.Prelude.{◌≡◌, [], length, map, true, IfOk, IfErr, OnOk, OnErr};
 ghost use Rattle.device_lock.specs.Fault.{event_of};
 ghost use Rattle.device_lock.specs.NicDevice.Answering.{may_answer};
+ghost use Rattle.device_lock.specs.NicDevice.State.{State};
 ghost use Rattle.device_lock.specs.NicDevice.Step.{step_of};
-ghost use Rattle.pmd_access.specs.Begun.{BeganAs, From, began_handled, began_scheduled};
+ghost use Rattle.pmd_access.specs.Begun.{BeganAs, From, LeadsTo, began_handled, began_scheduled, marked_entries};
 ghost use Rattle.pmd_access.specs.Made.{Adds, AddsSome};
 ghost use Rattle.pmd_access.specs.Refusals.{CanRefuse, memory_alone};
 ghost use Rattle.pmd_access.specs.Scheduled.{StopsInList, StopsCall, after_call, after_list, made_of, next_list};
@@ -43,6 +44,8 @@ pub struct Finished {
     pub device: Device,
     /// The calls that were made, foreign and own, with their replies, the oldest first.
     pub calls: Calls,
+    /// For each of these calls, in turn, whether it is own: the marks that `marked_history` takes.
+    pub own: Vec<bool>,
     /// The replies to the foreign events, the oldest first. They may hold blocks.
     pub foreign: Vec<Reply>,
     /// The lists of foreign events that weren't made, the next first.
@@ -85,10 +88,15 @@ impl Interleaved {
         self.handled.own()
     }
 
-    /// All that it holds: the device, the calls, the foreign replies and the lists that weren't made.
+    /// All that it holds: the device, the calls and which of them are own, the foreign replies and the lists that
+    /// weren't made. So marked, the calls are a history that leads from where it began to the device.
     pub fn finish(self) -> Finished
         ensures device { result.device ≡ self.handled.device }
         ensures calls { result.calls ≡ self.handled.calls }
+        ensures own { result.own.items ≡ self.handled.own }
+        ensures each { length result.own.items ≡ length result.calls }
+        ensures leads { (s : State) → began_scheduled self (From s)
+            → LeadsTo s (marked_entries result.calls result.own.items) result.device }
         ensures foreign { result.foreign.items ≡ self.handled.foreign }
         ensures schedule { map (λ list. list.items) result.schedule.items ≡ self.lists }
     {
@@ -96,12 +104,13 @@ impl Interleaved {
         let Handled {
             device,
             calls,
-            own: _,
+            own,
             foreign,
         } = handled;
         Finished {
             device,
             calls,
+            own,
             foreign,
             schedule: schedule.into_vec(),
         }

@@ -183,11 +183,13 @@ pub fn finished(finished: &Finished) {
     let Finished {
         device,
         calls,
+        own,
         foreign,
         schedule,
     } = finished;
     is::<Device>(device);
     is::<Calls>(calls);
+    is::<Vec<bool>>(own);
     is::<Vec<Reply>>(foreign);
     is::<Vec<Vec<Event>>>(schedule);
 }

@@ -100,10 +100,12 @@ impl Ends for Interleaved {
         let Finished {
             device,
             calls,
+            own,
             mut foreign,
             schedule,
         } = self.finish();
         let mut sum = with(sum, calls.kept().0.len() as u64);
+        assert!(rt; own.len() == calls.kept().0.len());
         assert!(rt; foreign.len() == 3 && schedule.is_empty());
         schedule.destroy_empty();
         for _reply in 0..3 {

@@ -11,5 +11,5 @@ pub use workers::{
     Ran, Reaped, Record, Report, Rest, RunFault, RunRefused, SHORTEST_FRAME, Seat, Setup, Start,
     StartRefused, StopRefused, Task, ThroughLock, TxAnswer, TxFault, WorkerEnd, WorkerFault,
     arrive, begins_well, feed, frames_fit, history_of, judge, marked_history, never_asked_on,
-    others_lend_none, overlap, pf_setup, run, run_worker, run_workers,
+    others_lend_none, overlap, pf_setup, queue_at, run, run_worker, run_workers,
 };

@@ -5,7 +5,7 @@ ghost use Rattle.std.specs.Prelude.{◌≡◌, ◌≤◌, false};
 use crate::typed::is;
 use bench::{Input, Outcome, Output};
 use device_lock::{Entry, Pass, Shared, Watched};
-use nic_device::{Arena, Port};
+use nic_device::{Arena, Mode, Port};
 use pmd::{
     Doubt, Driven, Gate, Given, Job, Lockstep, PmdFault, Ran, Report, Rest, RunFault, RunRefused,
     WorkerEnd, WorkerFault,
@@ -81,6 +81,14 @@ pub fn job(job: &Job) {
     is::<u16>(frame);
     is::<Arena>(arena);
     is::<u32>(rounds);
+}
+
+pub fn job_steps_its_queue(job: &Job, mode: Mode, vfs: u8) -> bool {
+    job.steps_its_queue(mode, vfs)
+}
+
+pub fn queue_at(mode: Mode, vfs: u8, port: Port, number: u16) -> Option<u16> {
+    pmd::queue_at(mode, vfs, port, number)
 }
 
 pub fn run_fault(fault: &RunFault) -> u8 {

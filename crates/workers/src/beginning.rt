@@ -23,8 +23,10 @@ pub struct Given {
     pub frame: u16,
 }
 
-/// The queue of the device that a port and a queue's number there name, while the queues are parted by a mode.
-fn queue_at(mode: Mode, vfs: u8, port: Port, number: u16) -> Option<u16>
+/// The queue of the device, below 128, that a port and a queue's number there name, while the queues are parted by a
+/// mode and there are so many virtual functions. At the physical function's port it is the queue of that number, at a
+/// virtual function's that queue of its pool. None where there is no such queue.
+pub fn queue_at(mode: Mode, vfs: u8, port: Port, number: u16) -> Option<u16>
     ensures { result ≡ queue_at mode vfs port number }
 {
     match port {

@@ -1,9 +1,11 @@
 //! What workers are to do.
 
-ghost use Rattle.std.specs.Prelude.{ℕ, ◌<◌, ◌↔◌, IsTrue, IfSome, IfNone, length};
+ghost use Rattle.std.specs.Prelude.{ℕ, ◌≡◌, ◌<◌, ◌↔◌, Some, IsTrue, IfSome, IfNone, length};
 ghost use Rattle.workers.specs.Overlap.{Share, SharesEarlier, IsFirstToShare};
+ghost use Rattle.workers.specs.Queues.{queue_at};
 
-use pmd_driver::{Arena, Pass, Port};
+use crate::beginning::queue_at;
+use pmd_driver::{Arena, Mode, Pass, Port};
 
 /// What a worker is to do. It can't be dropped.
 pub struct Job {
@@ -13,7 +15,8 @@ pub struct Job {
     pub port: Port,
     /// Its queue, as the port numbers it.
     pub queue: u16,
-    /// The queue, below 128, whose device steps are made before each of its calls.
+    /// The queue, below 128, whose device steps are made before each of its calls: the one that its port and queue name
+    /// as it starts (`queue_at`).
     pub pf_queue: u16,
     /// How many descriptors each ring has: a multiple of 8 from 8 to 1,024.
     pub size: u16,
@@ -23,6 +26,20 @@ pub struct Job {
     pub arena: Arena,
     /// How often it looks for a packet.
     pub rounds: u32,
+}
+
+impl Job {
+    /// Whether the device steps before its calls are those of its own queue: `pf_queue` is the queue that its port and
+    /// queue name, while the queues are parted by a mode and there are so many virtual functions. Where it isn't, only
+    /// others can switch its queue on.
+    pub fn steps_its_queue(&self, mode: Mode, vfs: u8) -> bool
+        ensures { IsTrue result ↔ (queue_at mode vfs self.now.port self.now.queue ≡ Some self.now.pf_queue) }
+    {
+        match queue_at(mode, vfs, self.port, self.queue) {
+            Some(queue) => queue == self.pf_queue,
+            None => false,
+        }
+    }
 }
 
 /// Whether two arenas share a number.

@@ -14,9 +14,9 @@
 //! thread's part, `ends.rt` how workers end, and `team.rt` a whole run.
 //!
 //! What a closed history tells of a driver: `before.rt` goes through its entries up to the first of the driver's own,
-//! `beginning.rt` says whether the driver begins well there, `quiet.rt` whether its queue was asked on before,
-//! `lending.rt` whether others lend none of its blocks, and `fitting.rt` whether the frames let in before fit its
-//! packets; `verdict.rt` asks all of it, and whether the queue was left alone, by one call.
+//! `beginning.rt` says which queue a port names, and whether the driver begins well there, `quiet.rt` whether its queue
+//! was asked on before, `lending.rt` whether others lend none of its blocks, and `fitting.rt` whether the frames let in
+//! before fit its packets; `verdict.rt` asks all of it, and whether the queue was left alone, by one call.
 #![tactic(auto)]
 
 mod assignment;
@@ -46,7 +46,7 @@ mod verdict;
 mod widening;
 mod worker_task;
 
-pub use beginning::{Given, begins_well};
+pub use beginning::{Given, begins_well, queue_at};
 pub use driving::{Order, run_worker};
 pub use ends::{Ran, RunFault, RunRefused, WorkerEnd};
 pub use fault::WorkerFault;

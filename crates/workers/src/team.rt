@@ -146,6 +146,11 @@ fn run_in<R: Threads + Wait + Sync, G: Gate + Sync, const VFS: u8, const FIFO: u
 /// driver's own. So it is over the history that the passes close, where `left_alone` and `begins_well` answer so of the
 /// end's pass and the job, and the end has no fault, or `never_asked_on` answers so too.
 ///
+/// A job is no reason to refuse where its `pf_queue` isn't the queue that its port and queue name: which they name
+/// depends on the mode of the device as its worker starts, and others may step that queue. Where they don't, the worker
+/// ends with `StartTimeout`, after 1,000 polls that show a side off; and where port and queue name none, with
+/// `DeviceFault`. `Job::steps_its_queue` says it beforehand.
+///
 /// `NoJobs` where there are none or more than 16, `Overlap` where two arenas share a number, and `OutOfMemory`, in this
 /// order: each hands jobs and frames back, and nothing is done.
 pub fn run_workers<R: Threads + Wait + Sync, G: Gate + Sync, const VFS: u8, const FIFO: u16>(

@@ -1,0 +1,146 @@
+//! A driver that is started again and again, over one device and one arena: what one life of it kept goes at its end.
+#![tactic(auto)]
+
+use nic_device::{Arena, Config, Device, Mode, Parts, Port};
+use pmd::{Direct, Home, Packet, Pmd, PmdFault, Setup, StartRefused, StopRefused};
+use std::alloc::Global;
+use std::collections::VecDeque;
+use thiserror::Error;
+
+/// Why the program fails.
+#[derive(Debug, Drop, Error)]
+enum Failure {
+    #[error("there was no memory for a device, or for the blocks")]
+    NoMemory,
+    #[error("the driver: {0:?}")]
+    Driver(#[from] PmdFault),
+    #[error("a block isn't home")]
+    Away,
+    #[error("no line was written")]
+    Unwritten(#[from] std::io::Error),
+}
+
+type Done = Result<(), Failure>;
+
+/// How often the driver is started.
+const LIVES: u32 = 3;
+
+/// How many frames a life sends back.
+const FRAMES: u32 = 5;
+
+/// A frame of 60 bytes to the broadcast address.
+const FRAME: [u8; 60] = [0xFF; 60];
+
+/// Frames to any address are let in, and all go to queue 0.
+const SETUP: Setup = Setup {
+    mode: Mode::Off,
+    mrqc: 0,
+    key: [0; 40],
+    reta: [0; 128],
+    promiscuous: true,
+    frame: 1518,
+};
+
+fn main(rt: HostRuntime) -> Done {
+    let mut kept = begin(rt.alloc())?;
+    for _life in 0..LIVES {
+        kept = live(&rt, kept)?;
+    }
+    let (device, arena) = kept;
+    let away = arena.close().map_err(|it| leave(it, Failure::Away));
+    let Parts {
+        memory,
+        frames,
+        image: _,
+    } = device.dismantle();
+    memory.finish().map_err(|it| leave(it, Failure::Away))?;
+    println!(rt; "the device sent {} frames", frames.len())?;
+    away
+}
+
+/// A device that is set up, and the blocks of its driver.
+fn begin(alloc: Global) -> Result<(Device, Arena), Failure> {
+    let made = Device::new(alloc, Config { vfs: 0, fifo: 64 });
+    let mut nic = Direct::new(alloc, made.map_err(|_| Failure::NoMemory)?, 0);
+    let set_up = pmd::pf_setup(alloc, &mut nic, &SETUP);
+    let (device, _calls) = nic.finish();
+    if let Err(fault) = set_up {
+        return Err(leave(device, Failure::Driver(fault)));
+    }
+    match Arena::new(alloc, 4, 32) {
+        Ok(arena) => Ok((device, arena)),
+        Err(_) => Err(leave(device, Failure::NoMemory)),
+    }
+}
+
+/// One life of the driver. The calls that it made go at its end, and what is kept are the device and the arena.
+fn live(rt: &HostRuntime, kept: (Device, Arena)) -> Result<(Device, Arena), Failure> {
+    let (device, arena) = kept;
+    let mut nic = Direct::new(rt.alloc(), device, 0);
+    let home = drive(rt, &mut nic, arena);
+    let (device, _calls) = nic.finish();
+    match home {
+        Ok(arena) => Ok((device, arena)),
+        Err(failure) => Err(leave(device, failure)),
+    }
+}
+
+/// Drives queue 0 from a start to a stop. The arena is home then, and the records of the packets go.
+fn drive(rt: &HostRuntime, nic: &mut Direct, arena: Arena) -> Result<Arena, Failure> {
+    let alloc = rt.alloc();
+    let mut pmd = match Pmd::start(alloc, nic, Port::Pf, 0, 8, SETUP.frame, arena) {
+        Ok(pmd) => pmd,
+        Err(StartRefused { fault, rest }) => return Err(leave(rest, Failure::Driver(fault))),
+    };
+    let mut packets = VecDeque::new(alloc);
+    let echoed = echo(alloc, nic, &mut pmd, &mut packets);
+    while let Some(packet) = packets.pop_front() {
+        if let Err(packet) = pmd.release(packet) {
+            leave(packet, Failure::Away);
+        }
+    }
+    packets.destroy_empty();
+    let home = match pmd.stop(alloc, nic) {
+        Ok(home) => home,
+        Err(StopRefused { fault, pmd }) => return Err(leave(pmd, Failure::Driver(fault))),
+    };
+    let told = tell(rt, nic, &home);
+    let Home {
+        arena,
+        lost: _,
+        handed: _,
+        accepted: _,
+    } = home;
+    match echoed.and(told) {
+        Ok(()) => Ok(arena),
+        Err(failure) => Err(leave(arena, failure)),
+    }
+}
+
+/// Lets frames arrive, one after the other, and sends each back.
+fn echo(alloc: Global, nic: &mut Direct, pmd: &mut Pmd, packets: &mut VecDeque<Packet>) -> Done {
+    for _frame in 0..FRAMES {
+        let _arrived = pmd::arrive(alloc, nic, &FRAME)?;
+        for _look in 0..3 {
+            let _came = pmd.rx_burst(alloc, nic, 32, packets)?;
+            let _gone = pmd.tx_burst(alloc, nic, 0, packets)?;
+            let _freed = pmd.reap(alloc, nic)?;
+        }
+    }
+    Ok(())
+}
+
+/// Prints what a life leaves.
+fn tell(rt: &HostRuntime, nic: &Direct, home: &Home) -> Done {
+    let (handed, accepted) = (home.handed.len(), home.accepted.len());
+    let (free, calls) = (home.arena.free_blocks(), nic.calls().kept().0.len());
+    println!(rt; "handed out {handed}, accepted {accepted}, free blocks {free}, calls {calls}")?;
+    Ok(())
+}
+
+/// Leaves what can't be dropped and couldn't be ended: its memory is lost to the process, which fails and ends next.
+fn leave<T>(value: T, failure: Failure) -> Failure {
+    // The value is moved in, so that nobody uses it again, and nothing else refers to what it owns.
+    let _left = unsafe { std::mem::ManuallyDrop::new_unchecked(value) };
+    failure
+}

@@ -99,6 +99,19 @@ pub(crate) fn behind(first: Buf, others: Bufs) -> Bufs
     all
 }
 
+/// A packet of a Buf, and others behind it.
+pub(crate) fn repacked(first: Buf, others: Bufs, len: u16, rss: u8, hash: u32) -> Packet
+    requires { length others < 5 }
+    ensures { result ≡ record { bufs = first ∷ others; len = len; rss = rss; hash = hash } }
+{
+    Packet {
+        bufs: behind(first, others),
+        len,
+        rss,
+        hash,
+    }
+}
+
 /// Puts a Buf back before the others.
 pub(crate) fn put_back(bufs: &mut Bufs, first: Buf)
     requires { length bufs.old < 5 }

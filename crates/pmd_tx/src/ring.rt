@@ -20,7 +20,7 @@ ghost use Rattle.pmd_tx.specs.Sends.{IsLate, IsBack};
 ghost use Rattle.pmd_tx.specs.Shown.{MayStart, sent_as, IsUnlent, LendsFirst, newest_part, newest_parts};
 ghost use Rattle.pmd_access.specs.Refusals.{CanFail, CanRefuse};
 
-use crate::padding::{behind, put_back, split};
+use crate::padding::{put_back, repacked, split};
 use crate::piece::{Piece, add_pieces, count_ends, first_last, parts_for};
 use pmd_access::{
     Buf, Bufs, CallFault, Nic, Packet, PmdFault, Port, Reclaim, Record, blocks_for,
@@ -366,21 +366,11 @@ impl TransmitRing {
                 Ok(rest)
             }
             Ok(Some(first)) => {
-                let back = Packet {
-                    bufs: behind(first, others),
-                    len,
-                    rss,
-                    hash,
-                };
+                let back = repacked(first, others, len, rss, hash);
                 Err((PmdFault::DeviceFault, back))
             }
             Err((fault, first)) => {
-                let back = Packet {
-                    bufs: behind(first, others),
-                    len,
-                    rss,
-                    hash,
-                };
+                let back = repacked(first, others, len, rss, hash);
                 Err((PmdFault::Call(fault), back))
             }
         }

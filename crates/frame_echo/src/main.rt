@@ -11,8 +11,6 @@ use thiserror::Error;
 enum Failure {
     #[error("there was no memory for a device, or for the blocks")]
     NoMemory,
-    #[error("the port has no such queue")]
-    NoQueue,
     #[error("the driver: {0:?}")]
     Driver(#[from] PmdFault),
     #[error("the frame wasn't sent back")]
@@ -43,9 +41,8 @@ const SETUP: Setup = Setup {
 };
 
 fn main(rt: HostRuntime) -> Done {
-    let queue = pmd::queue_at(SETUP.mode, 0, Port::Pf, 0).ok_or(Failure::NoQueue)?;
     let made = Device::new(rt.alloc(), Config { vfs: 0, fifo: 64 });
-    let mut nic = Direct::new(rt.alloc(), made.map_err(|_| Failure::NoMemory)?, queue);
+    let mut nic = Direct::new(rt.alloc(), made.map_err(|_| Failure::NoMemory)?, 0);
     let driven = drive(&rt, &mut nic);
     let (device, _calls) = nic.finish();
     let Parts {

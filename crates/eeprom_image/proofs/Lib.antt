@@ -23,4 +23,3 @@ pub mod Filled
 pub mod Started
 pub mod CountedLines
 pub mod PairLines
-pub mod Order

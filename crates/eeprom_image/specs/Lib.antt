@@ -10,5 +10,3 @@ pub mod Fault
 pub mod Text
 pub mod Draft
 pub mod Layout
-pub mod Seen
-pub mod Order

@@ -1,15 +1,16 @@
 //! The faults of what a text defines, those of its pointers excluded.
 
-ghost use Rattle.std.specs.Prelude.{◌≡◌, nat_lt, filter, IfOk};
+ghost use Rattle.std.specs.Prelude.{◌≡◌, ℕ, ◌==◌, ◌||◌, nat_lt, filter, IfOk, OnOk};
 ghost use Rattle.std.specs.List.{list_all};
+ghost use Rattle.std.specs.Ordering.{nat_cmp};
+ghost use Rattle.std.specs.BTreeSet.{contains};
 ghost use Rattle.eeprom_image.specs.Fault.{lesser, least, given_again, indexes, section_end, is_reserved, fits};
-ghost use Rattle.eeprom_image.specs.Order.{ascend, highest, is_below};
 ghost use Rattle.eeprom_image.specs.Draft.{content_in};
 
 use crate::draft::Draft;
 use crate::section::CSR_POINTER;
-use crate::seen::Seen;
 use std::alloc::{AllocError, Global};
+use std::collections::BTreeSet;
 
 /// The index of the checksum.
 pub(crate) const CHECKSUM_INDEX: usize = 0x3F;
@@ -26,66 +27,29 @@ fn lesser(n: u32, other: Option<u32>) -> Option<u32>
     }
 }
 
-/// Whether the indices are in ascending order, each once.
-fn ascend(words: &[(u32, u16)]) -> bool
-    ensures { result ≡ ascend 0 (indexes words.now) }
+/// Adds an index to the set, and returns whether it was already there.
+fn comes_again(seen: &mut BTreeSet<u32>, index: u32) -> Result<bool, AllocError>
+    ensures again { IfOk result (λ again. again ≡ contains nat_cmp seen.old index) }
+    ensures seen { OnOk result ((other : ℕ) →
+        contains nat_cmp seen.new other ≡ ((index == other) || contains nat_cmp seen.old other)) }
 {
-    let mut low = 0;
-    let mut rest = words;
-    'each: while let Some((given, more)) = rest.split_first() {
-        let index = u64::from(given.0);
-        if index < low {
-            return false;
-        }
-        low = index + 1;
-        rest = more;
-    }
-    true
+    let is_new = seen.insert(index)?;
+    Ok(!is_new)
 }
 
-/// The highest index. 0 where there is none.
-fn highest(words: &[(u32, u16)]) -> u32
-    ensures { result ≡ highest 0 (indexes words.now) }
-{
-    let mut highest = 0;
-    let mut rest = words;
-    'each: while let Some((given, more)) = rest.split_first() {
-        if given.0 > highest {
-            highest = given.0;
-        }
-        rest = more;
-    }
-    highest
-}
-
-fn is_below(n: u32, other: Option<u32>) -> bool
-    ensures { result ≡ is_below n other }
-{
-    match other {
-        None => true,
-        Some(m) => n < m,
-    }
-}
-
-/// The lowest index that is defined twice. Once one is found, only lower ones are looked for.
+/// The lowest index that is defined twice.
 pub(crate) fn lowest_given_again(
     alloc: Global,
     words: &[(u32, u16)],
 ) -> Result<Option<u32>, AllocError>
     ensures { IfOk result (λ lowest. lowest ≡ least (given_again (indexes words.now))) }
 {
-    if ascend(words) {
-        return Ok(None);
-    }
-    let mut behind = Seen::with_room(alloc, words.len(), highest(words))?;
+    let mut behind = BTreeSet::new(alloc);
     let mut lowest = None;
     for i in (0..words.len()).rev() {
         let index = words[i].0;
-        if !is_below(index, lowest) {
-            continue;
-        }
-        if behind.comes_again(index)? {
-            lowest = Some(index);
+        if comes_again(&mut behind, index)? {
+            lowest = lesser(index, lowest);
         }
     }
     Ok(lowest)

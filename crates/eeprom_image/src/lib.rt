@@ -13,7 +13,6 @@ mod image;
 mod layout;
 mod line;
 mod section;
-mod seen;
 mod text;
 mod triples;
 mod words;

@@ -1,8 +1,7 @@
 use Rattle.std.proofs.Common.{◌≡◌, ℕ, ◌-◌, ◌+◌, ◌<◌, ◌≤◌, ◌==◌, ◌||◌, true, false, List, ◌∷◌, length, get_or, drop, sym, ap, ◌∙◌, arith}
 use Rattle.std.specs.List.{list_any}
 use Rattle.std.proofs.lemmas.List.{drop_more}
-use Rattle.eeprom_image.specs.Fault.{least, indexes}
-use Rattle.eeprom_image.proofs.Order.{given_again-ascend, least-above, least-below, differs, is_below-down}
+use Rattle.eeprom_image.specs.Fault.{lesser, indexes}
 use Rattle.eeprom_image.proofs.fault.lowest_given_again.Goals as goal
 
 drop_back : (words : List (ℕ × ℕ)) (i : ℕ) → 0 < i → i ≤ length words
@@ -11,35 +10,17 @@ drop_back words i some inside =
     let next : i - 1 + 1 ≡ i = omega arith in
     drop_more words (i - 1) (0, 0) (omega arith) ∙ ap (λ n. get_or words (i - 1) (0, 0) ∷ drop n words) next
 
-pub returns-then-ascend : goal.returns-then-ascend
-returns-then-ascend c =
-    sym (ap least (given_again-ascend 0 (indexes c.args.words.now) (sym c.ascend.ensures ∙ c.if-ascend.true)))
-
-pub loop-i-preserved-then-not-is_below : goal.loop-i-preserved-then-not-is_below
-loop-i-preserved-then-not-is_below c =
-    let words = c.args.words.now in
-    let i = c.loop-i.i in
-    let index = (get_or words (i - 1) (0, 0)).0 in
-    let at = drop_back words i (omega arith) (omega arith) in
-    let above = sym c.is_below.ensures ∙ c.if-not-is_below.true in
-    record {
-      lowest = rw at (least-above index (indexes (drop i words)) c.loop-i.lowest above c.loop-i.invariant.lowest);
-      seen = λ q below. rw at (rw (differs index q c.loop-i.lowest above below) (c.loop-i.invariant.seen q below));
-    }
-
 pub loop-i-preserved-then-branch : goal.loop-i-preserved-then-branch
 loop-i-preserved-then-branch c =
     let words = c.args.words.now in
     let i = c.loop-i.i in
     let index = (get_or words (i - 1) (0, 0)).0 in
     let at = drop_back words i (omega arith) (omega arith) in
-    let below = sym c.is_below.ensures ∙ c.if-not-is_below.false in
     let again : list_any (λ other. other == index) (indexes (drop i words)) ≡ true =
-    sym (c.loop-i.invariant.seen index below) ∙ sym c.in_ok-comes_again.ensures.again ∙ c.if-branch.true in
+    sym (c.loop-i.invariant.seen index) ∙ sym c.in_ok-comes_again.ensures.again ∙ c.if-branch.true in
     record {
-      lowest = rw at (least-below index (indexes (drop i words)) c.loop-i.lowest below again c.loop-i.invariant.lowest);
-      seen = λ q lower. rw at (c.in_ok-comes_again.ensures.seen q ∙ ap (λ b. (index == q) || b)
-          (c.loop-i.invariant.seen q (is_below-down index q c.loop-i.lowest below lower)));
+      lowest = rw at (rw again (c.lesser-lowest.ensures ∙ ap (lesser index) c.loop-i.invariant.lowest));
+      seen = λ q. rw at (c.in_ok-comes_again.ensures.seen q ∙ ap (λ b. (index == q) || b) (c.loop-i.invariant.seen q));
     }
 
 pub loop-i-preserved : goal.loop-i-preserved
@@ -48,11 +29,9 @@ loop-i-preserved c =
     let i = c.loop-i.i in
     let index = (get_or words (i - 1) (0, 0)).0 in
     let at = drop_back words i (omega arith) (omega arith) in
-    let below = sym c.is_below.ensures ∙ c.if-not-is_below.false in
-    let new : list_any (λ other. other == index) (indexes (drop i words)) ≡ false =
-    sym (c.loop-i.invariant.seen index below) ∙ sym c.in_ok-comes_again.ensures.again ∙ c.if-branch.false in
+    let again : list_any (λ other. other == index) (indexes (drop i words)) ≡ false =
+    sym (c.loop-i.invariant.seen index) ∙ sym c.in_ok-comes_again.ensures.again ∙ c.if-branch.false in
     record {
-      lowest = rw at (rw new c.loop-i.invariant.lowest);
-      seen = λ q lower. rw at (c.in_ok-comes_again.ensures.seen q ∙ ap (λ b. (index == q) || b)
-          (c.loop-i.invariant.seen q lower));
+      lowest = rw at (rw again c.loop-i.invariant.lowest);
+      seen = λ q. rw at (c.in_ok-comes_again.ensures.seen q ∙ ap (λ b. (index == q) || b) (c.loop-i.invariant.seen q));
     }

@@ -19,7 +19,5 @@ pub mod Unique
 pub mod Blank
 pub mod TripleLists
 pub mod Sizes
-pub mod Filled
 pub mod Started
 pub mod CountedLines
-pub mod PairLines

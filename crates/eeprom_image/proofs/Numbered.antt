@@ -1,5 +1,5 @@
 -- Lines whose numbers count up.
-use Rattle.std.proofs.Common.{◌≡◌, ℕ, ◌+◌, zero, suc, List, [], ◌∷◌, drop, refl, arith}
+use Rattle.std.proofs.Common.{◌≡◌, ℕ, ◌+◌, List, [], ◌∷◌, refl}
 use Rattle.std.specs.Str.Lines.{lines}
 use Rattle.text_format.specs.Lines.{NumberedLine, numbered_from, lines_of}
 
@@ -15,12 +15,3 @@ IsNumberedFrom-numbered_from first (line ∷ ls) = (refl, IsNumberedFrom-numbere
 pub IsNumberedFrom-lines_of : (text : List ℕ) → IsNumberedFrom 1 (lines_of text)
 unfolding lines_of
 IsNumberedFrom-lines_of text = IsNumberedFrom-numbered_from 1 (lines text)
-
--- behind some lines the numbers go on
-pub IsNumberedFrom-drop : (first count : ℕ) (lines : List NumberedLine) → IsNumberedFrom first lines
-    → IsNumberedFrom (first + count) (drop count lines)
-IsNumberedFrom-drop first zero lines numbered = rw (let same : first + 0 ≡ first = omega arith in same) numbered
-IsNumberedFrom-drop first (suc count) [] numbered = tt
-IsNumberedFrom-drop first (suc count) (line ∷ lines) numbered =
-    let next : first + suc count ≡ first + 1 + count = omega arith in
-    rw next (IsNumberedFrom-drop (first + 1) count lines numbered.1)

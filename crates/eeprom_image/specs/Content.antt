@@ -39,18 +39,6 @@ with_lines content [] = Ok content
 with_lines content (line ∷ lines) =
     with_line content line.number (text_line line.text) then λ more. with_lines more lines
 
--- the first of these lines has the number and says this, and the others are left
-pub record SaysFirst (number : ℕ) (said : TextLine) (lines behind : List NumberedLine) : Type 0 where
-  pub text : List ℕ
-  pub first : lines ≡ record { number = number; text = text } ∷ behind
-  pub says : said ≡ text_line text
-
--- these lines give what a line of this number gives that says this, and then what those after give, which are fewer
-pub record SaysNext (number : ℕ) (said : TextLine) (lines behind : List NumberedLine) : Type 0 where
-  pub gives : (content : Content)
-      → with_lines content lines ≡ (with_line content number said then λ more. with_lines more behind)
-  pub shorter : length behind < length lines
-
 -- a size and the lines after it, where there is one
 abbrev pub Sized : Type 0
 Sized = Option (ℕ × List NumberedLine)

@@ -1,16 +1,15 @@
 //! What the lines of an EEPROM text define.
 
-ghost use Rattle.std.specs.Prelude.{◌≡◌, ◌+◌, ◌≤◌, ◌<◌, ◌^◌, [], length, Ok, None, MatchOption, IfSome, IfOk, IfErr};
-ghost use Rattle.std.specs.Option.{option_map};
-ghost use Rattle.text_format.specs.Lines.{lines_of};
-ghost use Rattle.eeprom_image.specs.Content.{SaysFirst, SaysNext, with_line, with_lines, sized, content_of, only_size, ◌then◌};
+ghost use Rattle.std.specs.Prelude.{◌≡◌, IfOk, IfErr};
+ghost use Rattle.eeprom_image.specs.Content.{with_line, with_lines, content_of, only_size};
+ghost use Rattle.eeprom_image.specs.Line.{text_line};
 ghost use Rattle.eeprom_image.specs.Text.{Gives, Fails};
 ghost use Rattle.eeprom_image.specs.Draft.{content_in};
 
-use crate::line::{TextLine, csr_line, text_line, word_line};
+use crate::line::{TextLine, text_line};
 use crate::text::AsmFault;
 use std::alloc::Global;
-use text_format::Lines;
+use text_format::{Line, Lines};
 
 /// The fewest bytes of a line that defines a word or a register write, by which the capacity of both lists is computed.
 const LINE_LENGTH: usize = 8;
@@ -33,10 +32,10 @@ fn read_size(text: &str) -> Result<(u32, Lines<'_>), AsmFault>
     ensures err { IfErr result (λ fault. Fails fault (content_of text.now)) }
 {
     let mut lines = Lines::of(text);
-    let mut count = lines.skip_wordless();
+    let mut count = 0;
     'empty_lines: while let Some(line) = lines.next() {
         match text_line(line.text) {
-            TextLine::Empty => count = line.number + lines.skip_wordless(),
+            TextLine::Empty => count = line.number,
             TextLine::Size(size) => return Ok((size, lines)),
             TextLine::Word(..) | TextLine::Csr(..) | TextLine::Malformed => {
                 return Err(AsmFault::Syntax(line.number));
@@ -46,69 +45,28 @@ fn read_size(text: &str) -> Result<(u32, Lines<'_>), AsmFault>
     Err(AsmFault::Syntax(count + 1))
 }
 
-/// Reads the next line, with its number, where it is a `word` or `csr` line that the fast path can read.
-fn next_pair(lines: &mut Lines<'_>) -> Option<(usize, TextLine)>
-    ensures some { IfSome result (λ said. SaysFirst said.0 said.1 lines.old lines.new) }
-    ensures none { result ≡ None → lines.new ≡ lines.old }
-{
-    if let Some(pair) = lines.take_pair("word") {
-        return Some((pair.line, word_line(Some((pair.first, pair.second)))));
-    }
-    if let Some(pair) = lines.take_pair("csr") {
-        return Some((pair.line, csr_line(Some((pair.first, pair.second)))));
-    }
-    None
-}
-
-/// Reads the next line, with its number.
-fn next_line(lines: &mut Lines<'_>) -> Option<(usize, TextLine)>
-    ensures { MatchOption result (lines.old ≡ []) (λ said. SaysFirst said.0 said.1 lines.old lines.new) }
-{
-    let line = lines.next()?;
-    Some((line.number, text_line(line.text)))
-}
-
-/// Reads the next line where the fast path can't. Empty lines before it count as lines that define nothing.
-fn next_other(lines: &mut Lines<'_>) -> Option<(usize, TextLine)>
-    ensures { MatchOption result (lines.old ≡ []) (λ said. SaysNext said.0 said.1 lines.old lines.new) }
-{
-    if lines.skip_wordless() != 0 {
-        return Some((0, TextLine::Empty));
-    }
-    next_line(lines)
-}
-
-/// Reads the next line, with its number; or some empty lines at once. The lines after it stay unread.
-fn next_said(lines: &mut Lines<'_>) -> Option<(usize, TextLine)>
-    ensures { MatchOption result (lines.old ≡ []) (λ said. SaysNext said.0 said.1 lines.old lines.new) }
-{
-    match next_pair(lines) {
-        Some(said) => Some(said),
-        None => next_other(lines),
-    }
-}
-
 impl Draft {
-    /// Adds what the line of this number defines.
-    fn take_line(&mut self, number: usize, said: TextLine) -> Result<(), AsmFault>
-        ensures { Gives (λ _. content_in self.new) result (with_line (content_in self.old) number said) }
+    /// Adds what one more line defines.
+    fn take_line(&mut self, line: Line<'_>) -> Result<(), AsmFault>
+        ensures { Gives (λ _. content_in self.new) result
+            (with_line (content_in self.old) line.entry.number (text_line line.entry.text.now)) }
     {
-        match said {
+        match text_line(line.text) {
             TextLine::Empty => {}
             TextLine::Word(index, value) => self.words.push((index, value))?,
             TextLine::Csr(offset, value) => self.triples.push((offset, value))?,
-            TextLine::Size(_) | TextLine::Malformed => return Err(AsmFault::Syntax(number)),
+            TextLine::Size(_) | TextLine::Malformed => return Err(AsmFault::Syntax(line.number)),
         }
         Ok(())
     }
 
     /// Adds what all lines define.
     #[tactic(auto, unfolding(crate::specs::Content::with_lines))]
-    fn take_lines(&mut self, mut lines: Lines<'_>) -> Result<(), AsmFault>
+    fn take_lines(&mut self, lines: Lines<'_>) -> Result<(), AsmFault>
         ensures { Gives (λ _. content_in self.new) result (with_lines (content_in self.old) lines.entry) }
     {
-        'said: while let Some((number, said)) = next_said(&mut lines) {
-            self.take_line(number, said)?;
+        for line in lines {
+            self.take_line(line)?;
         }
         Ok(())
     }

@@ -58,7 +58,7 @@ fn size_line(count: Option<u32>) -> TextLine
 }
 
 /// The statement of a `word` line with these operands.
-pub(crate) fn word_line(given: Option<(u32, u32)>) -> TextLine
+fn word_line(given: Option<(u32, u32)>) -> TextLine
     ensures { result ≡ word_line given }
 {
     match given {
@@ -68,7 +68,7 @@ pub(crate) fn word_line(given: Option<(u32, u32)>) -> TextLine
 }
 
 /// The statement of a `csr` line with these operands.
-pub(crate) fn csr_line(given: Option<(u32, u32)>) -> TextLine
+fn csr_line(given: Option<(u32, u32)>) -> TextLine
     ensures { result ≡ csr_line given }
 {
     match given {

@@ -28,7 +28,7 @@ strip_carriage_return-none (byte ∷ line) other =
       | inr (test, is) ↦ rw test refl
     ]
 
-pub more_parts : (first : List ℕ) (parts : List (List ℕ)) → HasFirst parts
+more_parts : (first : List ℕ) (parts : List (List ℕ)) → HasFirst parts
     → lines_of_parts (first ∷ parts) ≡ strip_carriage_return first ∷ lines_of_parts parts
 more_parts first parts (second, more, is) = rw is refl
 

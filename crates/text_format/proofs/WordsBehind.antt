@@ -25,16 +25,16 @@ filled-none hash blank (byte ∷ more) begins empty = elim (cases_Bool (hash byt
       absurd (omega (arith, eqb-true (length (take (end_in hash blank (byte ∷ more)) (byte ∷ more))) 0 empty, front))
 ]
 
-abbrev pub front_of : (ℕ → Bool) → List ℕ → ℕ
+abbrev front_of : (ℕ → Bool) → List ℕ → ℕ
 front_of blank text = position_or_len (λ byte. not (blank byte)) text
 
-pub drop-blank : (blank : ℕ → Bool) (byte : ℕ) (more : List ℕ) → blank byte ≡ true
+drop-blank : (blank : ℕ → Bool) (byte : ℕ) (more : List ℕ) → blank byte ≡ true
     → drop (front_of blank (byte ∷ more)) (byte ∷ more) ≡ drop (front_of blank more) more
 drop-blank blank byte more hit =
     ap (λ n. drop n (byte ∷ more)) (position-no (λ b. not (blank b)) byte more (ap not hit))
     ∙ drop_next (front_of blank more) byte more
 
-pub drop-unblank : (blank : ℕ → Bool) (byte : ℕ) (more : List ℕ) → blank byte ≡ false
+drop-unblank : (blank : ℕ → Bool) (byte : ℕ) (more : List ℕ) → blank byte ≡ false
     → drop (front_of blank (byte ∷ more)) (byte ∷ more) ≡ byte ∷ more
 drop-unblank blank byte more other =
     ap (λ n. drop n (byte ∷ more)) (position-yes (λ b. not (blank b)) byte more (ap not other))
@@ -71,10 +71,10 @@ behind-blanks hash blank apart (byte ∷ more) =
       | inr other ↦ behind-other hash blank byte more other
     ]
 
-abbrev pub is_hash : ℕ → Bool
+abbrev is_hash : ℕ → Bool
 is_hash byte = byte == 35
 
-pub blank-apart : (byte : ℕ) → is_blank byte ≡ true → is_hash byte ≡ false
+blank-apart : (byte : ℕ) → is_blank byte ≡ true → is_hash byte ≡ false
 blank-apart byte blank = grind (arith, nat_tests)
 
 -- a text without a byte before the end of its first word has no words

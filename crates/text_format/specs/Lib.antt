@@ -3,9 +3,5 @@ pub mod HexData
 pub mod Lines
 pub mod Name
 pub mod Number
-pub mod Pair
-pub mod Place
-pub mod TakenPair
 pub mod Word
-pub mod Wordless
 pub mod Words

@@ -1,5 +1,5 @@
 -- The lines of a text.
-use Rattle.std.specs.Prelude.{ℕ, ◌+◌, Bool, true, false, List, [], ◌∷◌}
+use Rattle.std.specs.Prelude.{ℕ, ◌+◌, List, [], ◌∷◌}
 use Rattle.std.specs.Str.Lines.{lines}
 use Rattle.text_format.specs.declared.lines.Line.{Line}
 
@@ -20,12 +20,3 @@ lines_of text = numbered_from 1 (lines text)
 -- what a line that was read says
 abbrev pub line_of : Line → NumberedLine
 line_of line = record { number = line.number; text = line.text.now }
-
--- whether a text has no bytes
-abbrev pub is_nothing : List ℕ → Bool
-is_nothing [] = true
-is_nothing (byte ∷ more) = false
-
--- whether a line is empty
-abbrev pub is_empty : NumberedLine → Bool
-is_empty line = is_nothing line.text

@@ -1,9 +1,8 @@
 -- The number that a word writes.
-use Rattle.std.specs.Prelude.{◌≡◌, ℕ, ◌+◌, ◌*◌, ◌^◌, Bool, true, false, not, ◌&&◌, ◌==◌, List, [], ◌∷◌, ◌++◌, length, drop, min, Option, Some, None, Result, Ok, Err, nat_eq, nat_lt, codes, if◌then◌else◌}
+use Rattle.std.specs.Prelude.{ℕ, ◌+◌, ◌*◌, ◌^◌, Bool, not, ◌&&◌, ◌==◌, List, [], ◌∷◌, length, drop, min, Option, Some, None, Result, Ok, Err, nat_eq, nat_lt, codes, if◌then◌else◌}
 use Rattle.std.specs.List.{list_all, prefix_len, starts_with}
 use Rattle.std.specs.Char.{is_digit, digit_value}
 use Rattle.std.specs.Str.Parse.{digits_value}
-use Rattle.text_format.specs.Name.{continues_name}
 use Rattle.text_format.specs.declared.numbers.NumberFault.{NumberFault}
 use Rattle.text_format.specs.declared.numbers.NumberFault.TheVariants.{Malformed, TooLarge}
 
@@ -31,11 +30,3 @@ digits_in_front radix text = prefix_len (λ byte. is_digit byte radix) text
 -- the number of a word: hex digits after 0x, else decimal digits
 unfoldable pub number_of : List ℕ → Result ℕ NumberFault
 number_of word = if starts_with nat_eq word (codes "0x") then numeral_of 16 (drop 2 word) else numeral_of 10 word
-
--- a text is a word of letters and digits that writes the value, and what follows it
-pub record IsNumberInFront (text : List ℕ) (value : ℕ) (behind : List ℕ) : Type 0 where
-  pub word : List ℕ
-  pub whole : text ≡ word ++ behind
-  pub long : (length word == 0) ≡ false
-  pub plain : list_all continues_name word ≡ true
-  pub writes : number_of word ≡ Ok value

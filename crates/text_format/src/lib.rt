@@ -10,14 +10,12 @@ mod hex_data;
 mod lines;
 mod names;
 mod numbers;
-mod pairs;
-mod places;
 mod word;
 mod words;
 
 pub use bytes::BytesText;
 pub use hex_data::{HexFault, hex_bytes};
-pub use lines::{Line, Lines, Pair};
+pub use lines::{Line, Lines};
 pub use names::{NAME_LIMIT, is_name};
 pub use numbers::{NumberFault, number};
 pub use word::{AddressText, WordText};

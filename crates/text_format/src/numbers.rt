@@ -1,9 +1,8 @@
 //! Reading of decimal and hex numbers.
 
-ghost use Rattle.std.specs.Prelude.{◌≡◌, ◌≢◌, ◌≤◌, ◌<◌, ◌^◌, ℕ, List, ◌∷◌, false, MatchOption, Some, Ok, take, drop};
-ghost use Rattle.std.specs.Prelude.{IfSome};
+ghost use Rattle.std.specs.Prelude.{◌≡◌, ◌≤◌, ◌<◌, false, Some, take, drop};
 ghost use Rattle.std.specs.Char.{digit_value, is_digit};
-ghost use Rattle.text_format.specs.Number.{numeral_of, capped_numeral, digits_in_front, number_of, IsNumberInFront};
+ghost use Rattle.text_format.specs.Number.{numeral_of, capped_numeral, digits_in_front, number_of};
 
 use thiserror::Error;
 
@@ -110,76 +109,6 @@ fn numeral(radix: u8, word: &str) -> Result<u32, NumberFault>
         None => Err(NumberFault::Malformed),
         Some(value) if value < TOO_LARGE => Ok(value as u32),
         Some(_) => Err(NumberFault::TooLarge),
-    }
-}
-
-/// The number that the leading digits of the radix write after earlier ones of value `first`, and the rest. `None`
-/// where it is too large.
-#[inline(always)]
-fn more_digits(radix: u8, first: u64, bytes: &[u8]) -> Option<(u32, &[u8])>
-    requires low { 2 ≤ radix }
-    requires high { radix ≤ 36 }
-    requires first { first < 2 ^ 32 }
-    ensures value { IfSome result (λ split.
-        capped_numeral radix first (take (digits_in_front radix bytes.now) bytes.now) ≡ Some split.0) }
-    ensures small { IfSome result (λ split. split.0 < 2 ^ 32) }
-    ensures behind { IfSome result (λ split. split.1.now ≡ drop (digits_in_front radix bytes.now) bytes.now) }
-{
-    let mut value = first;
-    let mut rest = bytes;
-    'each: while let Some((byte, more)) = rest.split_first() {
-        let digit = digit_of(radix, *byte);
-        if digit >= radix {
-            break;
-        }
-        value = value * u64::from(radix) + u64::from(digit);
-        if value >= TOO_LARGE {
-            return None;
-        }
-        rest = more;
-    }
-    Some((value as u32, rest))
-}
-
-/// The number that the leading digits of the radix write, and the rest. `None` where there is no digit, and where the
-/// number is too large.
-#[inline(always)]
-fn numeral_in_front(radix: u8, text: &str) -> Option<(u32, &str)>
-    requires low { 2 ≤ radix }
-    requires high { radix ≤ 36 }
-    ensures { IfSome result (λ split.
-        (numeral_of radix (take (digits_in_front radix text.now) text.now) ≡ Ok split.0)
-        × (split.1.now ≡ drop (digits_in_front radix text.now) text.now)) }
-{
-    let (byte, more) = text.as_bytes().split_first()?;
-    let digit = digit_of(radix, *byte);
-    if digit >= radix {
-        return None;
-    }
-    let (value, behind) = more_digits(radix, u64::from(digit), more)?;
-    Some((value, &text[text.len() - behind.len()..]))
-}
-
-/// The rest of a text after a leading `0x`.
-#[inline(always)]
-fn behind_mark(text: &str) -> Option<&str>
-    ensures { MatchOption result ((rest : List ℕ) → text.now ≢ 48 ∷ 120 ∷ rest)
-        (λ behind. text.now ≡ 48 ∷ 120 ∷ behind.now) }
-{
-    match text.as_bytes().first() {
-        Some(b'0') => text.strip_prefix("0x"),
-        Some(_) | None => None,
-    }
-}
-
-/// The leading number, and the rest after its last digit. `None` where there is no number, or one too large.
-#[inline(always)]
-pub(crate) fn number_in_front(text: &str) -> Option<(u32, &str)>
-    ensures { IfSome result (λ split. IsNumberInFront text.now split.0 split.1.now) }
-{
-    match behind_mark(text) {
-        Some(digits) => numeral_in_front(16, digits),
-        None => numeral_in_front(10, text),
     }
 }
 

@@ -1,6 +1,6 @@
 //! The words of a line.
 
-ghost use Rattle.std.specs.Prelude.{◌≡◌, ◌≤◌, ◌+◌, ◌∷◌, [], length, not, take, drop, position, MatchOption};
+ghost use Rattle.std.specs.Prelude.{◌≡◌, ◌∷◌, [], not, take, drop, position, MatchOption};
 ghost use Rattle.std.specs.List.{position_or_len};
 ghost use Rattle.std.specs.Iterator.{YieldsFirstRef, item_count};
 ghost use Rattle.text_format.specs.Words.{is_blank, ends_word, words_of};
@@ -56,31 +56,6 @@ fn blanks_in_front(bytes: &[u8]) -> usize
     }
 }
 
-/// Skips leading blanks, four at a time. Up to three blanks are left.
-#[inline(always)]
-fn behind_fours(bytes: &[u8]) -> &[u8]
-    ensures blanks { length bytes.now + position_or_len (λ byte. not (is_blank byte)) result.now
-        ≡ length result.now + position_or_len (λ byte. not (is_blank byte)) bytes.now }
-    ensures shorter { length result.now ≤ length bytes.now }
-{
-    let mut rest = bytes;
-    'fours: while let [first, second, third, fourth, more @ ..] = rest {
-        if !(is_blank(*first) && is_blank(*second) && is_blank(*third) && is_blank(*fourth)) {
-            break;
-        }
-        rest = more;
-    }
-    rest
-}
-
-/// How many blanks there are at the beginning, faster where there are many.
-fn many_blanks_in_front(bytes: &[u8]) -> usize
-    ensures { result ≡ position_or_len (λ byte. not (is_blank byte)) bytes.now }
-{
-    let rest = behind_fours(bytes);
-    bytes.len() - rest.len() + blanks_in_front(rest)
-}
-
 /// The index of the first byte that ends a word.
 fn first_end(bytes: &[u8]) -> Option<usize>
     ensures { result ≡ position ends_word bytes.now }
@@ -99,20 +74,10 @@ fn word_length(bytes: &[u8]) -> usize
 }
 
 /// A text without its leading blanks.
-#[inline(always)]
-pub(crate) fn behind_blanks(text: &str) -> &str
+fn behind_blanks(text: &str) -> &str
     ensures { result.now ≡ drop (position_or_len (λ byte. not (is_blank byte)) text.now) text.now }
 {
     let blanks = blanks_in_front(text.as_bytes());
-    &text[blanks..]
-}
-
-/// A text without its leading blanks, faster where there are many.
-#[inline(always)]
-pub(crate) fn behind_many_blanks(text: &str) -> &str
-    ensures { result.now ≡ drop (position_or_len (λ byte. not (is_blank byte)) text.now) text.now }
-{
-    let blanks = many_blanks_in_front(text.as_bytes());
     &text[blanks..]
 }
 
@@ -130,7 +95,7 @@ fn split_word(text: &str) -> Option<(&str, &str)>
     ensures { MatchOption result (words_of text.now ≡ [])
         (λ parts. words_of text.now ≡ parts.0.now ∷ words_of parts.1.now) }
 {
-    let (word, behind) = split_at_end(behind_many_blanks(text));
+    let (word, behind) = split_at_end(behind_blanks(text));
     if word.is_empty() {
         None
     } else {

@@ -6,25 +6,19 @@ use Rattle.eeprom_image.specs.declared.line.TextLine.{TextLine}
 use Rattle.eeprom_image.specs.declared.text.AsmFault.TheVariants.{Syntax}
 use Rattle.eeprom_image.proofs.LineCount.{length-lines_of-le}
 use Rattle.eeprom_image.proofs.Numbered.{IsNumberedFrom, IsNumberedFrom-lines_of}
-use Rattle.eeprom_image.proofs.CountedLines.{CountsOn, CountsOn-skip, CountsOn-next, CountsOn-le}
-use Rattle.eeprom_image.proofs.Filled.{sized-skip}
+use Rattle.eeprom_image.proofs.CountedLines.{CountsOn, CountsOn-next, CountsOn-le}
 use Rattle.eeprom_image.proofs.Started.{content_of-sized, content_of-refused, content_of-none, sized-first, sized-nothing}
 use Rattle.eeprom_image.proofs.draft.read_size.Goals as goal
 
 pub empty_lines-init : goal.empty_lines-init
 empty_lines-init c =
     let text = c.args.text.now in
-    let start : CountsOn 0 c.of-lines.result (length (lines_of text)) = record {
-      numbered = subst (IsNumberedFrom 1) (sym c.of-lines.ensures) (IsNumberedFrom-lines_of text);
-      whole = omega (arith, ap length c.of-lines.ensures);
-    } in
     record {
-      counts = CountsOn-skip 0 c.skip_wordless-count.result c.skip_wordless-count.result (length (lines_of text))
-          c.of-lines.result c.skip_wordless-count.new.self start (omega arith) c.skip_wordless-count.ensures.count
-          c.skip_wordless-count.ensures.behind;
-      same = sized-skip c.of-lines.result c.skip_wordless-count.new.self c.skip_wordless-count.result
-          c.skip_wordless-count.ensures.count c.skip_wordless-count.ensures.behind
-          ∙ ap sized c.of-lines.ensures;
+      counts = record {
+        numbered = subst (IsNumberedFrom 1) (sym c.of-lines.ensures) (IsNumberedFrom-lines_of text);
+        whole = omega (arith, ap length c.of-lines.ensures);
+      };
+      same = ap sized c.of-lines.ensures;
     }
 
 pub empty_lines-preserved : goal.empty_lines-preserved
@@ -32,31 +26,12 @@ empty_lines-preserved c =
     let all = length (lines_of c.args.text.now) in
     let next = CountsOn-next c.empty_lines.count all c.empty_lines.lines c.next.new.self (line_of c.in-Some.line)
     c.empty_lines.invariant.counts c.in-Some.ensures.steps in
-    let number : c.in-Some.line.number ≡ c.empty_lines.count + 1 = next.0 in
     let said = sized-first c.empty_lines.lines c.next.new.self (line_of c.in-Some.line) Empty c.in-Some.ensures.steps
     (sym c.text_line.ensures ∙ c.in-Empty.is) in
     record {
-      counts = CountsOn-skip (c.empty_lines.count + 1) c.skip_wordless.result
-          (c.in-Some.line.number + c.skip_wordless.result) all c.next.new.self c.skip_wordless.new.self next.1
-          (omega arith) c.skip_wordless.ensures.count c.skip_wordless.ensures.behind;
-      same = sized-skip c.next.new.self c.skip_wordless.new.self c.skip_wordless.result c.skip_wordless.ensures.count
-          c.skip_wordless.ensures.behind ∙ sym said ∙ c.empty_lines.invariant.same;
+      counts = subst (λ count. CountsOn count c.next.new.self all) (sym next.0) next.1;
+      same = sym said ∙ c.empty_lines.invariant.same;
     }
-
-pub overflow_add-count : goal.overflow_add-count
-overflow_add-count c =
-    let all = length (lines_of c.args.text.now) in
-    let next = CountsOn-next c.empty_lines.count all c.empty_lines.lines c.next.new.self (line_of c.in-Some.line)
-    c.empty_lines.invariant.counts c.in-Some.ensures.steps in
-    let number : c.in-Some.line.number ≡ c.empty_lines.count + 1 = next.0 in
-    let on = CountsOn-skip (c.empty_lines.count + 1) c.skip_wordless.result
-    (c.in-Some.line.number + c.skip_wordless.result) all c.next.new.self c.skip_wordless.new.self next.1 (omega arith)
-    c.skip_wordless.ensures.count c.skip_wordless.ensures.behind in
-    omega (
-      arith,
-      CountsOn-le (c.in-Some.line.number + c.skip_wordless.result) all c.skip_wordless.new.self on,
-      length-lines_of-le c.args.text.now,
-    )
 
 pub returns-in-Size-clause-ok : goal.returns-in-Size-clause-ok
 returns-in-Size-clause-ok c =

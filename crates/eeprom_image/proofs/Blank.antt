@@ -1,13 +1,14 @@
 -- The blank image is that of a text that gives a size alone.
 use Rattle.std.proofs.Common.{◌≡◌, [], refl, arith, replicate, slice_set}
 use Rattle.eeprom_image.specs.Section.{pointers}
-use Rattle.eeprom_image.specs.Content.{IsContent, only_size}
+use Rattle.eeprom_image.specs.Content.{only_size}
 use Rattle.eeprom_image.specs.Fault.{content_fault, points_inside}
 use Rattle.eeprom_image.specs.Image.{IsImage, blank}
 use Rattle.eeprom_image.specs.Text.{IsImageOf}
 use Rattle.eeprom_image.specs.Triples.{triples_of}
 use Rattle.eeprom_image.proofs.LaidOut.{IsLaidOut-put}
 use Rattle.eeprom_image.proofs.Unique.{image_of_laid_out}
+use Rattle.eeprom_image.proofs.Contents.{IsContent}
 
 right : IsContent (only_size 64)
 right = record { size = refl; words = tt; triples = tt }

@@ -1,14 +1,22 @@
 -- What the lines of a text give is of a right size, and its numbers fit.
 use Rattle.std.proofs.Common.{◌≡◌, ℕ, ◌+◌, ◌*◌, ◌%◌, ◌<◌, true, List, [], ◌∷◌, ◌++◌, length, Some, None, Result, Ok, Err, refl, subst}
+use Rattle.std.specs.Prelude.{IsTrue}
 use Rattle.std.specs.List.{AllByRecursion}
 use Rattle.text_format.specs.Lines.{NumberedLine, lines_of}
 use Rattle.eeprom_image.specs.Image.{is_size}
 use Rattle.eeprom_image.specs.Line.{text_line}
-use Rattle.eeprom_image.specs.Content.{Content, IsContent, Sized, only_size, with_line, with_lines, sized_by, sized, content_behind, content_of, ◌then◌}
+use Rattle.eeprom_image.specs.Content.{Content, Sized, only_size, with_line, with_lines, sized_by, sized, content_behind, content_of, ◌then◌}
 use Rattle.eeprom_image.specs.declared.line.TextLine.{TextLine}
 use Rattle.eeprom_image.specs.declared.line.TextLine.TheVariants.{Empty, Size, Word, Csr, Malformed}
 use Rattle.eeprom_image.specs.declared.text.AsmFault.{AsmFault}
 use Rattle.eeprom_image.proofs.LineContents.{IsLine, IsLine-text_line}
+
+-- what any content of a text is
+pub record IsContent (content : Content) : Type 0 where
+  pub size : IsTrue (is_size content.size)
+  pub words : AllByRecursion (λ given. given.1 < 65536) content.words
+  pub triples : AllByRecursion (λ triple. (triple.0 % 4 ≡ 0) × (triple.0 < 0x40000) × (triple.1 < 65536 * 65536))
+      content.triples
 
 all_push : (P : ℕ × ℕ → Type 0) (xs : List (ℕ × ℕ)) (x : ℕ × ℕ) → AllByRecursion P xs → P x
     → AllByRecursion P (xs ++ (x ∷ []))

@@ -5,10 +5,11 @@ use Rattle.std.proofs.lemmas.List.{get_or_past}
 use Rattle.std.proofs.lemmas.Bool.{cases_lt}
 use Rattle.std.proofs.lemmas.Bool.Decides.{eqb_tells}
 use Rattle.eeprom_image.specs.Bytes.{word_at}
-use Rattle.eeprom_image.specs.Content.{Content, IsContent}
+use Rattle.eeprom_image.specs.Content.{Content}
 use Rattle.eeprom_image.specs.Fault.{section_end, triple_words, csr_section, given_word, csr_pointer, plain_word}
 use Rattle.eeprom_image.specs.Layout.{IsLaidOut}
 use Rattle.eeprom_image.proofs.Layouts.{value_after}
+use Rattle.eeprom_image.proofs.Contents.{IsContent}
 
 cond_fits : (b : Bool) (x y : ℕ) → x < 65536 → y < 65536 → cond b x y < 65536
 cond_fits true x y h k = h

@@ -8,7 +8,7 @@ use Rattle.eeprom_image.specs.Bytes.{word_at}
 use Rattle.eeprom_image.specs.Section.{pointers}
 use Rattle.eeprom_image.specs.Checksum.{checked_sum}
 use Rattle.eeprom_image.specs.Image.{is_size, are_inside}
-use Rattle.eeprom_image.specs.Content.{Content, IsContent}
+use Rattle.eeprom_image.specs.Content.{Content}
 use Rattle.eeprom_image.specs.Fault.{section_end, is_reserved, given_word, plain_word, content_fault}
 use Rattle.eeprom_image.specs.Text.{is_behind, IsImageOf}
 use Rattle.eeprom_image.specs.Layout.{IsLaidOut, checksum_of, with_checksum}
@@ -16,6 +16,7 @@ use Rattle.eeprom_image.proofs.Checksums.{checked_sum-set}
 use Rattle.eeprom_image.proofs.Pointers.{points_inside-is}
 use Rattle.eeprom_image.proofs.Faultless.{sound_parts, size_bounds, fits_end}
 use Rattle.eeprom_image.proofs.LaidTriples.{pointer_is, triples_laid}
+use Rattle.eeprom_image.proofs.Contents.{IsContent}
 
 or_false : (a b : Bool) → (a || b) ≡ false → (a ≡ false) × (b ≡ false)
 or_false true b h = absurd (let no : ⊥ = cc in no)

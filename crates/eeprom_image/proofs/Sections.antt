@@ -1,5 +1,5 @@
 -- What holds of the sections of an image.
-use Rattle.std.proofs.Common.{◌≡◌, ℕ, ◌<◌, true, List, [], lit<}
+use Rattle.std.proofs.Common.{◌≡◌, ℕ, true, List, lit<}
 use Rattle.std.proofs.lemmas.List.Sums.{AllPass-from_list_all}
 use Rattle.eeprom_image.specs.Bytes.{word_at}
 use Rattle.eeprom_image.specs.Section.{is_inside, pointers}

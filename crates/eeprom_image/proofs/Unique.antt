@@ -7,14 +7,14 @@ use Rattle.std.proofs.lemmas.Bool.Decides.{eqb_tells}
 use Rattle.eeprom_image.specs.Bytes.{word_at}
 use Rattle.eeprom_image.specs.Section.{pointers}
 use Rattle.eeprom_image.specs.Checksum.{checked_sum}
-use Rattle.eeprom_image.specs.Content.{Content, IsContent, content_of, ◌then◌}
+use Rattle.eeprom_image.specs.Content.{Content, content_of, ◌then◌}
 use Rattle.eeprom_image.specs.Fault.{content_fault}
 use Rattle.eeprom_image.specs.Text.{is_behind, IsImageOf, checked_by, sound_content}
 use Rattle.eeprom_image.specs.Layout.{put_word, with_csr, with_checksum, IsLaidOut}
 use Rattle.eeprom_image.specs.declared.text.AsmFault.{AsmFault}
 use Rattle.eeprom_image.proofs.LaidOut.{IsLaidOut-put}
 use Rattle.eeprom_image.proofs.Checksums.{checked_sum-set}
-use Rattle.eeprom_image.proofs.Contents.{content_of-right}
+use Rattle.eeprom_image.proofs.Contents.{IsContent, content_of-right}
 use Rattle.eeprom_image.proofs.Faultless.{size_bounds, fits_end, sound_parts}
 use Rattle.eeprom_image.proofs.Images.{IsImageOf-laid_out}
 use Rattle.eeprom_image.proofs.ImageWords.{plain_of_image, size_of_image}

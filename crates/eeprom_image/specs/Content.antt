@@ -1,8 +1,6 @@
 -- What the lines of an EEPROM text give.
-use Rattle.std.specs.Prelude.{◌≡◌, ℕ, ◌+◌, ◌*◌, ◌<◌, ◌%◌, List, [], ◌∷◌, ◌++◌, length, Option, Some, None, Result, Ok, Err, IsTrue}
-use Rattle.std.specs.List.{AllByRecursion}
+use Rattle.std.specs.Prelude.{ℕ, ◌+◌, List, [], ◌∷◌, ◌++◌, length, Option, Some, None, Result, Ok, Err}
 use Rattle.text_format.specs.Lines.{NumberedLine, lines_of}
-use Rattle.eeprom_image.specs.Image.{is_size}
 use Rattle.eeprom_image.specs.Line.{text_line}
 use Rattle.eeprom_image.specs.declared.line.TextLine.{TextLine}
 use Rattle.eeprom_image.specs.declared.line.TextLine.TheVariants.{Empty, Size, Word, Csr, Malformed}
@@ -64,10 +62,3 @@ content_behind past (Some start) = with_lines (only_size start.0) start.1
 -- what a text gives, or its first faulty line
 unfoldable pub content_of : List ℕ → Result Content AsmFault
 content_of text = sized (lines_of text) then content_behind (length (lines_of text) + 1)
-
--- what any content of a text is
-pub record IsContent (content : Content) : Type 0 where
-  pub size : IsTrue (is_size content.size)
-  pub words : AllByRecursion (λ given. given.1 < 65536) content.words
-  pub triples : AllByRecursion (λ triple. (triple.0 % 4 ≡ 0) × (triple.0 < 0x40000) × (triple.1 < 65536 * 65536))
-      content.triples

@@ -7,7 +7,8 @@ use Rattle.program.specs.declared.fault.ObjectFault.{ObjectFault}
 use Rattle.program.specs.declared.instruction.Instruction.{Instruction}
 use Rattle.program.specs.declared.meaning.FieldFault.{FieldFault}
 use Rattle.program.specs.Meaning.{meaning}
-use Rattle.program.specs.Object.{◌then◌, meanings, at_pc, fault_at, before_instructions}
+use Rattle.program.specs.Mapped.{◌then◌}
+use Rattle.program.specs.Object.{meanings, at_pc, fault_at, before_instructions}
 
 -- an instruction, and a fault behind it
 behind_one : (first : Result (Instruction ℕ ℕ) FieldFault) (pc : ℕ) (rest : Result (List (Instruction ℕ ℕ)) ObjectFault)

@@ -6,7 +6,8 @@ use Rattle.program.specs.declared.instruction.Instruction.{Instruction}
 use Rattle.program.specs.declared.fault.ObjectFault.{ObjectFault}
 use Rattle.program.specs.Bytes.{fields_in}
 use Rattle.program.specs.Meaning.{meaning}
-use Rattle.program.specs.Object.{◌then◌, all_fields_in, meanings, at_pc, before_instructions}
+use Rattle.program.specs.Mapped.{◌then◌}
+use Rattle.program.specs.Object.{all_fields_in, meanings, at_pc, before_instructions}
 
 abbrev pub Instructions : Type 0
 Instructions = List (Instruction ℕ ℕ)

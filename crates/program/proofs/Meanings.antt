@@ -8,7 +8,8 @@ use Rattle.program.specs.declared.meaning.FieldFault.{FieldFault}
 use Rattle.program.specs.declared.meaning.FieldFault.TheVariants.{Operand}
 use Rattle.program.specs.Encoding.{fields, fields_of, same_fields}
 use Rattle.program.specs.Meaning.{meaning, instruction_in, spelled_so, unless_faulty, fault_in}
-use Rattle.program.specs.Object.{◌then◌, meanings, at_pc, before_instructions}
+use Rattle.program.specs.Mapped.{◌then◌}
+use Rattle.program.specs.Object.{meanings, at_pc, before_instructions}
 
 pub same_fields-are : (f g : Fields) → same_fields f g ≡ true → f ≡ g
 same_fields-are f g same =

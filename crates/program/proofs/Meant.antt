@@ -14,7 +14,8 @@ use Rattle.program.specs.declared.meaning.FieldFault.TheVariants.{Operand, Targe
 use Rattle.program.specs.Encoding.{fields_of, same_fields}
 use Rattle.program.specs.Listing.{IsSound, string_at}
 use Rattle.program.specs.Meaning.{meaning, instruction_in, spelled_so, unless, unless_faulty, fault_in}
-use Rattle.program.specs.Object.{◌then◌, meanings, at_pc, before_instructions}
+use Rattle.program.specs.Mapped.{◌then◌}
+use Rattle.program.specs.Object.{meanings, at_pc, before_instructions}
 
 low : (v : ℕ) → v < 63 → v % 256 ≡ v
 low v small = omega arith

@@ -11,7 +11,8 @@ use Rattle.program.specs.declared.reading.Header.{Header}
 use Rattle.program.specs.Bytes.{bytes_of_fields}
 use Rattle.program.specs.Encoding.{fields_of, HaveWidths}
 use Rattle.program.specs.Listing.{Listing, IsListing, IsDataString}
-use Rattle.program.specs.Object.{◌then◌, laid_out, object_of, read_of, bytes_of_string, strings_behind, strings_in, all_fields_in, meanings, program_of}
+use Rattle.program.specs.Mapped.{◌then◌}
+use Rattle.program.specs.Object.{laid_out, object_of, read_of, bytes_of_string, strings_behind, strings_in, all_fields_in, meanings, program_of}
 use Rattle.program.proofs.Back.{header-back, all_fields-back, strings-back}
 use Rattle.program.proofs.Meant.{meanings-of}
 use Rattle.program.proofs.Sizes.{length-instructions, object-small}

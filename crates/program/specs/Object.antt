@@ -14,6 +14,7 @@ use Rattle.program.specs.declared.reading.Header.{Header}
 use Rattle.program.specs.Bytes.{number16_at, number32_at, bytes_of_fields, fields_in}
 use Rattle.program.specs.Encoding.{fields_of}
 use Rattle.program.specs.Listing.{Listing}
+use Rattle.program.specs.Mapped.{◌then◌}
 use Rattle.program.specs.Meaning.{meaning}
 
 -- the first four bytes: NBSC
@@ -42,12 +43,6 @@ laid_out all strings =
 -- the object of a program
 abbrev pub object_of : Listing → List ℕ
 object_of program = laid_out (map fields_of program.instructions) program.strings
-
--- the second step, where the first gave a value
-infixl 10 ◌then◌
-abbrev pub ◌then◌ : {A B E : Type 0} → Result A E → (A → Result B E) → Result B E
-Ok x then f = f x
-Err e then f = Err e
 
 -- within the limits, and the instructions are inside
 pub record Fits (bytes : List ℕ) (h : Header) : Type 0 where

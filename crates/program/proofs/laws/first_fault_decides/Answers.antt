@@ -1,5 +1,6 @@
 use Rattle.std.proofs.Common.{◌≡◌, ◌+◌, length, ◌∷◌, ◌++◌, Ok, Err, ap, ◌∙◌, arith}
-use Rattle.program.specs.Object.{◌then◌, fault_at}
+use Rattle.program.specs.Mapped.{◌then◌}
+use Rattle.program.specs.Object.{fault_at}
 use Rattle.program.proofs.ReadBack.{laid_out-read}
 use Rattle.program.proofs.Faults.{meanings-stopped}
 use Rattle.program.proofs.laws.first_fault_decides.Goals as goal

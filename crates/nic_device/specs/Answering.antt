@@ -116,6 +116,13 @@ note_length (reply.Twice block) = kept_len block.bytes
 note_length (reply.Frame queue bytes) = length bytes
 note_length other = 0
 
+-- whether a reply contains neither a block nor a frame
+abbrev pub is_plain : Reply Block → Bool
+is_plain (reply.Buf block) = false
+is_plain (reply.Twice block) = false
+is_plain (reply.Frame queue bytes) = false
+is_plain other = true
+
 -- how many bytes the note of the reply to an event copies at most, which is known before the event is made
 abbrev pub note_room : State → Event Block → ℕ
 note_room s (event.Lend block) = 2048

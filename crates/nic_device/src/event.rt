@@ -101,11 +101,8 @@ impl Event {
                 let _number = buf.block();
                 Self::are_bytes(buf.bytes());
             }
-            Event::Take(number) => {
+            Event::Take(number) | Event::Peek16(number) => {
                 let _number = *number;
-            }
-            Event::Peek16(address) => {
-                let _address = *address;
             }
             Event::Poke16(address, bytes) => {
                 let _address = *address;
@@ -113,17 +110,12 @@ impl Event {
                 prove!(all.len() == 16);
                 Self::are_bytes(all);
             }
-            Event::Arrive(frame) => {
-                Self::are_bytes(frame.bytes());
-            }
-            Event::TxStep(queue) => {
+            Event::Arrive(frame) => Self::are_bytes(frame.bytes()),
+            Event::TxStep(queue) | Event::QueueStep(_, queue) => {
                 let _queue = *queue;
             }
             Event::IntStep(Group::Vf(function)) => {
                 let _function = *function;
-            }
-            Event::QueueStep(_, queue) => {
-                let _queue = *queue;
             }
             Event::RxStep
             | Event::IntStep(Group::Pf)

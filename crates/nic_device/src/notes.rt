@@ -1,10 +1,10 @@
 //! Notes: copies of events and replies that can be kept, with a note in place of a packet buffer. Contracts see an
 //! event and its note as equal, and so a reply and its note.
 
-ghost use Rattle.std.specs.Prelude.{◌≡◌, ◌-◌, ◌≤◌, ◌↔◌, IsTrue, IfOk, [], length, take, false};
+ghost use Rattle.std.specs.Prelude.{◌≡◌, ◌-◌, ◌≤◌, ◌↔◌, IsTrue, IfOk, [], length, take, false, true};
 ghost use Rattle.std.specs.Vec.{vec_capacity};
 ghost use Rattle.std.specs.Result.{result_err};
-ghost use Rattle.nic_device.specs.Answering.{note_length};
+ghost use Rattle.nic_device.specs.Answering.{is_plain, note_length};
 ghost use Rattle.nic_device.specs.Step.{handed_block};
 ghost use Rattle.nic_device.specs.Trimming.{kept_len};
 
@@ -183,18 +183,32 @@ impl Reply {
         ensures { result ≡ self.now }
     {
         match self {
-            Reply::Word(word) => Reply::Word(*word),
-            Reply::Stray(word) => Reply::Stray(*word),
-            Reply::Done => Reply::Done,
-            Reply::Bytes(bytes) => Reply::Bytes(*bytes),
             Reply::Buf(buf) => Reply::Buf(Note::with_kept(buf, length, room)),
             Reply::Twice(buf) => Reply::Twice(Note::with_kept(buf, length, room)),
+            Reply::Frame { queue, bytes } => Reply::Frame {
+                queue: *queue,
+                bytes: Octets::copied(bytes.bytes(), room),
+            },
+            _ => self.plain_note(),
+        }
+    }
+
+    /// The note of a reply that contains neither a block nor a frame.
+    fn plain_note(&self) -> ReplyNote
+        requires { is_plain self.now ≡ true }
+        ensures { result ≡ self.now }
+    {
+        match *self {
+            Reply::Word(read) => Reply::Word(read),
+            Reply::Stray(word) => Reply::Stray(word),
+            Reply::Done => Reply::Done,
+            Reply::Bytes(bytes) => Reply::Bytes(bytes),
             Reply::NotLent => Reply::NotLent,
             Reply::Misaligned => Reply::Misaligned,
             Reply::NoQueue => Reply::NoQueue,
             Reply::NoGroup => Reply::NoGroup,
             Reply::Idle => Reply::Idle,
-            Reply::Dropped(why) => Reply::Dropped(*why),
+            Reply::Dropped(why) => Reply::Dropped(why),
             Reply::Wrote {
                 queue,
                 slot,
@@ -203,35 +217,18 @@ impl Reply {
                 at,
                 len,
             } => Reply::Wrote {
-                queue: *queue,
-                slot: *slot,
-                end: *end,
-                desc: *desc,
-                at: *at,
-                len: *len,
+                queue,
+                slot,
+                end,
+                desc,
+                at,
+                len,
             },
-            Reply::Advanced { queue, slot, back } => Reply::Advanced {
-                queue: *queue,
-                slot: *slot,
-                back: *back,
-            },
-            Reply::Sent { queue, len, back } => Reply::Sent {
-                queue: *queue,
-                len: *len,
-                back: *back,
-            },
-            Reply::Fault { queue, fault } => Reply::Fault {
-                queue: *queue,
-                fault: *fault,
-            },
-            Reply::Message { group, vector } => Reply::Message {
-                group: *group,
-                vector: *vector,
-            },
-            Reply::Frame { queue, bytes } => Reply::Frame {
-                queue: *queue,
-                bytes: Octets::copied(bytes.bytes(), room),
-            },
+            Reply::Advanced { queue, slot, back } => Reply::Advanced { queue, slot, back },
+            Reply::Sent { queue, len, back } => Reply::Sent { queue, len, back },
+            Reply::Fault { queue, fault } => Reply::Fault { queue, fault },
+            Reply::Message { group, vector } => Reply::Message { group, vector },
+            Reply::Buf(_) | Reply::Twice(_) | Reply::Frame { .. } => unreachable!(),
         }
     }
 

@@ -4,8 +4,8 @@ use Rattle.std.specs.Prelude.{not}
 use Rattle.std.proofs.lemmas.Bool.{eqb-true, cases_lt}
 use Rattle.std.proofs.lemmas.List.{length-append, length-replicate, length-take-le, take_at, get_or_past}
 use Rattle.rx_ring.specs.DmaArena.Block.{Block, IsZeroFrom}
-use Rattle.nic_device.specs.Holding.{Held}
-use Rattle.nic_device.specs.Trimming.{kept_with, kept_len}
+use Rattle.nic_device.specs.NotesHolding.{Held}
+use Rattle.nic_device.specs.NotesTrimming.{kept_with, kept_len}
 
 with_le : (kept byte n : ℕ) → kept ≤ n → kept_with kept byte ≤ suc n
 with_le (suc kept) byte n h = omega arith

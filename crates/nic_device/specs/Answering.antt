@@ -3,7 +3,7 @@ use Rattle.std.specs.Prelude.{ℕ, ◌==◌, Bool, true, false, length}
 use Rattle.rx_ring.specs.DmaArena.Block.{Block}
 use Rattle.nic_device.specs.Link.{next_out_of}
 use Rattle.nic_device.specs.State.{State}
-use Rattle.nic_device.specs.Trimming.{kept_len}
+use Rattle.nic_device.specs.NotesTrimming.{kept_len}
 use Rattle.nic_device.specs.declared.event.Event.{Event}
 use Rattle.nic_device.specs.declared.event.Event.TheVariants as event
 use Rattle.nic_device.specs.declared.event.Reply.{Reply}

@@ -20,7 +20,7 @@ pub mod Bus
 pub mod Config
 pub mod Eeprom
 pub mod Footprint
-pub mod Holding
+pub mod NotesHolding
 pub mod Interrupt
 pub mod Kept
 pub mod Lending
@@ -35,4 +35,4 @@ pub mod State
 pub mod Step
 pub mod Switching
 pub mod Transmit
-pub mod Trimming
+pub mod NotesTrimming

@@ -1,8 +1,8 @@
 ghost use Rattle.std.specs.Prelude.{◌≡◌, ◌↔◌, ◌-◌, ◌++◌, IsTrue, length, replicate, take};
 ghost use Rattle.nic_device.specs.Step.{lent_block};
-ghost use Rattle.nic_device.specs.Trimming.{kept_len};
+ghost use Rattle.nic_device.specs.NotesTrimming.{kept_len};
 
-use crate::holding::Holding;
+use crate::notes_holding::Holding;
 use register_file::Group;
 use rx_ring::{Buf, Dir, Octets, RingFault};
 use std::marker::Model;
@@ -269,7 +269,7 @@ pub struct Note {
 impl Model for Note {
     ghost use Rattle.std.specs.Prelude.{◌≡◌, ◌++◌, length, replicate};
     ghost use Rattle.rx_ring.specs.DmaArena.Block.{Block};
-    ghost use Rattle.nic_device.specs.Trimming.{kept_len};
+    ghost use Rattle.nic_device.specs.NotesTrimming.{kept_len};
 
     ghost Value = { Block };
 

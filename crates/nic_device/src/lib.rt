@@ -16,19 +16,20 @@
 mod access;
 mod arrival;
 mod bus;
-mod common;
 mod config;
 mod copies;
 mod device;
 mod eeprom;
 mod engine;
 mod event;
-mod holding;
 mod interrupt;
 mod lending;
 mod link;
 mod named;
 mod notes;
+mod notes_holding;
+mod notes_shared;
+mod notes_trimming;
 mod pools;
 mod receive;
 mod rest;
@@ -37,15 +38,14 @@ mod runs;
 mod snapshot;
 mod switching;
 mod transmit;
-mod trimming;
 mod waiting;
 
-pub use common::Notes;
 pub use config::{Config, MAX_FIFO, NewFault};
 pub use device::{Device, Parts};
 pub use eeprom_image::{AsmFault, Image, LoadFault, assemble, load};
 pub use event::{Event, EventNote, Note, OutOfMemory, Port, Reply, ReplyNote, Why};
 pub use named::Named;
+pub use notes_shared::Notes;
 pub use register_file::{
     Bank, Group, Key, Located, MAX_VFS, Mode, Place, QUEUES, RowId, addr_of, asks_pool_reset,
     asks_reset, bank_of, has_queue, hash, locate, mode_of, place_of, queues_of,

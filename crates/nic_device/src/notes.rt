@@ -6,11 +6,11 @@ ghost use Rattle.std.specs.Vec.{vec_capacity};
 ghost use Rattle.std.specs.Result.{result_err};
 ghost use Rattle.nic_device.specs.Answering.{is_plain, note_length};
 ghost use Rattle.nic_device.specs.Step.{handed_block};
-ghost use Rattle.nic_device.specs.Trimming.{kept_len};
+ghost use Rattle.nic_device.specs.NotesTrimming.{kept_len};
 
 use crate::event::{Event, EventNote, Note, Reply, ReplyNote};
-use crate::holding::Holding;
-use crate::trimming::kept_in;
+use crate::notes_holding::Holding;
+use crate::notes_trimming::kept_in;
 use rx_ring::{Buf, Octets};
 use std::alloc::{AllocError, Global};
 use std::sync::Arc;

@@ -1,6 +1,6 @@
 use Rattle.std.proofs.Common.{ap, sym, ◌∙◌, take}
 use Rattle.rx_ring.specs.DmaArena.Block.{Block}
-use Rattle.nic_device.specs.Trimming.{kept_len}
+use Rattle.nic_device.specs.NotesTrimming.{kept_len}
 use Rattle.nic_device.proofs.Trimmed.{kept_of_all}
 use Rattle.nic_device.proofs.event.Note.kept.Goals as goal
 

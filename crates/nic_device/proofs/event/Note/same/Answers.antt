@@ -1,5 +1,5 @@
 use Rattle.std.proofs.Common.{sym, ap, ◌∙◌}
-use Rattle.nic_device.specs.Holding.{Held}
+use Rattle.nic_device.specs.NotesHolding.{Held}
 use Rattle.nic_device.proofs.Trimmed.{block, held-same, same-block}
 use Rattle.nic_device.proofs.event.Note.same.Goals as goal
 

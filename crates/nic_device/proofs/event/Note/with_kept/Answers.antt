@@ -1,6 +1,6 @@
 use Rattle.std.proofs.Common.{◌≡◌, ◌≤◌, List, ℕ, length, ap, sym, ◌∙◌, arith}
 use Rattle.std.proofs.lemmas.List.{length-take-le}
-use Rattle.nic_device.specs.Trimming.{kept_len}
+use Rattle.nic_device.specs.NotesTrimming.{kept_len}
 use Rattle.nic_device.proofs.Trimmed.{kept_len_le}
 use Rattle.nic_device.proofs.event.Note.with_kept.Goals as goal
 

@@ -1,8 +1,8 @@
 use Rattle.std.proofs.Common.{◌≡◌, ◌≤◌, List, ℕ, length, ap, sym, arith}
 use Rattle.std.proofs.lemmas.List.{length-take-le}
-use Rattle.nic_device.specs.Trimming.{kept_len}
+use Rattle.nic_device.specs.NotesTrimming.{kept_len}
 use Rattle.nic_device.proofs.Trimmed.{kept_len_le}
-use Rattle.nic_device.proofs.common.Notes.of.Goals as goal
+use Rattle.nic_device.proofs.notes_shared.Notes.of.Goals as goal
 
 few : (bytes block : List ℕ) (kept : ℕ) → kept ≡ kept_len block → bytes ≡ block → kept ≤ length bytes
 few bytes block kept is same =

@@ -24,7 +24,7 @@ pub(crate) struct Holding {
 }
 
 impl Model for Holding {
-    ghost use Rattle.nic_device.specs.Holding.{Held, held_of};
+    ghost use Rattle.nic_device.specs.NotesHolding.{Held, held_of};
 
     ghost Value = { Held };
 

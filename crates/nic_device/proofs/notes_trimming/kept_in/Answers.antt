@@ -1,8 +1,8 @@
 use Rattle.std.proofs.Common.{List, ℕ, length, ap, sym, ◌∙◌, arith, subst}
 use Rattle.rx_ring.specs.DmaArena.Block.{IsZeroFrom}
-use Rattle.nic_device.specs.Trimming.{kept_len}
+use Rattle.nic_device.specs.NotesTrimming.{kept_len}
 use Rattle.nic_device.proofs.Trimmed.{zeros_on}
-use Rattle.nic_device.proofs.trimming.kept_in.Goals as goal
+use Rattle.nic_device.proofs.notes_trimming.kept_in.Goals as goal
 
 pub kept_before-requires-clause-within : goal.kept_before-requires-clause-within
 kept_before-requires-clause-within c =

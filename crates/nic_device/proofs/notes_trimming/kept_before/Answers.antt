@@ -1,6 +1,6 @@
 use Rattle.std.proofs.Common.{◌-◌, arith}
 use Rattle.nic_device.proofs.Trimmed.{kept-none, kept-last}
-use Rattle.nic_device.proofs.trimming.kept_before.Goals as goal
+use Rattle.nic_device.proofs.notes_trimming.kept_before.Goals as goal
 
 pub returns-else-bytes-end-eq0 : goal.returns-else-bytes-end-eq0
 returns-else-bytes-end-eq0 c =

@@ -5,7 +5,7 @@ use Rattle.std.specs.Prelude.{not}
 use lib.Lanes.{chunk, mask_l}
 use mir.Syntax.{w8}
 use Rattle.nic_device.proofs.Trimmed.{zero_from_not}
-use Rattle.nic_device.proofs.trimming.are_zeros.Goals as goal
+use Rattle.nic_device.proofs.notes_trimming.are_zeros.Goals as goal
 
 pub returns : goal.returns
 returns c =

@@ -1,7 +1,7 @@
 //! The length of bytes up to the last that isn't 0.
 
 ghost use Rattle.std.specs.Prelude.{◌≡◌, ℕ, ◌+◌, ◌<◌, ◌≤◌, length, slice_index, true};
-ghost use Rattle.nic_device.specs.Trimming.{kept_len};
+ghost use Rattle.nic_device.specs.NotesTrimming.{kept_len};
 
 use rx_ring::Buf;
 use std::simd::prelude::*;

@@ -1,7 +1,7 @@
 -- What a note holds of a block.
 use Rattle.std.specs.Prelude.{ℕ, List}
-use Rattle.nic_device.specs.declared.holding.Parts.{Parts}
-use Rattle.nic_device.specs.declared.holding.Parts.TheVariants.{Own, Common}
+use Rattle.nic_device.specs.declared.notes_holding.Parts.{Parts}
+use Rattle.nic_device.specs.declared.notes_holding.Parts.TheVariants.{Own, Common}
 
 -- the block's number, how many zero bytes it has after those that are kept, and these
 pub record Held : Type 0 where

@@ -3,7 +3,7 @@
 ghost use Rattle.std.specs.Prelude.{◌≡◌, IfOk, IfSome, IsTrue};
 
 use crate::event::Note;
-use crate::trimming::kept_in;
+use crate::notes_trimming::kept_in;
 use rx_ring::{Buf, Octets};
 use std::alloc::{AllocError, Global};
 use std::sync::Arc;

@@ -6,7 +6,7 @@ ghost use Rattle.std.specs.Vec.{vec_capacity};
 ghost use Rattle.nic_device.specs.Config.{IsBadFifo};
 ghost use Rattle.nic_device.specs.DmaArena.Block.{zero_block};
 ghost use Rattle.nic_device.specs.DmaArena.Memory.{has_block};
-ghost use Rattle.nic_device.specs.DmaArena.Numbers.{count_of, is_free, is_own, with_free};
+ghost use Rattle.nic_device.specs.DmaArena.Numbers.{count_of, is_free};
 ghost use Rattle.nic_device.specs.Link.{next_out_of};
 ghost use Rattle.nic_device.specs.Step.{reply_to, word_told, moves_block, hands_out, TakesMemory};
 ghost use Rattle.card.specs.Card.{AreShared, CanReturn, arena_after, new_card, made, reply_of_read, reply_of_write, IsOfWrite, with_lent, with_taken, lent_below, with_image};
@@ -70,18 +70,6 @@ fn is_stray(reply: Reply) -> bool
     }
 }
 
-/// Returns a block to the arena that it was taken from.
-fn give_back(arena: &mut Arena, buf: Buf)
-    requires own { is_own arena.old buf.number ≡ true }
-    requires away { is_free arena.old buf.number ≡ false }
-    ensures { arena.new ≡ with_free arena.old buf.number true }
-{
-    match arena.give(buf) {
-        Ok(()) => {}
-        Err(_buf) => unreachable!(),
-    }
-}
-
 /// The note of a reply. A block in it is returned to the arena, and its bytes are copied into `room`.
 fn note_returned(arena: &mut Arena, reply: Reply, room: Vec<u8>) -> ReplyNote
     requires own { CanReturn arena.old reply }
@@ -94,7 +82,7 @@ fn note_returned(arena: &mut Arena, reply: Reply, room: Vec<u8>) -> ReplyNote
         Ok(note) => note,
         Err(buf) => {
             let note = Note::of(&buf, room);
-            give_back(arena, buf);
+            arena.give_back(buf);
             Reply::Buf(note)
         }
     }
@@ -123,7 +111,7 @@ fn take_back(memory: &mut LentMemory, arena: &mut Arena, number: u32)
     ensures others { (other : ℕ) → has_block memory.old other ≡ false → has_block memory.new other ≡ false }
 {
     if let Some(buf) = memory.take(number) {
-        give_back(arena, buf);
+        arena.give_back(buf);
     }
 }
 
@@ -240,7 +228,7 @@ impl Card {
             Ok(reply) => Ok(is_lent_by(reply)),
             Err(refused) => match refused.0.into_buf() {
                 Some(buf) => {
-                    give_back(&mut self.arena, buf);
+                    self.arena.give_back(buf);
                     Err(AllocError)
                 }
                 None => unreachable!(),
@@ -257,7 +245,7 @@ impl Card {
             Ok(reply) => match reply.into_buf() {
                 None => false,
                 Some(buf) => {
-                    give_back(&mut self.arena, buf);
+                    self.arena.give_back(buf);
                     true
                 }
             },

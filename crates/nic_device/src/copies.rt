@@ -3,10 +3,10 @@
 ghost use Rattle.std.specs.Prelude.{◌≡◌, ◌+◌, ◌<◌, ◌≤◌, ℕ, true, false, length, Some, None, IfOk, OnOk, OnErr};
 ghost use Rattle.std.specs.FinMap as map;
 ghost use Rattle.rx_ring.specs.DmaArena.Memory.{Memory, has_block, IsWhole};
-ghost use Rattle.rx_ring.specs.DmaArena.Numbers.{Numbers, count_of, is_free, is_own, with_free};
+ghost use Rattle.rx_ring.specs.DmaArena.Numbers.{Numbers, count_of, is_free, with_free};
 ghost use Rattle.nic_device.specs.Blocks.{AreFree, AreAway, AreAmong, AreBelow, TellsTaken, HaveLeft, StillLeft, memory_of, AreRising};
 
-use rx_ring::{Arena, BLOCK_BYTES, Buf, LendRefused, LentMemory, Octets};
+use rx_ring::{Arena, BLOCK_BYTES, LendRefused, LentMemory, Octets};
 use std::alloc::{AllocError, Global};
 use std::collections::VecDeque;
 use std::marker::Model;
@@ -189,7 +189,7 @@ fn return_block(memory: &mut LentMemory, arena: &mut Arena, number: u32)
     ensures left { StillLeft arena.old memory.old arena.new memory.new }
 {
     if let Some(buf) = memory.take(number) {
-        give_back(arena, buf);
+        arena.give_back(buf);
     }
 }
 
@@ -238,21 +238,9 @@ fn lend_copy(
         Ok(()) => Ok(()),
         Err(LendRefused::Twice(_buf)) => unreachable!(),
         Err(LendRefused::OutOfMemory(buf)) => {
-            give_back(arena, buf);
+            arena.give_back(buf);
             Err(AllocError)
         }
-    }
-}
-
-/// Returns a block to the arena that it was taken from.
-fn give_back(arena: &mut Arena, buf: Buf)
-    requires own { is_own arena.old buf.number ≡ true }
-    requires away { is_free arena.old buf.number ≡ false }
-    ensures { arena.new ≡ with_free arena.old buf.number true }
-{
-    match arena.give(buf) {
-        Ok(()) => {}
-        Err(_buf) => unreachable!(),
     }
 }
 
@@ -263,7 +251,7 @@ fn give_all_back(mut memory: LentMemory, arena: &mut Arena)
 {
     'each: while let Some(number) = memory.lowest() {
         match memory.take(number) {
-            Some(buf) => give_back(arena, buf),
+            Some(buf) => arena.give_back(buf),
             None => unreachable!(),
         }
     }

@@ -1,7 +1,6 @@
 //! Blocks on their way home to the arena that they were taken from.
 
-ghost use Rattle.std.specs.Prelude.{◌≡◌, ◌<◌, ◌+◌, ◌++◌, ◌∷◌, [], length, IsTrue, ◌↔◌, true, false, OnOk, OnErr, IfErr};
-ghost use Rattle.device_lock.specs.NicDevice.DmaArena.Numbers.{is_own, is_free, with_free};
+ghost use Rattle.std.specs.Prelude.{◌≡◌, ◌<◌, ◌+◌, ◌++◌, ◌∷◌, [], length, ◌↔◌, true, OnOk, OnErr, IfErr};
 ghost use Rattle.device_lock.specs.NicDevice.DmaArena.Whereabouts.{times_in_hand};
 ghost use Rattle.pmd_access.specs.Begun.{BeganAs};
 ghost use Rattle.pmd_access.specs.Home.{AreOut, BringsOne, BringsAll, StopsBringing};
@@ -10,7 +9,7 @@ ghost use Rattle.pmd_access.specs.Refusals.{CanRefuse};
 
 use crate::accesses::take;
 use crate::nic::Nic;
-use device_lock::{Arena, Buf, CallFault};
+use device_lock::{Arena, CallFault};
 use std::alloc::{AllocError, Global};
 use std::collections::VecDeque;
 use std::marker::Model;
@@ -132,22 +131,10 @@ impl Reclaim {
     {
         let block = self.lent[0];
         match take(alloc, nic, block)? {
-            Some(buf) => give_back(arena, buf),
+            Some(buf) => arena.give_back(buf),
             None => self.lost += 1,
         }
         let _brought = self.lent.pop_front();
         Ok(())
-    }
-}
-
-/// Gives a block back to the arena that it was taken from.
-pub fn give_back(arena: &mut Arena, buf: Buf)
-    requires own { is_own arena.old buf.number ≡ true }
-    requires away { is_free arena.old buf.number ≡ false }
-    ensures { arena.new ≡ with_free arena.old buf.number true }
-{
-    match arena.give(buf) {
-        Ok(()) => {}
-        Err(_buf) => unreachable!(),
     }
 }

@@ -42,7 +42,7 @@ pub use direct::Direct;
 pub use fault::PmdFault;
 pub use frames::{LONGEST_FRAME, SHORTEST_FRAME, is_frame, most_blocks, packet_limit};
 pub use history::{history_of, marked_history};
-pub use home::{Reclaim, give_back};
+pub use home::Reclaim;
 pub use interleaved::{Finished, Interleaved};
 pub use names::Queue;
 pub use nic::Nic;

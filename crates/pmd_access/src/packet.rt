@@ -10,7 +10,6 @@ ghost use Rattle.pmd_access.specs.Home.{AreOut};
 ghost use Rattle.pmd_access.specs.Packet.{kept_of};
 
 use crate::bufs::{Bufs, MOST_BUFS};
-use crate::home::give_back;
 use device_lock::{Arena, BLOCK_BYTES, Octets};
 use std::alloc::{AllocError, Global};
 use std::marker::Model;
@@ -93,7 +92,7 @@ pub fn give_bufs(arena: &mut Arena, bufs: Bufs)
     let mut left = bufs;
     for _given in 0..left.count() {
         match left.take_first() {
-            Some(buf) => give_back(arena, buf),
+            Some(buf) => arena.give_back(buf),
             None => unreachable!(),
         }
     }

@@ -21,8 +21,8 @@ ghost use Rattle.pmd_driver.specs.Starting.{GoingOnFails};
 ghost use Rattle.pmd_rx.specs.PmdAccess.Refusals.{CanFail};
 
 use pmd_rx::{
-    Arena, CallFault, Dir, Nic, PmdFault, Queue, ReceiveRing, blocks_for, give_back, lend,
-    most_blocks, packet_limit,
+    Arena, CallFault, Dir, Nic, PmdFault, Queue, ReceiveRing, blocks_for, lend, most_blocks,
+    packet_limit,
 };
 use pmd_tx::TransmitRing;
 use std::alloc::Global;
@@ -56,11 +56,11 @@ fn lend_one<N: Nic>(
     match lend(alloc, nic, buf) {
         Ok(None) => Ok(()),
         Ok(Some(buf)) => {
-            give_back(arena, buf);
+            arena.give_back(buf);
             Err(PmdFault::DeviceFault)
         }
         Err((fault, buf)) => {
-            give_back(arena, buf);
+            arena.give_back(buf);
             Err(PmdFault::Call(fault))
         }
     }

@@ -15,7 +15,7 @@ ghost use Rattle.pmd_access.specs.Refusals.{CanFail};
 
 use crate::receive::Look;
 use crate::ring::{ReceiveRing, Stage};
-use pmd_access::{Arena, Nic, PmdFault, give_back};
+use pmd_access::{Arena, Nic, PmdFault};
 use std::alloc::Global;
 use std::collections::VecDeque;
 
@@ -52,7 +52,7 @@ impl ReceiveRing {
         match self.lend_fresh(alloc, nic, buf) {
             Ok(()) => self.name_fresh(alloc, nic),
             Err((fault, buf)) => {
-                give_back(arena, buf);
+                arena.give_back(buf);
                 Err(fault)
             }
         }

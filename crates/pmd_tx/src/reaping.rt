@@ -10,7 +10,7 @@ ghost use Rattle.pmd_access.specs.Refusals.{CanFail};
 
 use crate::answer::Reaped;
 use crate::ring::TransmitRing;
-use pmd_access::{Arena, Nic, PmdFault, give_back};
+use pmd_access::{Arena, Nic, PmdFault};
 use std::alloc::Global;
 
 impl TransmitRing {
@@ -172,7 +172,7 @@ impl TransmitRing {
     {
         match self.take_oldest(alloc, nic) {
             Ok(buf) => {
-                give_back(arena, buf);
+                arena.give_back(buf);
                 Ok(())
             }
             Err(fault) => Err(fault),

@@ -5,7 +5,7 @@ use Rattle.card.proofs.card.take_back.Goals as goal
 
 pub returns-in-Some-clause-shared : goal.returns-in-Some-clause-shared
 returns-in-Some-clause-shared c =
-    returned-shared c.args.memory.now c.take.new.self c.args.arena.now c.give_back.new.arena c.args.number
+    returned-shared c.args.memory.now c.take.new.self c.args.arena.now c.give_back.new.self c.args.number
     c.in-Some.buf c.requires
     (sym c.in-Some.ensures.taken) c.take.ensures.left c.give_back.ensures
 

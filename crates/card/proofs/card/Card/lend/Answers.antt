@@ -30,7 +30,7 @@ returns-in-Some-into_buf-clause-unchanged c =
     let same : Some c.in-Some-into_buf.buf ≡ Some c.in-Some.buf =
     sym c.in-Some-into_buf.is ∙ c.into_buf.ensures ∙ ap lent_block c.in-Err.ensures.back in
     let block : c.in-Some-into_buf.buf ≡ c.in-Some.buf = cc in
-    gave-back c.self.inside.device c.step.new.self c.self.inside.arena c.take_at.new.self c.give_back.new.arena
+    gave-back c.self.inside.device c.step.new.self c.self.inside.arena c.take_at.new.self c.give_back.new.self
     c.args.block c.in-Some-into_buf.buf
     (not_false _ c.in-Some.ensures.none.1) c.in-Some.ensures.taken
     (ap (λ (b : Block). b.number) (block ∙ c.in-Some.ensures.zero))

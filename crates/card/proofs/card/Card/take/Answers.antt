@@ -22,7 +22,7 @@ invariant_of-self c =
 
 pub invariant_of-self-in-Some : goal.invariant_of-self-in-Some
 invariant_of-self-in-Some c =
-    taken-shared c.self.inside.device c.step.new.self c.self.inside.arena c.give_back.new.arena c.args.block
+    taken-shared c.self.inside.device c.step.new.self c.self.inside.arena c.give_back.new.self c.args.block
     c.in-Ok.reply c.self.invariant c.in-Ok.ensures.reply c.in-Ok.ensures.state
     (c.give_back.ensures ∙ ap (given_back c.self.inside.arena) (sym c.in-Some.is ∙ c.into_buf.ensures))
 

@@ -69,7 +69,7 @@ returns-in-Ok-clause-fails g c =
 pub returns-in-Err-clause-fails : goal.returns-in-Err-clause-fails
 returns-in-Err-clause-fails g c =
     fails_of c.in-Err.fault (g.N.Nic.made c.args.nic.now) (g.N.Nic.made c.lend_fresh.new.nic) c.args.arena.now
-    c.give_back.new.arena c.args.self.now c.lend_fresh.new.self
+    c.give_back.new.self c.args.self.now c.lend_fresh.new.self
     (c.in-Err.ensures.fault c.args.arena.now c.in-Some.ensures.free)
 
 pub returns-in-Ok-clause-none : goal.returns-in-Ok-clause-none
@@ -100,8 +100,8 @@ returns-in-Ok-clause-keeps g c =
 
 pub returns-in-Err-clause-keeps : goal.returns-in-Err-clause-keeps
 returns-in-Err-clause-keeps g c =
-    keeps_still c.args.arena.now c.give_back.new.arena c.args.self.now c.lend_fresh.new.self
-    (back_home c.args.arena.now c.take.new.self c.give_back.new.arena c.in-Some.buf.number _ c.in-Some.ensures.free
+    keeps_still c.args.arena.now c.give_back.new.self c.args.self.now c.lend_fresh.new.self
+    (back_home c.args.arena.now c.take.new.self c.give_back.new.self c.in-Some.buf.number _ c.in-Some.ensures.free
     c.in-Some.ensures.taken c.in-Err.ensures.back c.give_back.ensures)
     c.in-Err.ensures.kept
 

@@ -13,10 +13,10 @@ give_back-requires-clause-away g c =
 
 pub returns-in-Ok-clause-freed : goal.returns-in-Ok-clause-freed
 returns-in-Ok-clause-freed g c =
-    frees_one c.args.self.now c.take_oldest.new.self c.args.arena.now c.give_back.new.arena c.in-Ok.buf.number
+    frees_one c.args.self.now c.take_oldest.new.self c.args.arena.now c.give_back.new.self c.in-Ok.buf.number
     c.take_oldest.ensures.some c.in-Ok.ensures.block c.in-Ok.ensures.reaped c.give_back.ensures
 
 pub returns-in-Ok-clause-out : goal.returns-in-Ok-clause-out
 returns-in-Ok-clause-out g c =
     out_rest c.args.arena.now c.args.self.now c.in-Ok.buf.number c.take_oldest.ensures.some c.in-Ok.ensures.block
-    c.requires.home c.give_back.new.arena c.take_oldest.new.self c.in-Ok.ensures.reaped c.give_back.ensures
+    c.requires.home c.give_back.new.self c.take_oldest.new.self c.in-Ok.ensures.reaped c.give_back.ensures

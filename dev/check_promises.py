@@ -19,7 +19,9 @@ from collections.abc import Iterator
 from dataclasses import dataclass
 from pathlib import Path
 
-ROOT = Path(__file__).resolve().parent.parent
+sys.dont_write_bytecode = True
+from generated import ROOT, told  # noqa: E402
+
 PAGES = ROOT / "docs/promises"
 WORDS = 40
 
@@ -145,8 +147,7 @@ def main() -> int:
             faults += [f"{promise.place}: `{path}` has no clause `{clause}`" for clause in missing]
     laws = {(crate, law) for crate, contracts in crates.items() for law in contracts.laws}
     faults += [f"docs/promises: no promise for the law `{crate}::{law}`" for crate, law in sorted(laws - named)]
-    print("\n".join(faults), end="\n" if faults else "")
-    return 1 if faults else 0
+    return told(faults)
 
 
 if __name__ == "__main__":

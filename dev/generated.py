@@ -1,5 +1,5 @@
 """What the scripts of this folder have in common: the root, the crates of crates.txt, parts of pages that stand between
-two lines, and files that are kept fresh, each with its --check."""
+two lines, files that are kept fresh, each with its --check, and how a check ends."""
 
 from __future__ import annotations
 
@@ -67,6 +67,12 @@ def replaced(text: str, begin: str, new: str, end: str) -> str:
     if len(rest) != 1 or end not in rest[0]:
         sys.exit(f"dev/{Path(sys.argv[0]).name}: the line '{begin.strip()}' with its end isn't once on its page")
     return before + begin + new + end + rest[0].partition(end)[2]
+
+
+def told(faults: list[str]) -> int:
+    """Prints the faults that a check found, a line each: its status, 0 where there is none, else 1."""
+    print("\n".join(faults), end="\n" if faults else "")
+    return 1 if faults else 0
 
 
 def with_each_macro_once(text: str) -> str:

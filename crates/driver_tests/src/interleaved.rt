@@ -106,6 +106,9 @@ fn foreign_tail(rt: &impl Hand) -> Schedule {
     done(rt, Vec::from_array(rt.alloc(), [first, second]))
 }
 
+/// Which of five calls the driver made, behind two foreign events and then one.
+const OWN: &[bool] = &[false, false, true, false, true];
+
 /// Ends a way to a device by which five calls were made, the last foreign one of which met a fault.
 fn after_a_fault(rt: &impl Hand, nic: Interleaved) -> Device {
     let Finished {
@@ -116,7 +119,7 @@ fn after_a_fault(rt: &impl Hand, nic: Interleaved) -> Device {
         schedule,
     } = nic.finish();
     same(rt, calls.kept().0.len(), 5);
-    sees(rt, own.as_slice() == [false, false, true, false, true]);
+    sees(rt, own.as_slice() == OWN);
     last_is_a_fault(rt, foreign);
     emptied(rt, schedule);
     device

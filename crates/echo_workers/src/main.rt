@@ -1,0 +1,244 @@
+//! Two workers, each on a thread and a queue of its own, send back what comes; then the history is asked about each.
+#![tactic(auto)]
+
+use nic_device::{Arena, Mode, Parts, Port};
+use pmd::{
+    CloseRefused, Closed, Doubt, Driven, Given, Home, Job, Lockstep, Pass, PmdFault, Ran, Rest,
+    RunFault, RunRefused, Setup, Shared, ThroughLock, Watched, WorkerEnd, WorkerFault,
+};
+use std::alloc::{AllocError, Global};
+use std::sync::Wait;
+use std::thread::Threads;
+use thiserror::Error;
+
+/// Why the program fails.
+#[derive(Debug, Drop, Error)]
+enum Failure {
+    #[error("there was no memory for a device, blocks or frames")]
+    NoMemory(#[from] AllocError),
+    #[error("the device wasn't set up: {0:?}")]
+    Driver(#[from] PmdFault),
+    #[error("no worker started: {0:?}")]
+    NoRun(RunFault),
+    #[error("a worker ended early: {0:?}")]
+    Worker(WorkerFault),
+    #[error("the history has this against a worker's driver: {0:?}")]
+    Doubted(Doubt),
+    #[error("a block isn't home, or a pass is missing")]
+    Away,
+    #[error("no line was written")]
+    Unwritten(#[from] std::io::Error),
+}
+
+type Done = Result<(), Failure>;
+/// A device without virtual functions that holds 64 waiting frames.
+type Bench = Shared<0, 64>;
+
+/// The blocks of each worker, and the most bytes of a frame, with its check sequence.
+const BLOCKS: u32 = 128;
+
+const FRAME: u16 = 1518;
+
+/// A TCP segment over IPv4. Its source port, at bytes 34 and 35, makes the flow.
+const SEGMENT: [u8; 60] =
+    *b"\x02\x00\x00\x00\x00\x01\x02\x00\x00\x00\x00\x02\x08\x00\x45\x00\x00\x28\x00\x00\
+\x00\x00\x40\x06\x00\x00\x42\x09\x95\xbb\xa1\x8e\x64\x50\x0a\xea\x06\xe6\x00\x00\
+\x00\x00\x00\x00\x00\x00\x50\x10\x00\x00\x00\x00\x00\x00\x00\x00\x00\x00\x00\x00";
+
+fn main(rt: HostRuntime) -> Done {
+    let alloc = rt.alloc();
+    let made = Bench::new(alloc, 1, 3, 100_000);
+    let (bench, passes) = made.map_err(|_| Failure::NoMemory(AllocError))?;
+    match drive(&rt, alloc, &bench, passes) {
+        Ok(passes) => close(bench, passes)?,
+        Err(failure) => return Err(leave(bench, failure)),
+    }
+    Ok(println!(rt; "the history left both queues alone")?)
+}
+
+/// Sets the device up by the third pass, by which frames arrive then, and has a worker with each other one.
+fn drive<R: Print + Threads + Wait + Sync>(
+    rt: &R,
+    alloc: Global,
+    bench: &Bench,
+    passes: Vec<Pass>,
+) -> Result<Vec<Pass>, Failure> {
+    let mut passes = passes;
+    let third = passes.pop().ok_or(Failure::Away)?;
+    let mut nic = ThroughLock::new(rt, bench, third, 0);
+    let set_up = pmd::pf_setup(alloc, &mut nic, &setup());
+    let mut third = nic.finish();
+    set_up?;
+    let frames = frames(alloc)?;
+    let jobs = jobs(alloc, passes)?;
+    let gate = Lockstep::new(rt, 3);
+    match pmd::run_workers(rt, alloc, &gate, bench, jobs, &mut third, frames) {
+        Ok(Ran { ends, fed: _ }) => {
+            let mut passes = tell(rt, alloc, ends)?;
+            passes
+                .push(third)
+                .map_err(|_| Failure::NoMemory(AllocError))?;
+            Ok(passes)
+        }
+        Err(
+            RunRefused {
+                fault,
+                jobs,
+                frames: _,
+            },
+        ) => Err(leave(jobs, Failure::NoRun(fault))),
+    }
+}
+
+/// Frames to any address are let in. RSS of TCP over IPv4 divides them: entry i of the table names queue i mod 2.
+fn setup() -> Setup {
+    let mut reta = [0; 128];
+    for entry in 0..128u8 {
+        reta[usize::from(entry)] = entry % 2;
+    }
+    Setup {
+        mode: Mode::Off,
+        mrqc: 0x0001_0001,
+        key: [0x6D; 40],
+        reta,
+        promiscuous: true,
+        frame: FRAME,
+    }
+}
+
+/// 40 frames of as many flows.
+fn frames(alloc: Global) -> Result<Vec<Vec<u8>>, Failure> {
+    let mut frames = Vec::new(alloc);
+    for port in 0..40u8 {
+        let mut frame = SEGMENT;
+        frame[35] = port;
+        frames
+            .push(frame.to_vec(alloc)?)
+            .map_err(|_| Failure::NoMemory(AllocError))?;
+    }
+    Ok(frames)
+}
+
+/// A job for each pass: the driver of the queue of its number, which looks for a packet 100 times.
+fn jobs(alloc: Global, passes: Vec<Pass>) -> Result<Vec<Job>, Failure> {
+    let mut jobs = Vec::new(alloc);
+    let mut queue = 0;
+    for pass in passes {
+        let Ok(arena) = Arena::new(alloc, BLOCKS * queue, BLOCKS) else {
+            return Err(leave(jobs, Failure::NoMemory(AllocError)));
+        };
+        let job = Job {
+            pass,
+            port: Port::Pf,
+            queue: queue as u16,
+            pf_queue: queue as u16,
+            size: 64,
+            frame: FRAME,
+            arena,
+            rounds: 100,
+        };
+        if let Err(job) = jobs.push(job) {
+            return Err(leave((jobs, job), Failure::NoMemory(AllocError)));
+        }
+        queue += 1;
+    }
+    Ok(jobs)
+}
+
+/// Prints what each worker told, ends what its driver left, and returns the passes.
+fn tell<R: Print>(rt: &R, alloc: Global, ends: Vec<WorkerEnd>) -> Result<Vec<Pass>, Failure> {
+    let mut ends = ends;
+    let mut passes = Vec::new(alloc);
+    let mut done = Ok(());
+    ends.reverse();
+    while let Some(
+        WorkerEnd {
+            pass,
+            rest,
+            reports,
+            fault,
+        },
+    ) = ends.pop()
+    {
+        let told = println!(rt; "queue {}: {} packets", passes.len(), reports.len());
+        done = done
+            .and(end(rest, fault))
+            .and(told.map_err(Failure::Unwritten));
+        if passes.push(pass).is_err() {
+            done = Err(Failure::NoMemory(AllocError));
+        }
+    }
+    ends.destroy_empty();
+    done?;
+    Ok(passes)
+}
+
+/// Ends what a driver left. Its arena is home, unless it couldn't be stopped.
+fn end(rest: Rest, fault: Option<WorkerFault>) -> Done {
+    match rest {
+        Rest::Home(
+            Home {
+                arena,
+                lost: _,
+                handed: _,
+                accepted: _,
+            },
+        ) => {
+            arena.close().map_err(|it| leave(it, Failure::Away))?;
+        }
+        Rest::Running(pmd) => return Err(leave(pmd, Failure::Away)),
+    }
+    fault.map_or(Ok(()), |it| Err(Failure::Worker(it)))
+}
+
+/// Closes the history, and asks about both workers' drivers.
+fn close(bench: Bench, passes: Vec<Pass>) -> Done {
+    let closed = match bench.close(passes) {
+        Ok(closed) => closed,
+        Err(
+            CloseRefused {
+                fault: _,
+                shared,
+                passes: _,
+            },
+        ) => return Err(leave(shared, Failure::Away)),
+    };
+    let asked = ask(&closed, 0).and(ask(&closed, 1));
+    let Parts {
+        memory,
+        frames: _,
+        image: _,
+    } = closed.into_device().dismantle();
+    memory.finish().map_err(|it| leave(it, Failure::Away))?;
+    asked
+}
+
+/// Whether the history lets the laws speak of a worker's driver: its packets are then in order, and none is lost.
+fn ask(closed: &Closed<0, 64>, number: u8) -> Done {
+    let queue = u16::from(number);
+    let watched = Watched {
+        vfs: 0,
+        pass: number,
+        queue,
+    };
+    let given = Given {
+        port: Port::Pf,
+        queue,
+        frame: FRAME,
+    };
+    let driven = Driven {
+        watched,
+        from: 0,
+        given,
+        first: BLOCKS * u32::from(number),
+        count: BLOCKS,
+    };
+    pmd::judge(&driven, closed.history()).map_err(Failure::Doubted)
+}
+
+/// Leaves what can't be dropped and couldn't be ended: its memory is lost to the process, which fails and ends next.
+fn leave<T>(value: T, failure: Failure) -> Failure {
+    // The value is moved in, so that nobody uses it again, and nothing else refers to what it owns.
+    let _left = unsafe { std::mem::ManuallyDrop::new_unchecked(value) };
+    failure
+}

@@ -119,19 +119,24 @@ fn frames(alloc: Global) -> Result<Vec<Vec<u8>>, Failure> {
     Ok(frames)
 }
 
+/// The first block of the worker of this number.
+fn first_of(number: u8) -> u32 {
+    BLOCKS * u32::from(number)
+}
+
 /// A job for each pass: the driver of the queue of its number, which looks for a packet 100 times.
 fn jobs(alloc: Global, passes: Vec<Pass>) -> Result<Vec<Job>, Failure> {
     let mut jobs = Vec::new(alloc);
-    let mut queue = 0;
+    let mut number = 0;
     for pass in passes {
-        let Ok(arena) = Arena::new(alloc, BLOCKS * queue, BLOCKS) else {
+        let Ok(arena) = Arena::new(alloc, first_of(number), BLOCKS) else {
             return Err(leave(jobs, Failure::NoMemory(AllocError)));
         };
         let job = Job {
             pass,
             port: Port::Pf,
-            queue: queue as u16,
-            pf_queue: queue as u16,
+            queue: u16::from(number),
+            pf_queue: u16::from(number),
             size: 64,
             frame: FRAME,
             arena,
@@ -140,7 +145,7 @@ fn jobs(alloc: Global, passes: Vec<Pass>) -> Result<Vec<Job>, Failure> {
         if let Err(job) = jobs.push(job) {
             return Err(leave((jobs, job), Failure::NoMemory(AllocError)));
         }
-        queue += 1;
+        number = number.saturating_add(1);
     }
     Ok(jobs)
 }
@@ -230,7 +235,7 @@ fn ask(closed: &Closed<0, 64>, number: u8) -> Done {
         watched,
         from: 0,
         given,
-        first: BLOCKS * u32::from(number),
+        first: first_of(number),
         count: BLOCKS,
     };
     pmd::judge(&driven, closed.history()).map_err(Failure::Doubted)

@@ -1,4 +1,4 @@
--- Texts that are written one behind the other.
+-- Texts that are written one after the other.
 use Rattle.std.proofs.Common.{sym, ◌∙◌, ap, ℕ, List, [], ◌++◌, append-nil, append_assoc, Option, Some, None}
 use Rattle.std.specs.Io.KnownBytes.{Appends}
 

@@ -25,7 +25,7 @@ module _ (old new : Option (List ℕ)) (has_failed : Bool) where
 pub begins-with-nothing : (old : Option (List ℕ)) (text : List ℕ) → WritesBeginning old old text
 begins-with-nothing old text = record { beginning = []; rest = text; written = Appends-none old; whole = refl }
 
--- an answer behind a text that is written
+-- an answer after a text that is written
 pub gives-behind : (old mid new : Option (List ℕ)) (has_failed : Bool) (r : Result ℕ Failure) (text : List ℕ)
     (answer : Answer) → Appends old mid text
     → Gives r mid new has_failed answer

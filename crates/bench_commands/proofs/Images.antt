@@ -2,7 +2,7 @@
 use Rattle.std.proofs.Common.{refl, sym, ap, ◌∙◌, ◌≡◌, ◌≢◌, ℕ, List, Option, Some, None, Result, Ok, Err, IsOkAnd}
 use Rattle.nic_device.specs.EepromImage.Bytes.{bytes_of}
 use Rattle.nic_device.specs.EepromImage.Content.{Content}
-use Rattle.nic_device.specs.EepromImage.File.{told_fault}
+use Rattle.nic_device.specs.EepromImage.File.{reported_fault}
 use Rattle.nic_device.specs.EepromImage.Image.{IsImage}
 use Rattle.nic_device.specs.EepromImage.Text.{Fails, IsImageOf}
 use Rattle.nic_device.specs.EepromImage.Triples.{triples_of}
@@ -35,7 +35,7 @@ pub fault-meant : (fault : AsmFault) (meant : Result Content AsmFault) → fault
     × ((answer : Answer) → IsMeantAnswer meant answer → answer ≡ text_refused fault)
 fault-meant fault meant other fails = rw (fails-by fault meant other fails) (refl, λ answer is. is)
 
-told : (fault : LoadFault) → fault ≢ file.OutOfMemory → told_fault fault ≡ Some fault
+told : (fault : LoadFault) → fault ≢ file.OutOfMemory → reported_fault fault ≡ Some fault
 told file.OutOfMemory other = absurd (other refl)
 told file.OddLength other = refl
 told file.BadSize other = refl
@@ -45,7 +45,7 @@ told file.NotTriples other = refl
 
 -- the refusal of a file's fault is its answer, and the only one
 pub fault-of-file : (fault : LoadFault) (first : Option LoadFault) (bytes : List ℕ) → fault ≢ file.OutOfMemory
-    → first ≡ told_fault fault
+    → first ≡ reported_fault fault
     → IsFileAnswer first bytes (file_refused fault)
     × ((answer : Answer) → IsFileAnswer first bytes answer → answer ≡ file_refused fault)
 fault-of-file fault first bytes other is = rw (is ∙ told fault other) (refl, λ answer same. same)

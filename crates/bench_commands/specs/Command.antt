@@ -23,9 +23,9 @@ abbrev pub if_function : ℕ → Option ℕ
 if_function number = if nat_lt number 63 then Some number else None
 
 -- what a table of commands has for a name; another name is no command
-abbrev pub beside : List ℕ → List (List ℕ × Option Command) → Option Command
-beside name [] = None
-beside name (row ∷ more) = if bytes_eq name row.0 then row.1 else beside name more
+abbrev pub looked_up : List ℕ → List (List ℕ × Option Command) → Option Command
+looked_up name [] = None
+looked_up name (row ∷ more) = if bytes_eq name row.0 then row.1 else looked_up name more
 
 -- the commands with one operand: `step COUNT`, `back COUNT`, `continue LIMIT`, `break PC`, `clear PC`, `show TARGET`
 abbrev pub table_of_one : List ℕ → List (List ℕ × Option Command)
@@ -53,8 +53,8 @@ table_of_two a b =
 abbrev pub command_said : List (List ℕ) → Option Command
 command_said [] = None
 command_said (name ∷ []) = None
-command_said (name ∷ a ∷ []) = beside name (table_of_one a)
-command_said (name ∷ a ∷ b ∷ []) = beside name (table_of_two a b)
+command_said (name ∷ a ∷ []) = looked_up name (table_of_one a)
+command_said (name ∷ a ∷ b ∷ []) = looked_up name (table_of_two a b)
 command_said (name ∷ a ∷ b ∷ c ∷ more) = None
 
 -- a command, in front of those that lines after it say

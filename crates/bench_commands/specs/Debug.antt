@@ -4,7 +4,7 @@ use Rattle.text_format.specs.Lines.{NumberedLine, lines_of}
 use Rattle.command_line.specs.declared.DebugOptions.{DebugOptions}
 use Rattle.nic_device.specs.declared.Config.{Config}
 use Rattle.program.specs.Listing.{Listing}
-use Rattle.script_text.specs.End.{has_end, lines_behind, program_before}
+use Rattle.script_text.specs.End.{has_end, lines_after, program_before}
 use Rattle.script_text.specs.declared.ScriptFault.{ScriptFault}
 use Rattle.debugger.specs.Commands.{command_of}
 use Rattle.debugger.specs.Session.{Session}
@@ -40,14 +40,14 @@ abbrev pub end_of_script : List ℕ
 end_of_script = codes "%"
 
 -- the commands are on the lines after the script's end; where there is none, a line is missing after the last
-abbrev pub behind_answer : Config → List NumberedLine → Listing → Answer
-behind_answer config lines program = if has_end end_of_script lines
-    then commands_answer config program (commands_of (lines_behind end_of_script lines))
+abbrev pub session_after : Config → List NumberedLine → Listing → Answer
+session_after config lines program = if has_end end_of_script lines
+    then commands_answer config program (commands_of (lines_after end_of_script lines))
     else refused_at (codes "Syntax") (length lines + 1)
 
 -- what is wrong with the script is reported before what is wrong after it
 abbrev pub parted_answer : Config → List NumberedLine → Result Listing ScriptFault → Answer
-parted_answer config lines (Ok program) = behind_answer config lines program
+parted_answer config lines (Ok program) = session_after config lines program
 parted_answer config lines (Err fault) = script_refused fault
 
 -- the controller that the options ask for

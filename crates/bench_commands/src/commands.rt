@@ -2,7 +2,7 @@
 ghost use Rattle.std.specs.Prelude.{◌≡◌, ℕ, List, [], Err, IfOk, None, Ok, OnOk, Result, Some, option_and_then};
 ghost use Rattle.text_format.specs.Words.{words_of};
 ghost use Rattle.debugger.specs.declared.Command.{Command as DebuggerCommand};
-ghost use Rattle.bench_commands.specs.Command.{beside, command_said, commands_of, commands_then, if_function};
+ghost use Rattle.bench_commands.specs.Command.{looked_up, command_said, commands_of, commands_then, if_function};
 ghost use Rattle.bench_commands.specs.Command.{number_said, table_of_one, table_of_two, target_said, words_and};
 
 use debugger::Command;
@@ -58,7 +58,7 @@ fn function(word: &str) -> Option<u8>
 
 /// The command with one operand.
 fn with_one(name: &str, a: &str) -> Option<Command>
-    ensures { result ≡ beside name.now (table_of_one a.now) }
+    ensures { result ≡ looked_up name.now (table_of_one a.now) }
 {
     match name {
         "step" => Some(Command::Step(u64::from(number(a)?))),
@@ -73,7 +73,7 @@ fn with_one(name: &str, a: &str) -> Option<Command>
 
 /// The command with two operands.
 fn with_two(name: &str, a: &str, b: &str) -> Option<Command>
-    ensures { result ≡ beside name.now (table_of_two a.now b.now) }
+    ensures { result ≡ looked_up name.now (table_of_two a.now b.now) }
 {
     match name {
         "showvf" => Some(Command::ShowVf(function(a)?, number(b)?)),

@@ -9,7 +9,7 @@ use Rattle.nic_device.specs.DmaArena.Numbers.{Numbers, all_free, are_all_free, c
 use Rattle.nic_device.specs.State.{State}
 use Rattle.nic_device.proofs.DmaArena.Arenas.{own_within, own_of_within, is_free_from, is_own-of_free, is_own-all_free, own_within-all_free, is_free-all_free, not_free, CountsFree-numbers}
 use Rattle.card.specs.Card.{Holdings, AreShared}
-use Rattle.card.specs.Kept.{blocks_beside}
+use Rattle.card.specs.Kept.{blocks_not_lent}
 use Rattle.card.proofs.Sharing.{lent_away}
 
 -- which blocks are free follows from which are lent
@@ -23,25 +23,25 @@ slot-shared m a i h small =
     ap (λ k. get_or a.free k false) (sym place) ∙ sym (is_free_from a i low) ∙ h.either i own
 
 free-beside : (m : Memory) (a : Numbers) → AreShared m a
-    → a.free ≡ (blocks_beside (length a.free) m).free
+    → a.free ≡ (blocks_not_lent (length a.free) m).free
 free-beside m a h =
     ext_get_or false a.free _ (sym (length-map-range_with_len (λ n. not (has_block m n)) 0 (length a.free)))
     (λ i small. slot-shared m a i h small
     ∙ sym (get_or-map-range_with_len (λ n. not (has_block m n)) 0 (length a.free) i i false small (omega arith)))
 
-pub beside-is : (m : Memory) (a : Numbers) → AreShared m a → blocks_beside (count_of a) m ≡ a
+pub beside-is : (m : Memory) (a : Numbers) → AreShared m a → blocks_not_lent (count_of a) m ≡ a
 beside-is m a h =
     sym (ap (λ f. let b : Numbers = record { first = f; free = a.free } in b) h.first
     ∙ ap (λ xs. let b : Numbers = record { first = 0; free = xs } in b) (free-beside m a h))
 
 -- what is kept of a card
 pub kept-shared : (d s : State) (a : Numbers) (count : ℕ) → AreShared d.memory a → s ≡ d → count ≡ count_of a
-    → AreShared s.memory (blocks_beside count s.memory)
+    → AreShared s.memory (blocks_not_lent count s.memory)
 kept-shared d s a count h is all =
     rw (is, all) (subst (AreShared d.memory) (sym (beside-is d.memory a h)) h)
 
 pub kept-is : (d s : State) (a : Numbers) (count : ℕ) → AreShared d.memory a → s ≡ d → count ≡ count_of a
-    → (let c : Holdings = record { device = s; arena = blocks_beside count s.memory } in c)
+    → (let c : Holdings = record { device = s; arena = blocks_not_lent count s.memory } in c)
     ≡ record { device = d; arena = a }
 kept-is d s a count h is all =
     rw (is, all) (ap (λ x. let c : Holdings = record { device = d; arena = x } in c) (beside-is d.memory a h))
@@ -52,9 +52,9 @@ shared-away m a h n has = (h.few n has, lent_away m a n h has)
 
 -- each block that is lent is one of so many
 
-pub lent-few : (m : Memory) (count n : ℕ) → AreShared m (blocks_beside count m) → has_block m n ≡ true → n < count
+pub lent-few : (m : Memory) (count n : ℕ) → AreShared m (blocks_not_lent count m) → has_block m n ≡ true → n < count
 lent-few m count n h lent =
-    let within = own_within (blocks_beside count m) n (h.few n lent) in
+    let within = own_within (blocks_not_lent count m) n (h.few n lent) in
     omega (arith, within.1, length-map-range_with_len (λ n. not (has_block m n)) 0 count)
 
 -- all blocks of a new arena are free
@@ -65,7 +65,7 @@ pub new-unused : (count : ℕ) → are_all_free (all_free 0 count) ≡ true
 new-unused count = (CountsFree-numbers (all_free 0 count)).all.1 (λ n own. is_free-all_free 0 count n ∙ own)
 
 -- so no lent block keeps a device from being restored
-pub never-taken : (m : Memory) (count n : ℕ) → AreShared m (blocks_beside count m)
+pub never-taken : (m : Memory) (count n : ℕ) → AreShared m (blocks_not_lent count m)
     → IsLowestTaken (all_free 0 count) m n → true ≡ false
 never-taken m count n h is = sym (new-free count n (lent-few m count n h is.lent)) ∙ is.taken
 
@@ -103,12 +103,12 @@ restored-shared s d a b count all is left =
 pub restored-is : (s d : State) (a b : Numbers) (count : ℕ) → a ≡ all_free 0 count → d ≡ s
     → HaveLeft a b s.memory
     → (let c : Holdings = record { device = d; arena = b } in c)
-    ≡ record { device = s; arena = blocks_beside count s.memory }
+    ≡ record { device = s; arena = blocks_not_lent count s.memory }
 restored-is s d a b count all is left =
     let new = subst (λ (x : Numbers). HaveLeft x b s.memory) all left in
-    let blocks : b ≡ blocks_beside count s.memory =
+    let blocks : b ≡ blocks_not_lent count s.memory =
     sym (beside-is s.memory b (shared-left s.memory b count new))
-    ∙ ap (λ k. blocks_beside k s.memory) (left-count s.memory b count new) in
+    ∙ ap (λ k. blocks_not_lent k s.memory) (left-count s.memory b count new) in
     rw (is, blocks) refl
 
 -- a card whose device goes back, and keeps its arena
@@ -143,7 +143,7 @@ module _ (m : Memory) (s d : State) (a b : Numbers) (count : ℕ) (h : AreShared
   back-shared = restored-shared s d (all_free 0 count) b count refl is left-all
 
   pub back-is : (let c : Holdings = record { device = d; arena = b } in c)
-      ≡ record { device = s; arena = blocks_beside count s.memory }
+      ≡ record { device = s; arena = blocks_not_lent count s.memory }
   back-is = restored-is s d (all_free 0 count) b count refl is left-all
 
 -- also where it may have been refused
@@ -160,6 +160,6 @@ pub tried-is : {A E : Type 0} (former s d : State) (a b : Numbers) (count : ℕ)
     → AreShared former.memory a → count ≡ count_of a → OnOk result (d ≡ s)
     → OnOk result (StillLeft a former.memory b s.memory)
     → OnOk result ((let c : Holdings = record { device = d; arena = b } in c)
-    ≡ record { device = s; arena = blocks_beside count s.memory })
+    ≡ record { device = s; arena = blocks_not_lent count s.memory })
 tried-is former s d a b count (Ok done) h all is left = back-is former.memory s d a b count h all is left
 tried-is former s d a b count (Err why) h all is left = tt

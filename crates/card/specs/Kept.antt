@@ -5,6 +5,6 @@ use Rattle.nic_device.specs.DmaArena.Memory.{Memory, has_block}
 use Rattle.nic_device.specs.DmaArena.Numbers.{Numbers}
 
 -- this many blocks, numbered from 0 on, of which those are free that aren't lent
-abbrev pub blocks_beside : ℕ → Memory → Numbers
-blocks_beside count memory =
+abbrev pub blocks_not_lent : ℕ → Memory → Numbers
+blocks_not_lent count memory =
     record { first = 0; free = map (λ number. not (has_block memory number)) (range_with_len 0 count) }

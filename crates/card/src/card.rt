@@ -8,7 +8,7 @@ ghost use Rattle.nic_device.specs.DmaArena.Block.{zero_block};
 ghost use Rattle.nic_device.specs.DmaArena.Memory.{has_block};
 ghost use Rattle.nic_device.specs.DmaArena.Numbers.{count_of, is_free};
 ghost use Rattle.nic_device.specs.Link.{next_out_of};
-ghost use Rattle.nic_device.specs.Step.{reply_to, word_told, moves_block, hands_out, TakesMemory};
+ghost use Rattle.nic_device.specs.Step.{reply_to, reported_word, moves_block, hands_out, TakesMemory};
 ghost use Rattle.card.specs.Card.{AreShared, CanReturn, arena_after, new_card, made, reply_of_read, reply_of_write, IsOfWrite, with_lent, with_taken, lent_below, with_image};
 
 use nic_device::{
@@ -282,7 +282,7 @@ impl Card {
 
     /// What a read of a register would return, without the read's side effects. `None` where there is no register.
     pub fn peek(&self, port: Port, number: u32) -> Option<u32>
-        ensures { result ≡ word_told (reply_to self.now.device (Event.Read port number)) }
+        ensures { result ≡ reported_word (reply_to self.now.device (Event.Read port number)) }
     {
         match port {
             Port::Pf => self.device.peek_register(number),

@@ -19,15 +19,15 @@ pub struct Kept {
 
 impl Model for Kept {
     ghost use Rattle.card.specs.Card.{Holdings, AreShared, holdings_code};
-    ghost use Rattle.card.specs.Kept.{blocks_beside};
+    ghost use Rattle.card.specs.Kept.{blocks_not_lent};
 
     ghost Value = { Holdings };
 
     ghost coded = { holdings_code };
 
-    ghost view = { λ k. record { device = k.device; arena = blocks_beside k.blocks k.device.memory } };
+    ghost view = { λ k. record { device = k.device; arena = blocks_not_lent k.blocks k.device.memory } };
 
-    ghost invariant = { λ k. AreShared k.device.memory (blocks_beside k.blocks k.device.memory) };
+    ghost invariant = { λ k. AreShared k.device.memory (blocks_not_lent k.blocks k.device.memory) };
 }
 
 /// Ends an arena whose blocks are all free.
@@ -45,7 +45,7 @@ impl Card {
     pub fn keep(&self) -> Result<Kept, AllocError>
         ensures { IfOk result (λ kept. kept ≡ self.now) }
     {
-        match self.device.snapshot_beside(&self.arena) {
+        match self.device.snapshot_within(&self.arena) {
             Ok(device) => Ok(Kept {
                 device,
                 blocks: self.arena.count(),

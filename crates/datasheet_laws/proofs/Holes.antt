@@ -4,7 +4,8 @@ use Rattle.std.specs.List.{list_any}
 use Rattle.std.proofs.lemmas.Bool.{cases_lt, cond-false, le-ltb, or_parts}
 use Rattle.reg_table.specs.Rows.{rows}
 use Rattle.vf_map.specs.Map.{Entry, entries, mapped, mapped_to}
-use Rattle.vf_map.specs.Parts.{place_at, located_at}
+use Rattle.vf_map.specs.Parts.{place_at}
+use Rattle.vf_map.proofs.LocatedAt.{located_at}
 use Rattle.vf_map.specs.Pools.{mode_of, queues_of}
 use Rattle.vf_map.specs.declared.mapped.Mapped.TheVariants.{Absent}
 use Rattle.vf_map.specs.declared.mode.Mode.{Mode}

@@ -3,7 +3,7 @@ use Rattle.std.proofs.Common.{◌≡◌, ◌≢◌, ℕ, Bool, true, false, cond
 use Rattle.std.specs.Prelude.{not}
 use Rattle.std.proofs.lemmas.Bool.{cond_both, cond-true, cond-false, cases_eq, eq-eqb, ne_eqb}
 use Rattle.register_file.specs.Bits.{has_bit, bit_set, bit_cleared}
-use Rattle.register_file.specs.Mailbox.{function_wrote, released, taken, physical_wrote, told_once}
+use Rattle.register_file.specs.Mailbox.{function_wrote, released, taken, physical_wrote, reported_once}
 use Rattle.register_laws.proofs.Bits.{has_bit-set, has_bit-clear}
 use Rattle.register_laws.proofs.MailBits.{has_bit-set_other, has_bit-clear_other, function_keeps}
 
@@ -157,7 +157,7 @@ three false false true false = refl
 three false false false true = refl
 three false false false false = refl
 
-pub told : (mail bit : ℕ) → has_bit bit (told_once mail)
+pub told : (mail bit : ℕ) → has_bit bit (reported_once mail)
     ≡ (has_bit bit mail && not (bit == 4 || bit == 5 || bit == 7))
 told mail bit =
     cleared 4 (bit_cleared 5 (bit_cleared 7 mail)) bit

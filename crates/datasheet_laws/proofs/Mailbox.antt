@@ -16,7 +16,7 @@ use Rattle.reg_table.specs.declared.rows.RowId.{RowId}
 use Rattle.reg_table.specs.declared.rows.RowId.TheVariants as row
 use Rattle.register_file.specs.Bits.{has_bit}
 use Rattle.register_file.specs.Effects.{ones_cleared}
-use Rattle.register_file.specs.Mailbox.{mail_of, with_mail, function_wrote, physical_wrote, told_once, cause_set, with_requests, function_writes, physical_writes, mail_read, sends}
+use Rattle.register_file.specs.Mailbox.{mail_of, with_mail, function_wrote, physical_wrote, reported_once, cause_set, with_requests, function_writes, physical_writes, mail_read, sends}
 use Rattle.register_file.specs.Registers.{Registers, word_of, with_word}
 use Rattle.register_file.specs.declared.surroundings.Surroundings.{Surroundings}
 use Rattle.register_laws.specs.Sound.{HasShape}
@@ -95,11 +95,11 @@ module _ (around : Surroundings) (r : Registers) (h : HasShape r) (v w : ℕ) (t
       ∙ own_reads (physical_writes r v w) bit low ∙ ap (has_bit bit) physical_mail
 
   by_read : (bit : ℕ) → bit < 32
-      → reads around (read_at r (own v)) (own v) bit ≡ has_bit bit (told_once (mail_of r v))
+      → reads around (read_at r (own v)) (own v) bit ≡ has_bit bit (reported_once (mail_of r v))
   by_read bit low =
       ap (λ s. reads around s (own v) bit) (left-at r row.Pvfmailbox v there)
       ∙ own_reads (mail_read r v) bit low
-      ∙ ap (has_bit bit) (put_here r h row.Pvfmailbox v (told_once (mail_of r v)) there)
+      ∙ ap (has_bit bit) (put_here r h row.Pvfmailbox v (reported_once (mail_of r v)) there)
 
   here : (bit : ℕ) → bit < 32 → reads around r (own v) bit ≡ has_bit bit (mail_of r v)
   here bit low = own_reads r bit low

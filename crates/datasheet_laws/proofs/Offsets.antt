@@ -6,9 +6,10 @@ use Rattle.reg_table.specs.Runs.{runs}
 use Rattle.reg_table.specs.declared.place.Place.{Place}
 use Rattle.reg_table.specs.declared.rows.RowId.{RowId}
 use Rattle.reg_table.specs.declared.rows.RowId.TheVariants as row
-use Rattle.vf_map.specs.Map.{mapped, mapped_to, at_address, located, function_entries, own_entries, message_entries, behind}
+use Rattle.vf_map.specs.Map.{mapped, mapped_to, at_address, located, function_entries, own_entries, message_entries, distance}
 use Rattle.vf_map.specs.Owner.{is_receive, is_transmit}
-use Rattle.vf_map.specs.Parts.{place_at, located_at}
+use Rattle.vf_map.specs.Parts.{place_at}
+use Rattle.vf_map.proofs.LocatedAt.{located_at}
 use Rattle.vf_map.specs.Pools.{mode_of, queues_of}
 use Rattle.vf_map.specs.declared.located.Located.TheVariants.{Register}
 use Rattle.vf_map.specs.declared.mapped.Mapped.TheVariants.{Pf}
@@ -115,14 +116,14 @@ module _ (mode : Mode) (vfs v k : ℕ) (there : v < vfs) (inside : v < 64)
   }
 
   module _ (x : ℕ) (low : x < k) (queue : v * k + x < 128) where
-    receive : (r : RowId) (o : ℕ) → is_receive r ≡ true → o ≡ 0x1000 + 0x40 * x + behind row.Rdbal r
+    receive : (r : RowId) (o : ℕ) → is_receive r ≡ true → o ≡ 0x1000 + 0x40 * x + distance row.Rdbal r
         → (line_of r).count ≡ 128 → mapped mode vfs v o ≡ Pf ((line_of r).address (v * k + x))
     receive r o side is many =
         by_place o (at r (v * k + x)) _
         (ap (located mode vfs v) is ∙ queue_registers.receive mode vfs v (v * k) k x r there pool low side)
         (first r (v * k + x) (omega arith))
 
-    transmit : (r : RowId) (o : ℕ) → is_transmit r ≡ true → o ≡ 0x2000 + 0x40 * x + behind row.Tdbal r
+    transmit : (r : RowId) (o : ℕ) → is_transmit r ≡ true → o ≡ 0x2000 + 0x40 * x + distance row.Tdbal r
         → (line_of r).count ≡ 128 → mapped mode vfs v o ≡ Pf ((line_of r).address (v * k + x))
     transmit r o side is many =
         by_place o (at r (v * k + x)) _

@@ -5,7 +5,8 @@ use Rattle.reg_table.specs.Access.{access, access_of, access_at}
 use Rattle.reg_table.specs.FirstAddresses.{first_of}
 use Rattle.reg_table.specs.Place.{address_among}
 use Rattle.reg_table.specs.Rows.{row_of}
-use Rattle.reg_table.specs.Run.{Run, run, HasPlaceAt, is_sound}
+use Rattle.reg_table.specs.Run.{Run, run, HasPlaceAt}
+use Rattle.reg_table.proofs.SoundRuns.{is_sound}
 use Rattle.reg_table.specs.Runs.{runs}
 use Rattle.reg_table.specs.declared.place.Place.{Place}
 use Rattle.reg_table.specs.declared.rows.RowId.{RowId}

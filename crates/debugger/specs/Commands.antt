@@ -1,6 +1,6 @@
 -- What a command does.
 use Rattle.std.specs.Prelude.{◌≡◌, ◌≢◌, ◌<◌, ◌≤◌, ◌-◌, ℕ, nat_le, List, [], length, Option, None, Result, Ok, Err, if◌then◌else◌}
-use Rattle.nic_device.specs.Step.{step_of, word_told}
+use Rattle.nic_device.specs.Step.{step_of, reported_word}
 use Rattle.nic_device.specs.declared.Event.TheVariants.{Read}
 use Rattle.nic_device.specs.declared.Port.{Port}
 use Rattle.nic_device.specs.declared.Port.TheVariants.{Pf, Vf}
@@ -38,7 +38,7 @@ with_breakpoints s (Err refusal) = refuses s refusal
 
 -- what a read through a port would give
 abbrev pub peeked : Session → Port → ℕ → Option ℕ
-peeked s port address = word_told (step_of (machine_of s).device (Read port address)).reply
+peeked s port address = reported_word (step_of (machine_of s).device (Read port address)).reply
 
 -- this many steps forward
 abbrev pub stepped : Session → ℕ → Session

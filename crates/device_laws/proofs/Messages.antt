@@ -4,7 +4,7 @@ use Rattle.std.specs.Prelude.{is_some, nat_lt}
 use Rattle.std.proofs.lemmas.Bool.{and_parts, ltb-true}
 use Rattle.nic_device.specs.RegTable.declared.rows.RowId.TheVariants.{IvarMisc}
 use Rattle.nic_device.specs.IntrUnit.Interrupts.{after_message, after_message_of, next_bit}
-use Rattle.nic_device.specs.IntrUnit.Laws.{Leaves, told_bits}
+use Rattle.nic_device.specs.IntrUnit.Laws.{Leaves, reported_bits}
 use Rattle.nic_device.specs.IntrUnit.declared.group.Group.{Group}
 use Rattle.nic_device.specs.IntrUnit.declared.group.Group.TheVariants.{Pf, Vf}
 use Rattle.nic_device.proofs.IntrUnit.MessageLaws.{messages_tell, messages_change}
@@ -87,7 +87,7 @@ sends s g h runs there bit small due (Some vector) is =
       bit = told.0;
       reply = ap (λ (o : Outcome). o.reply) step ∙ ap (message_reply g) is;
       lowest = told.1;
-      leaves = subst (λ n. Leaves i n (told_bits i eiame told.0)) (sym left)
+      leaves = subst (λ n. Leaves i n (reported_bits i eiame told.0)) (sym left)
           (messages_change.told i eiame misc vector told.0 told.1);
     }
 

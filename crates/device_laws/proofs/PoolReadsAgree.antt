@@ -18,7 +18,7 @@ use Rattle.nic_device.specs.RegisterFile.Columns.{place}
 use Rattle.nic_device.specs.RegisterFile.Pools.{mode_in}
 use Rattle.nic_device.specs.RegisterFile.Registers.{Registers}
 use Rattle.nic_device.specs.RegisterFile.declared.surroundings.Surroundings.{Surroundings}
-use Rattle.nic_device.specs.RegisterLaws.Agreement.{told_at}
+use Rattle.nic_device.specs.RegisterLaws.Agreement.{answered_at}
 use Rattle.nic_device.specs.RegisterLaws.Footprint.{AgreeWithin, pool_agrees}
 use Rattle.nic_device.proofs.RegisterLaws.Footprints.{word_stands}
 use Rattle.nic_device.proofs.RegisterLaws.PoolAgreement.{agree-read}
@@ -82,7 +82,7 @@ no_eec mode v p (shared is) e = shared_rows (λ r. r ≢ row.Eec) (λ e. cc) (λ
 
 same_at : (v : ℕ) (a b : State) → AgreeOnPool v a b → (n : Surroundings) (p : Place)
     → IsReached (mode_in a.registers) v p
-    → told_at a.registers n p ≡ told_at b.registers n p
+    → answered_at a.registers n p ≡ answered_at b.registers n p
 same_at v a b h n p (own is) = same_told (mode_in a.registers) v a.registers b.registers h.registers n p is
 same_at v a b h n p (shared is) = same_shared a.registers b.registers h.steps n p is
 

@@ -20,9 +20,9 @@ ReportsAt : ℕ → Result Fetched RingFault → Type 0
 ReportsAt at (Ok f) = (address : ℕ) → f.back ≡ Some address → address ≡ at
 ReportsAt at (Err fault) = ⊤
 
-told_at : (b : Bool) (at address : ℕ) → cond b (Some at) None ≡ Some address → address ≡ at
-told_at true at address is = cc
-told_at false at address is = cc
+answered_at : (b : Bool) (at address : ℕ) → cond b (Some at) None ≡ Some address → address ≡ at
+answered_at true at address is = cc
+answered_at false at address is = cc
 
 either_at : (b : Bool) (x y : ℕ) → unwrap_or (cond b (Some x) None) y ≡ cond b x y
 either_at true x y = refl
@@ -39,7 +39,7 @@ reports_at s queue f is =
       | inl context ↦
           subst (ReportsAt at) (sym (ap (λ (o : tx.Outcome). o.answer) context.1) ∙ is) (λ address none. cc)
       | inr sends ↦
-          subst (ReportsAt at) (sym (ap (λ (o : tx.Outcome). o.answer) sends.2) ∙ is) (told_at _ at)
+          subst (ReportsAt at) (sym (ap (λ (o : tx.Outcome). o.answer) sends.2) ∙ is) (answered_at _ at)
     ] in
     λ address back. told address back
     ∙ either_at (has_bit 0 (word_of r Tdwbal queue))

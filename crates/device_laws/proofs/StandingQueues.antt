@@ -8,7 +8,7 @@ use Rattle.nic_device.specs.RegisterFile.declared.owner.Owner.TheVariants as own
 use Rattle.nic_device.specs.RegisterLaws.Footprint.{Misses, of_side}
 use Rattle.nic_device.proofs.RegisterLaws.Footprints.{misses-owner}
 use Rattle.nic_device.proofs.RegisterLaws.Covers.{misses-nothing}
-use Rattle.nic_device.specs.Footprint.{receive_reach, received_into, back_into, told_back, counts_and_causes}
+use Rattle.nic_device.specs.Footprint.{receive_reach, received_into, back_into, reported_address, counts_and_causes}
 use Rattle.device_laws.specs.Leaving.{IsFirstFor, ReceivingLeavesTheRest, ReceivesOutside, ReceivingLeavesOtherBlocks, TransmittingLeavesTheRest, TransmittingLeavesOtherBlocks, SwitchingLeavesTheRest}
 use Rattle.nic_device.specs.State.{Waiting}
 use Rattle.nic_device.specs.Step.{step_of}
@@ -101,7 +101,7 @@ no_block_back (Some back) len number avoids = has-none number back len (avoids b
 pub transmitting_blocks : TransmittingLeavesOtherBlocks
 transmitting_blocks s queue number avoids =
     (stays_within s (event.TxStep queue)).blocks number
-    (no_block_back (told_back (step_of s (event.TxStep queue)).reply) _ number avoids)
+    (no_block_back (reported_address (step_of s (event.TxStep queue)).reply) _ number avoids)
 
 -- steps of a side's enable
 

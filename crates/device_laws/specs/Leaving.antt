@@ -16,7 +16,7 @@ use Rattle.nic_device.specs.DmaRing.declared.dir.Dir.TheVariants.{Rx, Tx}
 use Rattle.nic_device.specs.RegisterFile.declared.owner.Owner.TheVariants as owner
 use Rattle.nic_device.specs.RegisterLaws.Footprint.{Misses, of_side, of_group, of_write}
 use Rattle.nic_device.specs.RegisterLaws.Sides.{receive_queue_of, transmit_queue_of}
-use Rattle.nic_device.specs.Footprint.{Reach, StaysWithin, reach_of, told_back}
+use Rattle.nic_device.specs.Footprint.{Reach, StaysWithin, reach_of, reported_address}
 use Rattle.nic_device.specs.Step.{after, reply_to}
 use Rattle.nic_device.specs.State.{State, Waiting}
 use Rattle.nic_device.specs.Transmit.{staged_by}
@@ -179,7 +179,7 @@ TransmittingLeavesTheRest = (s : State) (queue : ℕ) → TransmittingLeaves que
 abbrev pub TransmittingLeavesOtherBlocks : Type 0
 TransmittingLeavesOtherBlocks =
     (s : State) (queue number : ℕ) →
-    ((back : ℕ) → told_back (reply_to s (event.TxStep queue)) ≡ Some back
+    ((back : ℕ) → reported_address (reply_to s (event.TxStep queue)) ≡ Some back
     → Avoids number back (report_length (transmit_queue_of s.registers queue).writeback)) →
     LeavesBlock number s (after s (event.TxStep queue))
 

@@ -2,7 +2,7 @@
 use Rattle.std.specs.Prelude.{ℕ, ◌≡◌, ◌<◌, IsTrue, IsFalse}
 use Rattle.nic_device.specs.RegTable.declared.rows.RowId.TheVariants.{IvarMisc}
 use Rattle.nic_device.specs.IntrUnit.Interrupts.{is_due}
-use Rattle.nic_device.specs.IntrUnit.Laws.{IsMessageOf, Leaves, told_bits}
+use Rattle.nic_device.specs.IntrUnit.Laws.{IsMessageOf, Leaves, reported_bits}
 use Rattle.nic_device.specs.IntrUnit.declared.group.Group.{Group}
 use Rattle.nic_device.specs.RegisterFile.Groups.{interrupts_of, masks_by_message}
 use Rattle.nic_device.specs.RegisterFile.Registers.{Registers, word_of}
@@ -27,7 +27,7 @@ pub record SendsLowest (s : State) (g : Group) : Type 0 where
   pub lowest : IsMessageOf (interrupts_of s.registers g) (word_of s.registers IvarMisc 0) vector bit
   pub leaves :
       Leaves (interrupts_of s.registers g) (interrupts_of (after s (event.IntStep g)).registers g)
-      (told_bits (interrupts_of s.registers g) (masks_by_message s.registers) bit)
+      (reported_bits (interrupts_of s.registers g) (masks_by_message s.registers) bit)
 
 -- in a running device a step of a group that there is sends a message where a bit is due
 abbrev pub DueBitIsTold : Type 0

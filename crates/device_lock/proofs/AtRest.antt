@@ -18,7 +18,7 @@ use Rattle.device_lock.proofs.Histories.{entries_of-append, events-append, leads
 pub rest_idle : (s : State) (queue : ℕ) → Rests s queue → AreIdle s (steps_of_queue queue)
 rest_idle s queue r = (r.receive_side, (r.transmit_side, (r.sending, (r.receiving, tt))))
 
--- one list behind another
+-- one list after another
 below-append : (n : ℕ) (g h : List Entry) → AllBelow n g → AllBelow n h → AllBelow n (g ++ h)
 below-append n [] h first then = then
 below-append n (x ∷ g) h first then = (first.0, below-append n g h first.1 then)

@@ -1,4 +1,4 @@
--- Histories one behind another, in two parts, and with one entry more.
+-- Histories one after another, in two parts, and with one entry more.
 use Rattle.std.proofs.Common.{◌≡◌, ℕ, ◌+◌, ◌<◌, ◌≤◌, ◌==◌, List, [], ◌∷◌, ◌++◌, length, get_or, replicate, slice_set, refl, sym, arith, rules, length-append}
 use Rattle.std.proofs.lemmas.Bool.Decides.{nat_tests}
 use Rattle.std.proofs.lemmas.Grind.{common_steps}
@@ -28,7 +28,7 @@ pub events_more : (h : List Entry) (e : Entry) → AreEvents h → IsEvent e.eve
 events_more [] e events is = (is, tt)
 events_more (x ∷ h) e events is = (events.0, events_more h e events.1 is)
 
--- one history behind another
+-- one history after another
 
 pub leads-append : (s : State) (g h : List Entry) → leads_to s (g ++ h) ≡ leads_to (leads_to s g) h
 leads-append s [] h = refl

@@ -29,7 +29,7 @@ pub calls_of-there : (tag : ℕ) (h : List Entry) (i : ℕ) (d : Entry) → i < 
 calls_of-there tag h i d lt other =
     ap (λ (z : List Entry). calls_of tag z) (split h i d lt) ∙ calls_of-past tag (get_or h i d) (drop (i + 1) h) other
 
--- behind the last entry
+-- after the last entry
 pub calls_of-end : (tag : ℕ) (h : List Entry) (i : ℕ) → i ≡ length h → calls_of tag (drop i h) ≡ []
 calls_of-end tag h i is =
     ap (λ (z : List Entry). calls_of tag z) (ap (λ k. drop k h) is ∙ drop-length h)
@@ -41,7 +41,7 @@ begins_otherwise c x all more rest are other same = other (ap (λ (l : List Call
 pub begins_not_at_all : (c : Call) (all more : List Call) → all ≡ [] → all ≢ c ∷ more
 begins_not_at_all c all more none same = absurd cc
 
--- behind the same calls the rests differ
+-- after the same calls the rests differ
 pub differs_behind : (front all rest more : List Call) → all ≡ front ++ rest → rest ≢ more → all ≢ front ++ more
 differs_behind front all rest more are other same = other (append_cancel_left front rest more (sym are ∙ same))
 
@@ -92,14 +92,14 @@ made_differ made i m d rested lt is all rest are none same =
     none (made_calls (drop (i + 1) made) ++ rested_calls rested)
     (append_cancel_left (made_calls (take i made)) rest _ (sym are ∙ same ∙ made_parts made i m d rested lt is))
 
--- nor where the idle steps behind the last call aren't there
+-- nor where the idle steps after the last call aren't there
 pub rest_differs : (made : List Made) (rested : Option ℕ) (all rest : List Call) → all ≡ made_calls made ++ rest
     → ((more : List Call) → rest ≢ rested_calls rested ++ more) → all ≢ calls_in made rested
 rest_differs made rested all rest are none same =
     none [] (append_cancel_left (made_calls made) rest _
     (sym are ∙ same ∙ ap (λ (l : List Call). made_calls made ++ l) (sym (append-nil (rested_calls rested)))))
 
--- and where they are, the lists are the same just where no call is behind them
+-- and where they are, the lists are the same just where no call is after them
 pub rest_stands : (made : List Made) (rested : Option ℕ) (all rest more : List Call) → all ≡ made_calls made ++ rest
     → rest ≡ rested_calls rested ++ more → (more ≡ []) ↔ (all ≡ calls_in made rested)
 rest_stands made rested all rest more are then = (

@@ -1,4 +1,4 @@
--- The test of a history says whether each entry behind the pass's first leaves a queue alone.
+-- The test of a history says whether each entry after the pass's first leaves a queue alone.
 use Rattle.std.proofs.Common.{◌≡◌, ℕ, Bool, true, false, not, ◌||◌, List, [], ◌∷◌, ◌++◌, refl, sym, ap, ◌∙◌, subst}
 use Rattle.std.specs.Prelude.{◌==◌, ◌↔◌, IsTrue}
 use Rattle.std.proofs.lemmas.Bool.{and_parts, and_from}

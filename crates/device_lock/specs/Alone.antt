@@ -128,7 +128,7 @@ abbrev pub has_begun : ℕ → List Entry → Bool
 has_begun pass [] = false
 has_begun pass (e ∷ es) = (e.pass == pass) || has_begun pass es
 
--- a history leaves the queue of a pass alone: each entry behind the pass's first does, and spares all blocks that the
+-- a history leaves the queue of a pass alone: each entry after the pass's first does, and spares all blocks that the
 -- pass lends in the history
 abbrev pub LeavesAlone : Watched → List Entry → Type 0
 LeavesAlone w h =

@@ -10,11 +10,11 @@ abbrev pub rested_calls : Option ℕ → List Call
 rested_calls None = []
 rested_calls (Some queue) = idle_calls (steps_of_queue queue)
 
--- each call behind the idle steps before it
+-- each call after the idle steps before it
 abbrev pub made_calls : List Made → List Call
 made_calls [] = []
 made_calls (m ∷ more) = rested_calls m.rested ++ (m.call ∷ made_calls more)
 
--- the same, and the idle steps behind the last
+-- the same, and the idle steps after the last
 abbrev pub calls_in : List Made → Option ℕ → List Call
 calls_in made rested = made_calls made ++ rested_calls rested

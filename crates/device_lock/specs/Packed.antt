@@ -12,12 +12,12 @@ abbrev pub rested_entries : Option Rested → List Entry
 rested_entries None = []
 rested_entries (Some r) = idle_entries r.pass (steps_of_queue r.queue)
 
--- each entry behind the idle steps before it
+-- each entry after the idle steps before it
 abbrev pub packed_entries : List Packed → List Entry
 packed_entries [] = []
 packed_entries (p ∷ more) = rested_entries p.rested ++ (entry_of p.pass p.event p.reply ∷ packed_entries more)
 
--- the entries that are kept one by one, then the others, and the idle steps behind the last
+-- the entries that are kept one by one, then the others, and the idle steps after the last
 abbrev pub entries_in : List Entry → List Packed → Option Rested → List Entry
 entries_in whole packed rested = whole ++ (packed_entries packed ++ rested_entries rested)
 

@@ -28,9 +28,8 @@ pub struct Watched {
     pub queue: u16,
 }
 
-/// The register that a number names at a port, while the queues are parted among pools by a mode and there are so many
-/// virtual functions: the address of a register of the physical function, or an offset among those of a virtual one.
-/// None where it names no register.
+/// The register that a number names at a port, in a mode of pools and with so many virtual functions: the address of a
+/// register of the physical function, or an offset among those of a virtual one. None where it names no register.
 pub fn place_at(mode: Mode, vfs: u8, port: Port, number: u32) -> Option<Place>
     ensures { result ≡ place_at mode vfs port number }
 {
@@ -221,7 +220,7 @@ fn lent_by(pass: u8, history: &[Entry]) -> Blocks
     blocks
 }
 
-/// Whether a history from a new device leaves a queue alone: each entry behind the first of its driver's pass writes no
+/// Whether a history from a new device leaves a queue alone: each entry after the first of its driver's pass writes no
 /// register of the queue, and no CTRL, HLREG0, MAXFRS or GCR_EXT, resets no pool that it is of, and keeps away from the
 /// blocks that the pass lends anywhere in the history. Entries of the pass itself may do all that, but no step of
 /// another queue may write into such a block, whoever makes it. No memory is asked for.
@@ -255,7 +254,7 @@ fn passes(watched: Watched, blocks: &Blocks, mode: Mode, begun: bool, entry: &En
     !begun || leaves_alone(watched, blocks, mode, entry)
 }
 
-/// Whether the driver has begun, behind an entry.
+/// Whether the driver has begun, after an entry.
 fn has_begun(watched: Watched, begun: bool, entry: &Entry) -> bool
     ensures { result ≡ (begun || (entry.now.pass == watched.pass)) }
 {

@@ -69,7 +69,7 @@ impl Calls {
         }
     }
 
-    /// The calls as they are kept: each with what was made before it, and the queue whose device steps were made behind
+    /// The calls as they are kept: each with what was made before it, and the queue whose device steps were made after
     /// the last and were idle. None where they weren't.
     pub fn kept(&self) -> (&[Made], Option<u16>)
         ensures { calls_in result.0.now result.1 ≡ self.now }
@@ -280,7 +280,7 @@ fn make_room(made: &mut Vec<Made>)
     }
 }
 
-/// Puts a call behind the others and the idle steps behind the last of them. There is room for it.
+/// Puts a call after the others and the idle steps after the last of them. There is room for it.
 fn put_call(made: &mut Vec<Made>, rested: &mut Option<u16>, event: EventNote, reply: ReplyNote)
     requires { vec_len made.old < vec_capacity made.old }
     ensures { calls_in made.new.items rested.new ≡ calls_in made.old.items rested.old ++ call_of event reply ∷ [] }
@@ -292,7 +292,7 @@ fn put_call(made: &mut Vec<Made>, rested: &mut Option<u16>, event: EventNote, re
     *rested = None;
 }
 
-/// Takes room for so many calls, for the device steps before each, and for those behind the last. Answers whether there
+/// Takes room for so many calls, for the device steps before each, and for those after the last. Answers whether there
 /// is memory for it.
 fn reserve_for(calls: &mut Vec<Call>, count: usize) -> bool
     requires { calls.old.items ≡ [] }

@@ -19,8 +19,8 @@ use crate::resting::idle_call;
 use crate::shared::MAX_PASSES;
 use nic_device::{Dir, Event, EventNote};
 
-/// The entries behind the next of this tag, where that is the entry of this call.
-fn behind<'a>(history: &'a [Entry], tag: u8, call: &Call) -> Option<&'a [Entry]>
+/// The entries after the next of this tag, where that is the entry of this call.
+fn after_call<'a>(history: &'a [Entry], tag: u8, call: &Call) -> Option<&'a [Entry]>
     ensures some { IfSome result (λ rest. calls_of tag history.now ≡ call.now ∷ calls_of tag rest.now) }
     ensures none { IfNone result ((more : List Call) → calls_of tag history.now ≢ call.now ∷ more) }
 {
@@ -35,47 +35,47 @@ fn behind<'a>(history: &'a [Entry], tag: u8, call: &Call) -> Option<&'a [Entry]>
     None
 }
 
-/// The entries behind the next of this tag, where that is of this event, and idle.
-fn behind_step<'a>(history: &'a [Entry], tag: u8, event: EventNote) -> Option<&'a [Entry]>
+/// The entries after the next of this tag, where that is of this event, and idle.
+fn after_step<'a>(history: &'a [Entry], tag: u8, event: EventNote) -> Option<&'a [Entry]>
     ensures some { IfSome result (λ rest. calls_of tag history.now ≡ call_of event Idle ∷ calls_of tag rest.now) }
     ensures none { IfNone result ((more : List Call) → calls_of tag history.now ≢ call_of event Idle ∷ more) }
 {
-    behind(history, tag, &idle_call(event))
+    after_call(history, tag, &idle_call(event))
 }
 
-/// The entries behind those of this tag that come next, where those are of the device steps of a queue, each idle.
-fn behind_steps<'a>(history: &'a [Entry], tag: u8, queue: u16) -> Option<&'a [Entry]>
+/// The entries after those of this tag that come next, where those are of the device steps of a queue, each idle.
+fn after_steps<'a>(history: &'a [Entry], tag: u8, queue: u16) -> Option<&'a [Entry]>
     ensures some { IfSome result
         (λ rest. calls_of tag history.now ≡ idle_calls (steps_of_queue queue) ++ calls_of tag rest.now) }
     ensures none { IfNone result
         ((more : List Call) → calls_of tag history.now ≢ idle_calls (steps_of_queue queue) ++ more) }
 {
-    let rest = behind_step(history, tag, Event::QueueStep(Dir::Rx, queue))?;
-    let rest = behind_step(rest, tag, Event::QueueStep(Dir::Tx, queue))?;
-    let rest = behind_step(rest, tag, Event::TxStep(queue))?;
-    behind_step(rest, tag, Event::RxStep)
+    let rest = after_step(history, tag, Event::QueueStep(Dir::Rx, queue))?;
+    let rest = after_step(rest, tag, Event::QueueStep(Dir::Tx, queue))?;
+    let rest = after_step(rest, tag, Event::TxStep(queue))?;
+    after_step(rest, tag, Event::RxStep)
 }
 
 /// The same, where there were some, else all entries.
-fn behind_rested<'a>(history: &'a [Entry], tag: u8, rested: Option<u16>) -> Option<&'a [Entry]>
+fn after_rested<'a>(history: &'a [Entry], tag: u8, rested: Option<u16>) -> Option<&'a [Entry]>
     ensures some { IfSome result (λ rest. calls_of tag history.now ≡ rested_calls rested ++ calls_of tag rest.now) }
     ensures none { IfNone result ((more : List Call) → calls_of tag history.now ≢ rested_calls rested ++ more) }
 {
     match rested {
         None => Some(history),
-        Some(queue) => behind_steps(history, tag, queue),
+        Some(queue) => after_steps(history, tag, queue),
     }
 }
 
-/// The entries behind those of this tag that come next, where those are of a call and of what was made before it.
-fn behind_made<'a>(history: &'a [Entry], tag: u8, made: &Made) -> Option<&'a [Entry]>
+/// The entries after those of this tag that come next, where those are of a call and of what was made before it.
+fn after_made<'a>(history: &'a [Entry], tag: u8, made: &Made) -> Option<&'a [Entry]>
     ensures some { IfSome result
         (λ rest. calls_of tag history.now ≡ made_calls (made.now ∷ []) ++ calls_of tag rest.now) }
     ensures none { IfNone result
         ((more : List Call) → calls_of tag history.now ≢ made_calls (made.now ∷ []) ++ more) }
 {
-    let rest = behind_rested(history, tag, made.rested)?;
-    behind(rest, tag, &made.call)
+    let rest = after_rested(history, tag, made.rested)?;
+    after_call(rest, tag, &made.call)
 }
 
 /// Whether no entry has this tag.
@@ -97,12 +97,12 @@ pub(crate) fn stands(history: &[Entry], tag: u8, calls: &Calls) -> bool
     let (made, rested) = calls.kept();
     let mut rest = history;
     for it in made {
-        match behind_made(rest, tag, it) {
+        match after_made(rest, tag, it) {
             Some(more) => rest = more,
             None => return false,
         }
     }
-    match behind_rested(rest, tag, rested) {
+    match after_rested(rest, tag, rested) {
         Some(more) => is_silent(more, tag),
         None => false,
     }

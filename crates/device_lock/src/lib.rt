@@ -35,8 +35,8 @@ pub use locked::Locked;
 pub use nic_device::{
     Arena, BLOCK_BYTES, BLOCK_NUMBERS, Buf, Device, Dir, Event, EventNote, Mode, Octets,
     OutOfMemory, Place, Port, QUEUES, Reply, RowId, Why, addr_of, data_descriptor_word, first_half,
-    hash_told, is_last, is_sent, is_written_back, length_told, of_halves, posted_word, queues_of,
-    rss_told, second_half,
+    is_last, is_sent, is_written_back, leave, of_halves, posted_word, queues_of, reported_hash,
+    reported_length, reported_rss, second_half,
 };
 pub use packed::{Packed, Rested};
 pub use pass::Pass;

@@ -65,7 +65,7 @@ pub(crate) fn has_room(whole: &mut Vec<Entry>, count: u32, limit: u32) -> bool
     limit >= steps && count <= limit - steps && hold_room(whole, count + steps, limit)
 }
 
-/// Puts an entry behind the others and the idle steps behind the last of them. There is room for it.
+/// Puts an entry after the others and the idle steps after the last of them. There is room for it.
 pub(crate) fn put_entry(
     packed: &mut Vec<Packed>,
     rested: &mut Option<Rested>,
@@ -86,7 +86,7 @@ pub(crate) fn put_entry(
     *rested = None;
 }
 
-/// The entries one by one: those that are so already, and the others behind them. There is room for all.
+/// The entries one by one: those that are so already, and the others after them. There is room for all.
 pub(crate) fn unpacked(whole: Vec<Entry>, packed: Vec<Packed>, rested: Option<Rested>) -> Vec<Entry>
     requires { length (entries_in whole.items packed.items rested) ≤ vec_capacity whole }
     ensures { result.items ≡ entries_in whole.items packed.items rested }

@@ -28,7 +28,7 @@ pub struct Frames {
 /// Settings of a device that a driver's start rests on.
 #[derive(Clone, Copy, PartialEq, Eq, Debug)]
 pub struct Settings {
-    /// How the queues are parted.
+    /// How the queues are divided among pools.
     pub mode: Mode,
     /// How long frames may be.
     pub frames: Frames,

@@ -2,7 +2,7 @@
 use Rattle.std.proofs.Common.{◌≡◌, ◌≢◌, ℕ, zero, suc, ◌+◌, ◌-◌, ◌<◌, ◌≤◌, ◌&&◌, Bool, true, false, inl, inr, Some, None, refl, sym, ◌∙◌, arith}
 use Rattle.std.proofs.lemmas.Bool.{and_parts, cases_lt, cases_eq}
 use Rattle.dma_arena.specs.Numbers.{Numbers, count_of, is_own, is_free, with_free, IsArena}
-use Rattle.dma_arena.specs.Run.{are_free, run_from, run_behind, run_in, without_run, IsFreeRun}
+use Rattle.dma_arena.specs.Run.{are_free, run_from, lowest_run, run_in, without_run, IsFreeRun}
 use Rattle.dma_arena.proofs.Arenas.{is_own-with_free, is_free-with_free_same, is_free-with_free_other}
 use Rattle.dma_arena.proofs.Owned.{own_within, own_of_within, is_own-of_free}
 
@@ -82,7 +82,7 @@ found_from a count number (suc left) first false is found =
 
 -- what is found is free
 
-pub found_behind : (a : Numbers) (count from first : ℕ) → run_behind a count from ≡ Some first → IsFreeRun a first count
+pub found_behind : (a : Numbers) (count from first : ℕ) → lowest_run a count from ≡ Some first → IsFreeRun a first count
 found_behind a count from first found =
     each_free a first count
     (found_from a count from (a.first + count_of a - from) first (are_free a from count) refl found)

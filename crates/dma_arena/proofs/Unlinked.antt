@@ -14,7 +14,7 @@ module _ (nodes : Nodes) (rank : ℕ → ℕ) (ring : IsRing nodes rank)
     (b_at : nodes l.prev ≡ Some b) (first : Relinked nodes n1 l.prev (record { next = l.next; prev = b.prev }))
     (h_at : n1 l.next ≡ Some h) (second : Relinked n1 n2 l.next (record { next = h.next; prev = l.prev }))
     (gone : n3 p ≡ None) (rest : (r : ℕ) → r ≢ p → n3 r ≡ n2 r) where
-  -- the one before leads to it, and the one behind leads back
+  -- the one before leads to it, and the one after leads back
   to_it : (x : Links) → nodes l.prev ≡ Some x → x.next ≡ p
   to_it x there = let j = ring.prev p l at in
       ap (λ (z : Links). z.next) (same (nodes l.prev) x j.0 there j.1) ∙ j.2

@@ -19,12 +19,12 @@ run_from a count number (suc left) =
     if are_free a number count then Some number else run_from a count (number + 1) left
 
 -- the lowest number of the arena, from this one on, from which this many of its blocks are free
-abbrev pub run_behind : Numbers → ℕ → ℕ → Option ℕ
-run_behind a count from = run_from a count from (a.first + count_of a - from)
+abbrev pub lowest_run : Numbers → ℕ → ℕ → Option ℕ
+lowest_run a count from = run_from a count from (a.first + count_of a - from)
 
 -- the lowest number of the arena from which this many of its blocks are free
 abbrev pub run_in : Numbers → ℕ → Option ℕ
-run_in a count = run_behind a count a.first
+run_in a count = lowest_run a count a.first
 
 -- the arena without the `count` numbers from `first` on
 unfoldable pub without_run : Numbers → ℕ → ℕ → Numbers

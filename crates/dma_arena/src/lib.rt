@@ -12,6 +12,7 @@
 
 mod arena;
 mod buf;
+mod ending;
 mod free_list;
 pub mod laws;
 mod lent;
@@ -24,6 +25,7 @@ mod table;
 
 pub use arena::{Arena, ArenaFault, BLOCK_NUMBERS, SplitFault, SplitRefused};
 pub use buf::{BLOCK_BYTES, Buf};
+pub use ending::leave;
 pub use lent::{LendRefused, LentMemory};
 pub use octets::Octets;
 pub use run::Run;

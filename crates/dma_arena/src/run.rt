@@ -3,7 +3,7 @@
 ghost use Rattle.std.specs.Prelude.{ℕ, ◌≡◌, ◌↔◌, ◌+◌, ◌-◌, ◌<◌, ◌≤◌, None, option_map, slice_index_or, IfErr, IfSome, IfNone, IsNone, IsOk, OnSome};
 ghost use Rattle.dma_arena.specs.Block.{zero_block};
 ghost use Rattle.dma_arena.specs.Numbers.{count_of, is_free};
-ghost use Rattle.dma_arena.specs.Run.{run_in, run_behind, are_free, without_run};
+ghost use Rattle.dma_arena.specs.Run.{run_in, lowest_run, are_free, without_run};
 
 use crate::arena::Arena;
 use crate::buf::{Buf, nothing};
@@ -109,7 +109,7 @@ impl Arena {
     pub fn find_run(&self, from: u32, count: u32) -> Option<u32>
         requires from { self.now.first ≤ from }
         requires few { count ≤ 8 }
-        ensures run { result ≡ run_behind self.now count from }
+        ensures run { result ≡ lowest_run self.now count from }
         ensures found { IfSome result (λ first. (from ≤ first) × (first + count ≤ 65536)) }
     {
         let mut number = from;

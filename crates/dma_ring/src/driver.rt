@@ -46,14 +46,14 @@ pub fn is_last(second: u64) -> bool
 }
 
 /// How many bytes were written into the buffer of a descriptor that was written back, by its second half.
-pub fn length_told(second: u64) -> u16
+pub fn reported_length(second: u64) -> u16
     ensures { result ≡ bytes_in second }
 {
     (second / 0x1_0000_0000 % 0x1_0000) as u16
 }
 
 /// The packet's RSS type, 0 to 15, by the first half of a descriptor that was written back.
-pub fn rss_told(first: u64) -> u8
+pub fn reported_rss(first: u64) -> u8
     ensures value { result ≡ rss_in first }
     ensures small { result < 16 }
 {
@@ -61,7 +61,7 @@ pub fn rss_told(first: u64) -> u8
 }
 
 /// The packet's RSS hash, by the first half of a descriptor that was written back. 0 where none is reported.
-pub fn hash_told(first: u64) -> u32
+pub fn reported_hash(first: u64) -> u32
     requires { first < 2 ^ 64 }
     ensures { result ≡ hash_in first }
 {

@@ -20,8 +20,8 @@ mod transmit;
 pub use descriptor::{first_half, of_halves, second_half};
 pub use dir::Dir;
 pub use driver::{
-    data_descriptor_word, hash_told, is_last, is_sent, is_written_back, length_told, posted_word,
-    rss_told,
+    data_descriptor_word, is_last, is_sent, is_written_back, posted_word, reported_hash,
+    reported_length, reported_rss,
 };
 pub use fault::RingFault;
 pub use laws::available_slots_follow_the_head;

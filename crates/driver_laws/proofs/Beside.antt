@@ -24,7 +24,7 @@ own_are (c ∷ calls) [] = refl
 own_are (c ∷ calls) (true ∷ own) = ap (λ (l : List Call). c ∷ l) (own_are calls own)
 own_are (c ∷ calls) (false ∷ own) = own_are calls own
 
--- behind what was made before, and is told so, the same calls may be told by other marks
+-- after what was made before, and is told so, the same calls may be told by other marks
 
 pub marked_same : (calls : List Call) (own : List Bool) → length own ≡ length calls
     → AreSame (entries_in calls) (marked_entries calls own)
@@ -63,7 +63,7 @@ all_anew m own (n ∷ later) then (next, goes, more) =
     let (others, follow, ends) = all_anew n next later then more in
     (by_own next n ∷ others, (follows_anew m own n next goes, follow), ends)
 
--- its start, behind the calls that came ahead of it
+-- its start, after the calls that came ahead of it
 pub own_anew : {q : AtPort} {size frame : ℕ} {old : List Call} {a : Numbers} {m : Moment} {later : List Moment}
     {ahead own : List Call} (x : IsToldBy q size frame old a m later ahead own)
     → IsToldAnew q size frame old a m later ahead own x
@@ -153,7 +153,7 @@ module _ (x : Beside) where
   abbrev pub own_life : Life
   own_life = life_of (anew x) (x.ahead ++ x.told.start) x.told.started.0 x.own (halves_of (goes told).rings) is_life
 
-  -- what a call added comes behind these
+  -- what a call added comes after these
   pub called_behind : (n : Moment) (y : IsCalledBeside x n) (added : List Call) → n.made ≡ (now x).made ++ added
       → x.own ++ y.since ≡ x.own ++ added
   called_behind n y added is =

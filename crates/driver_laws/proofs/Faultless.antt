@@ -1,6 +1,6 @@
 -- No call of a driver finds the device at fault, from the place on where both sides of its queue are on, and so over
--- its whole life; nor does a burst meet it at fault, whatever it answers. What such a call tells may be told behind
--- other calls: what it added comes behind the driver's. And so it is of a start.
+-- its whole life; nor does a burst meet it at fault, whatever it answers. What such a call tells may be told after
+-- other calls: what it added comes after the driver's. And so it is of a start.
 use Rattle.driver_laws.proofs.Laying.{LaysTo, among, behind_first, preparing_lays, ready_behind, then_some}
 use Rattle.driver_laws.proofs.Order.{begun, drawn_both, drawn_gone, driven_by, first, last_before, may, on_before}
 use Rattle.driver_laws.proofs.Order.{on_of}
@@ -151,7 +151,7 @@ burst_finds None given left result old mid new r there s drives finds x is =
     (upto, later, both, found_on drives.apart mine)
 burst_finds (Some f) given left result old mid new r there s drives finds x is = grind (arith, common_steps)
 
--- behind a driver's life no call added so
+-- after a driver's life no call added so
 module _ (x : Told)
     (fresh :
     BeforeLast x.w x.origin x.h x.told.started.2.receive.quiet.0 (IsFresh x.w.queue x.frame (asked_of x.w x.a x.h)))
@@ -201,7 +201,7 @@ module _ (x : BeginsApart) where
   new_asked : (n : ℕ) → is_asked new n ≡ true → is_asked (calls_of w.pass h) n ≡ true
   new_asked n is = subst (λ (l : List Call). is_asked l n ≡ true) (sym x.made) (asked_ahead new x.more n is)
 
-  -- behind the first access
+  -- after the first access
   undrawn : (b : Numbers) (ns : List ℕ) (first : List Call) → IsMade q old first (Sees Rxdctl false) → IsDrawn a ns b
       → (last : Laid) × LaysTo q size (among ns) Off first new last → NoneIsLent w origin h new b
   undrawn b ns first begins drawn (last, lays) number free asked =
@@ -234,7 +234,7 @@ module _ (x : BeginsApart) where
       (then_some q size (among out) (behind_first q size (among out) made.2)
       (preparing_lays q size (among out) DeviceFault Rx out (λ n is. is) fails)))
 
-  -- the slots that were filled, and the call that wasn't answered well: it may be told behind other calls
+  -- the slots that were filled, and the call that wasn't answered well: it may be told after other calls
   module _ {older newer : List Call} (f : FaultsFilling q size frame older a newer) where
     abbrev both_first : Halves
     both_first = record { receive = f.empty; transmit = f.sender }

@@ -168,7 +168,7 @@ module _ (q : AtPort) (size : ℕ) (lent : Blocks) where
       then_some (all_made (ring_words side ring size) Off (words_go size side ring) words)
       (then_some (lends_lay out each stops.lent) (_, lending_lays f _ stops.fails))
 
-  -- the receive ring, behind the first access to see its side off
+  -- the receive ring, after the first access to see its side off
 
   quiet_go : AllGo size Off both_quiet
   quiet_go = grind (arith, common_steps)

@@ -76,7 +76,7 @@ module _ (pass : ℕ) (own : Blocks) where
   begun_at [] e own = or_left _ _ own
   begun_at (f ∷ front) e own = or_right _ _ (begun_at front e own)
 
-  -- and behind an entry of the pass, also from such an entry on
+  -- and after an entry of the pass, also from such an entry on
 
   pub others_behind : (front back : List Entry) → OthersLendNone pass own (front ++ back) → has_begun pass front ≡ true
       → OnlyPassLends pass own back
@@ -103,7 +103,7 @@ last_or_none [] = inl refl
 last_or_none (d ∷ cs) =
     ⊎_elim (λ none. inr ([], d, λ i. d ∷ none i)) (λ x. inr (d ∷ x.0, x.1, λ i. d ∷ x.2 i)) (last_or_none cs)
 
--- behind the first access such calls were made
+-- after the first access such calls were made
 module _ (w : Watched) (origin : State) (h : List Entry) (q : AtPort) (size : ℕ) (old first : List Call)
     (along : IsAlong w origin h) (own lent : Blocks) (begins : IsMade q old first (Sees Rxdctl false))
     (fresh : BeforeLast w origin h first (NoneLent own)) (others : OthersLendNone w.pass own h) (l last : Laid)

@@ -121,7 +121,7 @@ module _ {c : Course} (x : On c) where
     sides_went_on =
         switched_sides_go_on w origin h q size frame old a mid v t up along ground p.front p.back p.both p.fronts
 
-    -- by the doers of the calls behind it
+    -- by the doers of the calls after it
     pub driven_by : (doers : List Doer) → AllOwn first doers ys → OthersHarmless doers ys
         → IsDriven w origin p.front p.back first doers
     driven_by doers own harmless =
@@ -252,7 +252,7 @@ module _ (w : Watched) (origin : State) {h : List Entry} (before rest : List Ent
       → BeforeLast w origin before calls P
   last_before calls P at done more e both own is = grind (arith, common_steps)
 
--- what is behind a part of a history
+-- what is after a part of a history
 pub along_behind : (w : Watched) (origin : State) (front h : List Entry) → IsAlong w origin (front ++ h)
     → IsAlong w (leads_to origin front) h
 along_behind w origin front h x =

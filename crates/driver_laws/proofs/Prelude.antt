@@ -10,17 +10,23 @@ pub use Rattle.driver_laws.specs.{Course.Course, Faultless.BeginsApart, Faultles
 pub use Rattle.driver_laws.specs.{Life.IsLife, Life.Life}
 pub use Rattle.driver_laws.{specs.Ends.Ended, specs.Ends.IsOver, specs.Lends.first_of, specs.Stopped.IsStopping}
 pub use Rattle.start_laws.proofs.NicDevice.{Cases.either_way, DmaArena.Arenas.is_own-of_free, Steps.new_sound}
-pub use Rattle.start_laws.specs.NicDevice.{DmaArena.Numbers.count_of, State.Waiting, State.cleared, VfMap.Owner.has_queue}
+pub use Rattle.start_laws.specs.NicDevice.{DmaArena.Numbers.count_of, State.Waiting}
+pub use Rattle.start_laws.specs.NicDevice.{State.cleared, VfMap.Owner.has_queue}
 pub use Rattle.start_laws.proofs.PmdDriver.PmdAccess.Rings.{among_times, ring_block_among, times_among}
 pub use Rattle.start_laws.proofs.PmdDriver.{Apart.apart_on, Apart.receiving_apart, Followed.receiving_drives}
 pub use Rattle.start_laws.proofs.PmdDriver.{Followed.sending_drives}
-pub use Rattle.start_laws.specs.PmdDriver.{Apart.OwnsSame, Halves.Drives, PmdAccess.Begun.LeadsTo, PmdAccess.Both.receive_polled}
-pub use Rattle.start_laws.specs.PmdDriver.{PmdAccess.QueueMade.IsStrayRead, PmdRx.Plays.PlaysFrom, PmdTx.Plays.LooksLast}
+pub use Rattle.start_laws.specs.PmdDriver.{Apart.OwnsSame, Halves.Drives}
+pub use Rattle.start_laws.specs.PmdDriver.{PmdAccess.Begun.LeadsTo, PmdAccess.Both.receive_polled}
+pub use Rattle.start_laws.specs.PmdDriver.{PmdAccess.QueueMade.IsStrayRead, PmdRx.Plays.PlaysFrom}
+pub use Rattle.start_laws.specs.PmdDriver.PmdTx.Plays.{LooksLast}
 pub use Rattle.start_laws.specs.PmdDriver.{Starting.IsTransmitReady, Starting.LendsEach, Starting.PreparingFails}
 pub use Rattle.start_laws.specs.PmdDriver.{Starting.ReceiveFails, Stopping.closed}
-pub use Rattle.start_laws.{proofs.PmdDriver.PmdAccess.Outside.times-append, specs.PmdDriver.Life.HasLived, specs.PmdDriver.Life.IsStopped}
-pub use Rattle.start_laws.{specs.PmdDriver.Life.Lives, specs.PmdDriver.PmdAccess.Home.IsDrawn, specs.PmdDriver.PmdAccess.Scheduled.own_calls}
-pub use Rattle.start_laws.{specs.PmdDriver.PmdAccess.Sides.PollsEnd, specs.PmdDriver.PmdAccess.Sides.missed, specs.PmdDriver.PmdAccess.Sides.polled}
+pub use Rattle.start_laws.{proofs.PmdDriver.PmdAccess.Outside.times-append, specs.PmdDriver.Life.HasLived}
+pub use Rattle.start_laws.specs.PmdDriver.Life.{IsStopped}
+pub use Rattle.start_laws.{specs.PmdDriver.Life.Lives, specs.PmdDriver.PmdAccess.Home.IsDrawn}
+pub use Rattle.start_laws.specs.PmdDriver.PmdAccess.Scheduled.{own_calls}
+pub use Rattle.start_laws.{specs.PmdDriver.PmdAccess.Sides.PollsEnd, specs.PmdDriver.PmdAccess.Sides.missed}
+pub use Rattle.start_laws.specs.PmdDriver.PmdAccess.Sides.{polled}
 pub use Rattle.start_laws.{specs.PmdDriver.PmdAccess.Sides.quiet}
 pub use Rattle.start_laws.proofs.Beside.{LeadsApart, drives_lead, harmless_apart, leads_on, left}
 pub use Rattle.start_laws.proofs.Parts.{Parts, around, calls_joined, none_behind, one_begins, parts}

@@ -130,7 +130,7 @@ module _ (q : AtPort) (size frame : ℕ) (old : List Call) (a : Numbers) (e : St
       (all.calls, last, all.made, all_lay q size sized Off last all.calls all.steps)
   by_gate (Some f) is = ([], Off, grind (arith, common_steps, append-nil), refl)
 
--- nothing is behind the first of none
+-- nothing is after the first of none
 none_first : (xs ys : List (List ℕ)) → xs ++ ys ≡ [] → ys ≡ []
 none_first [] ys is = is
 none_first (x ∷ xs) ys is = cc

@@ -1,4 +1,4 @@
--- What the calls of a driver tell is told of the calls that were added alone: it holds behind whichever others. So it
+-- What the calls of a driver tell is told of the calls that were added alone: it holds after whichever others. So it
 -- is of what its halves were driven by, and of a start.
 use Rattle.driver_laws.proofs.Prelude.{Access, Adds, AreMade, AreOn, AreUp, AtPort, Block, Bool, Call, DeviceFault, Dir}
 use Rattle.driver_laws.proofs.Prelude.{DrivesRings, Event, FaultsEarly, IsMade, IsPrepared, IsReceiveReady, IsStrayRead}
@@ -40,7 +40,7 @@ none old new is = given [] (is ∙ sym (append-nil old)) append-nil
 pub then : {R S : List Call → List Call → Type 0} → Shift R → Shift S → Shift (λ o n. (m : List Call) × R o m × S m n)
 then first second old new (mid, x, y) = grind (arith, common_steps, joined)
 
--- what shifts holds behind other calls, where the calls that were added are known
+-- what shifts holds after other calls, where the calls that were added are known
 pub shifted : {R : List Call → List Call → Type 0} {old new : List Call} → Shifts R old new
     → (since front : List Call) → new ≡ old ++ since → R front (front ++ since)
 shifted x since front made = search (rules, append_cancel_left)
@@ -110,7 +110,7 @@ module _ (q : AtPort) where
   transmit : (size frame : ℕ) (a b : Numbers) (v : Sender) → Shift (λ o n. IsTransmitReady q size frame o a n b v)
   transmit size frame a b v old new x = search (rules, mapped, prepared)
 
-  -- the receive ring behind the first access, whichever calls came ahead of that
+  -- the receive ring after the first access, whichever calls came ahead of that
 
   abbrev pub Behind : (S : List Call → List Call → Type 0) → ((o n : List Call) → S o n → List Call) → List Call
       → List Call → Type 0
@@ -143,7 +143,7 @@ module _ (q : AtPort) where
   receive_fails size a b out old new (inr x) =
       mapped (then (accesses q both_quiet) (preparing Rx size a b out) old new x) (λ o n y. inr y)
 
--- a start, with the place behind its first access
+-- a start, with the place after its first access
 
 module _ (q : AtPort) (size frame : ℕ) (a : Numbers) where
   pub up_behind : (r : Running) (old new : List Call) (x : AreUp q size frame old a new r)

@@ -49,7 +49,7 @@ module _ (q : AtPort) (old now new since rest : List Call) (some : now ≡ old +
       (first_made (IsEnding q) x.off now new b.0 rest x.ends (sym b.1) all)))
       (one_begins now rest x.off x.ends.0 (sym all ∙ x.ends.1))
 
--- what comes behind a switch off
+-- what comes after a switch off
 
 module _ (q : AtPort) (old : List Call) (h : Halted) (new : List Call) where
   pub home_ends : (home : Home) → ComesHome old h new home → Ends q old new
@@ -60,7 +60,7 @@ module _ (q : AtPort) (old : List Call) (h : Halted) (new : List Call) where
       then_made (IsEnding q) old mid.made new (bringing_ends q count (bringing old h) mid some)
       (some_made (IsEnding q) (step_ends q) mid.made new more)
 
--- blocks are taken back behind a switch off: by a stop, and by one that fails; so it is of a driver that lived, and was
+-- blocks are taken back after a switch off: by a stop, and by one that fails; so it is of a driver that lived, and was
 -- stopped
 module _ (q : AtPort) (old : List Call) (h : Halted) (new : List Call) where
   off_takes : (off : List Call) → IsSwitched q old off false 1000 → Ends q off new → TakesOnceOff q old new
@@ -82,7 +82,7 @@ module _ (q : AtPort) (old : List Call) (h : Halted) (new : List Call) where
   pub stopped_ends : (left : Rest) (late : Option PmdFault) → IsStopped q old h new left late → Ends q old new
   stopped_ends left late x = takes_ends q old new (stopped_takes left late x)
 
--- so they are behind such calls
+-- so they are after such calls
 pub takes_then : (q : AtPort) (old mid new : List Call) → TakesOnceOff q old mid → TakesOnceOff q mid new
     → TakesOnceOff q old new
 takes_then q old mid new (inl asks) (inl more) = inl (then_made (IsAsking q) old mid new asks more)

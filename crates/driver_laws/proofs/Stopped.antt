@@ -1,4 +1,4 @@
--- What a driver handed out and what it sent stays in order over its stop and on: behind its life neither side goes on;
+-- What a driver handed out and what it sent stays in order over its stop and on: after its life neither side goes on;
 -- what device and driver agree on stands while the driver asks for its sides to be off; and once both are, nothing goes
 -- on there. So it is of what a driver left that lived, and was stopped.
 use Rattle.start_laws.proofs.Reached.{LeadsOver, all_lead, free_left, reached, reached_next}
@@ -46,7 +46,7 @@ further xs None ps is = is
 further xs (Some qs) ps (one, is) = let (two, more) = grows [] qs ps in grind (arith, common_steps)
 
 module _ (w : Watched) (origin : State) (q : AtPort) (frame : ℕ) where
-  -- an event behind which port and queue name the queue, and neither side went on
+  -- an event after which port and queue name the queue, and neither side went on
   record Moves (s t : State) : Type 0 where
     ground : HasGround w.queue q frame t
     settles : (dir : Dir) → Settles dir w.queue s t
@@ -104,7 +104,7 @@ module _ (w : Watched) (origin : State) (q : AtPort) (frame : ℕ) where
         both : BothAgree w.queue (reached w origin done) out (sent done) k
         lent : AreLent mine k
 
-      -- the same behind an event
+      -- the same after an event
       record Next (done : List Entry) (e : Event Block) : Type 0 where
         moves : Moves (reached w origin done) (after (reached w origin done) e)
         out : List Piece

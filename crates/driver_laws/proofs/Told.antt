@@ -1,5 +1,5 @@
 -- A call of a driver that looks last and finds no packet whole, or the oldest outstanding one not done, within a longer
--- history. What the call tells may be told behind other calls: what it added comes behind a life. And a driver's life
+-- history. What the call tells may be told after other calls: what it added comes after a life. And a driver's life
 -- as its calls tell it is a life: it runs on, over calls as they are told, and harmless ones between.
 use Rattle.driver_laws.proofs.Order.{Ran, all_apart, begun, counted, driven, fresh_own, in_parts, last as last_there}
 use Rattle.driver_laws.proofs.Prelude.{AllFollow, AllOwn, AtPort, Block, Blocks, Call, Doer, Drives, Drove, Entry}
@@ -26,7 +26,7 @@ module _ (x : Life) (late rest : List Entry) (split : late ++ rest ≡ x.h) {the
   abbrev later : Life
   later = life_before x late rest split (calls_of w.pass late) then goes
 
-  -- and an earlier one, behind which its halves were as they are
+  -- and an earlier one, after which its halves were as they are
   module _ (early more : List Entry) (all : early ++ more ≡ late) (is : AddsHarmless x.made (calls_of w.pass early))
     where
       abbrev sooner : Life
@@ -77,7 +77,7 @@ module _ (old : List Call) {h k : Halves} {mid new : List Call} (e : Event Block
   pub added_is : new ≡ old ++ added
   added_is = grind (arith, common_steps)
 
--- behind a life, at an entry of the history, where whatever was added comes behind the calls of that life
+-- after a life, at an entry of the history, where whatever was added comes after the calls of that life
 module _ (x : Life) (old : List Call) {mid new now : List Call} (e : Event Block) (reply : Reply Block)
     {then : Halves} (drives : Drives old x.k mid then) (adds : Adds mid new e reply) (at : EndsAt x.w.pass x.h now)
     (behind : (since : List Call) → new ≡ old ++ since → now ≡ x.made ++ since) where
@@ -135,7 +135,7 @@ module _ (x : Life) {old new now : List Call} (at : EndsAt x.w.pass x.h now)
       all is
       (search (rules, answered)) (ap bytes_of y.accepted ∙ sent)
 
--- a driver runs, and by the numbers of an arena, which it keeps, its halves were led there behind some calls
+-- a driver runs, and by the numbers of an arena, which it keeps, its halves were led there after some calls
 pub record RunsOn (a : Numbers) (old : List Call) (h : Halves) (n : Moment) : Type 0 where
   pub rings : Running
   pub up : n.driver.rings ≡ Up rings
@@ -173,7 +173,7 @@ module _ {a : Numbers} {old : List Call} {h : Halves} where
 abbrev HasRoom : ℕ → Sender → Type 0
 HasRoom size v = (v.layout.size ≡ size) × (length v.outstanding < size)
 
--- so it is behind calls of the halves
+-- so it is after calls of the halves
 
 played_room : (size : ℕ) (h : Halves) (doers : List Doer) (calls : List Call) → AllOwn h doers calls
     → HasRoom size h.transmit → HasRoom size (played_by h doers calls).transmit

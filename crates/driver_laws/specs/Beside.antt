@@ -125,8 +125,8 @@ IdleIsAllSent =
     (x : Beside) → IsToldBeside x → HasNoneOut (now x).driver.rings →
     IsAllSent x.course (accepted_of (now x).driver.rings)
 
--- behind the last moment comes a call of the driver's, which made these calls. As the history is told anew the pass has
--- made the driver's own calls up to there at some entry, whatever comes behind it
+-- after the last moment comes a call of the driver's, which made these calls. As the history is told anew the pass has
+-- made the driver's own calls up to there at some entry, whatever comes after it
 pub record IsCalledBeside (x : Beside) (n : Moment) : Type 0 where
   pub since : List Call
   pub made : n.made ≡ (now x).made ++ since
@@ -156,7 +156,7 @@ WaitingIsNotAll =
     AddsHarmless x.own (calls_of x.w.pass before) → AreSame early before →
     bytes_of (accepted_of (now x).driver.rings) ≢ sent_since x.w.queue x.origin [] early
 
--- entries behind a history that was told anew, which are told so too: as they are told pass 0 made these calls in them,
+-- entries after a history that was told anew, which are told so too: as they are told pass 0 made these calls in them,
 -- and they lead to a device
 pub record GoesOn (origin : State) (before told es anew : List Entry) (calls : List Call) (device : State) :
     Type 0 where
@@ -165,7 +165,7 @@ pub record GoesOn (origin : State) (before told es anew : List Entry) (calls : L
   pub leads : leads_to origin (before ++ es) ≡ device
 
 -- so are the calls through a `Direct` with marks that tell which of them are the driver's own, as those through an
--- `Interleaved` are marked, of which other marks tell it; and so on, through one way behind another. For two drivers
+-- `Interleaved` are marked, of which other marks tell it; and so on, through one way after another. For two drivers
 -- over one device each has its marks, with the calls of the other among those that are none of its own
 
 abbrev pub DirectIsRetold : Type 0

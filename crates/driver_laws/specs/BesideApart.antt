@@ -10,7 +10,7 @@ use Rattle.driver_laws.specs.Beside.{Beside, IsToldBeside, now}
 use Rattle.driver_laws.specs.Faultless.{FindsFault, IsFresh, MeetsFault, NoneLent}
 
 -- as the history is told anew, the driver's own calls up to its last moment were made, then one of its calls, and maybe
--- more behind. Just before its first access frames were short; and of its arena's blocks, those that it asks to lend
+-- more after. Just before its first access frames were short; and of its arena's blocks, those that it asks to lend
 -- weren't lent there, and nobody else lends any of them, another pass or the author
 pub record IsCalledApart (x : Beside) (n : Moment) : Type 0 where
   pub fresh :

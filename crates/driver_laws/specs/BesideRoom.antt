@@ -14,7 +14,7 @@ FullHasNoRoom =
     (outstanding (last m later).driver.rings < size)
     × (size ≤ outstanding (last m later).driver.rings + parts_for p.len)
 
--- so it is behind a call of `tx_burst` that answers 0, with those of the first packet that it leaves
+-- so it is after a call of `tx_burst` that answers 0, with those of the first packet that it leaves
 abbrev pub NoneHasNoRoom : Type 0
 NoneHasNoRoom =
     (q : AtPort) (size frame : ℕ) (old : List Call) (a : Numbers) (m : Moment) (later : List Moment)

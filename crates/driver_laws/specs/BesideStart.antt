@@ -1,4 +1,4 @@
--- A start of a driver behind and beside whatever calls of its author's, which finds no device at fault.
+-- A start of a driver after and beside whatever calls of its author's, which finds no device at fault.
 use Rattle.std.specs.Prelude.{◌++◌, ◌≡◌, ◌≢◌, List, ℕ}
 use Rattle.start_laws.specs.Prelude.{AreUp, AtPort, Call, DeviceFault, Entry, Numbers, Running, StartRefused}
 use Rattle.start_laws.specs.Prelude.{StopsStarting, calls_of}
@@ -13,8 +13,8 @@ StartAdds =
     (up : AreUp q size frame old a new r) →
     (start : List Call) × (first : List Call) × (new ≡ old ++ start) × (up.receive.quiet.0 ≡ old ++ first)
 
--- a legal history that leaves the queue alone as it is told anew, in which a start made these calls, behind others of
--- its pass or none, and maybe more came behind them. Just before its first access both sides were off and frames were
+-- a legal history that leaves the queue alone as it is told anew, in which a start made these calls, after others of
+-- its pass or none, and maybe more came after them. Just before its first access both sides were off and frames were
 -- short; and of its arena's blocks, those that it asks to lend weren't lent there, and nobody else lends any of them,
 -- another pass or the author
 pub record BeginsBeside : Type 0 where

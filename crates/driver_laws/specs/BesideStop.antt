@@ -5,7 +5,7 @@ use Rattle.start_laws.specs.Retold.{AreSame}
 use Rattle.driver_laws.specs.{Beside.Beside, Beside.now, Course.IsHandedInOrder, Course.IsSentInOrder}
 use Rattle.driver_laws.specs.Prelude.{Ends, EndsOnceOff, IsSilent, TakesOnceOff}
 
--- as the history is told anew, the driver's own calls up to the last moment were made, and behind them the first of
+-- as the history is told anew, the driver's own calls up to the last moment were made, and after them the first of
 -- those of its stop, or all: as it returned these calls were made
 pub record IsStoppedBeside (x : Beside) (new : List Call) : Type 0 where
   pub ends : Ends x.q (now x).made new

@@ -3,7 +3,7 @@ use Rattle.std.specs.Prelude.{[], ◌++◌, ◌∷◌, ◌≡◌, Contains, List
 use Rattle.start_laws.specs.Prelude.{Call, Entry, calls_of}
 use Rattle.start_laws.specs.DeviceLock.{Closing.Closes, Pass.PassValue}
 
--- a pass is among some, with the calls that it had, and maybe more behind them
+-- a pass is among some, with the calls that it had, and maybe more after them
 pub record IsAmong (ps : List PassValue) (pass : PassValue) : Type 0 where
   pub later : PassValue
   pub among : Contains ps later

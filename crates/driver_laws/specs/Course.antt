@@ -5,7 +5,7 @@ use Rattle.start_laws.specs.PmdDriver.PmdAccess.Packet.{Kept}
 use Rattle.start_laws.specs.RingLaws.Delivered as receive
 use Rattle.start_laws.specs.RingLaws.Laws as transmit
 
--- so it is started with an arena, behind some calls of its pass, where its queue is watched over a history from some
+-- so it is started with an arena, after some calls of its pass, where its queue is watched over a history from some
 -- state on
 pub record Course : Type 0 where
   pub w : Watched

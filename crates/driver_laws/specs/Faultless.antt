@@ -28,7 +28,7 @@ FindsFault m n =
     WhereUp m.driver.rings n.driver.rings
     (λ r s. FindsBy DeviceFault (is_own r.arena) m.made (halves_of r) n.made)
 
--- in its history the pass made the calls up to this last moment, and maybe more behind them. Just before the driver's
+-- in its history the pass made the calls up to this last moment, and maybe more after them. Just before the driver's
 -- first access frames were short; and of its arena's blocks, those that its pass asks to lend weren't lent there, and
 -- no other pass lends any of them
 pub record IsToldApart (x : Told) (n : Moment) : Type 0 where
@@ -69,7 +69,7 @@ abbrev pub IsQuietAndFresh : ℕ → AtPort → ℕ → Blocks → State → Typ
 IsQuietAndFresh queue q frame own s = IsQuiet queue q frame s × IsFresh queue frame own s
 
 -- a legal history of a sound device that leaves the queue alone, in which a start made these calls, and maybe more came
--- behind them. Just before its first access both sides were off and frames were short; and of its arena's blocks, those
+-- after them. Just before its first access both sides were off and frames were short; and of its arena's blocks, those
 -- that its pass asks to lend weren't lent there, and no other pass lends any of them
 pub record BeginsApart : Type 0 where
   pub course : Course

@@ -32,7 +32,7 @@ AcceptsNone m n p =
     (vacant : ℕ) × (given : List Packet) × (rest : List Packet)
     × IsSendBurst vacant given (p ∷ rest) (Ok 0) m.made r n.made s)
 
--- so it is of the packets that are outstanding behind that call
+-- so it is of the packets that are outstanding after that call
 abbrev pub NoneHasNoRoom : Type 0
 NoneHasNoRoom =
     (q : AtPort) (size frame : ℕ) (old : List Call) (a : Numbers) (m : Moment) (later : List Moment) (n : Moment)

@@ -32,8 +32,8 @@ pub record IsHistoryOf (s : State) (queue : ℕ) (h : List Entry) (calls : List 
   pub made : calls_of 0 h ≡ calls
   pub leads : leads_to s h ≡ device
 
--- the calls through a `Direct`, behind what was made before, are one that leaves a queue alone, where they do. What is
--- told of a history from its entries alone suffices, whichever the state: all entries behind the first of pass 0 are of
+-- the calls through a `Direct`, after what was made before, are one that leaves a queue alone, where they do. What is
+-- told of a history from its entries alone suffices, whichever the state: all entries after the first of pass 0 are of
 -- that pass, so that only what steps wrote for other queues is asked
 abbrev pub DirectIsHistory : Type 0
 DirectIsHistory =
@@ -71,7 +71,7 @@ pub record IsHistoryAtLock (vfs fifo tag queue : ℕ) (h : List Entry) (calls : 
 
 -- the calls through a `ThroughLock`, as the way had them at any time, are one up to each place where its pass had made
 -- just these, where `left_alone` says so of its tag and the queue. There is such a place, with the last of them at its
--- end, where the pass is among those that closed the history, with these calls and maybe more behind them
+-- end, where the pass is among those that closed the history, with these calls and maybe more after them
 -- (`CallsStand`)
 abbrev pub ClosedIsHistory : Type 0
 ClosedIsHistory =

@@ -13,19 +13,19 @@ pub record EndsAt (pass : ℕ) (h : List Entry) (calls : List Call) : Type 0 whe
   pub all : before ++ entry ∷ behind ≡ h
   pub made : calls_of pass before ++ call_in entry ∷ [] ≡ calls
 
--- where the pass has made some calls, and maybe more behind them, there is such an entry
+-- where the pass has made some calls, and maybe more after them, there is such an entry
 abbrev pub CallsEnd : Type 0
 CallsEnd =
     (pass : ℕ) (h : List Entry) (calls more : List Call) (c : Call) →
     calls_of pass h ≡ (calls ++ c ∷ []) ++ more → EndsAt pass h (calls ++ c ∷ [])
 
--- behind a life one call of the driver looked at the slots of a packet, and found the last of these not done, at an
+-- after a life one call of the driver looked at the slots of a packet, and found the last of these not done, at an
 -- entry of the history
 pub record LooksInVain (x : Life) (new : List Call) (v : Receive) : Type 0 where
   pub looks : receiving.LooksInVain x.made x.k.receive new v
   pub look : EndsAt x.w.pass x.h new
 
--- what the driver had handed out is all that was delivered before the entry of that last look, whatever came behind it
+-- what the driver had handed out is all that was delivered before the entry of that last look, whatever came after it
 abbrev pub NoneIsAllBefore : Type 0
 NoneIsAllBefore =
     (x : Life) (new : List Call) (v : Receive) (looked : LooksInVain x new v) →

@@ -18,7 +18,7 @@ pub record Refused : Type 0 where
   pub left : Rest
   pub never : NeverLived q size frame old a e new left
   pub along : IsAlong w origin h
-  -- an entry is the start's first, behind steps of the device: just before it port and queue name the queue, and both
+  -- an entry is the start's first, after steps of the device: just before it port and queue name the queue, and both
   -- sides are off and not wanted on
   pub before : List Entry
   pub first : Entry

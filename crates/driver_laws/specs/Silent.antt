@@ -1,4 +1,4 @@
--- A driver whose queue was switched off behind its life, and what goes on there from then on.
+-- A driver whose queue was switched off after its life, and what goes on there from then on.
 use Rattle.std.proofs.Common.{inl, inr}
 use Rattle.std.specs.Prelude.{◌++◌, ◌≡◌, List, None, Option, Some}
 use Rattle.start_laws.specs.Prelude.{AtPort, Call, Entry, Halted, PmdFault, Rest, Up, calls_of, halted_of}
@@ -7,14 +7,14 @@ use Rattle.driver_laws.specs.Prelude.{EndsOnceOff, IsSilent}
 use Rattle.start_laws.specs.PmdDriver.Life.{IsStopped}
 use Rattle.start_laws.specs.PmdDriver.declared.start.Rest.TheVariants as rest
 
--- behind a life, once the calls of its stop have switched both sides of the queue off, nothing is delivered or sent
+-- after a life, once the calls of its stop have switched both sides of the queue off, nothing is delivered or sent
 -- there any more
 abbrev pub SilentOnceOff : Type 0
 SilentOnceOff =
     (x : Life) (new : List Call) (done rest : List Entry) → IsStopping x new → (y : EndsOnceOff x.q x.made new) →
     done ++ rest ≡ x.h → calls_of x.w.pass done ≡ y.off → IsSilent x.w x.origin x.h done
 
--- a driver's stop had switched both sides off when these calls were made: it came home, or failed behind them
+-- a driver's stop had switched both sides off when these calls were made: it came home, or failed after them
 abbrev pub SwitchesOff : (q : AtPort) (old : List Call) (h : Halted) (new : List Call) (left : Rest)
     (late : Option PmdFault) → IsStopped q old h new left late → List Call → Type 0
 SwitchesOff q old h new (rest.Home home) None (mid, switched, comes) off = off ≡ mid

@@ -5,7 +5,7 @@ use Rattle.driver_laws.specs.{Course.IsHandedInOrder, Course.IsSentInOrder, Life
 use Rattle.driver_laws.specs.{Prelude.TakesOnceOff}
 use Rattle.start_laws.specs.PmdDriver.{Stopping.StopFails, Stopping.Stops, declared.home.Home.Home}
 
--- behind a life the pass made the calls of a stop, and no others: none writes the queue's enable words with bit 25
+-- after a life the pass made the calls of a stop, and no others: none writes the queue's enable words with bit 25
 pub record IsStopping (x : Life) (new : List Call) : Type 0 where
   pub ends : Ends x.q x.made new
   pub calls : calls_of x.w.pass x.h ≡ new
@@ -35,7 +35,7 @@ FailedStopEnds =
     (f : PmdFault) (q : AtPort) (old : List Call) (h : Halted) (new : List Call) (left : Halted) →
     StopFails f q old h new left → Ends q old new
 
--- and blocks are taken back only once both sides were seen off: by a stop, by one that fails, and by one behind another
+-- and blocks are taken back only once both sides were seen off: by a stop, by one that fails, and by one after another
 
 abbrev pub StopTakesOnceOff : Type 0
 StopTakesOnceOff =

@@ -5,7 +5,7 @@ use Rattle.start_laws.specs.Prelude.{Call, Entry, Sender, WhereUp, accepted_of, 
 use Rattle.start_laws.specs.PmdDriver.PmdTx.Plays.{LooksLast}
 use Rattle.driver_laws.specs.{Life.Life, Looks.EndsAt, Told.Moment, Told.Told, Told.now}
 
--- behind a life one call of the driver accepted none, and looked at last at the oldest outstanding packet, which wasn't
+-- after a life one call of the driver accepted none, and looked at last at the oldest outstanding packet, which wasn't
 -- done, at an entry of the history
 pub record LooksAtWaiting (x : Life) (new : List Call) (v : Sender) : Type 0 where
   pub looks : LooksLast x.made x.k.transmit new v

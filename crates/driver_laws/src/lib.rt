@@ -37,12 +37,12 @@ ghost use Rattle.driver_laws.specs.Told as told;
 ghost use Rattle.driver_laws.specs.Waits.{WaitingIsNotAllBefore, WaitingIsNotAllAsTold};
 
 /// The laws here speak of a history from any state on that a device can be in, new or used, with an EEPROM image
-/// installed or without. The calls that were made through a `pmd_access::Direct` are one, all of pass 0, behind what is
+/// installed or without. The calls that were made through a `pmd_access::Direct` are one, all of pass 0, after what is
 /// known to have been made of the device before it came into hand; and so are those through an `Interleaved`, own ones
 /// of pass 0 and foreign ones of pass 1. It leads to the device in hand. What is asked is that the device was where
 /// that led as the way was made, as `began` tells of a new one, and each call of a driver keeps; and that the history
 /// leaves the queue alone. Of a `Direct` what `device_lock::left_alone` answers suffices, whatever the state; of an
-/// `Interleaved` where no image is installed and the queues weren't parted there.
+/// `Interleaved` where no image is installed and no mode of pools was set there.
 ///
 /// The calls that were made through a `pmd_access::ThroughLock` are one of a device that was new, as the passes that
 /// closed its history made it: up to the last of them, of whichever tag the pass is, where `left_alone` of what `close`
@@ -112,14 +112,14 @@ pub fn calls_keep_the_books()
 
 /// Where a `start` answered a driver and its calls came since, and `tx` answers that the ring is full, the outstanding
 /// packets have fewer parts than the start was given descriptors, and with those of the packet that was given no fewer:
-/// where that has one part all slots but one are taken. So it is behind a call of `tx_burst` that answers 0, with those
+/// where that has one part all slots but one are taken. So it is after a call of `tx_burst` that answers 0, with those
 /// of the first packet that it leaves.
 pub fn full_ring_has_no_room()
     ensures told { FullHasNoRoom }
     ensures none { NoneHasNoRoom }
 {}
 
-/// Where a pass made some calls, and maybe more behind them, an entry of the history is the last of these.
+/// Where a pass made some calls, and maybe more after them, an entry of the history is the last of these.
 pub fn calls_end_at_an_entry()
     ensures { CallsEnd }
 {}
@@ -162,8 +162,8 @@ pub fn driver_in_order()
 /// Told so, the history has the driver's own calls alone, which are told as its clauses tell (`told`), and is one of a
 /// life (`lived`), so that the laws on these apply; and what they say of the packets and frames is so of the history as
 /// it was. For a device in hand, marks tell which of its calls are the driver's own (`in_hand`, `interleaved`), also
-/// through one way behind another, as where a `Direct` is finished and another steps the other driver's queue.
-pub fn driver_beside_any_calls_in_order()
+/// through one way after another, as where a `Direct` is finished and another steps the other driver's queue.
+pub fn driver_among_any_calls_in_order()
     ensures told { beside.OwnAreTold }
     ensures lived { beside.ToldIsLived }
     ensures handed { beside.HandedIsPrefix }
@@ -180,7 +180,7 @@ pub fn driver_beside_any_calls_in_order()
 /// and just before its first access none of these is lent and the frames that wait for its queue fit its packets: no
 /// call of such a driver finds the device at fault. The blocks that it has out are those of its arena that are lent at
 /// the device, and each is in one place.
-pub fn driver_beside_any_calls_keeps_its_blocks()
+pub fn driver_among_any_calls_keeps_its_blocks()
     ensures finds { apart.NoCallFindsFault }
     ensures meets { apart.NoBurstMeetsFault }
     ensures lent { apart.OutIsLent }
@@ -189,9 +189,9 @@ pub fn driver_beside_any_calls_keeps_its_blocks()
 {}
 
 /// Where both sides of its queue are off too just before its first access, and not wanted on, no start of such a driver
-/// ends with the device at fault, wherever amid its events, behind whatever calls its author made. A start that comes
+/// ends with the device at fault, wherever amid its events, after whatever calls its author made. A start that comes
 /// up adds calls to those that were made, its first access among them.
-pub fn driver_beside_any_calls_starts()
+pub fn driver_among_any_calls_starts()
     ensures adds { start.StartAdds }
     ensures filling { start.NoFillingFindsFault }
     ensures amid { start.NoStartFindsFault }
@@ -199,7 +199,7 @@ pub fn driver_beside_any_calls_starts()
 
 /// Where `tx` of such a driver answers that the ring is full, or `tx_burst` takes none, its ring has no room for the
 /// next packet.
-pub fn full_ring_beside_any_calls_has_no_room()
+pub fn full_ring_among_any_calls_has_no_room()
     ensures told { room.FullHasNoRoom }
     ensures none { room.NoneHasNoRoom }
 {}
@@ -208,7 +208,7 @@ pub fn full_ring_beside_any_calls_has_no_room()
 /// what it accepted, at any place amid the calls of its stop and where these end; and once they have switched both
 /// sides off, nothing is delivered or sent there any more. That the calls of a stop are such is said of them as they
 /// are.
-pub fn driver_beside_any_calls_stops_in_order()
+pub fn driver_among_any_calls_stops_in_order()
     ensures handed { stop.HandedIsPrefix }
     ensures sent { stop.SentIsPrefix }
     ensures silent { stop.SilentOnceOff }
@@ -233,7 +233,7 @@ pub fn refused_start_sends_nothing()
 {}
 
 /// Where such a life is followed by calls of a stop, of which none asks for a side to be on, the packets that the
-/// driver had handed out are a prefix of those delivered in the whole history, with whatever came behind; and where
+/// driver had handed out are a prefix of those delivered in the whole history, with whatever came after; and where
 /// these calls take blocks back only once both sides were seen off, the frames sent on the queue in the whole history
 /// are a prefix of those that the driver had accepted.
 pub fn stopped_life_in_order()
@@ -247,7 +247,7 @@ pub fn stop_calls_ask_for_no_side()
     ensures fails { stopped.FailedStopEnds }
 {}
 
-/// They take blocks back only once both sides were seen off: the calls of a stop, and of one that fails, behind others
+/// They take blocks back only once both sides were seen off: the calls of a stop, and of one that fails, after others
 /// that do, and no call at all.
 pub fn stops_take_blocks_once_off()
     ensures none { stopped.NoCallTakes }

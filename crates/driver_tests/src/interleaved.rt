@@ -106,7 +106,7 @@ fn foreign_tail(rt: &impl Hand) -> Schedule {
     done(rt, Vec::from_array(rt.alloc(), [first, second]))
 }
 
-/// Which of five calls the driver made, behind two foreign events and then one.
+/// Which of five calls the driver made, after two foreign events and then one.
 const OWN: &[bool] = &[false, false, true, false, true];
 
 /// Ends a way to a device by which five calls were made, the last foreign one of which met a fault.

@@ -2,7 +2,7 @@
 #![tactic(auto)]
 
 use nic_device::{Arena, Config, Device, Mode, Parts, Port};
-use pmd::{Direct, Home, Packet, Pmd, PmdFault, Setup, StartRefused, StopRefused};
+use pmd::{Direct, Home, Packet, Pmd, PmdFault, Setup, StartRefused, StopRefused, leave};
 use std::alloc::Global;
 use std::collections::VecDeque;
 use thiserror::Error;
@@ -136,11 +136,4 @@ fn tell(rt: &HostRuntime, nic: &Direct, home: &Home) -> Done {
     let (free, calls) = (home.arena.free_blocks(), nic.calls().kept().0.len());
     println!(rt; "handed out {handed}, accepted {accepted}, free blocks {free}, calls {calls}")?;
     Ok(())
-}
-
-/// Leaves what can't be dropped and couldn't be ended: its memory is lost to the process, which fails and ends next.
-fn leave<T>(value: T, failure: Failure) -> Failure {
-    // The value is moved in, so that nobody uses it again, and nothing else refers to what it owns.
-    let _left = unsafe { std::mem::ManuallyDrop::new_unchecked(value) };
-    failure
 }

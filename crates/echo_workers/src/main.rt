@@ -4,7 +4,7 @@
 use nic_device::{Arena, Mode, Parts, Port};
 use pmd::{
     CloseRefused, Closed, Doubt, Driven, Given, Home, Job, Lockstep, Pass, PmdFault, Ran, Rest,
-    RunFault, RunRefused, Setup, Shared, ThroughLock, Watched, WorkerEnd, WorkerFault,
+    RunFault, RunRefused, Setup, Shared, ThroughLock, Watched, WorkerEnd, WorkerFault, leave,
 };
 use std::alloc::{AllocError, Global};
 use std::sync::Wait;
@@ -239,11 +239,4 @@ fn ask(closed: &Closed<0, 64>, number: u8) -> Done {
         count: BLOCKS,
     };
     pmd::judge(&driven, closed.history()).map_err(Failure::Doubted)
-}
-
-/// Leaves what can't be dropped and couldn't be ended: its memory is lost to the process, which fails and ends next.
-fn leave<T>(value: T, failure: Failure) -> Failure {
-    // The value is moved in, so that nobody uses it again, and nothing else refers to what it owns.
-    let _left = unsafe { std::mem::ManuallyDrop::new_unchecked(value) };
-    failure
 }

@@ -8,7 +8,7 @@ use borrow.Author.Tests.{leb-true, ltb-true}
 use Rattle.eeprom_image.specs.Bytes.{word_at}
 use Rattle.eeprom_image.specs.Section.{is_unused, section_at, pointers}
 use Rattle.eeprom_image.specs.Checksum.{checked_sum}
-use Rattle.eeprom_image.specs.Text.{is_behind}
+use Rattle.eeprom_image.specs.Text.{is_past}
 
 -- lists made of functions that agree below 15
 pub map_same : (f g : ℕ → ℕ) (indexes : List ℕ) → ((index : ℕ) → index < 15 → f index ≡ g index)
@@ -36,23 +36,23 @@ section_cases words value pointer false is behind =
     let rest = drop-set-lt (pointer + 1) words 63 value (omega arith) in
     rw (first, rest) refl
 
-pub section_at-set : (words : List ℕ) (value pointer : ℕ) → is_behind pointer ≡ true
+pub section_at-set : (words : List ℕ) (value pointer : ℕ) → is_past pointer ≡ true
     → section_at (set words 63 value) pointer ≡ section_at words pointer
 section_at-set words value pointer behind = section_cases words value pointer (is_unused pointer) refl behind
 
-sections_sum-set : (words : List ℕ) (value : ℕ) (ps : List ℕ) → list_all is_behind ps ≡ true
+sections_sum-set : (words : List ℕ) (value : ℕ) (ps : List ℕ) → list_all is_past ps ≡ true
     → sum_by (λ pointer. sum (section_at (set words 63 value) pointer)) ps
     ≡ sum_by (λ pointer. sum (section_at words pointer)) ps
 sections_sum-set words value [] behind = refl
 sections_sum-set words value (p ∷ ps) behind =
-    let both = and_parts (is_behind p) (list_all is_behind ps) behind in
+    let both = and_parts (is_past p) (list_all is_past ps) behind in
     let old = λ (pointer : ℕ). sum (section_at words pointer) in
     let new = λ (pointer : ℕ). sum (section_at (set words 63 value) pointer) in
     let here = ap sum (section_at-set words value p both.0) in
     let rest = sections_sum-set words value ps both.1 in
     sum_by-cons new p ps ∙ ap (λ n. n + sum_by new ps) here ∙ ap (λ n. old p + n) rest ∙ sym (sum_by-cons old p ps)
 
-pub checked_sum-set : (words : List ℕ) (value : ℕ) → 63 < length words → list_all is_behind (pointers words) ≡ true
+pub checked_sum-set : (words : List ℕ) (value : ℕ) → 63 < length words → list_all is_past (pointers words) ≡ true
     → checked_sum (set words 63 value) + word_at words 63 ≡ checked_sum words + value
 checked_sum-set words value long behind =
     let new : sum (take 64 (set words 63 value)) ≡ sum (take 63 words) + (0 + value) =

@@ -5,7 +5,7 @@ use Rattle.std.specs.List.{AllByRecursion}
 use Rattle.text_format.specs.Lines.{NumberedLine, lines_of}
 use Rattle.eeprom_image.specs.Image.{is_size}
 use Rattle.eeprom_image.specs.Line.{text_line}
-use Rattle.eeprom_image.specs.Content.{Content, Sized, only_size, with_line, with_lines, sized_by, sized, content_behind, content_of, ◌then◌}
+use Rattle.eeprom_image.specs.Content.{Content, Sized, only_size, with_line, with_lines, sized_by, sized, content_after, content_of, ◌then◌}
 use Rattle.eeprom_image.specs.declared.line.TextLine.{TextLine}
 use Rattle.eeprom_image.specs.declared.line.TextLine.TheVariants.{Empty, Size, Word, Csr, Malformed}
 use Rattle.eeprom_image.specs.declared.text.AsmFault.{AsmFault}
@@ -90,7 +90,7 @@ sized-right (line ∷ lines) = sized_by-right (text_line line.text) line.number 
     (IsLine-text_line line.text) (sized-right lines)
 
 behind_size : (start : Result Sized AsmFault) (past : ℕ) (content : Content) → IsSized start
-    → (start then content_behind past) ≡ Ok content → IsContent content
+    → (start then content_after past) ≡ Ok content → IsContent content
 behind_size (Ok None) past content h is = absurd (let no : ⊥ = cc in no)
 behind_size (Ok (Some start)) past content h is =
     with_lines-keeps (only_size start.0) start.1 content (IsContent-only_size start.0 h) is

@@ -10,7 +10,7 @@ use Rattle.eeprom_image.specs.Checksum.{checked_sum}
 use Rattle.eeprom_image.specs.Image.{is_size, are_inside}
 use Rattle.eeprom_image.specs.Content.{Content}
 use Rattle.eeprom_image.specs.Fault.{section_end, is_reserved, given_word, plain_word, content_fault}
-use Rattle.eeprom_image.specs.Text.{is_behind, IsImageOf}
+use Rattle.eeprom_image.specs.Text.{is_past, IsImageOf}
 use Rattle.eeprom_image.specs.Layout.{IsLaidOut, checksum_of, with_checksum}
 use Rattle.eeprom_image.proofs.Checksums.{checked_sum-set}
 use Rattle.eeprom_image.proofs.Pointers.{points_inside-is}
@@ -63,9 +63,9 @@ IsImageOf-laid_out content words right none laid fit =
     let size : length image ≡ content.size = length-set words 63 value ∙ laid.size in
     let same = λ (index : ℕ) (inside : index < content.size) (other : index ≢ 63). get_or-set_other words 63 index value
     65535 other ∙ laid.plain index inside other in
-    let points = and_parts (list_all is_behind (pointers image)) (are_inside image)
+    let points = and_parts (list_all is_past (pointers image)) (are_inside image)
     (sym (points_inside-is content image size same bounds.0) ∙ parts.3) in
-    let points_before = and_parts (list_all is_behind (pointers words)) (are_inside words)
+    let points_before = and_parts (list_all is_past (pointers words)) (are_inside words)
     (sym (points_inside-is content words laid.size laid.plain bounds.0) ∙ parts.3) in
     let summed = checked_sum-set words value (omega (arith, laid.size)) points_before.0 in
     let zero_before = laid.zero in

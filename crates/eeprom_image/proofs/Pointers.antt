@@ -1,4 +1,4 @@
--- The pointers of words that are laid out are right where each points behind the checksum and to a section inside.
+-- The pointers of words that are laid out are right where each points after the checksum and to a section inside.
 use Rattle.std.proofs.Common.{◌≡◌, ◌≢◌, ℕ, ◌+◌, ◌<◌, ◌≤◌, Bool, true, false, nat_lt, nat_le, ◌||◌, ◌&&◌, List, [], ◌∷◌, length, map, refl, sym, ap, ◌∙◌, inl, inr, arith}
 use Rattle.std.specs.List.{list_all}
 use Rattle.std.proofs.lemmas.Bool.{cases_lt, le-ltb}
@@ -8,7 +8,7 @@ use Rattle.eeprom_image.specs.Section.{is_unused, word_count, is_inside, pointer
 use Rattle.eeprom_image.specs.Image.{are_inside}
 use Rattle.eeprom_image.specs.Content.{Content}
 use Rattle.eeprom_image.specs.Fault.{plain_word, is_right_pointer, points_inside}
-use Rattle.eeprom_image.specs.Text.{is_behind}
+use Rattle.eeprom_image.specs.Text.{is_past}
 use Rattle.eeprom_image.proofs.Checksums.{map_same}
 
 and_swap : (a b c d : Bool) → ((a && b) && (c && d)) ≡ ((a && c) && (b && d))
@@ -60,17 +60,17 @@ right_pointer p x y size long same whole false is = rw is (elim (leb_tells 64 p)
 
 module _ (content : Content) (words : List ℕ) (size : length words ≡ content.size) (same : (index : ℕ)
     → index < content.size → index ≢ 63 → word_at words index ≡ plain_word content index) where
-  right_pointer-is : (p : ℕ) → is_right_pointer content p ≡ (is_behind p && is_inside words p)
+  right_pointer-is : (p : ℕ) → is_right_pointer content p ≡ (is_past p && is_inside words p)
   right_pointer-is p = right_pointer p (plain_word content p) (word_at words p) content.size (length words)
       (λ inside behind. same p inside (omega arith)) size (is_unused p) refl
 
   pub points_inside-is : 64 ≤ content.size
-      → points_inside content ≡ (list_all is_behind (pointers words) && are_inside words)
+      → points_inside content ≡ (list_all is_past (pointers words) && are_inside words)
   points_inside-is long =
       let ps = plain_pointers content in
       let at : pointers words ≡ plain_pointers content =
       pointers-plain content words (λ index low. same index (omega arith) (omega arith)) in
       points_inside-plain content
-      ∙ list_all-same (is_right_pointer content) (λ p. is_behind p && is_inside words p) ps right_pointer-is
-      ∙ list_all-and is_behind (is_inside words) ps
-      ∙ ap (λ ps. list_all is_behind ps && list_all (is_inside words) ps) (sym at)
+      ∙ list_all-same (is_right_pointer content) (λ p. is_past p && is_inside words p) ps right_pointer-is
+      ∙ list_all-and is_past (is_inside words) ps
+      ∙ ap (λ ps. list_all is_past ps && list_all (is_inside words) ps) (sym at)

@@ -1,7 +1,7 @@
 -- What a text gives, by its size.
 use Rattle.std.proofs.Common.{refl, sym, ◌∙◌, ap, ◌≡◌, ℕ, ◌+◌, List, [], ◌∷◌, length, Some, None, Ok, Err}
 use Rattle.text_format.specs.Lines.{NumberedLine, lines_of}
-use Rattle.eeprom_image.specs.Content.{content_of, with_lines, only_size, sized, sized_by, content_behind, ◌then◌}
+use Rattle.eeprom_image.specs.Content.{content_of, with_lines, only_size, sized, sized_by, content_after, ◌then◌}
 use Rattle.eeprom_image.specs.Line.{text_line}
 use Rattle.eeprom_image.specs.declared.line.TextLine.{TextLine}
 use Rattle.eeprom_image.specs.declared.text.AsmFault.TheVariants.{Syntax}
@@ -9,17 +9,17 @@ use Rattle.eeprom_image.specs.declared.text.AsmFault.TheVariants.{Syntax}
 pub content_of-sized : (text : List ℕ) (size : ℕ) (behind : List NumberedLine)
     → sized (lines_of text) ≡ Ok (Some (size, behind)) → content_of text ≡ with_lines (only_size size) behind
 unfolding content_of
-content_of-sized text size behind is = ap (λ s. s then content_behind (length (lines_of text) + 1)) is
+content_of-sized text size behind is = ap (λ s. s then content_after (length (lines_of text) + 1)) is
 
 pub content_of-faulty : (text : List ℕ) (line : ℕ) → sized (lines_of text) ≡ Err (Syntax line)
     → content_of text ≡ Err (Syntax line)
 unfolding content_of
-content_of-faulty text line is = ap (λ s. s then content_behind (length (lines_of text) + 1)) is
+content_of-faulty text line is = ap (λ s. s then content_after (length (lines_of text) + 1)) is
 
 pub content_of-none : (text : List ℕ) → sized (lines_of text) ≡ Ok None
     → content_of text ≡ Err (Syntax (length (lines_of text) + 1))
 unfolding content_of
-content_of-none text is = ap (λ s. s then content_behind (length (lines_of text) + 1)) is
+content_of-none text is = ap (λ s. s then content_after (length (lines_of text) + 1)) is
 
 -- the first line decides
 pub sized-first : (lines behind : List NumberedLine) (line : NumberedLine) (says : TextLine) → lines ≡ line ∷ behind

@@ -9,7 +9,7 @@ use Rattle.eeprom_image.specs.Section.{pointers}
 use Rattle.eeprom_image.specs.Checksum.{checked_sum}
 use Rattle.eeprom_image.specs.Content.{Content, content_of, ◌then◌}
 use Rattle.eeprom_image.specs.Fault.{content_fault}
-use Rattle.eeprom_image.specs.Text.{is_behind, IsImageOf, checked_by, sound_content}
+use Rattle.eeprom_image.specs.Text.{is_past, IsImageOf, checked_by, sound_content}
 use Rattle.eeprom_image.specs.Layout.{put_word, with_csr, with_checksum, IsLaidOut}
 use Rattle.eeprom_image.specs.declared.text.AsmFault.{AsmFault}
 use Rattle.eeprom_image.proofs.LaidOut.{IsLaidOut-put}
@@ -21,7 +21,7 @@ use Rattle.eeprom_image.proofs.ImageWords.{plain_of_image, size_of_image}
 use Rattle.eeprom_image.proofs.Fitting.{few_triples, laid_out-fits}
 
 same_checksum : (a b : List ℕ) (value : ℕ) → a ≡ set b 63 value → value < 65536 → word_at b 63 < 65536 → 63 < length b
-    → list_all is_behind (pointers b) ≡ true
+    → list_all is_past (pointers b) ≡ true
     → checked_sum a % 65536 ≡ 0xBABA → checked_sum b % 65536 ≡ 0xBABA → value ≡ word_at b 63
 same_checksum a b value same small small_b long behind right right_b =
     let moved = checked_sum-set b value long behind in

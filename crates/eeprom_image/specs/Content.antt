@@ -55,10 +55,10 @@ sized [] = Ok None
 sized (line ∷ lines) = sized_by (text_line line.text) line.number lines (sized lines)
 
 -- what the lines after the size give; without a size the line one past the last is faulty
-abbrev pub content_behind : ℕ → Sized → Result Content AsmFault
-content_behind past None = Err (Syntax past)
-content_behind past (Some start) = with_lines (only_size start.0) start.1
+abbrev pub content_after : ℕ → Sized → Result Content AsmFault
+content_after past None = Err (Syntax past)
+content_after past (Some start) = with_lines (only_size start.0) start.1
 
 -- what a text gives, or its first faulty line
 unfoldable pub content_of : List ℕ → Result Content AsmFault
-content_of text = sized (lines_of text) then content_behind (length (lines_of text) + 1)
+content_of text = sized (lines_of text) then content_after (length (lines_of text) + 1)

@@ -21,10 +21,10 @@ file_fault bytes =
     if not (is_size (length bytes / 2)) then Some BadSize else words_fault (words_of bytes)
 
 -- the fault of the file that a refusal reports: lack of memory is reported only of a file without one
-abbrev pub told_fault : LoadFault → Option LoadFault
-told_fault OutOfMemory = None
-told_fault OddLength = Some OddLength
-told_fault BadSize = Some BadSize
-told_fault SectionOutside = Some SectionOutside
-told_fault BadChecksum = Some BadChecksum
-told_fault NotTriples = Some NotTriples
+abbrev pub reported_fault : LoadFault → Option LoadFault
+reported_fault OutOfMemory = None
+reported_fault OddLength = Some OddLength
+reported_fault BadSize = Some BadSize
+reported_fault SectionOutside = Some SectionOutside
+reported_fault BadChecksum = Some BadChecksum
+reported_fault NotTriples = Some NotTriples

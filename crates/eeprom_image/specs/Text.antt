@@ -11,8 +11,8 @@ use Rattle.eeprom_image.specs.declared.text.AsmFault.{AsmFault}
 use Rattle.eeprom_image.specs.declared.text.AsmFault.TheVariants.{Syntax, TwoValues, Reserved, DoesNotFit, PointerOutside, OutOfMemory}
 
 -- a pointer is unused or points from 0x40 on
-abbrev pub is_behind : ℕ → Bool
-is_behind pointer = is_unused pointer || nat_le 0x40 pointer
+abbrev pub is_past : ℕ → Bool
+is_past pointer = is_unused pointer || nat_le 0x40 pointer
 
 -- words are an image that has what a text gives, and 0xFFFF elsewhere
 pub record IsImageOf (content : Content) (words : List ℕ) : Type 0 where
@@ -22,7 +22,7 @@ pub record IsImageOf (content : Content) (words : List ℕ) : Type 0 where
   pub inside : IsTrue (fits content)
   -- the words are an image, whose pointers point after the checksum
   pub image : IsImage words
-  pub pointers : IsTrue (list_all is_behind (pointers words))
+  pub pointers : IsTrue (list_all is_past (pointers words))
   pub size : length words ≡ content.size
   -- it has the words given, and 0xFFFF in each other word that isn't reserved
   pub given : (index : ℕ) → index < content.size → IsFalse (is_reserved (section_end content.triples) index)

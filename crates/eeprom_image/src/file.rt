@@ -3,7 +3,7 @@
 ghost use Rattle.std.specs.Prelude.{◌≡◌, ◌%◌, ◌*◌, List, ℕ, length, Some, None, IfSome, IfOk, IfErr, OnOk, MatchResult};
 ghost use Rattle.eeprom_image.specs.Bytes.{bytes_of, words_of};
 ghost use Rattle.eeprom_image.specs.Image.{IsImage};
-ghost use Rattle.eeprom_image.specs.File.{file_fault, told_fault};
+ghost use Rattle.eeprom_image.specs.File.{file_fault, reported_fault};
 
 use crate::image::{Image, is_size};
 use crate::section::{are_inside, has_whole_triples, is_checked};
@@ -39,7 +39,7 @@ pub enum LoadFault {
 #[tactic(auto, unfolding(crate::specs::File::file_fault))]
 fn file_fault(bytes: &[u8]) -> Option<LoadFault>
     ensures first { result ≡ file_fault bytes.now }
-    ensures told { IfSome result (λ fault. told_fault fault ≡ Some fault) }
+    ensures told { IfSome result (λ fault. reported_fault fault ≡ Some fault) }
 {
     if bytes.len() % 2 != 0 {
         return Some(LoadFault::OddLength);
@@ -87,7 +87,7 @@ pub fn load(alloc: Global, bytes: &[u8]) -> Result<Image, LoadFault>
     ensures each_file { (words : List ℕ) → IsImage words → bytes.now ≡ bytes_of words →
         MatchResult result (λ image. image ≡ words) (λ fault. fault ≡ LoadFault.OutOfMemory) }
     ensures ok { OnOk result (file_fault bytes.now ≡ None) }
-    ensures fault { IfErr result (λ fault. file_fault bytes.now ≡ told_fault fault) }
+    ensures fault { IfErr result (λ fault. file_fault bytes.now ≡ reported_fault fault) }
 {
     match file_fault(bytes) {
         Some(fault) => Err(fault),

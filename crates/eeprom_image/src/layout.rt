@@ -4,7 +4,7 @@ ghost use Rattle.std.specs.Prelude.{◌≡◌, ◌+◌, ◌*◌, ◌<◌, ◌≤
 ghost use Rattle.std.specs.List.{list_all};
 ghost use Rattle.eeprom_image.specs.Section.{pointers};
 ghost use Rattle.eeprom_image.specs.Fault.{fits, csr_section, section_end, triple_words};
-ghost use Rattle.eeprom_image.specs.Text.{is_behind};
+ghost use Rattle.eeprom_image.specs.Text.{is_past};
 ghost use Rattle.eeprom_image.specs.Layout.{put_word, with_section, with_csr, IsLaidOut, with_checksum};
 ghost use Rattle.eeprom_image.specs.Draft.{content_in};
 
@@ -102,8 +102,8 @@ pub(crate) fn lay_out(alloc: Global, draft: &Draft) -> Result<Vec<u16>, AllocErr
 }
 
 /// Whether each pointer is unused or points past the checksum.
-pub(crate) fn are_behind(words: &[u16]) -> bool
-    ensures { result ≡ list_all is_behind (pointers words.now) }
+pub(crate) fn are_past(words: &[u16]) -> bool
+    ensures { result ≡ list_all is_past (pointers words.now) }
 {
     pointers(&words).iter().all(|pointer| is_unused(*pointer)
         || usize::from(*pointer) >= CSR_SECTION)

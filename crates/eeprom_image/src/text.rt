@@ -10,7 +10,7 @@ ghost use Rattle.eeprom_image.specs.Content.{Content};
 use crate::draft::{Draft, read};
 use crate::fault::{fits, lowest_given_again, lowest_reserved, section_end};
 use crate::image::Image;
-use crate::layout::{are_behind, lay_out, with_checksum};
+use crate::layout::{are_past, lay_out, with_checksum};
 use crate::section::are_inside;
 use std::alloc::{AllocError, AllocFailed, Global};
 use thiserror::Error;
@@ -70,7 +70,7 @@ impl Draft {
         requires words { IsLaidOut (content_in self.now) words.now }
         ensures { result ≡ points_inside (content_in self.now) }
     {
-        are_behind(words) && are_inside(&words)
+        are_past(words) && are_inside(&words)
     }
 }
 

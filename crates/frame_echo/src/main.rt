@@ -2,7 +2,7 @@
 #![tactic(auto)]
 
 use nic_device::{Arena, Config, Device, Mode, Parts, Port};
-use pmd::{Arrived, Direct, Home, Packet, Pmd, PmdFault, Setup, StartRefused, StopRefused};
+use pmd::{Arrived, Direct, Home, Packet, Pmd, PmdFault, Setup, StartRefused, StopRefused, leave};
 use std::collections::VecDeque;
 use thiserror::Error;
 
@@ -107,11 +107,4 @@ fn echo(rt: &HostRuntime, nic: &mut Direct, pmd: &mut Pmd, packets: &mut VecDequ
         return Err(Failure::Unsent);
     }
     Ok(println!(rt; "reaped")?)
-}
-
-/// Leaves what can't be dropped and couldn't be ended: its memory is lost to the process, which fails and ends next.
-fn leave<T>(value: T, failure: Failure) -> Failure {
-    // The value is moved in, so that nobody uses it again, and nothing else refers to what it owns.
-    let _left = unsafe { std::mem::ManuallyDrop::new_unchecked(value) };
-    failure
 }

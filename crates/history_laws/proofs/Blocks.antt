@@ -4,9 +4,9 @@ use Rattle.device_laws.proofs.{Standing.stays_within, StandingQueues.transmittin
 use Rattle.device_laws.specs.Replies.{report_of, sent_tells}
 use Rattle.device_lock.specs.Alone.{IsClear}
 use Rattle.history_laws.specs.Prelude.{Event, Filled, IsEvent, IsSound, LeavesBlock, LeavesBlocks, Reply, State, Tx}
-use Rattle.history_laws.specs.Prelude.{Waiting, WritesOutside, Wrote, after, reply_to, step_of, told_back, write_at}
+use Rattle.history_laws.specs.Prelude.{Waiting, WritesOutside, Wrote, after, reply_to, step_of, reported_address, write_at}
 use Rattle.history_laws.specs.{Left.IsOutside, Left.SendsNone, Prelude.Avoids, Prelude.Block, Prelude.Blocks}
-use Rattle.history_laws.specs.{Reports.ReportsLieInBlocks, Segments.pieces, Segments.pieces_told}
+use Rattle.history_laws.specs.{Reports.ReportsLieInBlocks, Segments.pieces, Segments.reported_pieces}
 use Rattle.device_lock.proofs.NicDevice.DmaArena.{Blocks.get-write_at_out, Inside.inside_avoids}
 use Rattle.device_lock.proofs.NicDevice.{DmaRing.Fields.halves_come_back, QueueCases.filled_by, QueueCases.received_cases}
 use Rattle.device_lock.proofs.NicDevice.{RegisterLaws.SoundWords.rings_aligned, RxRing.Fills.takes_piece}
@@ -20,7 +20,7 @@ use Rattle.std.specs.FinMap as map
 
 -- what is told is where the queue reports
 pub reported : (own : ℕ) (r : Reply Block) (s t : State) → sent_tells own r s t → (back : ℕ)
-    → told_back r ≡ Some back → back ≡ report_of s.registers own
+    → reported_address r ≡ Some back → back ≡ report_of s.registers own
 reported own r s t tells back is = grind arith
 
 pub reports_lie : ReportsLieInBlocks
@@ -63,14 +63,14 @@ clear_outside mine desc at len b clear is =
 
 -- a step that wrote nothing on the queue spares them
 spared_reply : (queue : ℕ) (mine : Blocks) (ws : List Waiting) (r : Reply Block) (b : ℕ) → IsTrue (mine b)
-    → pieces_told queue ws r ≡ [] → WritesOutside queue mine r → IsSparedBy r b
+    → reported_pieces queue ws r ≡ [] → WritesOutside queue mine r → IsSparedBy r b
 spared_reply queue mine ws (Wrote on slot end desc at len) b is none outside =
     search (clear_outside mine, outside (grind (arith, common_steps, eq-eqb)))
 spared_reply queue mine ws other b is none outside = tt
 
 -- a step of transmitting that reports in another block leaves this one
 pub reported_elsewhere : (s : State) → IsSound s → (on b : ℕ)
-    → ((back : ℕ) → told_back (reply_to s (event.TxStep on)) ≡ Some back → b ≢ back / 2048)
+    → ((back : ℕ) → reported_address (reply_to s (event.TxStep on)) ≡ Some back → b ≢ back / 2048)
     → LeavesBlock b s (after s (event.TxStep on))
 reported_elsewhere s sound on b apart =
     transmitting_blocks s on b (λ back told. search (inside_avoids, reports_lie s sound on back))

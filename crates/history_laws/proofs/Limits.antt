@@ -73,8 +73,8 @@ module _ (s : State) (port : Port) (n word : ℕ) where
 
     module _ (sound : IsSound s) (image : s.image ≡ blank) (real : IsReal p view) where
       -- a reset of the device ends them
-      reset_told : asks_reset (row_of p.row).kind word ≡ true → first_settings ≡ settings_in t
-      reset_told asks =
+      reset_reported : asks_reset (row_of p.row).kind word ≡ true → first_settings ≡ settings_in t
+      reset_reported asks =
           sym (ap settings_in (left_by (Register p view) found ∙ cond-true _ _ _ asks)
           ∙ ap (λ ts. settings_in (with_triples (cleared s) ts)) (ap triples_of image ∙ triples_of-blank)
           ∙ new_settings s.vfs s.fifo)
@@ -93,7 +93,7 @@ module _ (s : State) (port : Port) (n word : ℕ) where
       written : told (Some p) ≡ settings_in t
       written =
           let low = low_bits view (word_of s.registers p.row 0) word real.shown in
-          grind (arith, put_there, stays GcrExt refl, stays Hlreg0 refl, stays Maxfrs refl, reset_told, merged_high)
+          grind (arith, put_there, stays GcrExt refl, stays Hlreg0 refl, stays Maxfrs refl, reset_reported, merged_high)
 
   named_told : IsSound s → s.image ≡ blank → (m : Named) → named s port n ≡ m → AreReal m
       → told (place_in m) ≡ settings_in t
@@ -142,8 +142,8 @@ lent_both pass n (e ∷ g) h = grind (arith, common_steps, lent_both pass n g h)
 pub lent_before : (pass n : ℕ) (g h : List Entry) → IsTrue (lent_by pass g n) → IsTrue (lent_by pass (g ++ h) n)
 lent_before pass n g h is = lent_both pass n g h ∙ or_left _ _ is
 
-pub lent_behind : (pass n : ℕ) (g h : List Entry) → IsTrue (lent_by pass h n) → IsTrue (lent_by pass (g ++ h) n)
-lent_behind pass n g h is = lent_both pass n g h ∙ or_right _ _ is
+pub lent_after : (pass n : ℕ) (g h : List Entry) → IsTrue (lent_by pass h n) → IsTrue (lent_by pass (g ++ h) n)
+lent_after pass n g h is = lent_both pass n g h ∙ or_right _ _ is
 
 begun_both : (pass : ℕ) (g h : List Entry) → has_begun pass (g ++ h) ≡ (has_begun pass g || has_begun pass h)
 begun_both pass [] h = refl
@@ -154,13 +154,13 @@ entry_left : (mine less : Blocks) → ((n : ℕ) → IsFalse (mine n) → IsFals
     (e : Entry) → EntryLeavesAlone w mine mode e → EntryLeavesAlone w less mode e
 entry_left mine less fewer w mode e h = grind (arith, common_steps)
 
--- what begins a history that leaves a queue alone leaves it alone, and so does what is behind: neither lends more
+-- what begins a history that leaves a queue alone leaves it alone, and so does what is after: neither lends more
 
 pub beginning_alone : BeginningIsAlone
 beginning_alone w s g h alone before e after split begun =
     grind (arith, common_steps, entry_left, not_so, lent_before, append_assoc)
 
--- an entry behind a beginning of a history
+-- an entry after a beginning of a history
 behind : (w : Watched) (s : State) (g h : List Entry) → LeavesAloneFrom w s (g ++ h) → (before : List Entry) (e : Entry)
     (after : List Entry) → h ≡ before ++ e ∷ after → IsTrue (has_begun w.pass (g ++ before))
     → EntryLeavesAlone w (lent_by w.pass (g ++ h)) (mode_in (leads_to (leads_to s g) before).registers) e
@@ -169,7 +169,7 @@ behind w s g h alone before e after split begun =
 
 pub rest_alone : RestIsAlone
 rest_alone w s g h alone before e after split begun =
-    grind (arith, behind w s g h alone before e after split, entry_left, not_so, lent_behind, begun_both, or_right)
+    grind (arith, behind w s g h alone before e after split, entry_left, not_so, lent_after, begun_both, or_right)
 
 -- and it leaves the queue alone entry by entry
 

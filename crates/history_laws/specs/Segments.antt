@@ -24,14 +24,14 @@ first_of [] = 0
 first_of (w ∷ others) = told_of (packet_of w)
 
 -- the piece that a reply says was written on a queue, of the first of the frames that waited
-abbrev pub pieces_told : ℕ → List Waiting → Reply Block → List Piece
-pieces_told queue waiting (Wrote on slot end desc at len) =
+abbrev pub reported_pieces : ℕ → List Waiting → Reply Block → List Piece
+reported_pieces queue waiting (Wrote on slot end desc at len) =
     if on == queue then record { bytes = piece_of waiting len; first = first_of waiting; end = end } ∷ [] else []
-pieces_told queue waiting other = []
+reported_pieces queue waiting other = []
 
 -- the pieces that one event writes on a queue: a step of receiving writes one or none, and no other event writes any
 abbrev pub pieces : ℕ → State → Event Block → List Piece
-pieces queue s event.RxStep = pieces_told queue s.waiting (reply_to s event.RxStep)
+pieces queue s event.RxStep = reported_pieces queue s.waiting (reply_to s event.RxStep)
 pieces queue s other = []
 
 -- the frames that joined those out, after them

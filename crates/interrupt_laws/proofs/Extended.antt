@@ -15,7 +15,7 @@ use Rattle.nic_device.proofs.RegTable.FirstAddresses.{first_address}
 use Rattle.nic_device.specs.RegisterFile.Access.{read_word, stored, calculated}
 use Rattle.nic_device.specs.RegisterFile.Bits.{has_bit, merged}
 use Rattle.nic_device.specs.RegisterFile.Columns.{place}
-use Rattle.nic_device.specs.RegisterFile.Mailbox.{done_told, mail_of, reset_told, resets_told}
+use Rattle.nic_device.specs.RegisterFile.Mailbox.{done_reported, mail_of, reset_reported, resets_told}
 use Rattle.nic_device.specs.RegisterFile.Registers.{Registers, word_of}
 use Rattle.nic_device.specs.RegisterFile.Words.{word_at}
 use Rattle.nic_device.specs.RegisterFile.declared.surroundings.Surroundings.{Surroundings}
@@ -47,18 +47,18 @@ there = address_of extended 0x00018 (first_address extended (lit< tt))
 -- the end of a reset is told in mailboxes alone
 
 all_told : (vs : List ℕ) (r : Registers) (q : Place) → q.row ≢ row.Pvfmailbox
-    → word_at (fold done_told r vs).words q ≡ word_at r.words q
+    → word_at (fold done_reported r vs).words q ≡ word_at r.words q
 all_told [] r q other = refl
 all_told (v ∷ vs) r q other =
-    all_told vs (done_told r v) q other
-    ∙ word_at-put_other r.words (place row.Pvfmailbox v) q (reset_told (mail_of r v))
+    all_told vs (done_reported r v) q other
+    ∙ word_at-put_other r.words (place row.Pvfmailbox v) q (reset_reported (mail_of r v))
     (λ e. other (ap (λ (x : Place). x.row) e))
 
 told : (r : Registers) (q : Place) → q.row ≢ row.Pvfmailbox → word_at (resets_told r).words q ≡ word_at r.words q
 unfolding resets_told
 told r q other = all_told (range_with_len 0 64) r q other
 
--- the registers behind a write
+-- the registers after a write
 
 abbrev kept : Registers → ℕ → ℕ → Registers
 kept r view word = stored r extended view word

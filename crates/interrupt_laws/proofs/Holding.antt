@@ -10,7 +10,7 @@ use Rattle.nic_device.specs.IntrUnit.Group.{queue_causes}
 use Rattle.nic_device.specs.IntrUnit.declared.group.Group.TheVariants.{Vf}
 use Rattle.nic_device.specs.RegisterFile.Bits.{has_bit, bit_set, bit_cleared}
 use Rattle.nic_device.specs.RegisterFile.Columns.{place}
-use Rattle.nic_device.specs.RegisterFile.Mailbox.{mail_of, with_mail, function_wrote, released, taken, physical_wrote, cause_set, sends, function_told, function_writes, physical_writes}
+use Rattle.nic_device.specs.RegisterFile.Mailbox.{mail_of, with_mail, function_wrote, released, taken, physical_wrote, cause_set, sends, function_signalled, function_writes, physical_writes}
 use Rattle.nic_device.specs.RegisterFile.Registers.{Registers, word_of}
 use Rattle.nic_device.specs.RegisterLaws.Laws.{HasShape, after_write as word_written}
 use Rattle.nic_device.proofs.RegisterLaws.Bits.{has_bit-set}
@@ -92,7 +92,7 @@ function_mailed r h v word there =
     (λ bit. refl)
     ∙ put_stands r (place row.Pvfmailbox v) (function_wrote (mail_of r v) word) h there
 
-told_still : (r : Registers) (v word : ℕ) → mail_of (function_told r v word) v ≡ mail_of r v
+told_still : (r : Registers) (v word : ℕ) → mail_of (function_signalled r v word) v ≡ mail_of r v
 told_still r v word =
     cond_both (sends word) (cause_set r (Vf v) (queue_causes (Vf v) (word_of r row.PvtivarMisc v % 256))) r
     (λ t. mail_of t v ≡ mail_of r v)

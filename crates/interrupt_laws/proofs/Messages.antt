@@ -10,7 +10,8 @@ use Rattle.nic_device.specs.RegTable.declared.place.Place.{Place}
 use Rattle.nic_device.specs.RegTable.declared.rows.RowId.TheVariants as row
 use Rattle.nic_device.proofs.RegTable.FirstAddresses.{first_address}
 use Rattle.nic_device.specs.VfMap.Map.{own_entries, message_entries, located}
-use Rattle.nic_device.specs.VfMap.Parts.{place_at, located_at}
+use Rattle.nic_device.specs.VfMap.Parts.{place_at}
+use Rattle.nic_device.proofs.VfMap.LocatedAt.{located_at}
 use Rattle.nic_device.specs.VfMap.Pools.{mode_of, queues_of}
 use Rattle.nic_device.specs.VfMap.declared.mode.Mode.{Mode}
 use Rattle.nic_device.specs.VfMap.declared.located.Located.TheVariants as located_as

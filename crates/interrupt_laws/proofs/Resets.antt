@@ -13,7 +13,7 @@ use Rattle.nic_device.specs.RegTable.declared.rows.RowId.TheVariants as row
 use Rattle.nic_device.specs.RegisterFile.Access.{stored, written}
 use Rattle.nic_device.specs.RegisterFile.Bits.{has_bit, bit_set, bit_cleared}
 use Rattle.nic_device.specs.RegisterFile.Columns.{place}
-use Rattle.nic_device.specs.RegisterFile.Mailbox.{mail_of, told_once, reset_told, done_told, resets_told}
+use Rattle.nic_device.specs.RegisterFile.Mailbox.{mail_of, reported_once, reset_reported, done_reported, resets_told}
 use Rattle.nic_device.specs.RegisterFile.Pools.{mode_in}
 use Rattle.nic_device.specs.RegisterFile.Registers.{Registers}
 use Rattle.nic_device.specs.RegisterLaws.Laws.{HasShape, after_write as word_written}
@@ -40,26 +40,26 @@ use Rattle.interrupt_laws.proofs.MailEvents.{apart_mail, still_holds, read_holds
 use Rattle.interrupt_laws.proofs.Mailbox.{own}
 use Rattle.interrupt_laws.specs.Holding.{IsSparing}
 use Rattle.interrupt_laws.specs.Shown.{word_in}
-use Rattle.interrupt_laws.specs.Resets.{is_mailbox, tells_end, times_told, SparesDevice, AreWithoutReset, EndIsToldOnce, EndIsTold}
+use Rattle.interrupt_laws.specs.Resets.{is_mailbox, tells_end, times_reported, SparesDevice, AreWithoutReset, EndIsToldOnce, EndIsTold}
 
 -- ---- what a mailbox's word becomes
 
-once_7 : (mail : ℕ) → has_bit 7 (told_once mail) ≡ false
+once_7 : (mail : ℕ) → has_bit 7 (reported_once mail) ≡ false
 once_7 mail =
     has_bit-clear_other 4 7 (bit_cleared 5 (bit_cleared 7 mail)) (λ same. omega arith)
     ∙ has_bit-clear_other 5 7 (bit_cleared 7 mail) (λ same. omega arith) ∙ has_bit-clear 7 mail
 
-reset_6 : (mail : ℕ) → has_bit 6 (reset_told mail) ≡ false
+reset_6 : (mail : ℕ) → has_bit 6 (reset_reported mail) ≡ false
 reset_6 mail =
-    elim (cases_Bool (has_bit 6 mail)) as (λ _. has_bit 6 (reset_told mail) ≡ false) [
+    elim (cases_Bool (has_bit 6 mail)) as (λ _. has_bit 6 (reset_reported mail) ≡ false) [
       | inl on ↦ ap (has_bit 6) (cond-true (has_bit 6 mail) (bit_set 7 (bit_cleared 6 mail)) mail on)
           ∙ has_bit-set_other 7 6 (bit_cleared 6 mail) (λ same. omega arith) ∙ has_bit-clear 6 mail
       | inr off ↦ ap (has_bit 6) (cond-false (has_bit 6 mail) (bit_set 7 (bit_cleared 6 mail)) mail off) ∙ off
     ]
 
-reset_7 : (mail : ℕ) → has_bit 7 (reset_told mail) ≡ (has_bit 6 mail || has_bit 7 mail)
+reset_7 : (mail : ℕ) → has_bit 7 (reset_reported mail) ≡ (has_bit 6 mail || has_bit 7 mail)
 reset_7 mail =
-    elim (cases_Bool (has_bit 6 mail)) as (λ _. has_bit 7 (reset_told mail) ≡ (has_bit 6 mail || has_bit 7 mail)) [
+    elim (cases_Bool (has_bit 6 mail)) as (λ _. has_bit 7 (reset_reported mail) ≡ (has_bit 6 mail || has_bit 7 mail)) [
       | inl on ↦ ap (has_bit 7) (cond-true (has_bit 6 mail) (bit_set 7 (bit_cleared 6 mail)) mail on)
           ∙ has_bit-set 7 (bit_cleared 6 mail) ∙ sym (ap (λ b. b || has_bit 7 mail) on)
       | inr off ↦ ap (has_bit 7) (cond-false (has_bit 6 mail) (bit_set 7 (bit_cleared 6 mail)) mail off)
@@ -67,29 +67,31 @@ reset_7 mail =
     ]
 
 -- each function's mailbox once all are told
-past : (r : Registers) (v a n : ℕ) → v < a → mail_of (fold done_told r (range_with_len a n)) v ≡ mail_of r v
+past : (r : Registers) (v a n : ℕ) → v < a → mail_of (fold done_reported r (range_with_len a n)) v ≡ mail_of r v
 past r v a zero low = refl
 past r v a (suc n) low =
-    past (done_told r a) v (a + 1) n (omega arith)
+    past (done_reported r a) v (a + 1) n (omega arith)
     ∙ word_at-put_other r.words (place row.Pvfmailbox a) (place row.Pvfmailbox v) _
     (λ same. let is : v ≡ a = ap (λ (q : Place). q.index) same in omega arith)
 
 each_told : (r : Registers) → HasShape r → (v a n : ℕ) → v < 64 → a ≤ v → v < a + n
-    → mail_of (fold done_told r (range_with_len a n)) v ≡ reset_told (mail_of r v)
+    → mail_of (fold done_reported r (range_with_len a n)) v ≡ reset_reported (mail_of r v)
 each_told r h v a zero there low high = absurd (omega arith)
 each_told r h v a (suc n) there low high =
     elim (cases_eq v a)
-    as (λ _. mail_of (fold done_told (done_told r a) (range_with_len (a + 1) n)) v ≡ reset_told (mail_of r v)) [
-      | inl same ↦ past (done_told r a) v (a + 1) n (omega arith)
-          ∙ (λ k. mail_of (done_told r (sym same k)) v)
-          ∙ put_stands r (place row.Pvfmailbox v) (reset_told (mail_of r v)) h there
-      | inr apart ↦ each_told (done_told r a) (HasShape-put r (place row.Pvfmailbox a) (reset_told (mail_of r a)) h)
-          v (a + 1) n there (omega arith) (omega arith)
-          ∙ ap reset_told (word_at-put_other r.words (place row.Pvfmailbox a) (place row.Pvfmailbox v) _
+    as (λ _. mail_of (fold done_reported (done_reported r a) (range_with_len (a + 1) n)) v
+    ≡ reset_reported (mail_of r v)) [
+      | inl same ↦ past (done_reported r a) v (a + 1) n (omega arith)
+          ∙ (λ k. mail_of (done_reported r (sym same k)) v)
+          ∙ put_stands r (place row.Pvfmailbox v) (reset_reported (mail_of r v)) h there
+      | inr apart ↦ each_told (done_reported r a)
+          (HasShape-put r (place row.Pvfmailbox a) (reset_reported (mail_of r a)) h) v (a + 1) n there
+          (omega arith) (omega arith)
+          ∙ ap reset_reported (word_at-put_other r.words (place row.Pvfmailbox a) (place row.Pvfmailbox v) _
           (λ same. apart (ap (λ (q : Place). q.index) same)))
     ]
 
-all_told : (r : Registers) → HasShape r → (v : ℕ) → v < 64 → mail_of (resets_told r) v ≡ reset_told (mail_of r v)
+all_told : (r : Registers) → HasShape r → (v : ℕ) → v < 64 → mail_of (resets_told r) v ≡ reset_reported (mail_of r v)
 unfolding resets_told
 all_told r h v there = each_told r h v 0 64 there (omega arith) there
 
@@ -141,11 +143,11 @@ module _ (s : State) (h : IsSound s) (v : ℕ) (there : v < 64) where
 
   -- a read of the mailbox
   read_mail : (port : Port) (number view : ℕ) → named s port number ≡ Register (place row.Pvfmailbox v) view
-      → mail_of (after s (event.Read port number)).registers v ≡ told_once Mail
+      → mail_of (after s (event.Read port number)).registers v ≡ reported_once Mail
   unfolding step_of
   read_mail port number view is =
       ap (λ m. mail_of (named_read s m).state.registers v) is
-      ∙ put_stands s.registers (place row.Pvfmailbox v) (told_once Mail) h.registers.shape there
+      ∙ put_stands s.registers (place row.Pvfmailbox v) (reported_once Mail) h.registers.shape there
 
   told_now : (port : Port) (number view : ℕ) → named s port number ≡ Register (place row.Pvfmailbox v) view
       → has_bit 6 Mail ≡ false → IsUntold (after s (event.Read port number)) v
@@ -168,10 +170,10 @@ module _ (s : State) (h : IsSound s) (v : ℕ) (there : v < 64) where
         word_at-put_other s.registers.words p (place row.Pvfmailbox v) _
         (λ same. let is : kind.Vfmail ≡ kind.Ctrlext = ap (λ (q : Place). (row_of q.row).kind) same ∙ e in cc)
 
-    told_mail : mail_of (resets_told (stored s.registers p view word)) v ≡ reset_told Mail
+    told_mail : mail_of (resets_told (stored s.registers p view word)) v ≡ reset_reported Mail
     told_mail =
         all_told (stored s.registers p view word) (HasShape-put s.registers p _ h.registers.shape) v there
-        ∙ ap reset_told kept_mail
+        ∙ ap reset_reported kept_mail
 
     untold_mail : has_bit 6 Mail ≡ false → mail_of (word_written s.registers p view word) v ≡ Mail
     untold_mail none =
@@ -270,7 +272,7 @@ module _ (s : State) (h : IsSound s) (v : ℕ) (there : v < 64) where
 -- ---- lists of events
 
 untold_list : (s : State) → IsSound s → (v : ℕ) → v < 64 → IsUntold s v → (es : List (Event Block))
-    → AreWithoutReset s es → times_told s v es ≡ 0
+    → AreWithoutReset s es → times_reported s v es ≡ 0
 untold_list s h v there u [] none = refl
 untold_list s h v there u (e ∷ es) none =
     let rest = untold_list (after s e) (keeps_sound s h e none.0) v there
@@ -285,7 +287,7 @@ pub end_told_once : EndIsToldOnce
 end_told_once s h v there [] none = omega arith
 end_told_once s h v there (e ∷ es) none =
     let sound = keeps_sound s h e none.0 in
-    one_at_most (tells_end s v e) (times_told (after s e) v es)
+    one_at_most (tells_end s v e) (times_reported (after s e) v es)
     (λ tells. untold_list (after s e) sound v there (told_event s h v there e tells) es none.2)
     (end_told_once (after s e) sound v there es none.2)
 
@@ -293,7 +295,7 @@ pub end_told : EndIsTold
 unfolding step_of
 end_told s h v there port number view word is on =
     let t : State = after s (event.Write port number word) in
-    let mail : mail_of t.registers v ≡ reset_told (mail_of s.registers v) =
+    let mail : mail_of t.registers v ≡ reset_reported (mail_of s.registers v) =
     ap (λ m. mail_of (named_written s m word).state.registers v) is
     ∙ ap (λ r. mail_of r v) (cond-true (has_bit 14 word)
     (resets_told (stored s.registers (place row.CtrlExt 0) view word))

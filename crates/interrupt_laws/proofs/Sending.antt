@@ -7,7 +7,7 @@ use Rattle.nic_device.proofs.RegTable.FirstAddresses.{first_address}
 use Rattle.nic_device.specs.IntrUnit.declared.group.Group.TheVariants.{Pf}
 use Rattle.nic_device.specs.RegisterFile.Bits.{has_bit, bit_set}
 use Rattle.nic_device.specs.RegisterFile.Columns.{place}
-use Rattle.nic_device.specs.RegisterFile.Mailbox.{set_if, function_wrote, mail_of, with_mail, requests, with_requests, physical_told, function_writes, cause_set, sends}
+use Rattle.nic_device.specs.RegisterFile.Mailbox.{set_if, function_wrote, mail_of, with_mail, requests, with_requests, physical_signalled, function_writes, cause_set, sends}
 use Rattle.nic_device.specs.RegisterFile.Registers.{Registers, word_of}
 use Rattle.nic_device.specs.RegTable.declared.place.Place.{Place}
 use Rattle.nic_device.specs.RegisterLaws.Laws.{HasShape}
@@ -58,7 +58,7 @@ module _ (r : Registers) (h : HasShape r) (v word : ℕ) (there : v < 64) (k : �
       word_at-put_other t.words (place row.Eicr 0) (place row.Pfmbicr k) _
       (λ same. let rows : row.Pfmbicr ≡ row.Eicr = ap (λ (q : Place). q.row) same in cc)
 
-  told : (t : Registers) → word_of (physical_told t v word) row.Pfmbicr k ≡ word_of t row.Pfmbicr k
+  told : (t : Registers) → word_of (physical_signalled t v word) row.Pfmbicr k ≡ word_of t row.Pfmbicr k
   told t =
       cond_both (sends word && has_bit (v % 32) (word_of t row.Pfmbimr (v / 32))) (cause_set t Pf (2 ^ 19)) t
       (λ u. word_of u row.Pfmbicr k ≡ word_of t row.Pfmbicr k) (λ on. by_cause t) (λ off. refl)

@@ -6,7 +6,7 @@ use Rattle.nic_device.specs.RegTable.declared.rows.RowId.TheVariants.{IvarMisc}
 use Rattle.nic_device.specs.IntrUnit.BitSet.{contains}
 use Rattle.nic_device.specs.IntrUnit.Group.{vector_of}
 use Rattle.nic_device.specs.IntrUnit.Interrupts.{Interrupts, after_message}
-use Rattle.nic_device.specs.IntrUnit.Laws.{IsMessageOf, Leaves, told_bits}
+use Rattle.nic_device.specs.IntrUnit.Laws.{IsMessageOf, Leaves, reported_bits}
 use Rattle.nic_device.specs.IntrUnit.declared.group.Group.{Group}
 use Rattle.nic_device.proofs.IntrUnit.Due.{is_due-by, next_bit-of, untold, pending, routed}
 use Rattle.nic_device.proofs.IntrUnit.MessageLaws.{messages_tell}
@@ -24,7 +24,7 @@ use Rattle.device_laws.proofs.Messages.{due_told}
 use Rattle.device_laws.proofs.StandingRest.{message_rest}
 use Rattle.interrupt_laws.specs.Names.{IsGroup, bits_in}
 use Rattle.interrupt_laws.specs.Shown.{Bit, bit_of, reads_one}
-use Rattle.interrupt_laws.specs.Steps.{HasGroup, IsDue, NoneIsDue, NoneIsDueBelow, Tells, MessageStepsTellWhatIsDue, control_address, told_bit}
+use Rattle.interrupt_laws.specs.Steps.{HasGroup, IsDue, NoneIsDue, NoneIsDueBelow, Tells, MessageStepsTellWhatIsDue, control_address, reported_bit}
 use Rattle.interrupt_laws.proofs.Bits.{and_true, and_false}
 use Rattle.interrupt_laws.proofs.Groups.{bit_in, bit_of-in, bit_stands}
 use Rattle.interrupt_laws.proofs.Settings.{stops}
@@ -127,7 +127,7 @@ told_or_kept false eiame x =
     let mask = ap (λ y. x.mask && not (y && x.auto_mask)) (and_false eiame) ∙ and_true x.mask in
     λ k. record x { cause = and_true x.cause k; mask = mask k }
 
-left_bit : (i j : Interrupts) (eiame : Bool) (bit other : ℕ) → Leaves i j (told_bits i eiame bit) → other < 32
+left_bit : (i j : Interrupts) (eiame : Bool) (bit other : ℕ) → Leaves i j (reported_bits i eiame bit) → other < 32
     → bit_in j other
     ≡ cond (other == bit) (record (bit_in i other) {
       cause = contains i.causes other && not (contains i.auto_clear other);
@@ -152,7 +152,7 @@ shown : (s : State) (g : Group) → IsGroup g → (bit other : ℕ) → other < 
           contains (interrupts_of s.registers g).enabled other
           && not (masks_by_message s.registers && contains (interrupts_of s.registers g).auto_mask other);
     }) (bit_in (interrupts_of s.registers g) other)
-    ≡ cond (other == bit) (told_bit s (bit_of s g other)) (bit_of s g other)
+    ≡ cond (other == bit) (reported_bit s (bit_of s g other)) (bit_of s g other)
 shown s g small_g bit other b =
     let same = sym (bit_of-in s g small_g other b) in
     let eiame = sym (general_bit s 30 (omega arith)) in
@@ -174,7 +174,7 @@ tells s g h is runs bit vector due none =
     let one : sent.vector ≡ vector = Some-one (sym sent.lowest.due.routed ∙ ap (vector_of g w) (sym same)
     ∙ m.due.routed) in
     let left = subst (λ n. Leaves i (interrupts_of (after s (event.IntStep g)).registers g)
-    (told_bits i (masks_by_message s.registers) n)) (sym same) sent.leaves in
+    (reported_bits i (masks_by_message s.registers) n)) (sym same) sent.leaves in
     record {
       reply = sent.reply ∙ ap (Message g) one;
       shows = record {

@@ -32,9 +32,9 @@ tells_end s v (event.Read port number) =
 tells_end s v other = false
 
 -- how many of some events are
-abbrev pub times_told : State → ℕ → List (Event Block) → ℕ
-times_told s v [] = 0
-times_told s v (e ∷ es) = (if tells_end s v e then 1 else 0) + times_told (after s e) v es
+abbrev pub times_reported : State → ℕ → List (Event Block) → ℕ
+times_reported s v [] = 0
+times_reported s v (e ∷ es) = (if tells_end s v e then 1 else 0) + times_reported (after s e) v es
 
 -- a write asks for no reset of the device
 abbrev pub SparesDevice : Place → (word : ℕ) → Type 0
@@ -49,7 +49,7 @@ AreWithoutReset s (e ∷ es) = IsEvent e × IsSparing SparesDevice s e × AreWit
 abbrev pub EndIsToldOnce : Type 0
 EndIsToldOnce =
     (s : State) → IsSound s → (v : ℕ) → v < 64 → (es : List (Event Block)) → AreWithoutReset s es
-    → times_told s v es ≤ 1
+    → times_reported s v es ≤ 1
 
 -- and a write of CTRL_EXT with bit 14 reports it to each function to which a reset's beginning was reported
 pub record IsToldOfTheEnd (s new : State) (v : ℕ) : Type 0 where

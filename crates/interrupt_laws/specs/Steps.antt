@@ -66,8 +66,8 @@ NoneIsDueBelow s g bit = (lower vector : ℕ) → lower < bit → ¬ IsDue s g l
 
 -- a bit that is reported: its cause is cleared where the auto-clear has it, its mask where GPIE bit 30 is 1 and the
 -- auto-mask has it
-abbrev pub told_bit : State → Bit → Bit
-told_bit s b =
+abbrev pub reported_bit : State → Bit → Bit
+reported_bit s b =
     record b {
       cause = b.cause && not b.auto_clear;
       mask = b.mask && not (reads_one s general_address 30 && b.auto_mask);
@@ -78,7 +78,7 @@ pub record Tells (s : State) (g : Group) (bit vector : ℕ) : Type 0 where
   pub reply : reply_to s (event.IntStep g) ≡ Message g vector
   pub shows :
       ShowsThen s (after s (event.IntStep g)) g
-      (λ other. if other == bit then told_bit s (bit_of s g other) else bit_of s g other)
+      (λ other. if other == bit then reported_bit s (bit_of s g other) else bit_of s g other)
 
 -- without the group the step replies so, and changes nothing; with it, it is idle and changes nothing while CTRL bit 2
 -- is 1 and where no bit is due, and else it reports the lowest due bit

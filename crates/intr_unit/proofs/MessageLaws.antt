@@ -8,7 +8,7 @@ use Rattle.intr_unit.specs.BitSet.{union, intersection, difference, only}
 use Rattle.intr_unit.specs.Group.{vector_of}
 use Rattle.intr_unit.specs.Interrupts.{Interrupts, auto_masked, is_due, next_bit, after_telling}
 use Rattle.intr_unit.specs.Interrupts.{after_message_of}
-use Rattle.intr_unit.specs.Laws.{IsMessageOf, MessagesTellDueBits, Leaves, told_bits, MessagesChangeBits}
+use Rattle.intr_unit.specs.Laws.{IsMessageOf, MessagesTellDueBits, Leaves, reported_bits, MessagesChangeBits}
 use Rattle.intr_unit.proofs.SetLaws.{contains-union, contains-intersection, contains-difference, contains-only}
 use Rattle.intr_unit.proofs.SetLaws.{contains-acting}
 use Rattle.intr_unit.proofs.Due.{first_due, none_due, untold, pending, routed, next_bit-of}
@@ -51,10 +51,11 @@ messages_tell = record {
 -- ---- what a message leaves
 
 leaves-telling : (s : Interrupts) (eiame : Bool) (chosen : ℕ) →
-    Leaves s (after_telling s eiame chosen) (told_bits s eiame chosen)
+    Leaves s (after_telling s eiame chosen) (reported_bits s eiame chosen)
 leaves-telling s eiame chosen =
     leaves-settled s (difference s.causes (intersection (only chosen) s.auto_clear))
-    (difference s.enabled (auto_masked s (only chosen) eiame)) (union s.told (only chosen)) (told_bits s eiame chosen)
+    (difference s.enabled (auto_masked s (only chosen) eiame)) (union s.told (only chosen))
+    (reported_bits s eiame chosen)
     (λ bit h. simp (contains-difference, contains-intersection, contains-only))
     (λ bit h. simp (contains-difference, contains-acting, contains-only))
     (λ bit h. simp (contains-union, contains-only))

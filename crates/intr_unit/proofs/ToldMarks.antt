@@ -74,8 +74,8 @@ told-after_telling s eiame (Some other) bit h e ready =
     told-settled s _ _ (union s.told (only other)) bit h
     (ap (λ b. contains (union s.told (only b)) bit) (sym same) ∙ contains-union_only s.told bit h) ready
 
-pub told_once : BitsAreToldOnce
-told_once s eiame misc bit e run stays misc_then again =
+pub reported_once : BitsAreToldOnce
+reported_once s eiame misc bit e run stays misc_then again =
     let h = (first_due s misc bit e).high in
     let mark = told-after_all (after_message s eiame misc) run bit h
     (told-after_telling s eiame (next_bit s misc) bit h e

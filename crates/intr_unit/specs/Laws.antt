@@ -125,8 +125,8 @@ MaskClearsChangeBits =
 
 -- the bits once one is reported: its cause becomes 0 where the auto-clear has it, its mask where EIAME is 1 and the
 -- auto-mask has it
-abbrev pub told_bits : Interrupts → Bool → ℕ → Bits
-told_bits s eiame chosen =
+abbrev pub reported_bits : Interrupts → Bool → ℕ → Bits
+reported_bits s eiame chosen =
     record {
       cause = λ bit. contains s.causes bit && not (bit == chosen && contains s.auto_clear bit);
       mask = λ bit. contains s.enabled bit && not (eiame && bit == chosen && contains s.auto_mask bit);
@@ -136,7 +136,7 @@ told_bits s eiame chosen =
 -- a message reports its bit, and without a message nothing changes
 pub record MessagesChangeBits : Type 0 where
   pub told : (s : Interrupts) (eiame : Bool) (misc vector chosen : ℕ) → IsMessageOf s misc vector chosen →
-      Leaves s (after_message s eiame misc) (told_bits s eiame chosen)
+      Leaves s (after_message s eiame misc) (reported_bits s eiame chosen)
   pub idle : (s : Interrupts) (eiame : Bool) (misc : ℕ) → next_vector s misc ≡ None → after_message s eiame misc ≡ s
 
 -- a write of the auto-clear or of the auto-mask gives that word these bits, as far as the group has them, and changes

@@ -3,7 +3,7 @@
 ghost use Rattle.std.specs.Prelude.{◌≡◌, ◌≢◌, ◌+◌, ◌-◌, ◌^◌, ◌<◌, ◌≤◌, ◌↔◌, ◌⊎◌, IfOk, IfErr, OnOk, OnErr, Ok};
 ghost use Rattle.std.specs.Result.{IsErrAnd};
 ghost use Rattle.nic_device.specs.Config.{IsBadFifo};
-ghost use Rattle.nic_device.specs.Step.{step_of, word_told};
+ghost use Rattle.nic_device.specs.Step.{step_of, reported_word};
 ghost use Rattle.machine.specs.Machine.{start_of, machine_step, machine_at, StepTakesMemory};
 
 use crate::processor::Processor;
@@ -151,7 +151,7 @@ impl Machine {
     /// What a read of an address through the physical function would return, without the read's side effects. `None`
     /// where there is no register.
     pub fn peek_register(&self, address: u32) -> Option<u32>
-        ensures { result ≡ word_told (step_of self.now.state.device (Event.Read Port.Pf address)).reply }
+        ensures { result ≡ reported_word (step_of self.now.state.device (Event.Read Port.Pf address)).reply }
     {
         self.processor.card.peek(Port::Pf, address)
     }
@@ -159,7 +159,7 @@ impl Machine {
     /// What a read of an offset through a virtual function would return, without the read's side effects. `None` where
     /// there is no register.
     pub fn peek_vf(&self, function: u8, offset: u32) -> Option<u32>
-        ensures { result ≡ word_told (step_of self.now.state.device (Event.Read (Port.Vf function) offset)).reply }
+        ensures { result ≡ reported_word (step_of self.now.state.device (Event.Read (Port.Vf function) offset)).reply }
     {
         self.processor.card.peek(Port::Vf(function), offset)
     }

@@ -70,13 +70,13 @@ over-done ended n m e = eqb-true ended 0 (over (ended == 0) n m e)
 
 -- where there is no memory
 
--- the steps that are left, behind some that were made and lead here
+-- the steps that are left, after some that were made and lead here
 pub record SoFar (room : ℕ) (steps left : List Step) (before now : Course) : Type 0 where
   pub done : List Step
   pub whole : steps ≡ done ++ left
   pub leads : now ≡ walked room before done
 
--- steps behind others
+-- steps after others
 walked-append : (room : ℕ) (c : Course) (first more : List Step)
     → walked room c (first ++ more) ≡ walked room (walked room c first) more
 unfolding walked

@@ -1,4 +1,4 @@
--- What handles share, whatever lies behind them: a handle owns what a box of its value owns.
+-- What handles share, whatever lies after them: a handle owns what a box of its value owns.
 --     Form           a handle's struct, whose record is that of a box of its value under another name
 --     E, R, B        the box, the value and the handle as rows.        with_value     the handle with another value
 use mathlib.Core.Path.{◌≡◌}

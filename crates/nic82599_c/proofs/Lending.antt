@@ -1,4 +1,4 @@
--- `lend` at any handle: it reads the pointer, and lends the value behind it; the handle follows. Assumes `Logic`.
+-- `lend` at any handle: it reads the pointer, and lends the value after it; the handle follows. Assumes `Logic`.
 use Rattle.std.proofs.Common.{◌≡◌, ℕ, List, [], ◌∷◌, refl, sym}
 use seplogic.Ra.Ura.{Ura}
 use mir.Syntax.{Fn, Callee, named, erased, mut, ty_ptr, ty_ref, local, value_local, place, deref, field, copy, assign, rv_opd, addr_of, block, seq, return}
@@ -81,7 +81,7 @@ module _ (F : Form) where
           (fact 𝓤 (r.now ≡ (F.box a.0.now).value));
     }
 
-    -- all of the handle but the value behind it, and the whole of it at another value
+    -- all of the handle but the value after it, and the whole of it at another value
     module _ (h : F.D) (rb ro b o : ℕ) (hv : Val) where
       abbrev Rest : Fml
       Rest = fsep (fsep (token (E F).al (F.box h).alloc (bare (box.τ (E F))) (block_ptr b o))

@@ -1,4 +1,4 @@
--- What C's places for handles share, whatever lies behind these: a place owns nothing, or what a box of its value owns.
+-- What C's places for handles share, whatever lies after these: a place owns nothing, or what a box of its value owns.
 --     Form           a place's struct, whose record is that of a box of a value, if any, under another name
 --     E, R, B        the box, the value and the place as rows
 use mathlib.Core.Path.{◌≡◌, refl}

@@ -1,7 +1,7 @@
 //! Reads and writes of registers.
 
 ghost use Rattle.std.specs.Prelude.{◌≡◌, ℕ, unwrap_or};
-ghost use Rattle.nic_device.specs.Step.{reply_to, word_told};
+ghost use Rattle.nic_device.specs.Step.{reply_to, reported_word};
 ghost use Rattle.card.specs.Card.{made, reply_of_read, reply_of_write};
 ghost use Rattle.nic82599_c.specs.Statuses.{peek_status};
 ghost use Rattle.nic82599_c.specs.Told.{status_of, word_of};
@@ -40,8 +40,8 @@ fn write(card: &mut Card, port: Port, number: u32, word: u32) -> u8
 
 /// Reads a register at a port without the read's side effects.
 fn peek(card: &Card, port: Port, number: u32, word: &mut u32) -> u8
-    ensures status { result ≡ peek_status (word_told (reply_to card.now.device (Event.Read port number))) }
-    ensures word { word.new ≡ unwrap_or (word_told (reply_to card.now.device (Event.Read port number))) word.old }
+    ensures status { result ≡ peek_status (reported_word (reply_to card.now.device (Event.Read port number))) }
+    ensures word { word.new ≡ unwrap_or (reported_word (reply_to card.now.device (Event.Read port number))) word.old }
 {
     match card.peek(port, number) {
         Some(found) => {
@@ -95,9 +95,9 @@ pub extern "C" fn nic_vf_write32(nic: &mut Handle, vf: u8, offset: u32, word: u3
 /// What `nic_read32` would read, without its side effects. DONE and the word, or STRAY: then `word` stays unchanged.
 #[unsafe(no_mangle)]
 pub extern "C" fn nic_peek32(nic: &mut Handle, address: u32, word: &mut u32) -> u8
-    ensures status { result ≡ peek_status (word_told (reply_to nic.old.card.device (Event.Read Port.Pf address))) }
+    ensures status { result ≡ peek_status (reported_word (reply_to nic.old.card.device (Event.Read Port.Pf address))) }
     ensures word { word.new ≡ unwrap_or
-        (word_told (reply_to nic.old.card.device (Event.Read Port.Pf address))) word.old }
+        (reported_word (reply_to nic.old.card.device (Event.Read Port.Pf address))) word.old }
     ensures unchanged { nic.new.card ≡ nic.old.card }
 {
     peek(nic.lend(), Port::Pf, address, word)
@@ -106,9 +106,10 @@ pub extern "C" fn nic_peek32(nic: &mut Handle, address: u32, word: &mut u32) -> 
 /// What `nic_vf_read32` would read, without its side effects. DONE and the word, or STRAY: then `word` stays unchanged.
 #[unsafe(no_mangle)]
 pub extern "C" fn nic_vf_peek32(nic: &mut Handle, vf: u8, offset: u32, word: &mut u32) -> u8
-    ensures status { result ≡ peek_status (word_told (reply_to nic.old.card.device (Event.Read (Port.Vf vf) offset))) }
+    ensures status { result ≡ peek_status
+        (reported_word (reply_to nic.old.card.device (Event.Read (Port.Vf vf) offset))) }
     ensures word { word.new ≡ unwrap_or
-        (word_told (reply_to nic.old.card.device (Event.Read (Port.Vf vf) offset))) word.old }
+        (reported_word (reply_to nic.old.card.device (Event.Read (Port.Vf vf) offset))) word.old }
     ensures unchanged { nic.new.card ≡ nic.old.card }
 {
     peek(nic.lend(), Port::Vf(vf), offset, word)

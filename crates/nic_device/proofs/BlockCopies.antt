@@ -11,7 +11,7 @@ use Rattle.rx_ring.specs.DmaArena.Memory.{Memory, has_block, is_lent, read_at, p
 use Rattle.rx_ring.specs.DmaArena.Numbers.{Numbers, is_free, with_free}
 use Rattle.rx_ring.proofs.DmaArena.Blocks.{read_at_in}
 use Rattle.rx_ring.proofs.DmaArena.Bus.{get-insert_same, get-insert_other, is_lent_first, is_lent_of_each, of_some}
-use Rattle.nic_device.specs.Blocks.{memory_of, AreRising, AreBelow, AreFree, HaveLeft, IsLowestTaken, TellsTaken, IsFrom}
+use Rattle.nic_device.specs.Blocks.{memory_of, AreRising, AreBelow, AreFree, HaveLeft, IsLowestTaken, TellsTaken}
 use Rattle.nic_device.proofs.Leaving.{has-insert_other, left-more}
 
 -- one block of a memory
@@ -54,6 +54,11 @@ copy-of_some m n k lent bytes whole is test has read =
     ap Some (read ∙ ap (λ i. read_at m (i * 2048) 2048) is) ∙ sym there
 
 -- the blocks from a number on
+
+-- one memory has the other's blocks from a number on, and none below it
+pub record IsFrom (whole part : Memory) (start : ℕ) : Type 0 where
+  pub below : (number : ℕ) → number < start → map.get part number ≡ None
+  pub above : (number : ℕ) → start ≤ number → map.get part number ≡ map.get whole number
 
 -- a whole block has a number below 65,536
 pub below-whole : (m : Memory) → IsWhole m → AreBelow m 65536
@@ -117,7 +122,7 @@ rising_drop copies zero rising = rising
 rising_drop [] (suc k) rising = rising
 rising_drop (copy ∷ copies) (suc k) rising = rising_drop copies k rising.1
 
--- the copy at an index, and those behind it
+-- the copy at an index, and those after it
 pub drop-at : (copies : List (ℕ × List ℕ)) (at : ℕ) (copy : ℕ × List ℕ) → 0 < at → at ≤ length copies
     → copy ≡ get_or copies (at - 1) copy → drop (at - 1) copies ≡ copy ∷ drop at copies
 drop-at copies at copy some inside is =
@@ -132,7 +137,7 @@ drop-at copies at copy some inside is =
 pub has-insert_same : (m : Memory) (n : ℕ) (bytes : List ℕ) → has_block (map.insert m n bytes) n ≡ true
 has-insert_same m n bytes = ap is_some (get-insert_same m n bytes)
 
--- a copy behind one has another number
+-- a copy after one has another number
 pub apart : (copy : ℕ × List ℕ) (copies : List (ℕ × List ℕ)) (n : ℕ) → AreRising (copy ∷ copies)
     → has_block (memory_of copies) n ≡ true → n ≢ copy.0
 apart copy copies n rising has = let above = rising.0 n has in omega arith
@@ -146,7 +151,7 @@ unlent-head : (copy : ℕ × List ℕ) (copies : List (ℕ × List ℕ)) → Are
     → has_block (memory_of copies) copy.0 ≡ false
 unlent-head copy copies rising = unlent-by copy copies (has_block (memory_of copies) copy.0) rising refl
 
--- what stands for a block behind a number of copies stands for it among all of them
+-- what stands for a block after a number of copies stands for it among all of them
 pub get-drop : (copies : List (ℕ × List ℕ)) (k n : ℕ) (bytes : List ℕ) → AreRising copies
     → map.get (memory_of (drop k copies)) n ≡ Some bytes → map.get (memory_of copies) n ≡ Some bytes
 get-drop copies zero n bytes rising got = got
@@ -163,14 +168,14 @@ get-at copies at copy rising is =
     (subst (λ (es : List (ℕ × List ℕ)). map.get (memory_of es) copy.0 ≡ Some copy.1) (sym is)
     (get-insert_same (memory_of (drop at copies)) copy.0 copy.1))
 
--- behind the last copy there is none
+-- after the last copy there is none
 pub memory-past : (copies : List (ℕ × List ℕ)) (k : ℕ) → length copies ≤ k → memory_of (drop k copies) ≡ map.empty
 memory-past [] zero past = refl
 memory-past [] (suc k) past = refl
 memory-past (copy ∷ copies) zero past = absurd (omega arith)
 memory-past (copy ∷ copies) (suc k) past = memory-past copies k (omega arith)
 
--- a copy, and those behind it
+-- a copy, and those after it
 pub record IsNext (copies : List (ℕ × List ℕ)) (at : ℕ) (copy : ℕ × List ℕ) : Type 0 where
   pub next : drop (at - 1) copies ≡ copy ∷ drop at copies
   pub rising : AreRising (copy ∷ drop at copies)

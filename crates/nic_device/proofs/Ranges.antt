@@ -5,7 +5,7 @@ use Rattle.std.proofs.lemmas.List.{length-drop, length-take-le, nil_from_length,
 use Rattle.rx_ring.specs.DmaArena.Memory.{Memory, is_lent, read_at, write_at}
 use Rattle.rx_ring.proofs.DmaArena.Bus.{SameLent-write_at, is_lent-same}
 use Rattle.rx_ring.proofs.DmaArena.Joined.{is_lent-append, read_at-append, write_at-append}
-use Rattle.nic_device.specs.Bus.{peeks, pokes, bytes_told, PeeksTell, PokesLead}
+use Rattle.nic_device.specs.Bus.{peeks, pokes, reported_bytes, PeeksTell, PokesLead}
 use Rattle.nic_device.specs.Lending.{peeked, poked}
 use Rattle.nic_device.specs.Outcome.{Outcome, gives}
 use Rattle.nic_device.specs.Run.{replies_of, state_after}
@@ -26,7 +26,7 @@ poked-lent : (s : State) (a : ℕ) (bytes : List ℕ) → a % 16 ≡ 0 → is_le
     → poked s a bytes ≡ gives Done (record s { memory = write_at s.memory a bytes })
 poked-lent s a bytes aligned lent = rw (aligned, lent) refl
 
--- a range of 16 bytes and one behind it
+-- a range of 16 bytes and one after it
 
 lent_parts : (m : Memory) (a n : ℕ) → is_lent m a (16 * suc n) ≡ true
     → (is_lent m a 16 ≡ true) × (is_lent m (a + 16) (16 * n) ≡ true)
@@ -60,7 +60,7 @@ peeks_tell s a (suc n) aligned lent =
     let rest = peeks_tell s (a + 16) n (omega arith) parts.1 in
     let first = peeked-lent s a aligned parts.0 in record {
       state = ap (λ (o : Outcome). state_after o.state (peeks (a + 16) n)) first ∙ rest.state;
-      told = ap (λ (o : Outcome). bytes_told (o.reply ∷ replies_of o.state (peeks (a + 16) n))) first
+      told = ap (λ (o : Outcome). reported_bytes (o.reply ∷ replies_of o.state (peeks (a + 16) n))) first
           ∙ ap (λ (xs : List ℕ). read_at s.memory a 16 ++ xs) rest.told ∙ read_at-parts s.memory a n;
     }
 

@@ -1,5 +1,5 @@
 -- Lent blocks that get the bytes of copies, and others that return to their arena.
-use Rattle.std.proofs.Common.{◌≡◌, ◌≢◌, ℕ, zero, suc, ◌+◌, ◌-◌, ◌*◌, ◌/◌, ◌<◌, ◌≤◌, ◌⊎◌, inl, inr, Bool, true, false, Option, Some, None, List, [], ◌∷◌, length, drop, refl, sym, ap, subst, ◌∙◌, arith}
+use Rattle.std.proofs.Common.{◌≡◌, ◌≢◌, ℕ, zero, suc, ◌+◌, ◌-◌, ◌*◌, ◌/◌, ◌<◌, ◌≤◌, ◌⊎◌, ◌↔◌, inl, inr, Bool, true, false, Option, Some, None, List, [], ◌∷◌, length, drop, refl, sym, ap, subst, ◌∙◌, arith}
 use Rattle.std.specs.Prelude.{is_some}
 use Rattle.std.specs.FinMap as map
 use Rattle.std.specs.Cmp.{nat_cmp_total}
@@ -10,8 +10,8 @@ use Rattle.rx_ring.proofs.DmaArena.Arenas.{own_within}
 use Rattle.rx_ring.proofs.DmaArena.Blocks.{is_lent_in, write_at_in}
 use Rattle.rx_ring.proofs.DmaArena.Bus.{get-insert_same, get-insert_other, get-remove_same, get-remove_other, is_lent_first, of_some}
 use Rattle.rx_ring.proofs.DmaArena.Moves.{IsWhole-insert, IsWhole-remove}
-use Rattle.nic_device.specs.Blocks.{memory_of, AreAmong, AreAway, AreBelow, AreRising, HaveLeft, StillLeft, IsFrom}
-use Rattle.nic_device.proofs.BlockCopies.{IsNext, from_none, from_past, from_some, get-drop, has-insert_same, memory-past}
+use Rattle.nic_device.specs.Blocks.{memory_of, AreAmong, AreAway, AreBelow, AreRising, HaveLeft, StillLeft}
+use Rattle.nic_device.proofs.BlockCopies.{IsFrom, IsNext, copy-of_none, from_none, from_past, from_some, get-drop, has-insert_same, memory-past}
 use Rattle.nic_device.proofs.Leaving.{has-empty, has-insert_other, write-all}
 
 -- the blocks of an arena are below its end
@@ -39,6 +39,15 @@ among-more m copy copies lent among n has = elim (cases_eq n copy.0) as (λ _. h
   | inl is ↦ rw is lent
   | inr ne ↦ among n (sym (has-insert_other (memory_of copies) copy.0 copy.1 n ne) ∙ has)
 ]
+
+-- a block that isn't lent isn't among the lent ones
+
+pub missing-one : (m some : Memory) (n k : ℕ) (bytes : List ℕ) (lent : Bool) → map.get some n ≡ Some bytes → k ≡ n
+    → lent ≡ is_lent m (k * 2048) 2048 → lent ≡ false → (false ≡ true) ↔ AreAmong m some
+missing-one m some n k bytes lent there is test unlent = (
+  λ no. absurd (cc),
+  λ all. ap is_some (copy-of_none m n k lent is test unlent) ∙ all n (ap is_some there),
+)
 
 -- a lent block is written whole
 

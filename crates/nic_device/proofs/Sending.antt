@@ -18,7 +18,7 @@ use Rattle.register_file.specs.Queue.{is_on}
 use Rattle.register_file.specs.Registers.{Registers}
 use Rattle.register_file.specs.Settings.{is_stopped, can_transmit}
 use Rattle.register_laws.specs.Sides.{transmit_queue_of}
-use Rattle.nic_device.specs.Footprint.{told_back, back_into}
+use Rattle.nic_device.specs.Footprint.{reported_address, back_into}
 use Rattle.nic_device.specs.Outcome.{gives}
 use Rattle.nic_device.specs.Receive.{is_empty}
 use Rattle.nic_device.specs.Sound.{AreStagedWhileOn, IsBegunWhileOn, IsSound}
@@ -38,7 +38,7 @@ use Rattle.nic_device.specs.declared.event.Event.TheVariants as event
 use Rattle.nic_device.specs.declared.event.Reply.TheVariants.{Idle, NoQueue, Fault}
 
 -- what is told of a fetched slot
-back_told : (queue : ℕ) (f : Fetched) (o : Option (List ℕ)) → told_back (fetched_reply queue f o) ≡ f.back
+back_told : (queue : ℕ) (f : Fetched) (o : Option (List ℕ)) → reported_address (fetched_reply queue f o) ≡ f.back
 back_told queue f (Some frame) = refl
 back_told queue f None = refl
 

@@ -18,7 +18,8 @@ use Rattle.register_file.specs.Words.{row_words}
 use Rattle.register_file.specs.declared.owner.Owner.TheVariants as owner
 use Rattle.rx_ring.specs.DmaRing.declared.dir.Dir.{Dir}
 use Rattle.rx_ring.specs.DmaRing.declared.dir.Dir.TheVariants.{Rx, Tx}
-use Rattle.register_laws.specs.Footprint.{Footprint, HasWord, LacksWord, ChangesWithin, either, counters, is_alone, is_place, pool_has, of_read, of_side, pending, the_word}
+use Rattle.register_laws.specs.Footprint.{Footprint, LacksWord, ChangesWithin, either, counters, is_alone, is_place, pool_has, of_read, of_side, pending, the_word}
+use Rattle.register_laws.proofs.HasWord.{HasWord}
 use Rattle.register_laws.specs.Laws.{after_write}
 use Rattle.register_laws.specs.Sides.{ReceiveQueue, TransmitQueue}
 use Rattle.register_laws.specs.Sound.{HasShape, AreSound}

@@ -1,4 +1,4 @@
--- Bytes up to the last that isn't 0, and zero bytes behind them.
+-- Bytes up to the last that isn't 0, and zero bytes after them.
 use Rattle.std.proofs.Common.{◌≡◌, ◌≢◌, ℕ, zero, suc, ◌-◌, ◌<◌, ◌≤◌, List, [], ◌∷◌, ◌++◌, length, take, replicate, get_or, refl, sym, ap, ◌∙◌, arith, ◌⊎◌, inl, inr, Bool, true, false, eqb}
 use Rattle.std.specs.Prelude.{not}
 use Rattle.std.proofs.lemmas.Bool.{eqb-true, cases_lt}
@@ -22,10 +22,10 @@ unfolding kept_len
 kept-zeros zero = refl
 kept-zeros (suc n) = ap (λ (k : ℕ). kept_with k 0) (kept-zeros n)
 
-pub kept-zeros_behind : (bytes : List ℕ) (n : ℕ) → kept_len (bytes ++ replicate n 0) ≡ kept_len bytes
+pub kept-zeros_after : (bytes : List ℕ) (n : ℕ) → kept_len (bytes ++ replicate n 0) ≡ kept_len bytes
 unfolding kept_len
-kept-zeros_behind [] n = kept-zeros n
-kept-zeros_behind (b ∷ bytes) n = ap (λ (k : ℕ). kept_with k b) (kept-zeros_behind bytes n)
+kept-zeros_after [] n = kept-zeros n
+kept-zeros_after (b ∷ bytes) n = ap (λ (k : ℕ). kept_with k b) (kept-zeros_after bytes n)
 
 whole_with : (k b : ℕ) (bytes : List ℕ) → take k bytes ++ replicate (length bytes - k) 0 ≡ bytes
     → take (kept_with k b) (b ∷ bytes) ++ replicate (suc (length bytes) - kept_with k b) 0 ≡ b ∷ bytes
@@ -39,7 +39,7 @@ whole_with zero (suc b) bytes is =
     let less : suc (length bytes) - 1 ≡ length bytes - 0 = omega arith in
     ap (λ (m : ℕ). suc b ∷ replicate m 0) less ∙ ap (λ (l : List ℕ). suc b ∷ l) is
 
--- behind those that are kept there are zero bytes alone
+-- after those that are kept there are zero bytes alone
 pub kept-whole : (bytes : List ℕ)
     → take (kept_len bytes) bytes ++ replicate (length bytes - kept_len bytes) 0 ≡ bytes
 unfolding kept_len
@@ -70,13 +70,13 @@ kept-last (b ∷ bytes) (suc m) zeros last =
 pub kept-take : (bytes : List ℕ) → kept_len (take (kept_len bytes) bytes) ≡ length (take (kept_len bytes) bytes)
 kept-take bytes =
     let kept = take (kept_len bytes) bytes in
-    let behind = kept-zeros_behind kept (length bytes - kept_len bytes) in
+    let behind = kept-zeros_after kept (length bytes - kept_len bytes) in
     let all : kept_len bytes ≡ kept_len kept = ap kept_len (sym (kept-whole bytes)) ∙ behind in
     sym all ∙ sym (length-take-le (kept_len bytes) bytes (kept_len_le bytes))
 
 module _ (kept : List ℕ) (zeros : ℕ) (trimmed : kept_len kept ≡ length kept) where
   behind : kept_len (kept ++ replicate zeros 0) ≡ length kept
-  behind = kept-zeros_behind kept zeros ∙ trimmed
+  behind = kept-zeros_after kept zeros ∙ trimmed
 
   -- what is kept of bytes, where they are kept so
   pub kept_of_all : take (kept_len (kept ++ replicate zeros 0)) (kept ++ replicate zeros 0) ≡ kept
@@ -119,7 +119,7 @@ zero_beyond : (bytes : List ℕ) (from k : ℕ) → length bytes ≡ 2048 → Is
 zero_beyond bytes from k size zeros le (inl lt) = zeros k le lt
 zero_beyond bytes from k size zeros le (inr past) = get_or_past bytes k 0 (omega (arith, size, past))
 
--- behind a block's bytes nothing is read
+-- after a block's bytes nothing is read
 pub zeros_on : (bytes : List ℕ) (from : ℕ) → length bytes ≡ 2048 → IsZeroFrom from bytes
     → (k : ℕ) → from ≤ k → get_or bytes k 0 ≡ 0
 zeros_on bytes from size zeros k le = zero_beyond bytes from k size zeros le (cases_lt k 2048)
@@ -138,7 +138,7 @@ held-same h g all =
     ∙ ap (λ (l : List ℕ). record { number = g.number; zeros = h.zeros; kept = l }) all.1
     ∙ ap (λ (z : ℕ). record { number = g.number; zeros = z; kept = g.kept }) all.2
 
--- what a note holds of a block: its number, these bytes, which are those that are kept, and the zero bytes behind them
+-- what a note holds of a block: its number, these bytes, which are those that are kept, and the zero bytes after them
 module _ (buf : Block) (bytes : List ℕ) (kept n z : ℕ) (h : Held)
     (is : h ≡ record { number = n; zeros = z; kept = bytes })
     (all : kept ≡ kept_len buf.bytes) (front : bytes ≡ take kept buf.bytes) where

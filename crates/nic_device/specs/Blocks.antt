@@ -51,8 +51,3 @@ pub record HaveLeft (before after : Numbers) (m : Memory) : Type 0 where
 -- where the one memory's blocks had left an arena, now the other's have
 abbrev pub StillLeft : Numbers → Memory → Numbers → Memory → Type 0
 StillLeft a m b n = (before : Numbers) → HaveLeft before a m → HaveLeft before b n
-
--- one memory has the other's blocks from a number on, and none below it
-pub record IsFrom (whole part : Memory) (start : ℕ) : Type 0 where
-  pub below : (number : ℕ) → number < start → map.get part number ≡ None
-  pub above : (number : ℕ) → start ≤ number → map.get part number ≡ map.get whole number

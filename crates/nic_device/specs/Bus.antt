@@ -19,15 +19,15 @@ pokes a bytes zero = []
 pokes a bytes (suc n) = event.Poke16 a (take 16 bytes) ∷ pokes (a + 16) (drop 16 bytes) n
 
 -- the bytes in replies, one after another
-abbrev pub bytes_told : List (Reply Block) → List ℕ
-bytes_told [] = []
-bytes_told (reply.Bytes bytes ∷ replies) = bytes ++ bytes_told replies
-bytes_told (other ∷ replies) = bytes_told replies
+abbrev pub reported_bytes : List (Reply Block) → List ℕ
+reported_bytes [] = []
+reported_bytes (reply.Bytes bytes ∷ replies) = bytes ++ reported_bytes replies
+reported_bytes (other ∷ replies) = reported_bytes replies
 
 -- n peeks in order change nothing, and return these bytes
 pub record PeeksTell (s : State) (a n : ℕ) (bytes : List ℕ) : Type 0 where
   pub state : state_after s (peeks a n) ≡ s
-  pub told : bytes_told (replies_of s (peeks a n)) ≡ bytes
+  pub told : reported_bytes (replies_of s (peeks a n)) ≡ bytes
 
 -- n pokes of these bytes in order are all made, and lead to this state
 pub record PokesLead (s : State) (a n : ℕ) (bytes : List ℕ) (t : State) : Type 0 where

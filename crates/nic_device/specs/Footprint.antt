@@ -147,10 +147,10 @@ receive_reach (w ∷ others) reply = record nowhere {
 }
 
 -- the address that a reply says was written back
-abbrev pub told_back : Reply Block → Option ℕ
-told_back (Advanced queue slot back) = back
-told_back (Sent queue len back) = back
-told_back other = None
+abbrev pub reported_address : Reply Block → Option ℕ
+reported_address (Advanced queue slot back) = back
+reported_address (Sent queue len back) = back
+reported_address other = None
 
 -- the blocks with some of this many bytes that are written back, where they are
 abbrev pub back_into : Option ℕ → ℕ → ℕ → Bool
@@ -161,7 +161,7 @@ back_into None len number = false
 abbrev pub transmit_reach : State → ℕ → Reply Block → Reach
 transmit_reach s queue reply = record nowhere {
   registers = either (of_side Tx queue) counts_and_causes;
-  blocks = back_into (told_back reply) (report_length (transmit_queue_of s.registers queue).writeback);
+  blocks = back_into (reported_address reply) (report_length (transmit_queue_of s.registers queue).writeback);
   staged = λ other. other == queue;
   out = true;
 }

@@ -51,9 +51,9 @@ TakesMemory s (event.TxStep queue) =
 TakesMemory s other = ⊥
 
 -- the word in a reply, where the access met a register
-abbrev pub word_told : Reply Block → Option ℕ
-word_told (reply.Word word) = Some word
-word_told other = None
+abbrev pub reported_word : Reply Block → Option ℕ
+reported_word (reply.Word word) = Some word
+reported_word other = None
 
 -- the block that an event lends, and the one that a reply returns
 abbrev pub lent_block : Event Block → Option Block

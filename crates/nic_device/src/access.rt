@@ -6,7 +6,7 @@ ghost use Rattle.nic_device.specs.State.{cleared};
 ghost use Rattle.nic_device.specs.Eeprom.{reset};
 ghost use Rattle.nic_device.specs.Access.{around, register_read, register_written, state_written};
 ghost use Rattle.nic_device.specs.PoolReset.{written_below_reset};
-ghost use Rattle.nic_device.specs.Step.{word_told};
+ghost use Rattle.nic_device.specs.Step.{reported_word};
 
 use crate::engine::Engine;
 use crate::event::{Port, Reply};
@@ -32,7 +32,7 @@ impl Engine {
 
     /// What a read would return, without its side effects. `None` where there is no register.
     pub(crate) fn peek(&self, port: Port, number: u32) -> Option<u32>
-        ensures { result ≡ word_told (register_read self.now port number).reply }
+        ensures { result ≡ reported_word (register_read self.now port number).reply }
     {
         match self.named(port, number) {
             Named::Nothing(_) => None,

@@ -1,6 +1,6 @@
 //! Copies of lent blocks, and blocks that are lent again with the bytes of their copies.
 
-ghost use Rattle.std.specs.Prelude.{◌≡◌, ◌+◌, ◌<◌, ◌≤◌, ℕ, true, false, length, Some, None, IfOk, OnOk, OnErr};
+ghost use Rattle.std.specs.Prelude.{◌≡◌, ◌↔◌, ◌+◌, ◌<◌, ◌≤◌, ℕ, true, false, length, IsTrue, Some, None, IfOk, OnOk, OnErr};
 ghost use Rattle.std.specs.FinMap as map;
 ghost use Rattle.rx_ring.specs.DmaArena.Memory.{Memory, has_block, IsWhole};
 ghost use Rattle.rx_ring.specs.DmaArena.Numbers.{Numbers, count_of, is_free, with_free};
@@ -71,7 +71,7 @@ impl Blocks {
 
     /// Whether each of these blocks is lent.
     pub(crate) fn are_lent(&self, memory: &LentMemory) -> bool
-        ensures { result ≡ true → AreAmong memory.now self.now }
+        ensures { IsTrue result ↔ AreAmong memory.now self.now }
     {
         all_lent(&self.copies, memory)
     }
@@ -108,7 +108,7 @@ impl Blocks {
     }
 }
 
-/// The number behind the highest of the arena's.
+/// The number after the highest of the arena's.
 pub(crate) fn end_of(arena: &Arena) -> u32
     ensures end { result ≡ arena.now.first + count_of arena.now }
     ensures small { result ≤ 65536 }
@@ -135,7 +135,8 @@ fn copy_of(alloc: Global, memory: &LentMemory, number: u32) -> Result<Option<Oct
 
 /// Whether each of the copied blocks is lent.
 fn all_lent(copies: &[(u32, Octets)], memory: &LentMemory) -> bool
-    ensures { result ≡ true → AreAmong memory.now (memory_of copies.now) }
+    requires { AreRising copies.now }
+    ensures { IsTrue result ↔ AreAmong memory.now (memory_of copies.now) }
 {
     let mut at = copies.len();
     'each: while at > 0 {

@@ -4,7 +4,7 @@ ghost use Rattle.nic_device.specs.State.{new_state};
 ghost use Rattle.nic_device.specs.Config.{IsBadFifo};
 ghost use Rattle.nic_device.specs.Link.{next_out_of};
 ghost use Rattle.nic_device.specs.Sound.{IsSound};
-ghost use Rattle.nic_device.specs.Step.{step_of, TakesMemory, word_told};
+ghost use Rattle.nic_device.specs.Step.{step_of, TakesMemory, reported_word};
 
 use crate::config::{Config, MAX_FIFO, NewFault};
 use crate::engine::Engine;
@@ -104,7 +104,7 @@ impl Device {
     /// What a read of an address of the physical function would return, without the read's side effects. `None` where
     /// there is no register.
     pub fn peek_register(&self, address: u32) -> Option<u32>
-        ensures { result ≡ word_told (step_of self.now (Event.Read Port.Pf address)).reply }
+        ensures { result ≡ reported_word (step_of self.now (Event.Read Port.Pf address)).reply }
     {
         self.engine.peek(Port::Pf, address)
     }
@@ -113,7 +113,7 @@ impl Device {
     /// What a read of an offset of virtual function v would return, without the read's side effects. `None` where there
     /// is no register: at a hole, and for a function that the device doesn't have or that has no pool.
     pub fn peek_vf(&self, v: u8, offset: u32) -> Option<u32>
-        ensures { result ≡ word_told (step_of self.now (Event.Read (Port.Vf v) offset)).reply }
+        ensures { result ≡ reported_word (step_of self.now (Event.Read (Port.Vf v) offset)).reply }
     {
         self.engine.peek(Port::Vf(v), offset)
     }

@@ -32,10 +32,10 @@ mod notes_shared;
 mod notes_trimming;
 mod pools;
 mod receive;
-mod rest;
 mod resting;
 mod runs;
 mod snapshot;
+mod state_copy;
 mod switching;
 mod transmit;
 mod waiting;
@@ -53,7 +53,7 @@ pub use register_file::{
 pub use runs::RunStop;
 pub use rx_ring::{
     Arena, BLOCK_BYTES, BLOCK_NUMBERS, Buf, Dir, LentMemory, Octets, RingFault, Run,
-    data_descriptor_word, first_half, hash_told, is_last, is_sent, is_written_back, length_told,
-    of_halves, posted_word, rss_told, second_half,
+    data_descriptor_word, first_half, is_last, is_sent, is_written_back, leave, of_halves,
+    posted_word, reported_hash, reported_length, reported_rss, second_half,
 };
 pub use snapshot::{RestoreRefused, Snapshot};

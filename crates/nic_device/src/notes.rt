@@ -44,7 +44,7 @@ impl Note {
         requires bytes { bytes ≡ take kept buf.now.bytes }
         ensures { result ≡ buf.now }
     {
-        let zeros = zeros_behind(buf, kept);
+        let zeros = zeros_after(buf, kept);
         Note::new(Holding::own(buf.block() as u16, bytes, zeros))
     }
 
@@ -54,13 +54,13 @@ impl Note {
         requires bytes { bytes.value ≡ take kept buf.now.bytes }
         ensures { result ≡ buf.now }
     {
-        let zeros = zeros_behind(buf, kept);
+        let zeros = zeros_after(buf, kept);
         Note::new(Holding::common(buf.block() as u16, bytes, zeros))
     }
 }
 
 /// How many zero bytes of a block follow the ones that its note stores.
-fn zeros_behind(buf: &Buf, kept: usize) -> u16
+fn zeros_after(buf: &Buf, kept: usize) -> u16
     requires { kept ≡ kept_len buf.now.bytes }
     ensures { result ≡ length buf.now.bytes - kept }
 {

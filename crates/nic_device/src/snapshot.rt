@@ -1,6 +1,6 @@
 //! Snapshots of a device, and devices restored from them.
 
-ghost use Rattle.std.specs.Prelude.{◌≡◌, true, IfOk, IfErr, OnOk, OnErr};
+ghost use Rattle.std.specs.Prelude.{◌≡◌, ◌↔◌, IsTrue, IfOk, IfErr, OnOk, OnErr};
 ghost use Rattle.std.specs.FinMap as map;
 ghost use Rattle.nic_device.specs.Blocks.{AreFree, AreAmong, AreAway, AreBelow, HaveLeft, StillLeft};
 ghost use Rattle.nic_device.specs.Restoring.{IsWhy};
@@ -9,7 +9,7 @@ ghost use Rattle.nic_device.specs.Sound.{IsSound};
 use crate::copies::{Blocks, end_of};
 use crate::device::Device;
 use crate::engine::Engine;
-use crate::rest::Rest;
+use crate::state_copy::StateCopy;
 use rx_ring::{Arena, BLOCK_NUMBERS, LentMemory};
 use std::alloc::AllocError;
 use std::marker::Model;
@@ -20,7 +20,7 @@ use std::mem;
 /// belong to no arena.
 #[derive(Drop)]
 pub struct Snapshot {
-    rest: Rest,
+    state: StateCopy,
     blocks: Blocks,
 }
 
@@ -32,9 +32,9 @@ impl Model for Snapshot {
 
     ghost coded = { state_code };
 
-    ghost view = { λ s. record s.rest { memory = s.blocks } };
+    ghost view = { λ s. record s.state { memory = s.blocks } };
 
-    ghost invariant = { λ s. IsSound (record s.rest { memory = s.blocks }) };
+    ghost invariant = { λ s. IsSound (record s.state { memory = s.blocks }) };
 }
 
 /// Why a device isn't restored. The arena is unchanged.
@@ -55,7 +55,7 @@ impl Device {
     }
 
     /// As `snapshot`, where all lent blocks are of this arena: only its numbers are looked at.
-    pub fn snapshot_beside(&self, arena: &Arena) -> Result<Snapshot, AllocError>
+    pub fn snapshot_within(&self, arena: &Arena) -> Result<Snapshot, AllocError>
         requires { AreAway arena.now self.now.memory }
         ensures { IfOk result (λ snapshot. snapshot ≡ self.now) }
     {
@@ -64,7 +64,7 @@ impl Device {
 
     /// Whether each block that was lent when the snapshot was made is lent now.
     pub fn has_blocks_of(&self, snapshot: &Snapshot) -> bool
-        ensures { result ≡ true → AreAmong self.now.memory snapshot.now.memory }
+        ensures { IsTrue result ↔ AreAmong self.now.memory snapshot.now.memory }
     {
         snapshot.blocks.are_lent(&self.engine.memory)
     }
@@ -79,11 +79,11 @@ impl Device {
         ensures unchanged { OnErr result (self.new ≡ self.old) }
         ensures kept { OnErr result (arena.new ≡ arena.old) }
     {
-        let rest = snapshot.rest.copy()?;
-        let none = LentMemory::new(rest.alloc);
+        let state = snapshot.state.copy()?;
+        let none = LentMemory::new(state.alloc);
         snapshot.blocks.put_back(&mut self.engine.memory, arena);
         let memory = mem::replace(&mut self.engine.memory, none);
-        end(mem::replace(&mut self.engine, rest.with_memory(memory)));
+        end(mem::replace(&mut self.engine, state.with_memory(memory)));
         Ok(())
     }
 
@@ -114,12 +114,12 @@ impl Snapshot {
         ensures kept { OnErr result (arena.new ≡ arena.old) }
         ensures why { IfErr result (λ refused. IsWhy refused arena.old self.now.memory) }
     {
-        let Ok(rest) = self.rest.copy() else {
+        let Ok(state) = self.state.copy() else {
             return Err(RestoreRefused::OutOfMemory);
         };
-        match self.blocks.lent(rest.alloc, arena) {
+        match self.blocks.lent(state.alloc, arena) {
             Ok(memory) => Ok(Device {
-                engine: rest.with_memory(memory),
+                engine: state.with_memory(memory),
             }),
             Err(_) => Err(RestoreRefused::OutOfMemory),
         }
@@ -133,9 +133,9 @@ impl Engine {
         requires below { AreBelow self.now.memory end }
         ensures { IfOk result (λ snapshot. snapshot ≡ self.now) }
     {
-        let rest = self.rest()?;
+        let state = self.state_copy()?;
         let blocks = Blocks::copied(self.alloc, &self.memory, end)?;
-        Ok(Snapshot { rest, blocks })
+        Ok(Snapshot { state, blocks })
     }
 }
 

@@ -12,7 +12,7 @@ pub use workers::{
     Lockstep, MAX_MEMBERS, Made, NewFault, Nic, Order, POLLS, Packet, Pass, Pmd, PmdFault, Queue,
     Ran, Reaped, Record, Report, Rest, RunFault, RunRefused, SHORTEST_FRAME, Seat, Settings, Setup,
     Shared, Start, StartRefused, StopRefused, Task, ThroughLock, TxAnswer, TxFault, Watched,
-    WorkerEnd, WorkerFault, arrive, begins_well, feed, frames_fit, history_of, judge, left_alone,
-    marked_history, never_asked_on, others_lend_none, overlap, pf_setup, queue_at, run, run_worker,
-    run_workers,
+    WorkerEnd, WorkerFault, arrive, begins_well, feed, frames_fit, history_of, judge, leave,
+    left_alone, marked_history, never_asked_on, others_lend_none, overlap, pf_setup, queue_at, run,
+    run_worker, run_workers,
 };

@@ -82,7 +82,7 @@ stops_in_list old new own list whole (e ∷ rest) behind same next all first som
       (all ∙ ap (λ (ls : List (List (Event Block))). next_list ls) (sym next)) made),
 )
 
--- the call's own event is made behind the foreign ones, or refused
+-- the call's own event is made after the foreign ones, or refused
 
 pub own_adds : (e : Event Block) (r : Result (Reply Block) (CallFault (Event Block))) (old mid new : Handled)
     → made_of mid ≡ made_of old → IfOk r (λ x. made_of new ≡ made_of mid ++ call_of e x ∷ [])

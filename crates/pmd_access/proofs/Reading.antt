@@ -58,7 +58,7 @@ module _ (bs : List Block) (whole : All (λ (b : Block). IsBlock b) bs) (k : ℕ
       (drop-drop f at (bytes_of bs) ∙ ap (λ (m : ℕ). drop m (bytes_of bs)) there)
       ∙ within start (suc more) (omega (arith, many))
 
--- bytes of a Buf are put behind those that were copied
+-- bytes of a Buf are put after those that were copied
 pub copies_one : (bs : List Block) (k : ℕ) (b : Block) (at f start more : ℕ) (old now piece new : List ℕ)
     → All (λ (x : Block). IsBlock x) bs → k < length bs → b ≡ get_or bs k b → at + length old ≤ 2048 * length bs
     → f ≡ min (length old) (2048 * k - at) → start ≡ min (at - 2048 * k) 2048

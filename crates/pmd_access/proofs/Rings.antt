@@ -90,7 +90,7 @@ ring_block_none ring size n apart = elim (cases_Bool (is_ring_block ring size n)
   | inr other ↦ other
 ]
 
--- one that isn't the ring's is before or behind them
+-- one that isn't the ring's is before or after them
 pub ring_block_sides : (ring size n : ℕ) → is_ring_block ring size n ≡ false → (n < ring) ⊎ (ring + blocks_for size ≤ n)
 ring_block_sides ring size n other = elim (cases_lt n ring) [
   | inl low ↦ inl low

@@ -55,7 +55,7 @@ set_next old mid new all i d before one below =
     subst (λ (l : List Setting). AreSet old new l) (sym (take_more all i d below))
     (set_both old mid new (take i all) (get_or all i d ∷ []) before one)
 
--- the settings before one, that one, and those behind it
+-- the settings before one, that one, and those after it
 setting_part : (all : List Setting) (i : ℕ) (d : Setting) → i < length all
     → all ≡ take i all ++ get_or all i d ∷ drop (i + 1) all
 setting_part all i d below =

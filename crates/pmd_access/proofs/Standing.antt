@@ -63,7 +63,7 @@ blocks_more (suc n) (None ∷ places) b is room = absurd is
 blocks_more (suc n) (Some c ∷ places) b is room =
     ap (λ (bs : List Block). c ∷ bs) (blocks_more n places b is (omega (arith, room)))
 
--- an empty place behind the others
+-- an empty place after the others
 pub blocks_same : (places : List (Option Block)) → blocks_in (places ++ None ∷ []) ≡ blocks_in places
 blocks_same [] = refl
 blocks_same (None ∷ places) = blocks_same places

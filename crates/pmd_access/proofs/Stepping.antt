@@ -38,7 +38,7 @@ amid_adds old new (made, is) =
     let some = events_add (take made (steps_of_queue old.queue)) old steps in
     (some.0, ap (λ (h : InHand). h.calls) is ∙ some.1, some.2)
 
--- the last of some events adds its own call, behind steps
+-- the last of some events adds its own call, after steps
 pub last_adds : (es : List (Event Block)) (e : Event Block) (r : Reply Block) (old mid new : InHand) → AllSteps es
     → mid ≡ after_events old es → Adds mid.calls new.calls e r → Adds old.calls new.calls e r
 last_adds es e r old mid new steps is (before, adds, are) =

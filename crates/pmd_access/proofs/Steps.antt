@@ -30,7 +30,7 @@ module _ {D : Type 0} (other : D → Bool) where
   steps_last d own [] last mine steps = (λ is. mine_is (other own) mine is, tt)
   steps_last d own (c ∷ calls) last mine steps = (λ is. steps.0, steps_last d own calls last mine steps.1)
 
-  -- calls behind others, each of which has its mark
+  -- calls after others, each of which has its mark
   pub steps_both : (ds es : List D) (ms ns : List Call) → length ds ≡ length ms → StepsWhere other ds ms
       → StepsWhere other es ns → StepsWhere other (ds ++ es) (ms ++ ns)
   steps_both [] es [] ns long first then = then

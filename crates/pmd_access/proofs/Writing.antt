@@ -43,7 +43,7 @@ put-append (x ∷ xs) ys (suc at) bytes =
     let over = next_behind (min at (length xs)) (length (take (length xs - at) bytes)) in
     rw (left, past, start, next, over) (ap (λ (zs : List ℕ). x ∷ zs) (put-append xs ys at bytes))
 
--- a Buf is written where bytes go into it, and the others go into those behind it
+-- a Buf is written where bytes go into it, and the others go into those after it
 pub writes_one : (written now : List Block) (b c : Block) (left : List Block) (at start more : ℕ)
     (rest piece behind all : List ℕ) → bytes_of written ++ put_bytes (bytes_of (b ∷ left)) at rest ≡ all
     → length b.bytes ≡ 2048 → start ≡ min at 2048 → more ≡ min (length rest) (2048 - start)

@@ -23,7 +23,7 @@ blocks_in [] = []
 blocks_in (None ∷ places) = blocks_in places
 blocks_in (Some b ∷ places) = b ∷ blocks_in places
 
--- so many blocks stand in the first places, and none behind them
+-- so many blocks stand in the first places, and none after them
 abbrev pub StandFirst : ℕ → List (Option Block) → Type 0
 StandFirst zero places = blocks_in places ≡ []
 StandFirst (suc count) [] = ⊥

@@ -25,7 +25,7 @@ abbrev pub AddsSome : List Call → List Call → Type 0
 AddsSome old new = (before : List Call) × (new ≡ old ++ before) × AreSteps before
 
 -- of calls that are marked in turn, those whose mark is of another than the driver are steps of the device, and so are
--- those behind the last mark
+-- those after the last mark
 abbrev pub StepsWhere : {D : Type 0} → (D → Bool) → List D → List Call → Type 0
 StepsWhere other [] calls = AreSteps calls
 StepsWhere other (d ∷ marks) [] = ⊤

@@ -5,7 +5,7 @@ use Rattle.device_lock.specs.NicDevice.declared.event.Port.TheVariants.{Pf, Vf}
 use Rattle.device_lock.specs.NicDevice.RegTable.Rows.{row_of}
 use Rattle.device_lock.specs.NicDevice.RegTable.declared.rows.RowId.{RowId}
 use Rattle.device_lock.specs.NicDevice.RegTable.declared.rows.RowId.TheVariants.{Rdbal, Rdbah, Rdlen, Rdh, Srrctl, Rdt, Rxdctl, Tdbal, Tdbah, Tdlen, Tdh, Tdt, Txdctl, Tdwbal}
-use Rattle.device_lock.specs.NicDevice.VfMap.Map.{behind}
+use Rattle.device_lock.specs.NicDevice.VfMap.Map.{distance}
 use Rattle.device_lock.specs.NicDevice.VfMap.Owner.{is_receive}
 use Rattle.pmd_access.specs.Setup.{IsAddressOf}
 
@@ -48,7 +48,7 @@ IsDriven row = (is_driven row ≡ true) × (128 ≤ (row_of row).count)
 -- 64 bytes, its registers as far apart as the device has them
 abbrev pub offset_of : RowId → ℕ → ℕ
 offset_of row queue =
-    if is_receive row then 0x1000 + 0x40 * queue + behind Rdbal row else 0x2000 + 0x40 * queue + behind Tdbal row
+    if is_receive row then 0x1000 + 0x40 * queue + distance Rdbal row else 0x2000 + 0x40 * queue + distance Tdbal row
 
 -- the number of a queue's register at a port: its first address, or its offset
 abbrev pub IsNumberOf : Port → RowId → ℕ → ℕ → Type 0

@@ -57,7 +57,7 @@ abbrev pub next_list : List (List (Event Block)) → List (Event Block)
 next_list [] = []
 next_list (es ∷ lists) = es
 
--- the lists behind the next
+-- the lists after the next
 abbrev pub later_lists : List (List (Event Block)) → List (List (Event Block))
 later_lists [] = []
 later_lists (es ∷ lists) = lists
@@ -80,7 +80,7 @@ after_call s e = record {
 abbrev pub IsMadeTo : Handled → List (Event Block) → Handled → List (Event Block) → Type 0
 IsMadeTo old all new rest = (done : List (Event Block)) × (all ≡ done ++ rest) × (new ≡ after_list old done)
 
--- an event of the next list was refused: it stays first in line, with those behind it
+-- an event of the next list was refused: it stays first in line, with those after it
 abbrev pub StopsInList : Scheduled → Scheduled → Type 0
 StopsInList old new =
     (refused : Event Block) × (rest : List (Event Block)) × (new.lists ≡ (refused ∷ rest) ∷ later_lists old.lists)

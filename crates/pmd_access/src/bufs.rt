@@ -84,7 +84,7 @@ impl Bufs {
         false
     }
 
-    /// Adds a Buf behind the others.
+    /// Adds a Buf after the others.
     pub fn push(&mut self, buf: Buf)
         requires { length self.old < 5 }
         ensures { self.new ≡ self.old ++ buf ∷ [] }

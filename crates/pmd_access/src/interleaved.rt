@@ -116,7 +116,7 @@ impl Interleaved {
         }
     }
 
-    /// Makes the next list. A refused event of it stays first in line, and those behind it.
+    /// Makes the next list. A refused event of it stays first in line, and those after it.
     fn make_next_list(&mut self, alloc: Global) -> Result<(), OutOfMemory<()>>
         ensures made { OnOk result (self.new ≡ with_list_made self.old) }
         ensures none { made_of self.new.handled ≡ made_of self.old.handled }
@@ -150,7 +150,7 @@ impl Nic for Interleaved {
     /// Makes the next list of foreign events, and then the event.
     ///
     /// `OutOfMemory` where there was no memory for one of them or its note: those before it are made, and the event
-    /// isn't. A refused foreign event stays first in line with those behind it, so that the next call makes them. A
+    /// isn't. A refused foreign event stays first in line with those after it, so that the next call makes them. A
     /// list that was made is used up.
     fn call(&mut self, alloc: Global, event: Event) -> Result<Reply, CallFault>
         ensures made { IfOk result (λ reply. Adds (made_of self.old.handled) (made_of self.new.handled) event reply) }

@@ -11,7 +11,7 @@ use std::marker::Model;
 /// How many queues of its own a virtual function's offsets have room for.
 const OWN_QUEUES: u16 = 64;
 
-/// The offset of the receive side of a virtual function's first queue. The transmit side's is as far behind.
+/// The offset of the receive side of a virtual function's first queue. The transmit side's is as far after.
 const SIDE: u32 = 0x1000;
 
 /// How many bytes of offsets one side of a queue has.

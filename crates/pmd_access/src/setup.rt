@@ -33,7 +33,7 @@ const PAD_CHECK_AND_JUMBO: u32 = PAD_AND_CHECK | Hlreg0::JUMBOEN.0;
 /// How the whole device is to be set up.
 #[derive(Clone, Copy)]
 pub struct Setup {
-    /// How the queues are parted among pools.
+    /// How the queues are divided among pools.
     pub mode: Mode,
     /// The word of MRQC: how a frame's queue is chosen.
     pub mrqc: u32,

@@ -28,7 +28,7 @@ pub step_apart : (own : Blocks) (h : Halves) (e : Event Block) → IsTrue (is_st
 step_apart own h (event.Lend b) step = cc
 step_apart own h e step = tt
 
--- no calls, and calls behind others
+-- no calls, and calls after others
 
 pub apart_none : (own : Blocks) (made : List Call) (h : Halves) → DrivesApart own made h made h
 unfolding drives_none

@@ -1,4 +1,4 @@
--- The tail is moved behind the packets that were queued.
+-- The tail is moved after the packets that were queued.
 use Rattle.std.proofs.Common.{◌≡◌, inl, inr, ◌==◌, ℕ, if◌then◌else◌, Bool, true, false, List, [], ◌∷◌, length, Option, Some, None, Result, Ok, Err, IfSome, refl, sym, ap, subst, ◌∙◌, append-nil, arith}
 use Rattle.std.proofs.lemmas.Bool.Decides.{nat_tests}
 use Rattle.pmd_rx.specs.NicDevice.DmaArena.Numbers.{is_own}

@@ -15,14 +15,14 @@ use Rattle.pmd_driver.specs.Running.{Running, IsUp, goes_back, kept_out, rings_o
 use Rattle.pmd_driver.proofs.Counted.{received_kept}
 use Rattle.pmd_driver.proofs.Handing.{goes}
 
--- the blocks of packets, and of others behind them
+-- the blocks of packets, and of others after them
 pub all_numbers : (ps qs : List Packet) → numbers_of_all (ps ++ qs) ≡ numbers_of_all ps ++ numbers_of_all qs
 all_numbers [] qs = refl
 all_numbers (p ∷ ps) qs =
     ap (λ (l : List ℕ). numbers_of p.bufs ++ l) (all_numbers ps qs)
     ∙ sym (append_assoc (numbers_of p.bufs) (numbers_of_all ps) (numbers_of_all qs))
 
--- blocks come behind those in hand
+-- blocks come after those in hand
 
 behind_others : (a b : Numbers) (x y given out : List ℕ) → KeepsEach a (x ++ []) b (y ++ out)
     → KeepsEach a (x ++ given) b (y ++ (given ++ out))

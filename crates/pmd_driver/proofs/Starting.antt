@@ -124,7 +124,7 @@ drawn_keeps a (x ∷ xs) b n (here, is) free none = elim (cases_eq n x) [
       (sym (times_rest xs x n ne) ∙ none)
 ]
 
--- a number behind a run isn't in it
+-- a number after a run isn't in it
 pub none_behind : (many first n : ℕ) → first + many ≤ n → times_in_hand (range_with_len first many) n ≡ 0
 none_behind zero first n behind = refl
 none_behind (suc many) first n behind =

@@ -74,7 +74,7 @@ abbrev pub with_rests : Numbers → List Packet → Numbers
 with_rests a [] = a
 with_rests a (p ∷ ps) = with_rests (with_all_free a (drop (parts_for p.len) (numbers_of p.bufs))) ps
 
--- these packets were accepted, in their order, behind those that were
+-- these packets were accepted, in their order, after those that were
 pub record Accepts (gone : List Packet) (r s : Running) : Type 0 where
   pub accepted : s.transmit.accepted ≡ r.transmit.accepted ++ map accepted_of gone
   pub outstanding : s.transmit.outstanding ≡ r.transmit.outstanding ++ segments_in gone
@@ -124,7 +124,7 @@ Stops None s (p ∷ left) =
     IsKeptOut s p × MayAnswer s p (Ok (RingFull p)) × IsFullWhereTold s.transmit p (Ok (RingFull p))
 Stops (Some f) s left = IsLate f ⊎ IsRefusedFirst f s left
 
--- the driver was given packets to send: the first were accepted, and the tail was moved behind them, and behind those
+-- the driver was given packets to send: the first were accepted, and the tail was moved after them, and after those
 -- that waited for it
 pub record SendsBurst (given left : List Packet) (result : Result ℕ PmdFault) (old : List Call) (r : Running)
     (new : List Call) (s : Running) : Type 0 where

@@ -6,7 +6,7 @@ use Rattle.pmd_rx.specs.PmdAccess.Fresh.{bufs_for}
 use Rattle.pmd_rx.specs.PmdAccess.Home.{IsDrawn}
 use Rattle.pmd_rx.specs.PmdAccess.declared.packet.Packet.{Packet}
 
--- a packet of just these bytes was made in free blocks of the arena, and each byte of them behind is 0
+-- a packet of just these bytes was made in free blocks of the arena, and each byte of them after is 0
 pub record IsFilled (a : Numbers) (bytes : List ℕ) (p : Packet) (b : Numbers) : Type 0 where
   pub drawn : IsDrawn a (numbers_of p.bufs) b
   pub count_is : length p.bufs ≡ bufs_for (length bytes)

@@ -50,7 +50,7 @@ abbrev pub is_neither : Doer → Bool
 is_neither Receives = false
 is_neither (Sends m) = transmit.is_elsewhere m
 
--- the calls that are neither half's are steps of the device. Those behind the last doer are neither's
+-- the calls that are neither half's are steps of the device. Those after the last doer are neither's
 abbrev pub OthersStep : List Doer → List Call → Type 0
 OthersStep doers calls = StepsWhere is_neither doers calls
 

@@ -1,4 +1,4 @@
--- How the packets of a burst are queued, before the tail is moved behind them.
+-- How the packets of a burst are queued, before the tail is moved after them.
 use Rattle.std.specs.Prelude.{ℕ, ◌≡◌, ◌+◌, ◌≤◌, ◌++◌, length, List, Option, Some, IfSome}
 use Rattle.pmd_rx.specs.NicDevice.DmaArena.Numbers.{is_own}
 use Rattle.pmd_rx.specs.DeviceLock.declared.entry.Call.{Call}

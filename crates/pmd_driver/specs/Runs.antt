@@ -1,18 +1,18 @@
 -- Where the rings of a driver are made in its arena.
 use Rattle.std.specs.Prelude.{ℕ, ◌+◌, ◌≤◌, Option, Some, None}
 use Rattle.pmd_rx.specs.NicDevice.DmaArena.Numbers.{Numbers}
-use Rattle.pmd_rx.specs.NicDevice.DmaArena.Run.{run_behind, run_in, IsFreeRun}
+use Rattle.pmd_rx.specs.NicDevice.DmaArena.Run.{lowest_run, run_in, IsFreeRun}
 
--- the lowest run of so many free blocks behind another, where there is that
-abbrev pub behind_run : Numbers → ℕ → Option ℕ → Option ℕ
-behind_run a count None = None
-behind_run a count (Some ring) = run_behind a count (ring + count)
+-- the lowest run of so many free blocks after another, where there is that
+abbrev pub run_after : Numbers → ℕ → Option ℕ → Option ℕ
+run_after a count None = None
+run_after a count (Some ring) = lowest_run a count (ring + count)
 
--- the lowest one behind the lowest
+-- the lowest one after the lowest
 abbrev pub second_run : Numbers → ℕ → Option ℕ
-second_run a count = behind_run a count (run_in a count)
+second_run a count = run_after a count (run_in a count)
 
--- two runs of the arena's free blocks, one behind the other
+-- two runs of the arena's free blocks, one after the other
 pub record AreRuns (a : Numbers) (count first second : ℕ) : Type 0 where
   pub one : IsFreeRun a first count
   pub two : IsFreeRun a second count

@@ -25,14 +25,14 @@ pub(crate) struct Queued {
 }
 
 impl Running {
-    /// Sends packets from the front of the list, as many as there is room for, with one move of the tail behind the
+    /// Sends packets from the front of the list, as many as there is room for, with one move of the tail after the
     /// last. Where fewer than `vacant` slots of the ring are vacant, it first frees the blocks of packets that were
     /// sent, as `reap` does; with 0 it never does, and above 1,023 always. It stops at the first packet that has no
     /// room, is refused or meets a fault. Answers how many were accepted: they are gone from the list, and the others
     /// are left there in their order.
     ///
     /// A fault is answered where no packet was accepted: that of `reap`, or what the first packet meets, as by `tx`.
-    /// It is also answered where the tail couldn't be moved behind those that were accepted, which the list shows: the
+    /// It is also answered where the tail couldn't be moved after those that were accepted, which the list shows: the
     /// next call goes on with them.
     pub fn tx_burst<N: Nic>(
         &mut self,

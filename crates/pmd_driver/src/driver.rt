@@ -212,9 +212,9 @@ impl Pmd {
 }
 
 impl Pmd {
-    /// The next packets that came in, in order, `most` at most: they are pushed behind those that `packets` has, once
+    /// The next packets that came in, in order, `most` at most: they are pushed after those that `packets` has, once
     /// one move of the tail has posted the blocks that take the places of theirs. Answers how many they are: 0 where
-    /// `most` is 0, or the slot behind those that were seen isn't done.
+    /// `most` is 0, or the slot after those that were seen isn't done.
     ///
     /// A fault is answered as by `rx`, and only where no packet comes out: the next call goes on from there. `Call`
     /// also where there is no memory for the packets. `DeviceFault` without any event where the driver doesn't run.
@@ -247,14 +247,14 @@ impl Pmd {
         }
     }
 
-    /// Sends packets from the front of the list, as many as there is room for, with one move of the tail behind the
+    /// Sends packets from the front of the list, as many as there is room for, with one move of the tail after the
     /// last. Where fewer than `vacant` slots of the ring are vacant, it first frees the blocks of packets that were
     /// sent, as `reap` does: with 0 it never does, and above 1,023 always. It stops at the first packet that has no
     /// room, is refused or meets a fault. Answers how many were accepted: these are gone from the list, and the others
     /// are left there in their order.
     ///
     /// Where no packet was accepted, a fault is answered: that of `reap`, or what the first packet meets, as by `tx`.
-    /// One is also answered where the tail couldn't be moved behind those that were accepted, which the list shows: the
+    /// One is also answered where the tail couldn't be moved after those that were accepted, which the list shows: the
     /// next call goes on with them. `DeviceFault` without any event where the driver doesn't run, and all packets are
     /// left.
     pub fn tx_burst<N: Nic>(

@@ -30,7 +30,7 @@ pub use pmd_rx::{
     Arena, BLOCK_BYTES, BLOCK_NUMBERS, Bufs, Call, CallFault, Calls, CloseFault, CloseRefused,
     Closed, Direct, Entry, Event, EventNote, Finished, Interleaved, LONGEST_FRAME, Made, Mode,
     NewFault, Nic, Octets, POLLS, Packet, Pass, Place, PmdFault, Port, QUEUES, Queue, Record,
-    Reply, RowId, SHORTEST_FRAME, Settings, Setup, Shared, ThroughLock, Watched, history_of,
+    Reply, RowId, SHORTEST_FRAME, Settings, Setup, Shared, ThroughLock, Watched, history_of, leave,
     left_alone, marked_history, pf_setup, place_at, queues_of,
 };
 pub use pmd_tx::{Reaped, TxAnswer, TxFault, bytes_in};

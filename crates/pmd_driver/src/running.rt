@@ -125,9 +125,9 @@ impl Running {
         self.receive.receive(alloc, nic, &mut self.arena)
     }
 
-    /// The next packets that came in, in order, `most` at most: they are pushed behind those that `packets` has, once
+    /// The next packets that came in, in order, `most` at most: they are pushed after those that `packets` has, once
     /// one move of the tail has posted the blocks that take the places of theirs. Answers how many they are: 0 where
-    /// `most` is 0, or the slot behind those that were seen isn't done.
+    /// `most` is 0, or the slot after those that were seen isn't done.
     ///
     /// A fault is answered as by `rx`, and only where no packet comes out: the next call goes on from there. `Call`
     /// also where there is no memory for the packets.
@@ -197,7 +197,7 @@ impl Running {
 }
 
 impl Running {
-    /// As `tx`, but it leaves the tail where it is, for a `flush` that moves it behind several packets.
+    /// As `tx`, but it leaves the tail where it is, for a `flush` that moves it after several packets.
     pub(crate) fn queue_packet<N: Nic>(
         &mut self,
         alloc: Global,
@@ -227,7 +227,7 @@ impl Running {
             .queue(alloc, nic, &mut self.arena, elsewhere, packet)
     }
 
-    /// Moves the tail behind the packets that were accepted, where it isn't there, and goes on with the last one before
+    /// Moves the tail after the packets that were accepted, where it isn't there, and goes on with the last one before
     /// that, where a part of it waits.
     ///
     /// `DeviceFault` where the device answers what it can't on a healthy queue, and `Call` where a call was refused:

@@ -48,7 +48,7 @@ owes_room v runs owes =
 pub owed_some : (v : Receive) (a : Numbers) → 0 < length v.seen → wanted v ≤ free_count a → free_count a ≡ 0 → ⊥
 owed_some v a some free none = omega (arith, some, free, none)
 
--- behind a name that is made while a part is held: one round less, and the packet waits, or it is whole
+-- after a name that is made while a part is held: one round less, and the packet waits, or it is whole
 
 ended_some : (bs : List Block) (p : Packet) → 0 < length bs → if_any bs p ≡ p ∷ []
 ended_some [] p some = absurd (omega (arith, some))

@@ -1,4 +1,4 @@
--- The first elements of a list, and those behind them.
+-- The first elements of a list, and those after them.
 use Rattle.std.proofs.Common.{◌≡◌, ℕ, ◌+◌, ◌≤◌, List, [], ◌∷◌, ◌++◌, take, drop, length, refl, sym, ap, ◌∙◌, append_assoc, drop-drop, arith}
 use Rattle.std.proofs.lemmas.List.{length-append, length-map, take-append-le, drop-append-le, drop-take, take-append-drop, map-append, length-drop, drop-map, drop_all}
 use Rattle.pmd_access.specs.Bufs.{numbers_of}

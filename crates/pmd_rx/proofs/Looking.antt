@@ -1,4 +1,4 @@
--- A look at the slot behind those that were seen.
+-- A look at the slot after those that were seen.
 use Rattle.std.proofs.Common.{◌≡◌, ℕ, ◌<◌, ◌+◌, ◌≤◌, ◌∙◌, List, length, Option, Some, None, Result, Ok, Err, IfOk, IfErr, OnErr, refl, sym, ap, subst, inl, inr, arith}
 use Rattle.std.specs.Prelude.{[]}
 use Rattle.std.proofs.lemmas.List.{length_push, nil_from_length}

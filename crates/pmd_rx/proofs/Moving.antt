@@ -13,7 +13,7 @@ use Rattle.pmd_access.proofs.Outside.{times-append}
 use Rattle.pmd_access.proofs.Places.{wrapped_apart}
 use Rattle.pmd_rx.specs.Burst.{HasPart}
 use Rattle.pmd_rx.specs.Keeping.{Keeps, IsRunning, IsAmid, vacated, blocks_out, numbers_of_all}
-use Rattle.pmd_rx.specs.Receive.{Receive, MovesNext, moved, posts, posts_one, posts_all, parts_first, tail_behind, records_of}
+use Rattle.pmd_rx.specs.Receive.{Receive, MovesNext, moved, posts, posts_one, posts_all, parts_first, tail_after, records_of}
 use Rattle.pmd_rx.specs.declared.ring.Stage.{Stage}
 use Rattle.pmd_rx.specs.declared.ring.Stage.TheVariants.{Looks, Takes, Owes, Lent}
 use Rattle.pmd_rx.specs.Shown.{HandsOne, HandsAll}
@@ -41,7 +41,7 @@ parts_some (p ∷ ps) some all = some_first p ps all
 -- the oldest alone
 
 pub one_own : (v : Receive) (n : ℕ) → n ≡ parts_first v.whole → 0 < length v.whole → All HasPart v.whole
-    → n ≤ length v.named → MovesNext v v.layout.port v.layout.tail (tail_behind v.layout n)
+    → n ≤ length v.named → MovesNext v v.layout.port v.layout.tail (tail_after v.layout n)
 one_own v n is some all few = record {
   some = omega (arith, few, is, parts_some v.whole some all);
   port_is = refl;
@@ -49,14 +49,14 @@ one_own v n is some all few = record {
   word_is = inl (record {
     some = some;
     few = omega (arith, few, is);
-    word_is = ap (λ (k : ℕ). tail_behind v.layout k) is;
+    word_is = ap (λ (k : ℕ). tail_after v.layout k) is;
   });
 }
 
 pub one_asks : (a : Numbers) (v : Receive) → 0 < length v.whole → All HasPart v.whole
     → parts_first v.whole ≤ length v.named → AsksNext a v
 one_asks a v some all few = (
-  event.Write v.layout.port v.layout.tail (tail_behind v.layout (parts_first v.whole)),
+  event.Write v.layout.port v.layout.tail (tail_after v.layout (parts_first v.whole)),
   one_own v (parts_first v.whole) refl some all few,
   tt,
 )
@@ -64,22 +64,22 @@ one_asks a v some all few = (
 same_test : (n : ℕ) → (n == n) ≡ true
 same_test n = grind (arith, nat_tests)
 
-one_word : (v : Receive) → moved v (tail_behind v.layout (parts_first v.whole)) ≡ posts_one v
+one_word : (v : Receive) → moved v (tail_after v.layout (parts_first v.whole)) ≡ posts_one v
 one_word v =
-    ap (λ (b : Bool). if b then posts_one v else posts_all v) (same_test (tail_behind v.layout (parts_first v.whole)))
+    ap (λ (b : Bool). if b then posts_one v else posts_all v) (same_test (tail_after v.layout (parts_first v.whole)))
 
-pub one_moved : (v : Receive) (n : ℕ) → n ≡ parts_first v.whole → moved v (tail_behind v.layout n) ≡ posts_one v
-one_moved v n is = ap (λ (k : ℕ). moved v (tail_behind v.layout k)) is ∙ one_word v
+pub one_moved : (v : Receive) (n : ℕ) → n ≡ parts_first v.whole → moved v (tail_after v.layout n) ≡ posts_one v
+one_moved v n is = ap (λ (k : ℕ). moved v (tail_after v.layout k)) is ∙ one_word v
 
 -- all
 
 pub all_own : (v : Receive) (n : ℕ) → n ≡ length v.named → 0 < length v.named
-    → MovesNext v v.layout.port v.layout.tail (tail_behind v.layout n)
+    → MovesNext v v.layout.port v.layout.tail (tail_after v.layout n)
 all_own v n is some = record {
   some = some;
   port_is = refl;
   number_is = refl;
-  word_is = inr (ap (λ (k : ℕ). tail_behind v.layout k) is);
+  word_is = inr (ap (λ (k : ℕ). tail_after v.layout k) is);
 }
 
 -- where all are those of the oldest packet, it is the only one
@@ -102,9 +102,9 @@ same_words : (v : Receive) → 0 < length v.named → v.layout.next < v.layout.s
     → length v.layout.blocks + length v.named < v.layout.size → All HasPart v.whole
     → length (numbers_of_all v.whole) ≤ length v.named
     → (length v.named ≡ parts_first v.whole) ⊎ (length v.named ≢ parts_first v.whole)
-    → moved v (tail_behind v.layout (length v.named)) ≡ posts_all v
+    → moved v (tail_after v.layout (length v.named)) ≡ posts_all v
 same_words v some next room all few (inl same) =
-    ap (λ (n : ℕ). moved v (tail_behind v.layout n)) same ∙ one_word v
+    ap (λ (n : ℕ). moved v (tail_after v.layout n)) same ∙ one_word v
     ∙ ap (λ (n : ℕ). posts v n 1) (sym same)
     ∙ ap (λ (n : ℕ). posts v (length v.named) n) (sym (only_one v.whole (length v.named) some all few same))
 same_words v some next room all few (inr apart) =
@@ -112,15 +112,15 @@ same_words v some next room all few (inr apart) =
     let first = parts_first v.whole in
     let below = first_few v.whole in
     ap (λ (b : Bool). if b then posts_one v else posts_all v)
-    (test_apart (tail_behind l (length v.named)) (tail_behind l first)
+    (test_apart (tail_after l (length v.named)) (tail_after l first)
     (wrapped_apart l.size l.next (length l.blocks + length v.named) (length l.blocks + first) next room
     (omega (arith, below, few, room)) (λ same. apart (omega (arith, same)))))
 
 pub all_moved : (v : Receive) (n : ℕ) → n ≡ length v.named → 0 < length v.named → v.layout.next < v.layout.size
     → length v.layout.blocks + n < v.layout.size → All HasPart v.whole → length (numbers_of_all v.whole) ≤ n
-    → moved v (tail_behind v.layout n) ≡ posts_all v
+    → moved v (tail_after v.layout n) ≡ posts_all v
 all_moved v n is some next room all few =
-    ap (λ (k : ℕ). moved v (tail_behind v.layout k)) is
+    ap (λ (k : ℕ). moved v (tail_after v.layout k)) is
     ∙ same_words v some next (omega (arith, room, is)) all (omega (arith, few, is))
     (cases_eq (length v.named) (parts_first v.whole))
 

@@ -10,7 +10,7 @@ use Rattle.pmd_access.specs.Accesses.{IsTaken, IsLent}
 use Rattle.pmd_access.specs.declared.fault.PmdFault.{PmdFault}
 use Rattle.pmd_access.specs.declared.fault.PmdFault.TheVariants as fault
 use Rattle.pmd_rx.specs.Plays.{PlaysFrom}
-use Rattle.pmd_rx.specs.Receive.{Receive, IsOwn, TakesNext, LendsNext, MovesNext, HasLent, took, lent_one, names, moved, tail_behind, descriptor_at, vacant, reach, naming, fresh_of}
+use Rattle.pmd_rx.specs.Receive.{Receive, IsOwn, TakesNext, LendsNext, MovesNext, HasLent, took, lent_one, names, moved, tail_after, descriptor_at, vacant, reach, naming, fresh_of}
 use Rattle.pmd_rx.specs.Shown.{IsNamed, IsUnnamed, IsTailWritten, IsUnwritten}
 use Rattle.pmd_rx.specs.Wrong.{AsksNext, EndsWrong, IsFault}
 use Rattle.pmd_rx.proofs.Failing.{wrong_here}
@@ -93,11 +93,11 @@ module _ (arena : Numbers) (old new : List Call) (v : Receive) (lent : HasLent v
 
 -- the tail is moved on by so many
 module _ (arena : Numbers) (old new : List Call) (v : Receive) (more : ℕ)
-    (own : MovesNext v v.layout.port v.layout.tail (tail_behind v.layout more)) where
+    (own : MovesNext v v.layout.port v.layout.tail (tail_after v.layout more)) where
   abbrev tail_event : Event Block
-  tail_event = event.Write v.layout.port v.layout.tail (tail_behind v.layout more)
+  tail_event = event.Write v.layout.port v.layout.tail (tail_after v.layout more)
 
-  pub tail_plays : (w : Receive) → moved v (tail_behind v.layout more) ≡ w → IsTailWritten old new v.layout more true
+  pub tail_plays : (w : Receive) → moved v (tail_after v.layout more) ≡ w → IsTailWritten old new v.layout more true
       → PlaysFrom arena old v new w
   tail_plays w is made =
       subst (PlaysFrom arena old v new) is (plays_adds arena old new v tail_event reply.Done own tt made)

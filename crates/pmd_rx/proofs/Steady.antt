@@ -103,7 +103,7 @@ seen_steady l posted seen more p whole s next t (laid, step) looks is leads part
       },
     )
 
--- as a block is named behind the last part of a packet
+-- as a block is named after the last part of a packet
 
 any_part : (bs : List Block) (p : Packet) → p.bufs ≡ bs → All HasPart (if_any bs p)
 any_part [] p is = λ k d i. absurd (omega (arith, i))
@@ -176,7 +176,7 @@ first_count p left =
       length-map p.bufs (λ (x : Block). x.number),
     )
 
--- where a packet is whole, a block is named behind the posted ones
+-- where a packet is whole, a block is named after the posted ones
 
 some_parts : (whole : List Packet) → 0 < length whole → All HasPart whole → 0 < length (numbers_of_all whole)
 some_parts [] some all = absurd (omega (arith, some))

@@ -10,8 +10,8 @@ use Rattle.pmd_rx.specs.Receive.{Receive, records_of}
 abbrev pub HasPart : Packet → Type 0
 HasPart p = 0 < length p.bufs
 
--- packets came out behind those that were there: as many as the answer says, and no more than were asked for, or none
--- behind a fault. Their records are kept, each block is in one place, and the ring is the same
+-- packets came out after those that were there: as many as the answer says, and no more than were asked for, or none
+-- after a fault. Their records are kept, each block is in one place, and the ring is the same
 pub record IsBurst (r : Result ℕ PmdFault) (most : ℕ) (a : Numbers) (v : Receive) (old : List Packet) (b : Numbers)
     (w : Receive) (new : List Packet) : Type 0 where
   pub packets : List Packet

@@ -28,7 +28,7 @@ abbrev pub numbers_of_all : List Packet → List ℕ
 numbers_of_all [] = []
 numbers_of_all (p ∷ ps) = numbers_of p.bufs ++ numbers_of_all ps
 
--- the blocks that the driver has lent: those that stand in the ring or are named behind its tail, a fresh one, and
+-- the blocks that the driver has lent: those that stand in the ring or are named after its tail, a fresh one, and
 -- those that the ring is in
 abbrev pub lent_at : Layout → Stage → List ℕ
 lent_at l s = l.blocks ++ (fresh_block s ++ ring_blocks l.ring l.size)

@@ -60,7 +60,7 @@ pub record PlaysFrom (a : Numbers) (old : List Call) (v : Receive) (new : List C
   pub plays : Plays old v new w
   pub free : AllLendFree a plays.0 plays.1
 
--- it looked at the slots of a packet from the next one on, and the slot behind those that it has seen isn't done. It
+-- it looked at the slots of a packet from the next one on, and the slot after those that it has seen isn't done. It
 -- holds nothing, and nothing else changed
 pub record LooksInVain (old : List Call) (v : Receive) (new : List Call) (w : Receive) : Type 0 where
   pub mid : List Call

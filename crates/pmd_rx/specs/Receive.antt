@@ -30,7 +30,7 @@ pub record Layout : Type 0 where
   pub blocks : List ℕ
 
 -- the ring, what was handed out, what descriptors from the next slot on told, the packet of which parts were taken, the
--- whole packets, in the places of whose blocks fresh ones are named, the named blocks behind the tail, and the stage.
+-- whole packets, in the places of whose blocks fresh ones are named, the named blocks after the tail, and the stage.
 -- The named blocks are posted as the tail moves on, and whole packets are handed out then
 pub record Receive : Type 0 where
   pub layout : Layout
@@ -55,7 +55,7 @@ block_at l k = slice_index l.blocks k
 abbrev pub vacant : Layout → ℕ
 vacant l = length l.blocks
 
--- the ring with these blocks behind the tail, and the ring as far as its slots have a block: those that are named too
+-- the ring with these blocks after the tail, and the ring as far as its slots have a block: those that are named too
 abbrev pub extended : Layout → List ℕ → Layout
 extended l bs = record l { blocks = l.blocks ++ bs }
 
@@ -79,7 +79,7 @@ joined p b t = record {
 abbrev pub told_by : List ℕ → Told
 told_by d = record { first = first_half d; second = second_half d }
 
--- whether a done descriptor tells of a part of a packet, behind so many others: it has no more bytes than a block, and
+-- whether a done descriptor tells of a part of a packet, after so many others: it has no more bytes than a block, and
 -- one that doesn't end the packet fills its block, and is followed by another
 abbrev pub is_part : ℕ → ℕ → ℕ → Bool
 is_part most before second =
@@ -144,7 +144,7 @@ abbrev pub next_stage : List Told → Stage
 next_stage [] = Looks
 next_stage (t ∷ seen) = Takes
 
--- the first vacant slot names the block that is lent: behind its last part a packet is whole
+-- the first vacant slot names the block that is lent: after its last part a packet is whole
 abbrev pub names : Receive → Receive
 names v = record v {
   named = v.named ++ fresh_of v.stage ∷ [];
@@ -172,8 +172,8 @@ parts_first [] = 0
 parts_first (p ∷ ps) = length p.bufs
 
 -- the tail's word once so many more slots are posted
-abbrev pub tail_behind : Layout → ℕ → ℕ
-tail_behind l more = slot_at l (vacant l + more)
+abbrev pub tail_after : Layout → ℕ → ℕ
+tail_after l more = slot_at l (vacant l + more)
 
 -- the tail moves on over the blocks of one whole packet, or over all that are named
 abbrev pub posts_one : Receive → Receive
@@ -184,7 +184,7 @@ posts_all v = posts v (length v.named) (length v.whole)
 
 -- which of these it is, its word tells
 abbrev pub moved : Receive → ℕ → Receive
-moved v word = if word == tail_behind v.layout (parts_first v.whole) then posts_one v else posts_all v
+moved v word = if word == tail_after v.layout (parts_first v.whole) then posts_one v else posts_all v
 
 abbrev pub drive : Receive → Event Block → Reply Block → Receive
 drive v (event.Peek16 a) (reply.Bytes d) = looked v d
@@ -219,7 +219,7 @@ HasLent Takes = ⊥
 HasLent Owes = ⊥
 HasLent (Lent b) = ⊤
 
--- it looks at the slot behind those that it saw
+-- it looks at the slot after those that it saw
 pub record PeeksNext (v : Receive) (a : ℕ) : Type 0 where
   pub stage : v.stage ≡ Looks
   pub address : a ≡ descriptor_at v.layout (length v.seen)
@@ -244,14 +244,14 @@ pub record NamesNext (v : Receive) (a : ℕ) (bytes : List ℕ) : Type 0 where
 pub record MovesOne (v : Receive) (word : ℕ) : Type 0 where
   pub some : 0 < length v.whole
   pub few : parts_first v.whole ≤ length v.named
-  pub word_is : word ≡ tail_behind v.layout (parts_first v.whole)
+  pub word_is : word ≡ tail_after v.layout (parts_first v.whole)
 
 -- over these, or over all that are named
 pub record MovesNext (v : Receive) (port : Port) (number word : ℕ) : Type 0 where
   pub some : 0 < length v.named
   pub port_is : port ≡ v.layout.port
   pub number_is : number ≡ v.layout.tail
-  pub word_is : MovesOne v word ⊎ (word ≡ tail_behind v.layout (length v.named))
+  pub word_is : MovesOne v word ⊎ (word ≡ tail_after v.layout (length v.named))
 
 abbrev pub IsOwn : Receive → Event Block → Type 0
 IsOwn v (event.Peek16 a) = PeeksNext v a

@@ -15,7 +15,7 @@ use Rattle.pmd_access.specs.DeviceLock.declared.entry.Call.{Call}
 use Rattle.pmd_access.specs.declared.packet.Packet.{Packet}
 use Rattle.pmd_access.specs.Packet.{Kept, kept_of}
 use Rattle.pmd_rx.specs.Burst.{HasPart}
-use Rattle.pmd_rx.specs.Receive.{Receive, descriptor_at, tail_behind, vacant, reach, naming, fresh_of, Layout, no_packet, is_part, records_of, lent_one, names, saw}
+use Rattle.pmd_rx.specs.Receive.{Receive, descriptor_at, tail_after, vacant, reach, naming, fresh_of, Layout, no_packet, is_part, records_of, lent_one, names, saw}
 use Rattle.pmd_rx.specs.Keeping.{Keeps, vacated, numbers_of_all}
 use Rattle.pmd_rx.specs.Wrong.{PacketWaits, wanted}
 use Rattle.pmd_rx.specs.declared.receive.Look.{Look}
@@ -47,7 +47,7 @@ abbrev pub FitsBlock : Told → Type 0
 FitsBlock t = bytes_in t.second ≤ 2048
 
 -- the parts that are held and seen are at most those of a packet, and the seen ones stand in posted slots, which are
--- the first of those that have a block; a whole packet has a part, and for each part of one a block is named behind
+-- the first of those that have a block; a whole packet has a part, and for each part of one a block is named after
 -- them, as for each that is held, but for one where it is owed still
 pub record IsInStep (l : Layout) (posted : ℕ) (seen : List Told) (held : Packet) (whole : List Packet) (s : Stage)
     : Type 0 where
@@ -84,7 +84,7 @@ IsUnnamed fault.NoBuffer old new v = ⊥
 
 -- the tail of the receive ring was moved on by so many, or the port has no such register
 abbrev pub IsTailWritten : List Call → List Call → Layout → ℕ → Bool → Type 0
-IsTailWritten old new l more known = IsWritten old new l.port l.tail (tail_behind l more) known
+IsTailWritten old new l more known = IsWritten old new l.port l.tail (tail_after l more) known
 
 -- why the tail isn't moved: the port has no such register, or a call was refused
 abbrev pub IsUnwritten : PmdFault → List Call → List Call → Layout → ℕ → Type 0

@@ -17,7 +17,7 @@ use Rattle.pmd_rx.specs.Receive.{Receive, IsOwn, is_part}
 use Rattle.pmd_rx.specs.declared.ring.Stage.{Stage}
 use Rattle.pmd_rx.specs.declared.ring.Stage.TheVariants.{Looks, Takes, Owes, Lent}
 
--- a descriptor that isn't done, or tells of a part of a packet that comes behind those that were seen
+-- a descriptor that isn't done, or tells of a part of a packet that comes after those that were seen
 abbrev pub is_whole : Receive → List ℕ → Bool
 is_whole v d = not (is_done (second_half d)) || is_part v.layout.most (length v.seen) (second_half d)
 

@@ -120,7 +120,7 @@ impl ReceiveRing {
 
 impl ReceiveRing {
     /// The next packet that came in, in order: fresh blocks of the arena take the places of its blocks. None where the
-    /// slot behind those that were seen isn't done.
+    /// slot after those that were seen isn't done.
     ///
     /// Where parts of a packet are taken, since a call after it was refused, only this packet is handed out, and no
     /// slot is looked at. Where packets are whole, since a move of the tail was refused, the oldest is handed out, and
@@ -162,8 +162,8 @@ impl ReceiveRing {
     }
 
     /// The next packets that came in, in order, up to `most`: fresh blocks of the arena take the places of their
-    /// blocks, and one move of the tail posts these. They are pushed behind what `out` has. Answers how many they are:
-    /// 0 where `most` is 0, or the slot behind those that were seen isn't done.
+    /// blocks, and one move of the tail posts these. They are pushed after what `out` has. Answers how many they are:
+    /// 0 where `most` is 0, or the slot after those that were seen isn't done.
     ///
     /// It stops early, with what came in up to there, where a slot isn't done, no posted slot is left, or a call fails:
     /// the next call goes on from there. Where packets are whole, since a move of the tail was refused, no slot is
@@ -202,7 +202,7 @@ impl ReceiveRing {
         }
     }
 
-    /// Hands out the whole packets, by one move of the tail, behind what `out` has, where they are at most so many, and
+    /// Hands out the whole packets, by one move of the tail, after what `out` has, where they are at most so many, and
     /// no part of one more is taken. Else it hands out the oldest. Answers how many they are.
     ///
     /// `DeviceFault` where the port has no such register. `Call` also where `out` has no memory for them.

@@ -17,7 +17,7 @@ pub use pmd_access::{
     Closed, Dir, Direct, Entry, Event, EventNote, Finished, Interleaved, LONGEST_FRAME, Made, Mode,
     NewFault, Nic, Octets, POLLS, Packet, Pass, Place, PmdFault, Port, QUEUES, Queue, Reclaim,
     Record, Reply, RowId, SHORTEST_FRAME, Settings, Setup, Shared, ThroughLock, Watched, Why,
-    blocks_for, fresh_packet, give_bufs, give_packet, history_of, is_frame, left_alone, lend,
-    marked_history, most_blocks, packet_limit, pf_setup, place_at, queues_of,
+    blocks_for, fresh_packet, give_bufs, give_packet, history_of, is_frame, leave, left_alone,
+    lend, marked_history, most_blocks, packet_limit, pf_setup, place_at, queues_of,
 };
 pub use ring::ReceiveRing;

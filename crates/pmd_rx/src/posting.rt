@@ -117,7 +117,7 @@ impl ReceiveRing {
         }
     }
 
-    /// Whether the slot behind those that were seen is posted.
+    /// Whether the slot after those that were seen is posted.
     fn has_next(&self) -> bool
         ensures yes { result ≡ true → length self.now.seen < length self.now.layout.blocks }
         ensures no { result ≡ false → length self.now.layout.blocks ≤ length self.now.seen }

@@ -17,8 +17,8 @@ ghost use Rattle.pmd_access.specs.Refusals.{CanFail};
 use crate::ring::{ReceiveRing, Stage, Told, no_packet};
 use pmd_access::{
     BLOCK_BYTES, Buf, CallFault, Nic, Packet, PmdFault, Record, descriptor_address, first_half,
-    hash_told, is_last, is_written_back, lend, length_told, next_slot, of_halves, peek, poke,
-    posted_word, rss_told, second_half, slot_after, take,
+    is_last, is_written_back, lend, next_slot, of_halves, peek, poke, posted_word, reported_hash,
+    reported_length, reported_rss, second_half, slot_after, take,
 };
 use std::alloc::Global;
 use std::collections::VecDeque;
@@ -35,7 +35,7 @@ pub enum Look {
     Wrong,
 }
 
-/// What a descriptor tells, by its second half, of a part behind so many others of a packet of at most `most` parts.
+/// What a descriptor tells, by its second half, of a part after so many others of a packet of at most `most` parts.
 fn look_told(most: u16, before: usize, second: u64) -> Look
     requires { before < 65536 }
     ensures nothing { result ≡ Look.Nothing → IsFalse (is_done second) }
@@ -45,7 +45,7 @@ fn look_told(most: u16, before: usize, second: u64) -> Look
     if !is_written_back(second) {
         return Look::Nothing;
     }
-    let len = usize::from(length_told(second));
+    let len = usize::from(reported_length(second));
     let fits = if is_last(second) {
         len <= BLOCK_BYTES
     } else {
@@ -55,7 +55,7 @@ fn look_told(most: u16, before: usize, second: u64) -> Look
 }
 
 impl ReceiveRing {
-    /// The bus address of the descriptor of the slot behind those that were seen.
+    /// The bus address of the descriptor of the slot after those that were seen.
     fn next_descriptor(&self) -> u32
         requires { length self.now.seen < length self.now.layout.blocks }
         ensures { result ≡ descriptor_at self.now.layout (length self.now.seen) }
@@ -63,7 +63,7 @@ impl ReceiveRing {
         descriptor_address(self.ring, self.slot(self.seen.len() as u16))
     }
 
-    /// Looks at the slot behind those that were seen.
+    /// Looks at the slot after those that were seen.
     ///
     /// `Call` where a call was refused, or there was no memory to keep what is seen.
     pub(crate) fn look<N: Nic>(&mut self, alloc: Global, nic: &mut N) -> Result<Look, PmdFault>
@@ -167,9 +167,9 @@ impl ReceiveRing {
             unreachable!()
         };
         self.held.bufs.push(buf);
-        self.held.len += length_told(told.second);
-        self.held.rss = rss_told(told.first);
-        self.held.hash = hash_told(told.first);
+        self.held.len += reported_length(told.second);
+        self.held.rss = reported_rss(told.first);
+        self.held.hash = reported_hash(told.first);
         self.next = next_slot(self.size, self.next);
         let _consumed = self.slots.pop_front();
         self.posted -= 1;
@@ -346,7 +346,7 @@ fn naming(block: u32) -> [u8; 16]
     of_halves(posted_word(2048 * u64::from(block)), 0)
 }
 
-/// The stage behind a look that found a part of a packet, by the second half that it told.
+/// The stage after a look that found a part of a packet, by the second half that it told.
 fn stage_after(second: u64) -> Stage
     ensures { result ≡ (if ends_packet second then stage.Takes else stage.Looks) }
 {

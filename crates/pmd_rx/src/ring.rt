@@ -41,9 +41,9 @@ pub struct Told {
 
 /// The receive ring of a driver, and what it handed out.
 ///
-/// Of the slots' blocks, from the next slot on, the first ones are posted. Those behind them, which descriptors name,
+/// Of the slots' blocks, from the next slot on, the first ones are posted. Those after them, which descriptors name,
 /// are posted as the tail moves on, and the whole packets, whose places they take, are handed out then. The records are
-/// those of the packets that were handed out, and behind them those of the whole packets.
+/// those of the packets that were handed out, and after them those of the whole packets.
 pub struct ReceiveRing {
     pub(crate) port: Port,
     pub(crate) tail: u32,
@@ -146,7 +146,7 @@ pub(crate) fn no_packet() -> Packet
 }
 
 impl ReceiveRing {
-    /// Whether the ring has the block of this number: one that the ring is in, one that stands in it or is named behind
+    /// Whether the ring has the block of this number: one that the ring is in, one that stands in it or is named after
     /// its tail, a fresh one that is lent, or that of a part of a packet that is held or whole.
     pub fn has(&self, block: u32) -> bool
         ensures { (result ≡ true) ↔ (0 < times_in_hand (blocks_out self.now) block) }
@@ -166,7 +166,7 @@ impl ReceiveRing {
         is_ring_block(self.ring, self.size, block)
     }
 
-    /// Whether the block stands in the ring, or is named behind its tail.
+    /// Whether the block stands in the ring, or is named after its tail.
     fn stands(&self, block: u32) -> bool
         ensures { (result ≡ true) ↔ (0 < times_in_hand (reach self.now).blocks block) }
     {

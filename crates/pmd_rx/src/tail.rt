@@ -90,7 +90,7 @@ impl ReceiveRing {
     }
 
     /// Moves the tail on over all blocks that are named, where no part of a packet is held. The whole packets are
-    /// handed out, behind what `out` has: there is room for them.
+    /// handed out, after what `out` has: there is room for them.
     ///
     /// `DeviceFault` where the port has no such register.
     pub(crate) fn post_all<N: Nic>(
@@ -124,7 +124,7 @@ impl ReceiveRing {
         }
     }
 
-    /// How many blocks are named behind the tail.
+    /// How many blocks are named after the tail.
     fn named(&self) -> u16
         ensures named { result ≡ length self.now.named }
         ensures room { length self.now.layout.blocks + result < self.now.layout.size }
@@ -148,7 +148,7 @@ impl ReceiveRing {
     }
 }
 
-/// Moves all packets, in order, behind others. There is room for them.
+/// Moves all packets, in order, after others. There is room for them.
 fn hand_over(packets: &mut VecDeque<Packet>, out: &mut VecDeque<Packet>)
     requires { length packets.old.items + deque_len out.old ≤ deque_capacity out.old }
     ensures out { out.new.items ≡ out.old.items ++ packets.old.items }

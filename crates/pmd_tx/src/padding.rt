@@ -82,7 +82,7 @@ fn put_first(bufs: Bufs, at: usize, bytes: &[u8]) -> Bufs
     }
 }
 
-/// A Buf, and others behind it.
+/// A Buf, and others after it.
 pub(crate) fn behind(first: Buf, others: Bufs) -> Bufs
     requires { length others < 5 }
     ensures { result ≡ first ∷ others }
@@ -99,7 +99,7 @@ pub(crate) fn behind(first: Buf, others: Bufs) -> Bufs
     all
 }
 
-/// A packet of a Buf, and others behind it.
+/// A packet of a Buf, and others after it.
 pub(crate) fn repacked(first: Buf, others: Bufs, len: u16, rss: u8, hash: u32) -> Packet
     requires { length others < 5 }
     ensures { result ≡ record { bufs = first ∷ others; len = len; rss = rss; hash = hash } }

@@ -710,7 +710,7 @@ fn holds(pieces: &VecDeque<Piece>, block: u32) -> bool
     pieces.iter().any(|piece| block == piece.block)
 }
 
-/// The blocks of the first pieces, so many, behind these. There is room for them.
+/// The blocks of the first pieces, so many, after these. There is room for them.
 fn with_pieces(blocks: VecDeque<u32>, pieces: &VecDeque<Piece>, count: u16) -> VecDeque<u32>
     requires some { count ≤ length pieces.now.items }
     requires room { deque_len blocks + count ≤ deque_capacity blocks }

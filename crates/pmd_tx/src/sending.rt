@@ -1,5 +1,5 @@
-//! How packets are sent: their blocks are lent and their descriptors written, and the tail is moved on, behind each
-//! packet or once behind several.
+//! How packets are sent: their blocks are lent and their descriptors written, and the tail is moved on, after each
+//! packet or once after several.
 
 ghost use Rattle.std.specs.Prelude.{◌≡◌, ◌==◌, ◌&&◌, not, ◌<◌, ◌≤◌, ◌+◌, ℕ, List, None, All, drop, length, IfOk, IfErr, OnOk, OnErr, IfSome, IfNone};
 ghost use Rattle.std.specs.List.{list_any};
@@ -34,7 +34,7 @@ pub fn are_out(arena: &Arena, bufs: &Bufs) -> bool
     true
 }
 
-/// Whether a block can go home, and no Buf behind this one has its number.
+/// Whether a block can go home, and no Buf after this one has its number.
 fn is_out(arena: &Arena, bufs: &Bufs, number: usize, block: u32) -> bool
     requires { number < length bufs.now }
     ensures { result ≡ (is_own arena.now block && not (is_free arena.now block)
@@ -43,7 +43,7 @@ fn is_out(arena: &Arena, bufs: &Bufs, number: usize, block: u32) -> bool
     arena.owns(block) && !arena.is_free(block) && !comes_again(bufs, number, block)
 }
 
-/// Whether a Buf behind the one of this number has this block's number.
+/// Whether a Buf after the one of this number has this block's number.
 fn comes_again(bufs: &Bufs, number: usize, block: u32) -> bool
     requires { number < length bufs.now }
     ensures { result ≡ list_any (λ b. block == b) (drop (number + 1) (numbers_of bufs.now)) }

@@ -12,15 +12,15 @@ use Rattle.program.specs.Bytes.{bytes_of_fields}
 use Rattle.program.specs.Encoding.{fields_of, HaveWidths}
 use Rattle.program.specs.Listing.{Listing, IsListing, IsDataString}
 use Rattle.program.specs.Mapped.{◌then◌}
-use Rattle.program.specs.Object.{laid_out, object_of, read_of, bytes_of_string, strings_behind, strings_in, all_fields_in, meanings, program_of}
+use Rattle.program.specs.Object.{laid_out, object_of, read_of, bytes_of_string, strings_after, strings_in, all_fields_in, meanings, program_of}
 use Rattle.program.proofs.Back.{header-back, all_fields-back, strings-back}
 use Rattle.program.proofs.Meant.{meanings-of}
 use Rattle.program.proofs.Sizes.{length-instructions, object-small}
 
--- what the counts and all that is behind the header give
+-- what the counts and all that is after the header give
 abbrev read_behind : List ℕ → Header → Result Listing ObjectFault
 read_behind bytes h =
-    strings_behind h.count h.strings bytes then λ strings.
+    strings_after h.count h.strings bytes then λ strings.
     meanings strings h.count 0 (all_fields_in h.count (drop 16 bytes)) then λ instructions.
     Ok (record { strings = strings; instructions = instructions })
 

@@ -4,7 +4,7 @@ use Rattle.std.proofs.lemmas.List.{append-nil}
 use Rattle.std.specs.Option.{option_map}
 use Rattle.program.specs.Object.{string_in, strings_in, before_strings}
 
--- the data strings behind those that were read
+-- the data strings after those that were read
 abbrev pub behind : List (List ℕ) → Option (List (List ℕ)) → Option (List (List ℕ))
 behind strings more = option_map (λ more. strings ++ more) more
 
@@ -17,7 +17,7 @@ behind-one : (strings : List (List ℕ)) (string : List ℕ) (more : Option (Lis
 behind-one strings string None = refl
 behind-one strings string (Some more) = ap (λ all. Some all) (sym (append_assoc strings (string ∷ []) more))
 
--- the first string of some, and those behind it
+-- the first string of some, and those after it
 abbrev next : ℕ → Option (List ℕ × List ℕ) → Option (List (List ℕ))
 next rest None = None
 next rest (Some split) = before_strings split.0 (strings_in rest split.1)

@@ -117,12 +117,12 @@ program_of all strings =
     Ok (record { strings = strings; instructions = instructions })
 
 -- the data strings after this many instructions
-abbrev pub strings_behind : ℕ → ℕ → List ℕ → Result (List (List ℕ)) ObjectFault
-strings_behind count strings bytes = ok_or (strings_in strings (drop (16 + 12 * count) bytes)) Length
+abbrev pub strings_after : ℕ → ℕ → List ℕ → Result (List (List ℕ)) ObjectFault
+strings_after count strings bytes = ok_or (strings_in strings (drop (16 + 12 * count) bytes)) Length
 
 -- the program whose object the bytes are, or their fault
 unfoldable pub read_of : List ℕ → Result Listing ObjectFault
 read_of bytes =
-    header_in bytes then λ h. strings_behind h.count h.strings bytes then λ strings.
+    header_in bytes then λ h. strings_after h.count h.strings bytes then λ strings.
     meanings strings h.count 0 (all_fields_in h.count (drop 16 bytes)) then λ instructions.
     Ok (record { strings = strings; instructions = instructions })

@@ -5,7 +5,7 @@ ghost use Rattle.std.specs.Option.{option_map, ok_or};
 ghost use Rattle.std.specs.List.{AllByRecursion};
 ghost use Rattle.program.specs.Gives.{Gives};
 ghost use Rattle.program.specs.Listing.{IsSound, IsDataString};
-ghost use Rattle.program.specs.Object.{Fits, counts_in, header_in, string_in, strings_in, strings_behind};
+ghost use Rattle.program.specs.Object.{Fits, counts_in, header_in, string_in, strings_in, strings_after};
 ghost use Rattle.program.specs.Object.{all_fields_in, meanings, at_pc, read_of, object_of};
 ghost use Rattle.program.specs.Meaning.{meaning};
 ghost use Rattle.program.specs.Bytes.{fields_in};
@@ -158,9 +158,9 @@ fn instructions_in(
 }
 
 /// The data strings after the instructions.
-fn strings_behind(alloc: Global, bytes: &[u8], header: Header) -> Result<Vec<Octets>, ObjectFault>
+fn strings_after(alloc: Global, bytes: &[u8], header: Header) -> Result<Vec<Octets>, ObjectFault>
     requires { 16 + 12 * header.count ≤ length bytes.now }
-    ensures { Gives (λ strings. strings.items) result (strings_behind header.count header.strings bytes.now) }
+    ensures { Gives (λ strings. strings.items) result (strings_after header.count header.strings bytes.now) }
 {
     let instruction_bytes = INSTRUCTION_BYTES * usize::from(header.count);
     let (_, behind) = bytes.split_at(HEADER_BYTES + instruction_bytes);
@@ -168,7 +168,7 @@ fn strings_behind(alloc: Global, bytes: &[u8], header: Header) -> Result<Vec<Oct
 }
 
 /// The instructions after the header.
-fn instructions_behind(
+fn instructions_after(
     alloc: Global,
     bytes: &[u8],
     header: Header,
@@ -194,7 +194,7 @@ pub fn read(alloc: Global, bytes: &[u8]) -> Result<Program, ObjectFault>
     ensures spelled { IfOk result (λ program. bytes.now ≡ object_of program) }
 {
     let header = header_in(bytes)?;
-    let strings = strings_behind(alloc, bytes, header)?;
-    let instructions = instructions_behind(alloc, bytes, header, &strings)?;
+    let strings = strings_after(alloc, bytes, header)?;
+    let instructions = instructions_after(alloc, bytes, header, &strings)?;
     Ok(Program::new(strings, instructions))
 }

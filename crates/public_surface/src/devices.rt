@@ -1,5 +1,7 @@
 //! `nic_device`: the device, its configuration and its parts.
 
+ghost use Rattle.nic_device.specs.Blocks.{AreAmong, AreAway};
+
 use crate::typed::is;
 use nic_device::{
     Arena, Config, Device, Event, Image, LentMemory, NewFault, Octets, OutOfMemory, Parts, Reply,
@@ -95,4 +97,25 @@ pub fn device_snapshot(device: &Device) -> Result<Snapshot, AllocError> {
 
 pub fn device_restore(snapshot: &Snapshot, arena: &mut Arena) -> Result<Device, RestoreRefused> {
     Device::restore(snapshot, arena)
+}
+
+pub fn device_snapshot_within(device: &Device, arena: &Arena) -> Result<Snapshot, AllocError>
+    requires { AreAway arena.now device.now.memory }
+{
+    device.snapshot_within(arena)
+}
+
+pub fn device_has_blocks_of(device: &Device, snapshot: &Snapshot) -> bool {
+    device.has_blocks_of(snapshot)
+}
+
+pub fn device_go_back(
+    device: &mut Device,
+    snapshot: &Snapshot,
+    arena: &mut Arena,
+) -> Result<(), AllocError>
+    requires away { AreAway arena.old device.old.memory }
+    requires lent { AreAmong device.old.memory snapshot.now.memory }
+{
+    device.go_back(snapshot, arena)
 }

@@ -5,7 +5,7 @@ ghost use Rattle.dma_arena.specs.Memory.{is_lent};
 
 use crate::typed::is;
 use dma_arena::{
-    Arena, ArenaFault, Buf, LendRefused, LentMemory, Octets, Run, SplitFault, SplitRefused,
+    Arena, ArenaFault, Buf, LendRefused, LentMemory, Octets, Run, SplitFault, SplitRefused, leave,
 };
 use std::alloc::Global;
 
@@ -171,4 +171,8 @@ pub fn octets_bytes(octets: &Octets) -> &[u8] {
 
 pub fn octets_into_vec(octets: Octets) -> Vec<u8> {
     octets.into_vec()
+}
+
+pub fn left(arena: Arena, failure: u8) -> u8 {
+    leave(arena, failure)
 }

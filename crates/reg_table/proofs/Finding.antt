@@ -3,7 +3,8 @@ use Rattle.std.proofs.Common.{◌≡◌, ℕ, true, false, List, [], ◌∷◌, 
 use Rattle.std.specs.List.{list_all}
 use Rattle.std.proofs.lemmas.Bool.{cases_Bool, cond-true, cond-false, and_parts, false_from_ne_true}
 use Rattle.reg_table.specs.declared.place.Place.{Place}
-use Rattle.reg_table.specs.Run.{Run, HasPlaceAt, has_address, place_in, is_sound}
+use Rattle.reg_table.specs.Run.{Run, HasPlaceAt, has_address, place_in}
+use Rattle.reg_table.proofs.SoundRuns.{is_sound}
 use Rattle.reg_table.specs.Runs.{runs}
 use Rattle.reg_table.specs.Place.{SomeRunHas, Names, place_among}
 use Rattle.reg_table.proofs.Steps.{HasPlaceAt-place_in, has_address-true, place_in-unique}

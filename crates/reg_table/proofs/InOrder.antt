@@ -10,9 +10,9 @@ use Rattle.reg_table.proofs.Numbers.{row_numbered, number_below, rows_length}
 pub number_in : {X Y : Type 0} (tells : X → Y) (wanted : RowId → Y) (table : List X)
     → map tells table ≡ map wanted rows → (row : RowId) → number_of row < length table
 number_in tells wanted table same row =
-    let long : length table ≡ 80 =
-    sym (length-map table tells) ∙ ap length same ∙ length-map rows wanted ∙ rows_length in
-    subst (λ n. number_of row < n) (sym long) (number_below row)
+    let long : length table ≡ length rows =
+    sym (length-map table tells) ∙ ap length same ∙ length-map rows wanted in
+    subst (λ n. number_of row < n) (sym (long ∙ rows_length)) (number_below row)
 
 -- what it tells of a row stands at the row's number
 pub in_order : {X Y : Type 0} (tells : X → Y) (wanted : RowId → Y) (table : List X) (d : X)

@@ -5,7 +5,8 @@ use Rattle.std.proofs.lemmas.Bool.{and_parts}
 use Rattle.std.proofs.lemmas.Bool.Decides.{nat_tests}
 use Rattle.reg_table.specs.declared.place.Place.{Place}
 use Rattle.reg_table.specs.Rows.{row_of}
-use Rattle.reg_table.specs.Run.{Run, HasPlaceAt, is_sound}
+use Rattle.reg_table.specs.Run.{Run, HasPlaceAt}
+use Rattle.reg_table.proofs.SoundRuns.{is_sound}
 use Rattle.reg_table.specs.Runs.{runs}
 use Rattle.reg_table.specs.Place.{SomeRunHas, Names}
 use Rattle.reg_table.proofs.Finding.{table_sound}

@@ -1,3 +1,4 @@
+pub mod SoundRuns
 pub mod Steps
 pub mod Apart
 pub mod Finding

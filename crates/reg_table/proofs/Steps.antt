@@ -4,7 +4,8 @@ use Rattle.std.proofs.lemmas.Bool.{and_from, le-leb, eq-eqb}
 use Rattle.std.proofs.lemmas.Bool.Decides.{nat_tests}
 use Rattle.std.proofs.Math.Nat.{div-add-mod, mul-le-mul_left, div-le_of_le-mul, mul-mod_right, mul-div_cancel_left}
 use Rattle.reg_table.specs.declared.place.Place.{Place}
-use Rattle.reg_table.specs.Run.{Run, HasPlaceAt, has_address, place_in, is_sound}
+use Rattle.reg_table.specs.Run.{Run, HasPlaceAt, has_address, place_in}
+use Rattle.reg_table.proofs.SoundRuns.{is_sound}
 
 -- the last address of a run
 abbrev pub last : Run → ℕ

@@ -11,7 +11,7 @@ use Rattle.reg_table.specs.Run.{Run, has_address, place_in}
 use Rattle.reg_table.specs.Runs.{runs}
 use Rattle.reg_table.specs.Place.{SomeRunHas, Names, SomeLowRunHas, IsLow, place_among, view_among}
 use Rattle.reg_table.specs.Access.{access_of, access_at}
-use Rattle.reg_table.specs.Run.{is_sound}
+use Rattle.reg_table.proofs.SoundRuns.{is_sound}
 use Rattle.reg_table.proofs.Steps.{HasPlaceAt-place_in, has_address-true}
 use Rattle.reg_table.proofs.Apart.{apart, all_apart, table_apart}
 use Rattle.reg_table.proofs.Finding.{none_else, found-named, missed-free, table_sound}

@@ -43,9 +43,3 @@ has_index r p = (number_of r.row == number_of p.row) && nat_le r.first_index p.i
 -- the address that the run has for one of its places
 abbrev pub address_in : Run → Place → ℕ
 address_in r p = r.first + r.stride * (p.index - r.first_index)
-
--- a run has steps of 1 to 64 bytes and 1 to 1,024 of them, lies below 0x20000, and its indices are the row's
-abbrev pub is_sound : Run → Bool
-is_sound r =
-    nat_lt 0 r.stride && nat_le r.stride 64 && nat_lt 0 r.count && nat_le r.count 1024 && nat_lt r.first 0x20000
-    && nat_le (r.first_index + r.count) (row_of r.row).count && nat_le (row_of r.row).count 1024

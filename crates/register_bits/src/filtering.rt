@@ -225,7 +225,7 @@ impl Flags for Rxcsum {
 pub struct VtCtl(pub u32);
 
 impl VtCtl {
-    /// Bit 0: frames are parted among pools.
+    /// Bit 0: frames are divided among pools.
     pub const VT_ENA: VtCtl = VtCtl(0x0000_0001);
 
     /// Bit 29: there is no default pool.

@@ -3,11 +3,12 @@ use Rattle.std.proofs.Common.{◌≡◌, ◌≢◌, ℕ, suc, zero, ◌<◌, tru
 use Rattle.reg_table.specs.Rows.{row_of}
 use Rattle.reg_table.specs.declared.rows.RowId.{RowId}
 use Rattle.reg_table.specs.declared.rows.RowId.TheVariants.{Status, Pvfctrl, Pfmbicr, Pfmbimr, Eicr, Eics, Eiac, Eitr, Eims, Eimc, Eiam, Ivar, Pvteicr, Pvteics, Pvteims, Pvteimc, Pvteiac, Pfmailbox, Pvfmailbox, Pvteiam, PvtivarMisc, Rdbal, Rdbah, Rdlen, Rdh, Srrctl, Rdt, Rxdctl, Vfgprc, Qprc, Qprdc, Rqsmr, Rdrxctl, Hlreg0, Maxfrs, Links, Dmatxctl, Vfre, Vfte, Mta, Ral, Rah, Reta, Rssrk, Tdbal, Tdbah, Tdlen, Tdh, Tdt, Txdctl, Tdwbal, Tdwbah, Qptc, Vfgptc, Tqsm, Mpsar, Psrtype, Eec, Pvtivar, Pfmbmem}
-use Rattle.register_file.specs.Cells.{is_cell, cells_of, with_cell}
+use Rattle.register_file.specs.Cells.{cells_of, with_cell}
 use Rattle.register_file.specs.Layout.{rows_of, registers_of}
 use Rattle.register_file.specs.Registers.{with_word}
 use Rattle.register_file.specs.Words.{row_words}
 use Rattle.register_file.specs.declared.register_file.RegisterFile.TheInside.{Inside}
+use Rattle.register_file.proofs.CellRows.{is_cell}
 
 -- a row that lies in no other field lies among the cells
 pub cell_of : (row : RowId)

@@ -2,6 +2,7 @@ pub use Rattle.reg_table.proofs as RegTable
 pub use Rattle.vf_map.proofs as VfMap
 pub use Rattle.rss_hash.proofs as RssHash
 pub use Rattle.intr_unit.proofs as IntrUnit
+pub mod CellRows
 pub mod AmongCells
 pub mod Columns
 pub mod InPlace

@@ -41,12 +41,12 @@ abbrev pub physical_wrote : (mail word : ℕ) → ℕ
 physical_wrote mail word = set_if (has_bit 0 word) 4 (set_if (has_bit 1 word) 5 (taken (released mail word) word))
 
 -- after a read by the function, to which it is reported once what was sent and that a reset is done
-abbrev pub told_once : ℕ → ℕ
-told_once mail = bit_cleared 4 (bit_cleared 5 (bit_cleared 7 mail))
+abbrev pub reported_once : ℕ → ℕ
+reported_once mail = bit_cleared 4 (bit_cleared 5 (bit_cleared 7 mail))
 
 -- once a reset is done: a function that read that it began reads that it is done
-abbrev pub reset_told : ℕ → ℕ
-reset_told mail = if has_bit 6 mail then bit_set 7 (bit_cleared 6 mail) else mail
+abbrev pub reset_reported : ℕ → ℕ
+reset_reported mail = if has_bit 6 mail then bit_set 7 (bit_cleared 6 mail) else mail
 
 -- the registers with another word in the mailbox of a function
 abbrev pub with_mail : Registers → (v mail : ℕ) → Registers
@@ -72,36 +72,36 @@ abbrev pub with_requests : Registers → (v word : ℕ) → Registers
 with_requests r v word = with_word r Pfmbicr (v / 16) (bit_or (word_of r Pfmbicr (v / 16)) (requests v word))
 
 -- the physical function's cause of mailboxes, EICR bit 19, is raised where PFMBIMR has the function's bit
-abbrev pub physical_told : Registers → (v word : ℕ) → Registers
-physical_told r v word =
+abbrev pub physical_signalled : Registers → (v word : ℕ) → Registers
+physical_signalled r v word =
     if sends word && has_bit (v % 32) (word_of r Pfmbimr (v / 32)) then cause_set r Pf (2 ^ 19) else r
 
 -- the function's cause is the one that PVTIVAR_MISC names
-abbrev pub function_told : Registers → (v word : ℕ) → Registers
-function_told r v word =
+abbrev pub function_signalled : Registers → (v word : ℕ) → Registers
+function_signalled r v word =
     if sends word then cause_set r (Vf v) (queue_causes (Vf v) (word_of r PvtivarMisc v % 256)) else r
 
 -- the registers after a read of a function's mailbox, after a write of it, and after one by the physical function
 abbrev pub mail_read : Registers → ℕ → Registers
-mail_read r v = with_mail r v (told_once (mail_of r v))
+mail_read r v = with_mail r v (reported_once (mail_of r v))
 
 abbrev pub function_writes : Registers → (v word : ℕ) → Registers
 function_writes r v word =
-    physical_told (with_requests (with_mail r v (function_wrote (mail_of r v) word)) v word) v word
+    physical_signalled (with_requests (with_mail r v (function_wrote (mail_of r v) word)) v word) v word
 
 abbrev pub physical_writes : Registers → (v word : ℕ) → Registers
-physical_writes r v word = function_told (with_mail r v (physical_wrote (mail_of r v) word)) v word
+physical_writes r v word = function_signalled (with_mail r v (physical_wrote (mail_of r v) word)) v word
 
 -- what the physical function reads of a mailbox: who holds it
 abbrev pub holders : Registers → ℕ → ℕ
 holders r v = bit_and (mail_of r v) 0xC
 
 -- the registers once it is reported to all functions that a reset is done
-abbrev pub done_told : Registers → ℕ → Registers
-done_told r v = with_mail r v (reset_told (mail_of r v))
+abbrev pub done_reported : Registers → ℕ → Registers
+done_reported r v = with_mail r v (reset_reported (mail_of r v))
 
 unfoldable pub resets_told : Registers → Registers
-resets_told r = fold done_told r (range_with_len 0 64)
+resets_told r = fold done_reported r (range_with_len 0 64)
 
 -- what a read of a function's mailbox may change: of its word, the bits that report once
 abbrev pub by_mail_read : ℕ → Footprint

@@ -5,7 +5,7 @@ ghost use Rattle.std.specs.List.{range_with_len};
 ghost use Rattle.intr_unit.specs.BitSet.{IsSubset};
 ghost use Rattle.intr_unit.specs.Group.{group_bits};
 ghost use Rattle.register_file.specs.Groups.{index_of};
-ghost use Rattle.register_file.specs.Mailbox.{set_if, function_wrote, released, taken, physical_wrote, told_once, reset_told, cause_set, sends, requests, with_requests, physical_told, function_told, mail_read, function_writes, physical_writes, holders, done_told, resets_told};
+ghost use Rattle.register_file.specs.Mailbox.{set_if, function_wrote, released, taken, physical_wrote, reported_once, reset_reported, cause_set, sends, requests, with_requests, physical_signalled, function_signalled, mail_read, function_writes, physical_writes, holders, done_reported, resets_told};
 
 use crate::bits::bit_set;
 use crate::register_file::RegisterFile;
@@ -57,7 +57,7 @@ impl RegisterFile {
         ensures { self.new ≡ mail_read self.old v }
     {
         let mail = self.word(RowId::Pvfmailbox, v);
-        self.set_word(RowId::Pvfmailbox, v, told_once(mail));
+        self.set_word(RowId::Pvfmailbox, v, reported_once(mail));
     }
 
     /// A function below 64 writes its mailbox register, PVFMAILBOX.
@@ -92,7 +92,7 @@ impl RegisterFile {
     /// Reports a done reset to the functions below a number.
     fn tell_resets_of(&mut self, count: u8)
         requires { count < 65 }
-        ensures { self.new ≡ fold done_told self.old (range_with_len 0 count) }
+        ensures { self.new ≡ fold done_reported self.old (range_with_len 0 count) }
     {
         for v in 0..count {
             self.tell_reset(u16::from(v));
@@ -101,10 +101,10 @@ impl RegisterFile {
 
     fn tell_reset(&mut self, v: u16)
         requires { v < 64 }
-        ensures { self.new ≡ done_told self.old v }
+        ensures { self.new ≡ done_reported self.old v }
     {
         let mail = self.word(RowId::Pvfmailbox, v);
-        self.set_word(RowId::Pvfmailbox, v, reset_told(mail));
+        self.set_word(RowId::Pvfmailbox, v, reset_reported(mail));
     }
 
     /// Adds to PFMBICR what a function sends to the physical function.
@@ -120,7 +120,7 @@ impl RegisterFile {
     /// Raises the physical function's mailbox cause, where a function sends and isn't masked.
     fn tell_physical(&mut self, v: u16, word: u32)
         requires { v < 64 }
-        ensures { self.new ≡ physical_told self.old v word }
+        ensures { self.new ≡ physical_signalled self.old v word }
     {
         let mask = self.word(RowId::Pfmbimr, v / FUNCTIONS_MASKED);
         if sends(word) && has_bit(mask, u32::from(v % FUNCTIONS_MASKED)) {
@@ -131,7 +131,7 @@ impl RegisterFile {
     /// Raises the mailbox cause of a function, where the physical function sends.
     fn tell_function(&mut self, v: u16, word: u32)
         requires { v < 64 }
-        ensures { self.new ≡ function_told self.old v word }
+        ensures { self.new ≡ function_signalled self.old v word }
     {
         if sends(word) {
             let group = Group::Vf(v as u8);
@@ -218,8 +218,8 @@ fn taken(mail: u32, word: u32) -> u32
 }
 
 /// The word of a mailbox after a read by the function: bits that report once are cleared.
-fn told_once(mail: u32) -> u32
-    ensures { result ≡ told_once mail }
+fn reported_once(mail: u32) -> u32
+    ensures { result ≡ reported_once mail }
 {
     let without_end = without_flag(mail, Pvfmailbox::RSTD);
     without_flag(
@@ -229,8 +229,8 @@ fn told_once(mail: u32) -> u32
 }
 
 /// The word of a mailbox after a done reset was reported: RSTD in place of RSTI.
-fn reset_told(mail: u32) -> u32
-    ensures { result ≡ reset_told mail }
+fn reset_reported(mail: u32) -> u32
+    ensures { result ≡ reset_reported mail }
 {
     if has_flag(mail, Pvfmailbox::RSTI) {
         with_flag(without_flag(mail, Pvfmailbox::RSTI), Pvfmailbox::RSTD)

@@ -1,6 +1,6 @@
 //! The words of the registers: the field of each row.
 //!
-//! `cell` and `set_word` each stand in one piece, so that a row is looked at once: behind a split by bank it would be
+//! `cell` and `set_word` each stand in one piece, so that a row is looked at once: after a split by bank it would be
 //! looked at again. With them the table of rows and fields can be read at one place for reads, and at one for writes.
 
 ghost use Rattle.std.specs.Prelude.{◌≡◌, ◌<◌, IsTrue};

@@ -11,7 +11,8 @@ use Rattle.register_file.specs.Owner.{owner_of, is_owner}
 use Rattle.register_file.specs.PoolReset.{is_renewed}
 use Rattle.register_file.specs.declared.owner.Owner.{Owner}
 use Rattle.register_file.specs.declared.owner.Owner.TheVariants as owner
-use Rattle.register_laws.specs.Footprint.{Footprint, HasWord, LacksWord, Covers, Misses, nothing, either, renewed_of, is_place, the_word, the_enable, of_owner, of_group, pending, any_pending, is_pending}
+use Rattle.register_laws.specs.Footprint.{Footprint, LacksWord, Covers, Misses, nothing, either, renewed_of, is_place, the_word, the_enable, of_owner, of_group, pending, any_pending, is_pending}
+use Rattle.register_laws.proofs.HasWord.{HasWord}
 use Rattle.register_laws.proofs.Owners.{is_group-itself, is_owner-itself, is_owner-same, is_place-itself, is_place-same}
 
 -- what follows from a test that fails fails

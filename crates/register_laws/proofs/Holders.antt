@@ -9,7 +9,7 @@ use Rattle.register_file.specs.RegTable.declared.place.Place.{Place}
 use Rattle.register_file.specs.RegTable.declared.rows.RowId.TheVariants.{Pvfmailbox}
 use Rattle.register_file.specs.Bits.{has_bit, bit_set, bit_cleared}
 use Rattle.register_file.specs.Columns.{place}
-use Rattle.register_file.specs.Mailbox.{function_wrote, released, taken, physical_wrote, told_once, reset_told, mail_of}
+use Rattle.register_file.specs.Mailbox.{function_wrote, released, taken, physical_wrote, reported_once, reset_reported, mail_of}
 use Rattle.register_file.specs.Registers.{Registers, reset_registers}
 use Rattle.register_file.specs.Words.{word_at, put, row_words}
 use Rattle.register_file.proofs.ResetWords.{word_at-reset}
@@ -121,18 +121,18 @@ physical_mail mail word is =
     (taken_mail (released mail word) word (released_mail mail word is)))
 
 -- a read by the function, and the end of a reset
-pub once_mail : (mail : ℕ) → IsMail mail → IsMail (told_once mail)
+pub once_mail : (mail : ℕ) → IsMail mail → IsMail (reported_once mail)
 once_mail mail is =
     let keeps = once_keeps mail in
     let done = bit_cleared 5 (bit_cleared 7 mail) in
-    let told : has_bit 7 (told_once mail) ≡ false = has_bit-clear_other 4 7 done (λ same. omega arith)
+    let told : has_bit 7 (reported_once mail) ≡ false = has_bit-clear_other 4 7 done (λ same. omega arith)
     ∙ has_bit-clear_other 5 7 (bit_cleared 7 mail) (λ same. omega arith) ∙ has_bit-clear 7 mail in
     record {
       holder = (λ k. keeps 2 refl k && keeps 3 refl k) ∙ is.holder;
-      end = and_off (has_bit 6 (told_once mail)) (has_bit 7 (told_once mail)) told;
+      end = and_off (has_bit 6 (reported_once mail)) (has_bit 7 (reported_once mail)) told;
     }
 
-pub reset_mail : (mail : ℕ) → IsMail mail → IsMail (reset_told mail)
+pub reset_mail : (mail : ℕ) → IsMail mail → IsMail (reset_reported mail)
 reset_mail mail is =
     let keeps = reset_keeps mail in
     record { holder = (λ k. keeps 2 refl k && keeps 3 refl k) ∙ is.holder; end = ended (has_bit 6 mail) }

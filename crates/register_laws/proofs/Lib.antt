@@ -8,6 +8,7 @@ pub mod Footprints
 pub mod Formulas
 pub mod Giving
 pub mod GroupChanges
+pub mod HasWord
 pub mod Holders
 pub mod Keeps
 pub mod MailBits

@@ -10,7 +10,7 @@ use Rattle.std.proofs.lemmas.Nat.Bits.{bit_at_or, bit_at-lt, bit_at-zero, bit_at
 use Rattle.std.proofs.Math.Pow.{pow-lt}
 use Rattle.register_file.specs.IntrUnit.BitSet.{contains, IsSubset}
 use Rattle.register_file.specs.Bits.{has_bit, bit_set, bit_cleared}
-use Rattle.register_file.specs.Mailbox.{set_if, function_wrote, released, taken, physical_wrote, told_once, reset_told, requests}
+use Rattle.register_file.specs.Mailbox.{set_if, function_wrote, released, taken, physical_wrote, reported_once, reset_reported, requests}
 use Rattle.register_file.proofs.SingleBits.{or_pow}
 use Rattle.register_laws.proofs.Bits.{has_bit-clear}
 
@@ -144,7 +144,7 @@ physical_keeps mail word =
     (out-set_if is_physical (has_bit 1 word) 5 held refl))
     (out-set_if is_physical (has_bit 0 word) 4 told refl)
 
-pub once_keeps : (mail : ℕ) → KeepsOut is_once mail (told_once mail)
+pub once_keeps : (mail : ℕ) → KeepsOut is_once mail (reported_once mail)
 once_keeps mail =
     let done = bit_cleared 7 mail in
     let seen = bit_cleared 5 done in
@@ -152,7 +152,7 @@ once_keeps mail =
     (out-trans is_once mail done seen (out-clear is_once 7 mail refl) (out-clear is_once 5 done refl))
     (out-clear is_once 4 seen refl)
 
-pub reset_keeps : (mail : ℕ) → KeepsOut is_reset_bit mail (reset_told mail)
+pub reset_keeps : (mail : ℕ) → KeepsOut is_reset_bit mail (reset_reported mail)
 reset_keeps mail =
     let begun = bit_cleared 6 mail in
     out-if is_reset_bit (has_bit 6 mail) mail _ _

@@ -14,7 +14,7 @@ use Rattle.register_file.specs.VfMap.declared.mode.Mode.{Mode}
 use Rattle.register_file.specs.Access.{stored, ones_cleared}
 use Rattle.register_file.specs.Bits.{has_bit}
 use Rattle.register_file.specs.Columns.{place}
-use Rattle.register_file.specs.Mailbox.{function_wrote, told_once, with_mail, mail_of, mail_read, function_writes, physical_writes, holders, resets_told, by_mail_read, by_sending, by_function, by_physical, by_telling}
+use Rattle.register_file.specs.Mailbox.{function_wrote, reported_once, with_mail, mail_of, mail_read, function_writes, physical_writes, holders, resets_told, by_mail_read, by_sending, by_function, by_physical, by_telling}
 use Rattle.register_file.specs.Owner.{owner_in}
 use Rattle.register_file.specs.Registers.{Registers}
 use Rattle.register_file.specs.Words.{word_at}
@@ -80,7 +80,7 @@ mail_reading = record {
       (covers-mail p.index) (misses-owner (owner.Pool p.index) (owner.Side dir queue) refl);
   sound = λ r p e sound. sound-mail_read r p.index sound;
   agree = λ mode v a b ha hb same p e is. agree-put (pool_agrees mode v) a b ha hb same (place Pvfmailbox p.index) _ _
-      (ap told_once (mail_same mode v a b same p e is));
+      (ap reported_once (mail_same mode v a b same p e is));
 }
 
 pub function_write : KeepsWriting kind.Vfmail (λ r p view word. function_writes r p.index word)

@@ -16,7 +16,7 @@ use Rattle.register_file.specs.IntrUnit.declared.group.Group.TheVariants.{Pf, Vf
 use Rattle.register_file.specs.Bits.{has_bit}
 use Rattle.register_file.specs.Columns.{place}
 use Rattle.register_file.specs.Groups.{cause_row, mask_row, index_of, told_by}
-use Rattle.register_file.specs.Mailbox.{function_wrote, physical_wrote, told_once, with_mail, mail_of, cause_set, sends, requests, with_requests, physical_told, mail_read, function_writes, physical_writes, done_told, resets_told, by_mail_read, by_sending, by_function, by_physical, by_telling}
+use Rattle.register_file.specs.Mailbox.{function_wrote, physical_wrote, reported_once, with_mail, mail_of, cause_set, sends, requests, with_requests, physical_signalled, mail_read, function_writes, physical_writes, done_reported, resets_told, by_mail_read, by_sending, by_function, by_physical, by_telling}
 use Rattle.register_file.specs.Owner.{is_group}
 use Rattle.register_file.specs.Registers.{Registers, word_of}
 use Rattle.register_file.specs.Words.{word_at}
@@ -46,7 +46,7 @@ within-mail : (r : Registers) (v new : ℕ) (has : ℕ → Bool) → KeepsOut ha
 within-mail r v new has keeps = within-bits r (place Pvfmailbox v) new has keeps
 
 pub within-mail_read : (r : Registers) (v : ℕ) → ChangesWithin (by_mail_read v) r (mail_read r v)
-within-mail_read r v = within-mail r v (told_once (mail_of r v)) is_once (once_keeps (mail_of r v))
+within-mail_read r v = within-mail r v (reported_once (mail_of r v)) is_once (once_keeps (mail_of r v))
 
 -- a cause that is set
 within-cause : (r : Registers) (g : Group) (bits : ℕ) (has : ℕ → Bool) → KeepsOut has 0 bits
@@ -70,11 +70,11 @@ cause_covered v = record {
 }
 
 pub within-sent : (r : Registers) (v word : ℕ)
-    → ChangesWithin (by_sending v) r (physical_told (with_requests r v word) v word)
+    → ChangesWithin (by_sending v) r (physical_signalled (with_requests r v word) v word)
 within-sent r v word =
     let asked : Registers = with_requests r v word in
     let masked = has_bit (v % 32) (word_of asked Pfmbimr (v / 32)) in
-    within-trans (by_sending v) r asked (physical_told asked v word)
+    within-trans (by_sending v) r asked (physical_signalled asked v word)
     (within-wider (by_sending v) (the_bits (place Pfmbicr (v / 16)) (is_asked v)) r asked (requests_covered v)
     (within-bits r (place Pfmbicr (v / 16)) _ (is_asked v)
     (out-or (is_asked v) (word_of r Pfmbicr (v / 16)) (requests v word) (requests_keep v word))))
@@ -139,16 +139,16 @@ mail_telling v = record {
   told = λ g is. is;
 }
 
-within-done : (r : Registers) (v : ℕ) → ChangesWithin by_telling r (done_told r v)
+within-done : (r : Registers) (v : ℕ) → ChangesWithin by_telling r (done_reported r v)
 within-done r v =
-    within-wider by_telling (the_bits (place Pvfmailbox v) is_reset_bit) r (done_told r v) (mail_telling v)
+    within-wider by_telling (the_bits (place Pvfmailbox v) is_reset_bit) r (done_reported r v) (mail_telling v)
     (within-mail r v _ is_reset_bit (reset_keeps (mail_of r v)))
 
-within-all_done : (vs : List ℕ) (r : Registers) → ChangesWithin by_telling r (fold done_told r vs)
+within-all_done : (vs : List ℕ) (r : Registers) → ChangesWithin by_telling r (fold done_reported r vs)
 within-all_done [] r = within-refl by_telling r
 within-all_done (v ∷ vs) r =
-    within-trans by_telling r (done_told r v) (fold done_told (done_told r v) vs) (within-done r v)
-    (within-all_done vs (done_told r v))
+    within-trans by_telling r (done_reported r v) (fold done_reported (done_reported r v) vs) (within-done r v)
+    (within-all_done vs (done_reported r v))
 
 pub within-telling : (r : Registers) → ChangesWithin by_telling r (resets_told r)
 unfolding resets_told
@@ -295,10 +295,10 @@ sound-physical r v word sound =
     sound-if (sends word) (cause_set held (Vf v) _) held
     (sound-cause held (Vf v) _ (queue_cause v (word_of held PvtivarMisc v % 256)) kept) kept
 
-sound-all_done : (vs : List ℕ) (r : Registers) → AreSound r → AreSound (fold done_told r vs)
+sound-all_done : (vs : List ℕ) (r : Registers) → AreSound r → AreSound (fold done_reported r vs)
 sound-all_done [] r sound = sound
 sound-all_done (v ∷ vs) r sound =
-    sound-all_done vs (done_told r v)
+    sound-all_done vs (done_reported r v)
     (sound-mail r v _ is_reset_bit (reset_keeps (mail_of r v)) reset_in (reset_mail (mail_of r v)) sound)
 
 pub sound-telling : (r : Registers) → AreSound r → AreSound (resets_told r)

@@ -17,7 +17,8 @@ use Rattle.register_file.specs.Words.{word_at, put}
 use Rattle.register_file.specs.DmaRing.declared.dir.Dir.{Dir}
 use Rattle.register_file.specs.DmaRing.declared.dir.Dir.TheVariants.{Rx, Tx}
 use Rattle.register_file.specs.declared.owner.Owner.TheVariants as owner
-use Rattle.register_laws.specs.Footprint.{Footprint, HasWord, ChangesWithin, nothing, either, is_place, the_bits, renewed_of}
+use Rattle.register_laws.specs.Footprint.{Footprint, ChangesWithin, nothing, either, is_place, the_bits, renewed_of}
+use Rattle.register_laws.proofs.HasWord.{HasWord}
 use Rattle.register_laws.specs.Sound.{HasShape}
 use Rattle.register_laws.proofs.Bits.{same_word, has_bit-mixed}
 use Rattle.register_laws.proofs.Footprints.{within-refl, within-either}

@@ -11,7 +11,8 @@ use Rattle.register_file.specs.Groups.{cause_row, mask_row, index_of, with_told,
 use Rattle.register_file.specs.Registers.{Registers, with_word, with_wanted}
 use Rattle.register_file.specs.Words.{word_at, put}
 use Rattle.register_file.specs.DmaRing.declared.dir.Dir.{Dir}
-use Rattle.register_laws.specs.Footprint.{Footprint, HasWord, ChangesWithin, is_place, the_word, the_bits, pending}
+use Rattle.register_laws.specs.Footprint.{Footprint, ChangesWithin, is_place, the_word, the_bits, pending}
+use Rattle.register_laws.proofs.HasWord.{HasWord}
 use Rattle.register_laws.proofs.Fields.{is_wanted-put, told_by-put, words-with_wanted, is_wanted-with_wanted_other, told_by-with_wanted, words-with_told, is_wanted-with_told, told_by-with_told_other}
 use Rattle.register_laws.proofs.Covers.{cause_is_pending, mask_is_pending}
 use Rattle.register_laws.proofs.Footprints.{within-trans}

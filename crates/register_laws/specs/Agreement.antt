@@ -33,20 +33,20 @@ SharedWritesChangeNothing =
     (r : Registers) (p : Place) (view word : ℕ) → IsTrue (is_shared p) → after_write r p view word ≡ r
 
 -- what a read of a place returns
-abbrev pub told_at : Registers → Surroundings → Place → ℕ
-told_at r around p = read_word (row_of p.row).kind r around p
+abbrev pub answered_at : Registers → Surroundings → Place → ℕ
+answered_at r around p = read_word (row_of p.row).kind r around p
 
 -- registers that agree in a pool return the same at its places, and at STATUS and LINKS where both have bus mastering
 -- enabled or neither
 abbrev pub PoolReadsTellTheSame : Type 0
 PoolReadsTellTheSame =
     (mode : Mode) (v : ℕ) (a b : Registers) → AgreeWithin (pool_agrees mode v) a b →
-    (around : Surroundings) (p : Place) → IsTrue (is_of_pool mode v p) → told_at a around p ≡ told_at b around p
+    (around : Surroundings) (p : Place) → IsTrue (is_of_pool mode v p) → answered_at a around p ≡ answered_at b around p
 
 abbrev pub SharedReadsTellTheSame : Type 0
 SharedReadsTellTheSame =
     (a b : Registers) → is_stopped a ≡ is_stopped b →
-    (around : Surroundings) (p : Place) → IsTrue (is_shared p) → told_at a around p ≡ told_at b around p
+    (around : Surroundings) (p : Place) → IsTrue (is_shared p) → answered_at a around p ≡ answered_at b around p
 
 -- they agree of the pool again after the same read of one of its places, after the same write, and after its reset
 abbrev pub PoolReadsKeepAgreement : Type 0

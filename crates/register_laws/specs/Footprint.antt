@@ -32,10 +32,7 @@ pub record Part : Type 0 where
 abbrev pub all_of : Part → Footprint
 all_of part = record { bits = λ p bit. part.words p; wanted = part.wanted; told = part.told }
 
--- a footprint has all bits of a word, and has none of them
-abbrev pub HasWord : Footprint → Place → Type 0
-HasWord f p = (bit : ℕ) → IsTrue (f.bits p bit)
-
+-- a footprint has no bit of a word
 abbrev pub LacksWord : Footprint → Place → Type 0
 LacksWord f p = (bit : ℕ) → IsFalse (f.bits p bit)
 

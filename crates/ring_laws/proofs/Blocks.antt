@@ -16,7 +16,7 @@ use Rattle.pmd_rx.specs.NicDevice.{DmaArena.Memory.SameLent, DmaRing.Driver.IsDa
 use Rattle.pmd_tx.proofs.PmdAccess.Places.{next_below, wrapped_apart, wrapped_below, wrapped_next}
 use Rattle.pmd_tx.proofs.PmdAccess.Rings.{each_first, each_slot_block, slot_fits, slot_lies, slot_place}
 use Rattle.pmd_tx.specs.{PmdAccess.Slots.descriptor_in, PmdAccess.Slots.wrapped, Sending.blocks_of}
-use Rattle.ring_laws.specs.Agreeing.{AgreesAt, ArePackets, IsCounted, IsDone, IsLayout, IsReady, Shows, staged_behind}
+use Rattle.ring_laws.specs.Agreeing.{AgreesAt, ArePackets, IsCounted, IsDone, IsLayout, IsReady, Shows, staged_with}
 use Rattle.ring_laws.specs.TransmitPrelude.{Layout, Segment, Sender, asking, descriptor_at, has_lent, is_sent}
 use Rattle.ring_laws.specs.TransmitPrelude.{segment_at, slot_at}
 use Rattle.ring_laws.specs.{ReceivePrelude.blocks_for, ReceivePrelude.is_ring_block, TransmitPrelude.EachRingBlock}
@@ -40,7 +40,7 @@ pub buffer_and_slot : (b n ring size slot : ℕ) → is_ring_block ring size b �
     → AreApart (2048 * b) n (descriptor_in ring slot) 16
 buffer_and_slot b n ring size slot other h l = grind arith
 
--- A ring whose head and tail are slots of it, so many behind the next one: it isn't outside, its head is a descriptor,
+-- A ring whose head and tail are slots of it, so many after the next one: it isn't outside, its head is a descriptor,
 -- and where it isn't empty the head is before the tail.
 
 pub record IsRingAt (r : Ring) (ring size next first last : ℕ) : Type 0 where
@@ -212,7 +212,7 @@ abbrev pub segment_outcome : Memory → Ring → List ℕ → Segment → Outcom
 segment_outcome m r staged x = record {
   answer = Ok (segment_fetched r staged x);
   memory = if x.part.last then write_at m (head_address r) (done_descriptor (asking x)) else m;
-  staged = staged_behind staged x;
+  staged = staged_with staged x;
 }
 
 -- Steps of transmitting of the driver's own queue.
@@ -256,7 +256,7 @@ module _ {s : State} {queue : ℕ} {sent : List (List ℕ)} {v : Sender} {f : �
     asks : descriptor_of s.memory side.ring ≡ asking x
     asks = rw head_is (h.shows.waits f (omega arith) (omega (arith, posted, h.counted.posted_poked)))
 
-    -- it is sent behind what is staged, where that and it are of packets
+    -- it is sent after what is staged, where that and it are of packets
     pub fetch-segment : (staged : List ℕ) → ArePackets v.layout.limit staged (x ∷ drop (f + 1) v.outstanding)
         → fetch_of s.memory staged side.ring (sending_of s.registers side)
         ≡ segment_outcome s.memory side.ring staged x

@@ -11,7 +11,7 @@ use Rattle.pmd_rx.{proofs.NicDevice.RxRing.Fills.takes_piece, specs.NicDevice.Re
 use Rattle.ring_laws.specs.Fitting.{AreFitting, FitsBlocks, FramesStayFitting, NoneBegunWhileOff, ResetsNoPool}
 use Rattle.ring_laws.specs.{Joint.Holds, Pieces.AllFit, Pieces.Fits, Pieces.open_after, Pieces.pieces, ReceiveUp.IsUp}
 use Rattle.ring_laws.{proofs.Foreign.no_fault, proofs.Foreign.ring_is, specs.Pieces.Piece, specs.ReceivePrelude.Receive}
-use Rattle.ring_laws.{proofs.Kept.open_pushed, specs.Fitting.begun_on, specs.Pieces.first_of, specs.Pieces.pieces_told}
+use Rattle.ring_laws.{proofs.Kept.open_pushed, specs.Fitting.partial_on, specs.Pieces.first_of, specs.Pieces.reported_pieces}
 use Rattle.std.proofs.Common.{All, List, Ok, Result, append-nil, arith, length-drop, not, true, ◌*◌, ◌+◌, ◌-◌, ◌≢◌, ◌⊎◌}
 use Rattle.std.proofs.Common.{Bool, Err, [], cond, drop, eq-eqb, false, min, ne_eqb, sym, ◌==◌, ◌≡◌}
 use Rattle.std.proofs.Common.{ap, filter, inl, inr, length, length-take, refl, subst, ℕ, ◌&&◌, ◌++◌, ◌<◌, ◌∙◌, ◌∷◌, ◌≤◌}
@@ -20,7 +20,7 @@ use Rattle.std.proofs.lemmas.{Bool.and_parts, Bool.both_ways, Bool.cond_both, Bo
 use Rattle.pmd_rx.specs.NicDevice.declared.event.Event.TheVariants as event
 use Rattle.pmd_rx.specs.NicDevice.Receive as receive
 
--- What holds of each frame that waits, wherever it goes on, does so behind an event, where it does of one that is
+-- What holds of each frame that waits, wherever it goes on, does so after an event, where it does of one that is
 -- let in.
 
 module _ (P : Waiting → Type 0) (moved : (w : Waiting) (n : ℕ) → P w → P (record w { offset = n })) (s : State)
@@ -78,9 +78,9 @@ either_zero false = refl
 -- so much of it is: the frame may go where that is nothing, or where it isn't the queue's
 module _ (queue n : ℕ) where
   abbrev Has : List Waiting → Type 0
-  Has ws = begun_on queue ws ≡ n
+  Has ws = partial_on queue ws ≡ n
 
-  unbegun : (ws : List Waiting) → All IsUnbegun ws → begun_on queue ws ≡ 0
+  unbegun : (ws : List Waiting) → All IsUnbegun ws → partial_on queue ws ≡ 0
   unbegun [] none = refl
   unbegun (w ∷ others) none = let is = (All-head IsUnbegun w others none).none in (grind arith)
 
@@ -139,14 +139,14 @@ module _ (queue n : ℕ) where
 
 -- where nothing is written it stays so over each event that writes no piece on the queue
 
-none_received : (queue : ℕ) (s : State) → IsSound s → begun_on queue s.waiting ≡ 0
-    → pieces queue s event.RxStep ≡ [] → begun_on queue (after s event.RxStep).waiting ≡ 0
+none_received : (queue : ℕ) (s : State) → IsSound s → partial_on queue s.waiting ≡ 0
+    → pieces queue s event.RxStep ≡ [] → partial_on queue (after s event.RxStep).waiting ≡ 0
 unfolding step_of
 none_received queue s sound none =
-    let gone_first : (w : Waiting) (others : List Waiting) → s.waiting ≡ w ∷ others → begun_on queue others ≡ 0 =
+    let gone_first : (w : Waiting) (others : List Waiting) → s.waiting ≡ w ∷ others → partial_on queue others ≡ 0 =
     λ w others e.
     gone queue 0 w others (subst AreWaiting e sound.waiting) (subst (Has queue 0) e none) (λ own. refl) in
-    received_cases (λ o. pieces_told queue s.waiting o.reply ≡ [] → Has queue 0 o.state.waiting) s (record {
+    received_cases (λ o. reported_pieces queue s.waiting o.reply ≡ [] → Has queue 0 o.state.waiting) s (record {
       idle = λ told. none;
       dropped = λ w others e why told. gone_first w others e;
       slotless = λ w others e told. gone_first w others e;
@@ -154,8 +154,8 @@ none_received queue s sound none =
       filled = grind (arith, common_steps, elsewhere);
     })
 
-pub begun_stays : (queue : ℕ) (s : State) → IsSound s → begun_on queue s.waiting ≡ 0 → (e : Event Block)
-    → pieces queue s e ≡ [] → begun_on queue (after s e).waiting ≡ 0
+pub begun_stays : (queue : ℕ) (s : State) → IsSound s → partial_on queue s.waiting ≡ 0 → (e : Event Block)
+    → pieces queue s e ≡ [] → partial_on queue (after s e).waiting ≡ 0
 begun_stays queue s sound none e told = grind (arith, still_begun, none_received)
 
 -- Frames that fit as many slots as the driver takes for a packet stay so, and the pieces that are written of them fit.
@@ -177,10 +177,10 @@ module _ (queue most : ℕ) (s : State) (out : List Piece) (v : Receive) (gone_b
   n = open_after 0 out
 
   abbrev Goes : List Waiting → List Piece → Type 0
-  Goes ws ps = (begun_on queue ws ≡ 2048 * open_after 0 (out ++ ps)) × AllFit most 0 (out ++ ps)
+  Goes ws ps = (partial_on queue ws ≡ 2048 * open_after 0 (out ++ ps)) × AllFit most 0 (out ++ ps)
 
   abbrev Step : Outcome → Type 0
-  Step o = Goes o.state.waiting (pieces_told queue s.waiting o.reply)
+  Step o = Goes o.state.waiting (reported_pieces queue s.waiting o.reply)
 
   none_written : (ws : List Waiting) → Has queue (2048 * n) ws → Goes ws []
   none_written ws has = rw (append-nil out) (has, fit.pieces)
@@ -234,7 +234,7 @@ module _ (queue most : ℕ) (s : State) (out : List Piece) (v : Receive) (gone_b
       fits = grind (arith, goes_on, length-take, taken)
 
       next : (ends : Bool) → f.end ≡ ends
-          → begun_on queue (cond ends others (record w { offset = w.offset + f.len } ∷ others))
+          → partial_on queue (cond ends others (record w { offset = w.offset + f.len } ∷ others))
           ≡ 2048 * cond ends 0 (n + 1)
       next true end = unbegun queue 0 others are.1 ∙ (let z : 0 ≡ 2048 * 0 = omega arith in z)
       next false end = grind (arith, goes_on, eq-eqb)
@@ -274,7 +274,7 @@ frames_stay_fitting queue most s out v e sound (gone, here, h) up fit none spare
 -- while the side is off
 
 off_begun : (queue : ℕ) (s : State) (ws : List Waiting) → All (IsBegunWhileOn s.registers) ws
-    → is_on s.registers Rx queue ≡ false → begun_on queue ws ≡ 0
+    → is_on s.registers Rx queue ≡ false → partial_on queue ws ≡ 0
 off_begun queue s [] since off = refl
 off_begun queue s (w ∷ others) since off = grind (arith, All-head)
 

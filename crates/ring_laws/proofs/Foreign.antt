@@ -22,7 +22,7 @@ use Rattle.ring_laws.specs.Steps.{EnableStepKeeps, EntryKeeps, IsMetBy, OwnRepor
 use Rattle.ring_laws.specs.{Inside.PieceIsInside, Joint.IsPosted, Pieces.Piece, Pieces.pieces, TransmitPrelude.side_of}
 use Rattle.ring_laws.specs.{Joint.Agree, Joint.Holds, Joint.IsFilled, Joint.IsSetUp, Pieces.no_piece, Steps.Each}
 use Rattle.ring_laws.{proofs.Kept.named_kept, proofs.Leaving.switching_keeps, specs.Joint.IsRing, specs.ReceiveUp.IsUp}
-use Rattle.ring_laws.{proofs.Kept.posted_block, proofs.Kept.slot_below, specs.Joint.HasSlots, specs.Pieces.pieces_told}
+use Rattle.ring_laws.{proofs.Kept.posted_block, proofs.Kept.slot_below, specs.Joint.HasSlots, specs.Pieces.reported_pieces}
 use Rattle.ring_laws.{proofs.Kept.posted_in, proofs.Kept.seen_longer, proofs.Own.own_did, specs.ReceiveUp.EntryStaysUp}
 use Rattle.std.proofs.Common.{Err, Ok, [], ap, append_assoc, eq-eqb, inr, length, refl, subst, take, true, ℕ, ◌≢◌, ◌≤◌}
 use Rattle.std.proofs.Common.{IsTrue, List, arith, inl, length-take-le, suc, sym, ◌*◌, ◌++◌, ◌/◌, ◌∙◌}
@@ -189,7 +189,7 @@ module _ (queue : ℕ) (s : State) (out : List Piece) (v : Receive) (sound : IsS
   deed_keeps (Rested no_piece rests) blocks = rw (no_piece, append-nil out) (rested rests (blocks no_piece))
 
 -- a step of receiving that writes no piece on the queue spares the driver's blocks
-spares_each : (queue : ℕ) (v : Receive) (ws : List Waiting) (r : Reply Block) → pieces_told queue ws r ≡ []
+spares_each : (queue : ℕ) (v : Receive) (ws : List Waiting) (r : Reply Block) → reported_pieces queue ws r ≡ []
     → SparesBlocks queue v r → Each v (λ b. IsSparedBy r b)
 spares_each queue v ws r h1 h2 = grind arith
 

@@ -1,6 +1,6 @@
 -- What the agreement says of packets that were handed out and of frames that were sent, and how both are counted over
 -- a history; and the definitions on small examples.
-pub use Rattle.history_laws.proofs.Limits.{lent_behind}
+pub use Rattle.history_laws.proofs.Limits.{lent_after}
 use Rattle.pmd_rx.specs.DeviceLock.History.{call_in}
 use Rattle.history_laws.proofs.DeviceLaws.{RepliesOut.frames_out, StandingQueues.receiving_blocks}
 use Rattle.history_laws.proofs.Leaving.{left-setting, left-side, left_transmit, step_is}
@@ -14,13 +14,13 @@ use Rattle.pmd_tx.specs.Sending.{advanced, asked, at_start}
 use Rattle.ring_laws.proofs.{Kept.none_of, Leaving.look_tells, Playing.end-last, Playing.look-fetched}
 use Rattle.ring_laws.proofs.{Playing.look-tells, Sparing.added-one, TransmitLent.frame_of_end}
 use Rattle.ring_laws.specs.Agreeing.{AgreesAt, SendsInOrder, bytes_of, frames_from}
-use Rattle.ring_laws.specs.Counting.{IsEndOf, NeverGoesOn, SentIsCounted, SentIsTold, lengths_told}
+use Rattle.ring_laws.specs.Counting.{IsEndOf, NeverGoesOn, SentIsCounted, SentIsTold, reported_lengths}
 use Rattle.ring_laws.specs.TransmitPrelude.{Accepts, Advances, IsOwn, Kept, Outgoing, Segment, Sender, accepted_by}
 use Rattle.ring_laws.specs.TransmitPrelude.{first_end, has_lent, is_sent, no_segment}
 use Rattle.ring_laws.specs.{Delivered.IsPrefixOf, Delivered.pieces_in, Delivered.pieces_since, Finding.HandedIsPrefix}
 use Rattle.ring_laws.specs.{Finding.NoneIsAll, Finding.NoneIsAllTaken, Joint.AreOpen, Joint.AreSeen, Laws.IdleIsAllSent}
 use Rattle.ring_laws.specs.{Laws.LeftAloneIsSpared, Laws.SentIsPrefix, Laws.WaitingIsNotAllSent, Pieces.Piece}
-use Rattle.ring_laws.specs.{Pieces.packet_told, Pieces.packets_behind, Pieces.packets_of, ReceivePrelude.Kept}
+use Rattle.ring_laws.specs.{Pieces.reported_packet, Pieces.packets_after, Pieces.packets_of, ReceivePrelude.Kept}
 use Rattle.ring_laws.specs.{ReceivePrelude.Told, Sent.counted_by, Sent.frames_added, Sent.goes_on, Sent.sent_by}
 use Rattle.ring_laws.specs.{Sent.sent_in, Sent.sent_since, Sparing.IsLeft, Sparing.ReceiveOwes, Sparing.is_transmit_of}
 use Rattle.std.proofs.Common.{IsTrue, List, Option, [], ap, append-nil, append_assoc, arith, drop, false, if◌then◌else◌}
@@ -39,13 +39,13 @@ handed_first queue s out v h1 = grind (arith, common_steps)
 
 -- pieces of which none ends its packet make none
 none_whole : (front : List ℕ) (seen : List Told) (here : List Piece) → AreOpen seen → AreSeen seen here
-    → length here ≤ length seen → packets_behind front here ≡ []
+    → length here ≤ length seen → packets_after front here ≡ []
 none_whole front seen [] opens are all = refl
 none_whole front [] (p ∷ here) opens are all = absurd (omega (arith, all))
 none_whole front (t ∷ ts) (p ∷ here) opens are all =
     grind (arith, none_whole (front ++ p.bytes) ts here opens.1 are.1 (omega (arith, all)))
 
--- where a look at the slot behind those that were seen finds it not done, all that was delivered was taken
+-- where a look at the slot after those that were seen finds it not done, all that was delivered was taken
 pub all_taken : NoneIsAllTaken
 all_taken queue s out v (gone, here, h) f =
     let k = length v.seen in
@@ -83,12 +83,12 @@ vfs_stays s (e ∷ h) = vfs_stays (after s e.event) h ∙ (step_leads s e.event)
 -- what is delivered stays so
 
 pub grows : (front : List ℕ) (xs ys : List Piece)
-    → IsPrefixOf (packets_behind front xs) (packets_behind front (xs ++ ys))
-grows front [] ys = (packets_behind front ys, refl)
+    → IsPrefixOf (packets_after front xs) (packets_after front (xs ++ ys))
+grows front [] ys = (packets_after front ys, refl)
 grows front (p ∷ xs) ys = elim (cases_Bool p.end) [
   | inl ends ↦
       let rest = grows [] xs ys in
-      rw ends (rest.0, ap (λ (ks : List Kept). packet_told (front ++ p.bytes) p.first ∷ ks) rest.1)
+      rw ends (rest.0, ap (λ (ks : List Kept). reported_packet (front ++ p.bytes) p.first ∷ ks) rest.1)
   | inr on ↦ rw on (grows (front ++ p.bytes) xs ys)
 ]
 
@@ -232,7 +232,7 @@ sent_is_counted = record { never = never; last = last; joined = joined; end = en
 -- The frames that a history sends are those that its replies tell.
 
 event_told : (queue : ℕ) (s : State) (e : Event Block) (r : Reply Block) → may_answer e r ≡ true
-    → out_after e r s (after s e) → map length (sent_by queue s e) ≡ lengths_told queue r
+    → out_after e r s (after s e) → map length (sent_by queue s e) ≡ reported_lengths queue r
 event_told queue s e r fits out = grind (arith, common_steps)
 
 -- a history
@@ -263,8 +263,8 @@ two_pieces_are_a_packet = refl
 one_added : frames_added ((3, 1 ∷ []) ∷ []) ((3, 1 ∷ []) ∷ (5, 7 ∷ 8 ∷ []) ∷ []) ≡ (7 ∷ 8 ∷ []) ∷ []
 one_added = refl
 
--- two packets of 60 bytes go out behind one write of the tail: with the first in its slot and the tail before it, the
--- second may be accepted, and then the tail moves on behind both
+-- two packets of 60 bytes go out after one write of the tail: with the first in its slot and the tail before it, the
+-- second may be accepted, and then the tail moves on after both
 
 abbrev packet : ℕ → Outgoing
 packet block = record { blocks = block ∷ []; kept = record { bytes = replicate 60 0; rss = 0; hash = 0 } }

@@ -1,5 +1,5 @@
 -- The ring of a driver that receives: its places, its blocks, and what stays where memory does; and the parts of
--- packets that it saw, and how the pieces are cut behind those that were consumed.
+-- packets that it saw, and how the pieces are cut after those that were consumed.
 use Rattle.history_laws.specs.Prelude.{Block, Memory, ends_packet}
 use Rattle.history_laws.{proofs.Leaving.named-same, specs.Prelude.State, specs.Prelude.bytes_in, specs.Prelude.mode_in}
 use Rattle.pmd_rx.{proofs.PmdAccess.Copying.bytes-more, proofs.PmdAccess.Rings.each_ring_block}
@@ -8,7 +8,7 @@ use Rattle.pmd_rx.{specs.PmdAccess.Bufs.bytes_of}
 use Rattle.ring_laws.specs.Joint.{AreOpen, AreSeen, InOrder, IsRing, StageHolds, still_held}
 use Rattle.ring_laws.specs.ReceivePrelude.{EachRingBlock, Layout, Lent, Takes, Told, block_at, ended_of, reach, slot_at}
 use Rattle.ring_laws.specs.ReceivePrelude.{Receive, Stage, is_ring_block, kept_of, left_of, no_packet, records_of, took}
-use Rattle.ring_laws.specs.{Joint.EndLast, Joint.HasSlots, Joint.IsAt, Pieces.Piece, Pieces.packets_behind, Steps.Each}
+use Rattle.ring_laws.specs.{Joint.EndLast, Joint.HasSlots, Joint.IsAt, Pieces.Piece, Pieces.packets_after, Steps.Each}
 use Rattle.ring_laws.specs.{Joint.IsNamed, Joint.IsOpen, Joint.Saw, Pieces.open_after, Pieces.packets_of, Steps.IfFresh}
 use Rattle.ring_laws.{proofs.Blocks.Stays, specs.Joint.packets_had, specs.Pieces.piece_at, specs.ReceivePrelude.wrapped}
 use Rattle.std.proofs.Common.{Bool, arith, cond, drop, eqb-true, inl, inr, slice_index, subst, take, true, ℕ, ◌+◌, ◌≤◌}
@@ -154,7 +154,7 @@ module _ (out gone ps : List Piece) (v : Receive) (p : Piece) (t : Told) (b : Bl
   -- before it was taken, by what was seen
   module _ (cut : (rest : List Piece)
       → packets_of (gone ++ rest)
-      ≡ (v.handed ++ records_of (v.whole ++ [])) ++ packets_behind (kept_of v.held).bytes rest)
+      ≡ (v.handed ++ records_of (v.whole ++ [])) ++ packets_after (kept_of v.held).bytes rest)
       (parts : open_after 0 gone ≡ length v.held.bufs) (full : length (bytes_of v.held.bufs) ≡ v.held.len)
       (saw : Saw t p) where
     taken : (ts : List Told) → EndLast (t ∷ ts) → AreSeen ts ps → out ≡ gone ++ p ∷ ps

@@ -56,7 +56,7 @@ look_tells queue s out v gone here k h some d is =
     rw (slot_told v.layout.ring v.layout.size (slot_at v.layout k) below s d h.slots.there is)
     (tells_bytes s.memory (reach v) here k h.slots (posted_in v (suc k) some))
 
--- the pieces that stand in slots fit, as all do, and the one behind those that were seen
+-- the pieces that stand in slots fit, as all do, and the one after those that were seen
 
 fit-last : (most n : ℕ) (gone here : List Piece) → AllFit most n (gone ++ here) → AllFit most (open_after n gone) here
 fit-last most n [] here all = all
@@ -124,7 +124,7 @@ pub by_outcome : (queue : ℕ) (s : State) (out : List Piece) (v : Receive) (e d
     → (AllFit v.layout.most 0 out → LendsAnew s d → is_healthy v d o.reply ≡ true) → Driven queue s out v e
 by_outcome queue s out v e d o same is agree up healthy = grind arith
 
--- the driver's look at the slot behind those that it saw
+-- the driver's look at the slot after those that it saw
 pub look_keeps : (queue : ℕ) (s : State) (out : List Piece) (v : Receive) (a : ℕ) → Agree queue s out v → PeeksNext v a
     → Driven queue s out v (event.Peek16 a)
 look_keeps queue s out v a (gone, here, h) own =

@@ -7,7 +7,7 @@ use Rattle.pmd_rx.proofs.NicDevice.DmaArena.Bus.{get-remove_other}
 use Rattle.pmd_rx.{proofs.NicDevice.DmaArena.Blocks.read_at_in, specs.NicDevice.DmaArena.Memory.part, specs.NicDevice.RegisterLaws.Sound.HasShape}
 use Rattle.pmd_rx.{proofs.NicDevice.DmaArena.Bus.of_some, proofs.NicDevice.DmaRing.Fields.halves_come_back, specs.NicDevice.DmaRing.Driver.posted}
 use Rattle.pmd_rx.specs.Receive.{HasLent, consumed, naming}
-use Rattle.pmd_rx.{proofs.PmdAccess.Rings.ring_block_apart, specs.Receive.TakesNext, specs.Receive.tail_behind}
+use Rattle.pmd_rx.{proofs.PmdAccess.Rings.ring_block_apart, specs.Receive.TakesNext, specs.Receive.tail_after}
 use Rattle.ring_laws.proofs.Kept.{named_kept, order_on, order_same, posted_block, seen_within, slot_below}
 use Rattle.ring_laws.proofs.{Blocks.same_stays, Blocks.written_stays, Kept.reach_long, Kept.taking, Leaving.lend_keeps}
 use Rattle.ring_laws.specs.Joint.{Agree, HasSlots, Holds, InOrder, IsLoose, IsRing, IsSetUp, StageHolds}
@@ -91,7 +91,7 @@ module _ (v : Receive) (blocks packets : ℕ) where
   module _ (queue : ℕ) (s : State) (out gone here : List Piece) (shape : HasShape s.registers)
       (h : Holds queue s out v gone here) where
     abbrev to : ℕ
-    to = tail_behind v.layout (many v blocks)
+    to = tail_after v.layout (many v blocks)
 
     abbrev t : State
     t = record s { registers = after_write s.registers (place Rdt queue) 0xFFFFFFFF to }
@@ -117,7 +117,7 @@ module _ (v : Receive) (blocks packets : ℕ) where
 record IsMoved (v : Receive) (word : ℕ) (w : Receive) : Type 0 where
   pub blocks : ℕ
   pub packets : ℕ
-  pub word_is : word ≡ tail_behind v.layout (many v blocks)
+  pub word_is : word ≡ tail_after v.layout (many v blocks)
   pub driver : w ≡ posts v blocks packets
 
 moved_is : (v : Receive) (port : Port) (number word : ℕ) → MovesNext v port number word

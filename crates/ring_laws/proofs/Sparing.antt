@@ -11,7 +11,7 @@ use Rattle.ring_laws.proofs.Blocks.{fetch-segment, head_is, ring_is, segment_fet
 use Rattle.ring_laws.proofs.{Blocks.shows-same, Blocks.slot-next, TransmitLent.frame_left}
 use Rattle.ring_laws.specs.Agreeing.{Agrees, AgreesAt, IsBased, IsCutOff, IsInTurn, IsSetUp, SendsInOrder}
 use Rattle.ring_laws.specs.TransmitPrelude.{Layout, Move, Segment, Sender, has_lent, moved, segment_at, side_of}
-use Rattle.ring_laws.specs.{Agreeing.staged_behind, Laws.SparingEventsKeep, Laws.StepsOfQueueKeep, ReceivePrelude.Kept}
+use Rattle.ring_laws.specs.{Agreeing.staged_with, Laws.SparingEventsKeep, Laws.StepsOfQueueKeep, ReceivePrelude.Kept}
 use Rattle.ring_laws.specs.{Sent.frames_added, Sent.sent_by, Sparing.Spares, TransmitHealthy.LendsAnew}
 use Rattle.ring_laws.specs.{TransmitPrelude.slot_at, TransmitUp.IsUp}
 use Rattle.std.proofs.Common.{IsFalse, IsTrue, List, None, Some, [], ap, append-nil, arith, drop, drop_at, false}
@@ -85,7 +85,7 @@ module _ {s : State} {queue : ℕ} {sent : List (List ℕ)} {v : Sender} {f : �
     abbrev u : State
     u = after s e
 
-    staged_is : staged_by u queue ≡ staged_behind staged x
+    staged_is : staged_by u queue ≡ staged_with staged x
     staged_is = grind (arith, common_steps, fetches)
 
     out_is : u.out ≡ with_frame s.out queue (segment_fetched side.ring staged x).frame

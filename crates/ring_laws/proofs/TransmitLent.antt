@@ -5,7 +5,7 @@ use Rattle.history_laws.{proofs.Lent.still_known, specs.Lent.OnlyLent, specs.Pre
 use Rattle.pmd_rx.proofs.NicDevice.DmaArena.{Blocks.read_at_in, Bus.get-insert_same}
 use Rattle.pmd_rx.{proofs.NicDevice.DmaArena.Bus.get-insert_other, specs.NicDevice.DmaArena.Memory.part}
 use Rattle.pmd_tx.specs.Sending.{MayLend, paired, parts_for, parts_in}
-use Rattle.ring_laws.specs.Agreeing.{ArePackets, IsLayout, IsReady, SendsInOrder, Shows, bytes_of, staged_behind}
+use Rattle.ring_laws.specs.Agreeing.{ArePackets, IsLayout, IsReady, SendsInOrder, Shows, bytes_of, staged_with}
 use Rattle.ring_laws.specs.TransmitPrelude.{Accepts, MayAccept, Move, Segment, accepted_by, moved, segment_at}
 use Rattle.ring_laws.specs.TransmitPrelude.{Elsewhere, IsOwn, Kept, Outgoing, Reaps, has_lent, no_segment, segments_of}
 use Rattle.ring_laws.specs.{Agreeing.IsCounted, Agreeing.frames_from, TransmitLent.SparesNumbers, TransmitPrelude.Lends}
@@ -20,7 +20,7 @@ use Rattle.std.specs.FinMap as fin
 use Rattle.pmd_rx.specs.NicDevice.declared.event.Reply.TheVariants as reply
 use Rattle.pmd_rx.specs.NicDevice.declared.event.Event.TheVariants as event
 
--- Segments of whole packets, behind what is staged, and the frames that they become.
+-- Segments of whole packets, after what is staged, and the frames that they become.
 
 length-parts : (whole : ℕ) (bs bytes : List ℕ) → length (paired bs (parts_in whole (length bs) bytes)) ≡ length bs
 length-parts whole [] bytes = refl
@@ -52,14 +52,14 @@ module _ (limit whole : ℕ) where
       (omega (arith, both, cut, ap length all)) (omega (arith, both, cut, ap length all)) in
       (grind (arith, common_steps))
 
--- packets behind packets, and their frames
+-- packets after packets, and their frames
 
 pub packets-append : (limit : ℕ) (staged : List ℕ) (xs ys : List Segment) → ArePackets limit staged xs
     → ArePackets limit [] ys → ArePackets limit staged (xs ++ ys)
     × (frames_from staged (xs ++ ys) ≡ frames_from staged xs ++ frames_from [] ys)
 packets-append limit staged [] ys none more = rw none (more, refl)
 packets-append limit staged (x ∷ xs) ys are more =
-    grind (arith, packets-append limit (staged_behind staged x) xs ys are.2 more)
+    grind (arith, packets-append limit (staged_with staged x) xs ys are.2 more)
 
 -- what is staged has an end to come
 
@@ -80,7 +80,7 @@ pub frame_of_end : (staged : List ℕ) (ss : List Segment) (k : ℕ) → k < len
 frame_of_end staged [] k below end = absurd (omega arith)
 frame_of_end staged (x ∷ ss) zero below end = rw end (omega arith)
 frame_of_end staged (x ∷ ss) (suc k) below end =
-    grind (arith, frame_of_end (staged_behind staged x) ss k (omega arith) end)
+    grind (arith, frame_of_end (staged_with staged x) ss k (omega arith) end)
 
 -- A block that is lent for a segment: that of a packet that is accepted by it, or of the next one of a packet.
 
@@ -122,7 +122,7 @@ module _ (m : Memory) (v : Sender) (f : ℕ) (l : IsLayout v.layout) (c : IsCoun
     pub lent_holds : length ss < v.layout.size → v.lent < length ss → IsCounted w f × Shows lent w f
     lent_holds room known = (grind (arith, new), grind (arith, stays, ready))
 
--- a packet that is accepted goes behind the others
+-- a packet that is accepted goes after the others
 module _ (v : Sender) (p : Outgoing) (b : Block) (may : MayAccept v p b) where
   pub early-accepted : (k : ℕ) → k < v.lent → segment_at (accepted_by v p) k ≡ segment_at v k
   early-accepted k below = get_or_append_left v.outstanding (segments_of p) no_segment k (omega (arith, may.lent))
@@ -158,7 +158,7 @@ module _ (v : Sender) (p : Outgoing) (b : Block) (may : MayAccept v p b) where
     sends-accepted s queue (inl t) = grind (arith, common_steps, split, packet, packets-append)
     sends-accepted s queue (inr t) = rw split (inr (cut-accepted (transmit_queue_of s.registers queue) t))
 
--- the first segment of a packet behind those that are outstanding
+-- the first segment of a packet after those that are outstanding
 pub first_at : (v : Sender) (p : Outgoing) → v.lent ≡ length v.outstanding
     → segment_at (accepted_by v p) v.lent ≡ slice_index_or (segments_of p) 0 no_segment
 first_at v p lent = grind (arith, common_steps)

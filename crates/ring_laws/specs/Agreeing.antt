@@ -11,8 +11,8 @@ abbrev pub bytes_of : List Kept → List (List ℕ)
 bytes_of packets = map (λ (p : Kept). p.bytes) packets
 
 -- the bytes that a segment leaves staged, after those that are, and the frame that ends with it, where one does
-abbrev pub staged_behind : List ℕ → Segment → List ℕ
-staged_behind staged s = if s.part.last then [] else staged ++ s.part.bytes
+abbrev pub staged_with : List ℕ → Segment → List ℕ
+staged_with staged s = if s.part.last then [] else staged ++ s.part.bytes
 
 abbrev pub frame_ended : List ℕ → Segment → List (List ℕ)
 frame_ended staged s = if s.part.last then (staged ++ s.part.bytes) ∷ [] else []
@@ -20,7 +20,7 @@ frame_ended staged s = if s.part.last then (staged ++ s.part.bytes) ∷ [] else 
 -- the frames that segments become, after what is staged
 abbrev pub frames_from : List ℕ → List Segment → List (List ℕ)
 frames_from staged [] = []
-frames_from staged (s ∷ segments) = frame_ended staged s ++ frames_from (staged_behind staged s) segments
+frames_from staged (s ∷ segments) = frame_ended staged s ++ frames_from (staged_with staged s) segments
 
 -- after the bytes that are staged segments go on with their packet, and with others, and end one: each has the limit at
 -- most, and 60 bytes at least
@@ -28,7 +28,7 @@ abbrev pub ArePackets : ℕ → List ℕ → List Segment → Type 0
 ArePackets limit staged [] = staged ≡ []
 ArePackets limit staged (s ∷ segments) =
     (length (staged ++ s.part.bytes) ≤ limit) × (s.part.last ≡ true → 60 ≤ length (staged ++ s.part.bytes))
-    × ArePackets limit (staged_behind staged s) segments
+    × ArePackets limit (staged_with staged s) segments
 
 -- a descriptor asks for the segment, and one that did is done
 abbrev pub IsPosted : Memory → ℕ → Segment → Type 0

@@ -35,13 +35,13 @@ pub record SentIsCounted : Type 0 where
       → length (sent_since queue s sent h) ≤ length sent + length h
 
 -- the length of the frame that a reply reports as sent on a queue, where it does
-abbrev pub lengths_told : ℕ → Reply Block → List ℕ
-lengths_told queue (Sent on len back) = if on == queue then len ∷ [] else []
-lengths_told queue other = []
+abbrev pub reported_lengths : ℕ → Reply Block → List ℕ
+reported_lengths queue (Sent on len back) = if on == queue then len ∷ [] else []
+reported_lengths queue other = []
 
 -- the frames that a legal history of a sound device sends on a queue are those that its replies report, by their
 -- lengths
 abbrev pub SentIsTold : Type 0
 SentIsTold =
     (queue : ℕ) (s : State) (h : List Entry) → IsSound s → AreEvents h → IsLegal s h →
-    map length (sent_in queue s h) ≡ flat_map (λ (e : Entry). lengths_told queue e.reply) h
+    map length (sent_in queue s h) ≡ flat_map (λ (e : Entry). reported_lengths queue e.reply) h

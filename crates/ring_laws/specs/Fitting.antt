@@ -13,16 +13,16 @@ abbrev pub FitsBlocks : ℕ → ℕ → Waiting → Type 0
 FitsBlocks queue most w = w.queue ≡ queue → length w.frame ≤ 2048 * most
 
 -- how much is written of the frame that waits first, where it is this queue's
-abbrev pub begun_on : ℕ → List Waiting → ℕ
-begun_on queue [] = 0
-begun_on queue (w ∷ others) = if w.queue == queue then w.offset else 0
+abbrev pub partial_on : ℕ → List Waiting → ℕ
+partial_on queue [] = 0
+partial_on queue (w ∷ others) = if w.queue == queue then w.offset else 0
 
 -- the frames that wait for the queue fit, longer ones aren't accepted, so do the packets of the pieces that were
 -- written, and of a packet that doesn't end yet so much is written as its pieces fill
 pub record AreFitting (queue most : ℕ) (s : State) (out : List Piece) : Type 0 where
   pub limit : frame_limit s.registers ≤ 2048 * most
   pub waiting : All (FitsBlocks queue most) s.waiting
-  pub begun : begun_on queue s.waiting ≡ 2048 * open_after 0 out
+  pub begun : partial_on queue s.waiting ≡ 2048 * open_after 0 out
   pub pieces : AllFit most 0 out
 
 -- an event asks for no reset of the pool that the queue is in
@@ -43,4 +43,4 @@ FramesStayFitting =
 -- while the side is off nothing is written of a frame that waits for the queue
 abbrev pub NoneBegunWhileOff : Type 0
 NoneBegunWhileOff =
-    (queue : ℕ) (s : State) → IsSound s → IsFalse (is_on s.registers Rx queue) → begun_on queue s.waiting ≡ 0
+    (queue : ℕ) (s : State) → IsSound s → IsFalse (is_on s.registers Rx queue) → partial_on queue s.waiting ≡ 0

@@ -11,7 +11,7 @@ use Rattle.ring_laws.specs.ReceivePrelude.{left_of}
 use Rattle.ring_laws.specs.ReceivePrelude.{no_packet, reach, records_of, slot_at, vacant}
 use Rattle.pmd_rx.specs.declared.ring.Stage.TheVariants.{Owes}
 use Rattle.pmd_rx.specs.PmdAccess.Bufs.{bytes_of}
-use Rattle.ring_laws.specs.Pieces.{Piece, open_after, packets_behind, packets_of, piece_at}
+use Rattle.ring_laws.specs.Pieces.{Piece, open_after, packets_after, packets_of, piece_at}
 
 -- a descriptor that waits: it names its block, and isn't done
 pub record IsPosted (m : Memory) (a block : ℕ) : Type 0 where
@@ -122,7 +122,7 @@ packets_had v = v.handed ++ records_of (v.whole ++ ended_of v.seen v.held)
 abbrev pub AreCut : List Piece → Receive → Type 0
 AreCut gone v =
     (rest : List Piece)
-    → packets_of (gone ++ rest) ≡ packets_had v ++ packets_behind (kept_of (still_held v)).bytes rest
+    → packets_of (gone ++ rest) ≡ packets_had v ++ packets_after (kept_of (still_held v)).bytes rest
 
 -- the pieces that were written on the queue since its side was enabled: those that were consumed, and then those in
 -- slots, of which the driver saw the first. A packet that isn't complete fills its blocks

@@ -1,23 +1,23 @@
 -- The packets that the pieces make that were written on a queue.
-pub use Rattle.history_laws.specs.Segments.{Piece, no_piece, first_of, pieces_told, pieces}
+pub use Rattle.history_laws.specs.Segments.{Piece, no_piece, first_of, reported_pieces, pieces}
 use Rattle.std.specs.Prelude.{[], if◌then◌else◌, ◌++◌, ◌+◌, ◌<◌, ◌∷◌, ◌≡◌, List, false, length, slice_index_or, ℕ, ⊤}
 use Rattle.ring_laws.specs.ReceivePrelude.{Kept}
 use Rattle.pmd_rx.specs.NicDevice.DmaRing.Driver.{hash_in, rss_in}
 
 -- a packet of these bytes, with what the first half of its descriptor reports
-abbrev pub packet_told : List ℕ → ℕ → Kept
-packet_told bytes first = record { bytes = bytes; rss = rss_in first; hash = hash_in first }
+abbrev pub reported_packet : List ℕ → ℕ → Kept
+reported_packet bytes first = record { bytes = bytes; rss = rss_in first; hash = hash_in first }
 
 -- pieces cut into packets, after each that ends a frame, after the bytes of those that came before; a rest without an
 -- end is left out
-abbrev pub packets_behind : List ℕ → List Piece → List Kept
-packets_behind front [] = []
-packets_behind front (p ∷ ps) =
-    if p.end then packet_told (front ++ p.bytes) p.first ∷ packets_behind [] ps
-    else packets_behind (front ++ p.bytes) ps
+abbrev pub packets_after : List ℕ → List Piece → List Kept
+packets_after front [] = []
+packets_after front (p ∷ ps) =
+    if p.end then reported_packet (front ++ p.bytes) p.first ∷ packets_after [] ps
+    else packets_after (front ++ p.bytes) ps
 
 abbrev pub packets_of : List Piece → List Kept
-packets_of ps = packets_behind [] ps
+packets_of ps = packets_after [] ps
 
 -- how many pieces there are of a packet that doesn't end yet, after this many of it and these
 abbrev pub open_after : ℕ → List Piece → ℕ

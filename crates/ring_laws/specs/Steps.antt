@@ -4,7 +4,7 @@ use Rattle.std.specs.Prelude.{◌++◌, ◌/◌, ◌<◌, ◌↔◌, ◌≡◌, 
 use Rattle.history_laws.specs.Prelude.{Block, Blocks, Bytes, Entry, EntryLeavesAlone, Event, IsEvent, IsSound}
 use Rattle.history_laws.specs.Prelude.{LeavesBlock, LeavesReceive, Mode, Reply, Rx, State, Watched, Wrote, after}
 use Rattle.history_laws.specs.Prelude.{bytes_in, ends_packet, first_half, is_done, mode_in, receive_queue_of, reply_to}
-use Rattle.history_laws.specs.Prelude.{second_half, told_back}
+use Rattle.history_laws.specs.Prelude.{second_half, reported_address}
 use Rattle.ring_laws.specs.ReceivePrelude.{IsOwn, Lent, Receive, Stage, descriptor_at, drive}
 use Rattle.ring_laws.specs.ReceivePrelude.{is_step}
 use Rattle.pmd_rx.specs.Keeping.{has_lent}
@@ -49,7 +49,7 @@ SparesBlocks queue v other = ⊤
 -- what the queue's own transmit side reports is in none of the blocks that the driver has lent for receiving
 abbrev pub OwnReportsSpare : ℕ → Receive → State → Type 0
 OwnReportsSpare queue v s =
-    (back : ℕ) → told_back (reply_to s (event.TxStep queue)) ≡ Some back → Each v (λ b. b ≢ back / 2048)
+    (back : ℕ) → reported_address (reply_to s (event.TxStep queue)) ≡ Some back → Each v (λ b. b ≢ back / 2048)
 
 -- what an entry that isn't the driver's own is made on: a sound device, whose queues are separated by this mode
 pub record IsMetBy (w : Watched) (mode : Mode) (s : State) (e : Entry) : Type 0 where

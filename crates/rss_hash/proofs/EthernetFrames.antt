@@ -1,4 +1,4 @@
--- The type and the packet of a built frame, and the ports behind a header.
+-- The type and the packet of a built frame, and the ports after a header.
 use Rattle.std.proofs.Common.{◌≢◌, ◌==◌}
 use Rattle.std.proofs.Common.{◌≡◌, ℕ, ◌+◌, ◌-◌, ◌/◌, ◌%◌, ◌≤◌, Bool, true, false}
 use Rattle.std.proofs.Common.{List, ◌∷◌, ◌++◌, length, take, drop, slice_index, slice_range, refl, sym, ap, ◌∙◌, arith}
@@ -57,7 +57,7 @@ flow_of-other to from type packet are not_four not_six =
     let six : (type == 34525) ≡ false = grind (arith, nat_tests) in
     rw (ether_type-ethernet to from type packet are, four, six) refl
 
--- the four port bytes stand right behind the header
+-- the four port bytes stand right after the header
 pub ports_behind : (packet source destination payload : List ℕ) (header : ℕ) →
     drop header packet ≡ source ++ (destination ++ payload) → ArePorts source destination →
     slice_range packet header (header + 2) ++ slice_range packet (header + 2) (header + 4) ≡ source ++ destination
@@ -74,7 +74,7 @@ pub room_ports : (source destination payload : List ℕ) → ArePorts source des
     4 ≤ length (source ++ (destination ++ payload))
 room_ports source destination payload are = simp length-append (omega (arith, are.source, are.destination))
 
--- two addresses of one length, behind a header's first fields
+-- two addresses of one length, after a header's first fields
 pub addresses_behind : (source destination rest : List ℕ) (n : ℕ) → length source ≡ n → length destination ≡ n →
     take n (source ++ (destination ++ rest)) ++ take n (drop n (source ++ (destination ++ rest)))
     ≡ source ++ destination

@@ -37,7 +37,7 @@ bit-from_test zero small = refl
 bit-from_test (suc zero) small = refl
 bit-from_test (suc (suc bit)) small = absurd (omega arith)
 
--- the parity of the key bits behind some numbers
+-- the parity of the key bits after some numbers
 parity : (key : List ℕ) (j : ℕ) → j < 32 → (ks : List ℕ)
     → bit_at (xor_of (map (λ k. bits_from key k 32) ks)) (31 - j) ≡ count_by (λ k. bit_of key (k + j) == 1) ks % 2
 parity key j within [] = bit_at-zero (31 - j)

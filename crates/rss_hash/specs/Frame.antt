@@ -5,10 +5,10 @@ use Rattle.std.specs.Prelude.{ℕ, ◌+◌, ◌*◌, List, drop, slice_index}
 abbrev pub number_at : List ℕ → ℕ → ℕ
 number_at bytes i = 256 * slice_index bytes i + slice_index bytes (i + 1)
 
--- the type, which stands behind the two addresses
+-- the type, which stands after the two addresses
 abbrev pub ether_type : List ℕ → ℕ
 ether_type frame = number_at frame 12
 
--- what the frame carries behind its header of 14 bytes
+-- what the frame carries after its header of 14 bytes
 abbrev pub packet_of : List ℕ → List ℕ
 packet_of frame = drop 14 frame

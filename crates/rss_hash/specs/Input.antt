@@ -12,7 +12,7 @@ padded bytes = bytes ++ replicate (36 - length bytes) 0
 abbrev pub bytes_of : Inside → List ℕ
 bytes_of input = take input.len input.bytes
 
--- the length is that of the bytes, and behind them stand zero bytes
+-- the length is that of the bytes, and after them stand zero bytes
 pub record IsFilled (input : Inside) : Type 0 where
   pub fits : input.len ≤ 36
   pub whole : length input.bytes ≡ 36

@@ -15,7 +15,7 @@ is_ipv4 packet =
 abbrev pub is_whole : List ℕ → Bool
 is_whole packet = number_at packet 6 % 2 ^ 14 == 0
 
--- a whole packet of this protocol, with the four port bytes behind its header
+-- a whole packet of this protocol, with the four port bytes after its header
 unfoldable pub ipv4_carries : ℕ → List ℕ → Bool
 ipv4_carries protocol packet =
     (slice_index packet 9 == protocol) && is_whole packet && nat_le (header_len packet + 4) (length packet)

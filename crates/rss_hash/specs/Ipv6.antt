@@ -5,7 +5,7 @@ use Rattle.std.specs.Prelude.{ℕ, ◌/◌, ◌==◌, nat_le, ◌&&◌, Bool, Li
 unfoldable pub is_ipv6 : List ℕ → Bool
 is_ipv6 packet = (slice_index packet 0 / 16 == 6) && nat_le 40 (length packet)
 
--- the header's own next header is this protocol, and the four port bytes stand behind it
+-- the header's own next header is this protocol, and the four port bytes stand after it
 unfoldable pub ipv6_carries : ℕ → List ℕ → Bool
 ipv6_carries protocol packet = (slice_index packet 6 == protocol) && nat_le 44 (length packet)
 

@@ -31,7 +31,7 @@ pub record AreItsWindows (tables : List (List ℕ)) (words : List ℕ) : Type 0 
   pub whole : length tables ≡ 72
   pub entry : (k v : ℕ) → k < 72 → v < 16 → HoldsItsShare tables words k v
 
--- half byte n takes no bit of a word of the key: its windows, of the 35 bits from bit 4n on, end before or begin behind
+-- half byte n takes no bit of a word of the key: its windows, of the 35 bits from bit 4n on, end before or begin after
 abbrev pub IsBeyond : (index n : ℕ) → Type 0
 IsBeyond index n = (n + 8 < 8 * index) ⊎ (8 * index + 8 ≤ n)
 

@@ -6,7 +6,7 @@ use std::marker::Model;
 /// Contracts see it as the list of its bytes.
 #[derive(Clone, Copy, PartialEq, Eq, Debug)]
 pub struct Input {
-    /// The bytes, and zero bytes behind them.
+    /// The bytes, and zero bytes after them.
     pub bytes: [u8; 36],
     /// How many bytes are hashed: 0, 8, 12, 32 or 36 in what this crate makes.
     pub len: usize,
@@ -39,7 +39,7 @@ impl Input {
         }
     }
 
-    /// The bytes with more behind them.
+    /// The bytes with more after them.
     pub(crate) fn with(mut self, more: &[u8]) -> Input
         requires { length self + length more.now ≤ 36 }
         ensures { result ≡ self ++ more.now }

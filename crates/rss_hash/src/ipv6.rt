@@ -14,7 +14,7 @@ pub(crate) fn is_packet(packet: &[u8]) -> bool
     packet.len() >= HEADER && packet[0] / 16 == 6
 }
 
-/// The flow of an IPv6 packet; behind an extension header its ports are not looked for.
+/// The flow of an IPv6 packet; after an extension header its ports are not looked for.
 #[tactic(auto, using(crate::proofs::Parts::joined_parts), unfolding(crate::specs::Flow::ipv6_flow))]
 pub(crate) fn flow(packet: &[u8]) -> Flow
     requires { 40 ≤ length packet.now }

@@ -24,12 +24,12 @@ pub fn fragments_have_no_ports()
     ensures { FragmentsHaveNoPorts flow_of }
 {}
 
-/// A TCP segment right behind an IPv6 header: its addresses and its ports.
+/// A TCP segment right after an IPv6 header: its addresses and its ports.
 pub fn tcp_over_ipv6_is_its_fields()
     ensures { PortsOverIpv6 6 tcp_flow flow_of }
 {}
 
-/// A UDP datagram right behind an IPv6 header: its addresses and its ports.
+/// A UDP datagram right after an IPv6 header: its addresses and its ports.
 pub fn udp_over_ipv6_is_its_fields()
     ensures { PortsOverIpv6 17 udp_flow flow_of }
 {}

@@ -46,7 +46,7 @@ ended frame len all = record {
   each = last_piece frame len all;
 }
 
--- a piece without EOP, and those behind it
+-- a piece without EOP, and those after it
 more_pieces : (frame : Rest) (len : ℕ) (ps : List Piece) → len ≤ length frame.bytes → len ≢ length frame.bytes
     → MakeFrame (rest_after frame len) ps → (before : List Piece) (p : Piece) (behind : List Piece)
     → piece_of frame len false ∷ ps ≡ before ++ p ∷ behind → IsPieceOf frame before p behind
@@ -105,7 +105,7 @@ piece_read t rest f sound fits is =
     rw (takes.at, takes.desc) (less_apart _ f.len _ _ 16 (omega (arith, len)) sound.apart) in
     rw (shows.len, shows.bytes apart, shows.first, shows.end) refl
 
--- a filled slot's piece, and those behind it
+-- a filled slot's piece, and those after it
 by_end : (frame : Rest) (len : ℕ) (end : Bool) (ps : List Piece) → len ≤ length frame.bytes
     → (IsTrue end ↔ (len ≡ length frame.bytes)) → MakeFrame (rest_after frame len) ps
     → MakeFrame frame (piece_of frame len end ∷ (if end then [] else ps))

@@ -14,10 +14,13 @@ mod item;
 pub mod laws;
 mod slot;
 
-pub use dma_arena::{Arena, BLOCK_BYTES, BLOCK_NUMBERS, Buf, LendRefused, LentMemory, Octets, Run};
+pub use dma_arena::{
+    Arena, BLOCK_BYTES, BLOCK_NUMBERS, Buf, LendRefused, LentMemory, Octets, Run, leave,
+};
 pub use dma_ring::{
-    Dir, Packet, Ring, RingFault, data_descriptor_word, first_half, hash_told, is_last, is_sent,
-    is_written_back, length_told, of_halves, packet_word, posted_word, rss_told, second_half,
+    Dir, Packet, Ring, RingFault, data_descriptor_word, first_half, is_last, is_sent,
+    is_written_back, of_halves, packet_word, posted_word, reported_hash, reported_length,
+    reported_rss, second_half,
 };
 pub use filled::Filled;
 pub use item::Item;

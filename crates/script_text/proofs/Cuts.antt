@@ -2,7 +2,7 @@
 use Rattle.std.proofs.Common.{◌≡◌, ◌+◌, ap, arith, refl, ◌∙◌, Bool, true, false, not, List, [], ◌∷◌, ℕ, suc, take, drop, Ok, Err}
 use Rattle.std.specs.List.{after_first, before_first, list_any, prefix_len}
 use Rattle.text_format.specs.Lines.{NumberedLine}
-use Rattle.script_text.specs.End.{has_end, is_end, lines_behind}
+use Rattle.script_text.specs.End.{has_end, is_end, lines_after}
 use Rattle.script_text.specs.Outline.{Outline}
 use Rattle.script_text.specs.Script.{with_line, with_lines}
 use Rattle.script_text.specs.declared.faults.ScriptFault.{ScriptFault}
@@ -55,7 +55,7 @@ module _ (end : List ℕ) (lines : List NumberedLine) where
           with_lines-stopped outline fault _ line _
           (ap (before_first (is_end end)) first ∙ before-next (is_end end) line more is) says
 
-    pub behind-next : is_end end line ≡ false → lines_behind end lines ≡ lines_behind end more
+    pub behind-next : is_end end line ≡ false → lines_after end lines ≡ lines_after end more
     behind-next is = ap (after_first (is_end end)) first ∙ after-next (is_end end) line more is
 
     pub end-next : is_end end line ≡ false → has_end end lines ≡ has_end end more

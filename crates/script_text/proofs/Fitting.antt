@@ -31,7 +31,7 @@ numbered_apart letter m n small less apart =
 pub same_name : (name : List ℕ) → bytes_eq name name ≡ true
 same_name name = (bytes_eq-Decides name name).1 refl
 
--- statements fit, and more behind them
+-- statements fit, and more after them
 pub Fit-append : (before xs ys : List Statement) → Fit before xs → Fit (before ++ xs) ys → Fit before (xs ++ ys)
 Fit-append before [] ys fit more = subst (λ (b : List Statement). Fit b ys) (append-nil before) more
 Fit-append before (x ∷ xs) ys fit more = (

@@ -1,4 +1,4 @@
--- Where a statement leads that fits behind others, and that one which leads somewhere fits.
+-- Where a statement leads that fits after others, and that one which leads somewhere fits.
 use Rattle.std.proofs.Common.{◌≡◌, refl, sym, ◌∙◌, ap, ℕ, ◌+◌, ◌<◌, Bool, true, false, cond, is_some, ◌&&◌, nat_le, nat_lt, List, [], ◌∷◌, ◌++◌, length, Option, Some, None, Ok, Err, arith}
 use Rattle.std.proofs.lemmas.Bool.{lt-ltb, le-leb, ltb-true, leb-true, and_parts}
 use Rattle.std.proofs.lemmas.List.{map-append}

@@ -28,7 +28,7 @@ joined : (before : List (Step ℕ ℕ)) (x : Step ℕ ℕ) (more : List (Step �
     → (before ++ x ∷ []) ++ more ≡ before ++ x ∷ more
 joined before x more = append_assoc before (x ∷ []) more
 
--- instructions that were resolved, behind those before
+-- instructions that were resolved, after those before
 record Resolved (o : Outline) (before : List (Step ℕ ℕ)) (drafts : List DraftLine) (result : List (Step ℕ ℕ)) : Type 0
   where
     added : List (Step ℕ ℕ)

@@ -53,7 +53,7 @@ numeral-Ok : (radix n : ℕ) (ds : List ℕ) → (length ds == 0) ≡ false → 
     → numeral_of radix ds ≡ Ok n
 numeral-Ok radix n ds long all is small = rw (long, all, is, lt-ltb n (2 ^ 32) small) refl
 
--- decimal digits have no x behind a zero
+-- decimal digits have no x after a zero
 not_x : (c : ℕ) → digit_value c < 10 → (120 == c) ≡ false
 not_x c small = grind (arith, nat_tests)
 

@@ -1,7 +1,7 @@
 -- The faults of a line come in their order.
 use Rattle.std.proofs.Common.{◌≡◌, ◌≤◌, ◌⊎◌, refl, ◌∙◌, ap, ℕ, true, cond, is_some, List, Option, Some, None, Result, Ok, Err, arith, inl, inr}
 use Rattle.text_format.specs.Lines.{NumberedLine}
-use Rattle.script_text.specs.Fault.{◌then◌, both, told_first, at_line, fault_at}
+use Rattle.script_text.specs.Fault.{◌then◌, both, reported_first, at_line, fault_at}
 use Rattle.script_text.specs.Laws.{rank, OneHas, FaultsComeInOrder, reading_of}
 use Rattle.script_text.specs.Outline.{Outline}
 use Rattle.script_text.specs.Places.{place_of}
@@ -17,21 +17,26 @@ record IsFirst (e f told : LineFault) : Type 0 where
   before_one : rank told ≤ rank e
   before_other : rank told ≤ rank f
 
-told_first-IsFirst : (e f : LineFault) → IsFirst e f (told_first e f)
-told_first-IsFirst Syntax f = record { one = inl refl; before_one = omega arith; before_other = omega arith }
-told_first-IsFirst UnknownName Syntax = record { one = inr refl; before_one = omega arith; before_other = omega arith }
-told_first-IsFirst UnknownName UnknownName =
+reported_first-IsFirst : (e f : LineFault) → IsFirst e f (reported_first e f)
+reported_first-IsFirst Syntax f = record { one = inl refl; before_one = omega arith; before_other = omega arith }
+reported_first-IsFirst UnknownName Syntax =
+    record { one = inr refl; before_one = omega arith; before_other = omega arith }
+reported_first-IsFirst UnknownName UnknownName =
     record { one = inl refl; before_one = omega arith; before_other = omega arith }
-told_first-IsFirst UnknownName Range = record { one = inl refl; before_one = omega arith; before_other = omega arith }
-told_first-IsFirst UnknownName TooLong = record { one = inl refl; before_one = omega arith; before_other = omega arith }
-told_first-IsFirst Range Syntax = record { one = inr refl; before_one = omega arith; before_other = omega arith }
-told_first-IsFirst Range UnknownName = record { one = inr refl; before_one = omega arith; before_other = omega arith }
-told_first-IsFirst Range Range = record { one = inl refl; before_one = omega arith; before_other = omega arith }
-told_first-IsFirst Range TooLong = record { one = inl refl; before_one = omega arith; before_other = omega arith }
-told_first-IsFirst TooLong Syntax = record { one = inr refl; before_one = omega arith; before_other = omega arith }
-told_first-IsFirst TooLong UnknownName = record { one = inr refl; before_one = omega arith; before_other = omega arith }
-told_first-IsFirst TooLong Range = record { one = inr refl; before_one = omega arith; before_other = omega arith }
-told_first-IsFirst TooLong TooLong = record { one = inl refl; before_one = omega arith; before_other = omega arith }
+reported_first-IsFirst UnknownName Range =
+    record { one = inl refl; before_one = omega arith; before_other = omega arith }
+reported_first-IsFirst UnknownName TooLong =
+    record { one = inl refl; before_one = omega arith; before_other = omega arith }
+reported_first-IsFirst Range Syntax = record { one = inr refl; before_one = omega arith; before_other = omega arith }
+reported_first-IsFirst Range UnknownName =
+    record { one = inr refl; before_one = omega arith; before_other = omega arith }
+reported_first-IsFirst Range Range = record { one = inl refl; before_one = omega arith; before_other = omega arith }
+reported_first-IsFirst Range TooLong = record { one = inl refl; before_one = omega arith; before_other = omega arith }
+reported_first-IsFirst TooLong Syntax = record { one = inr refl; before_one = omega arith; before_other = omega arith }
+reported_first-IsFirst TooLong UnknownName =
+    record { one = inr refl; before_one = omega arith; before_other = omega arith }
+reported_first-IsFirst TooLong Range = record { one = inr refl; before_one = omega arith; before_other = omega arith }
+reported_first-IsFirst TooLong TooLong = record { one = inl refl; before_one = omega arith; before_other = omega arith }
 
 abbrev InOrder : Result ℕ LineFault → Result ℕ LineFault → LineFault → Type 0
 InOrder a b fault = OneHas a b fault × ((other : LineFault) → OneHas a b other → rank fault ≤ rank other)
@@ -58,8 +63,8 @@ both-order (Err f) (Ok y) fault e =
       ],
     )
 both-order (Err e) (Err f) fault is =
-    let first = told_first-IsFirst e f in
-    let same : told_first e f ≡ fault = cc in (
+    let first = reported_first-IsFirst e f in
+    let same : reported_first e f ≡ fault = cc in (
       elim first.one [ inl here ↦ inl (ap Err (here ∙ same)) | inr there ↦ inr (ap Err (there ∙ same)) ],
       λ other has. elim has [
         | inl at ↦ (let here : e ≡ other = cc in omega (arith, first.before_one, ap rank here, ap rank same))

@@ -111,7 +111,7 @@ more_parts : (first : List ℕ) (parts : List (List ℕ)) → HasFirst parts
     → lines_of_parts (first ∷ parts) ≡ strip_carriage_return first ∷ lines_of_parts parts
 more_parts first parts (second, more, is) = rw is refl
 
--- a line, and those behind it
+-- a line, and those after it
 pub lines-more : (line rest : List ℕ) → list_all is_inline line ≡ true → lines (line ++ 10 ∷ rest) ≡ line ∷ lines rest
 lines-more line rest e =
     ap lines_of_parts (slice_split_at (λ b. b == 10) line 10 rest (all_none is_inline (λ b. b == 10) not_feed line e)

@@ -5,7 +5,7 @@ use Rattle.std.specs.Str.{bytes_eq}
 use Rattle.std.proofs.lemmas.Bool.{ltb-true}
 use Rattle.program.specs.Listing.{IsGroup}
 use Rattle.script_text.specs.Fault.{both}
-use Rattle.script_text.specs.Operation.{Draft, beside, table_alone, table_of_one, table_of_two, table_of_three}
+use Rattle.script_text.specs.Operation.{Draft, looked_up, table_alone, table_of_one, table_of_two, table_of_three}
 use Rattle.script_text.specs.Operation.{instruction_in, direction_in, link_in, group_in, number16_in}
 use Rattle.script_text.specs.Resolved.{IsInRange}
 use Rattle.script_text.specs.Target.{number_in, number_below, name_in, target_of}
@@ -36,11 +36,11 @@ abbrev R : Draft → Type 0
 R d = IsInRange d
 
 -- what holds of each row of a table holds of what stands beside a name
-beside-IfOk : (name : List ℕ) (table : List (List ℕ × Result Draft LineFault))
-    → AllByRecursion (λ row. IfOk row.1 R) table → IfOk (beside name table) R
-beside-IfOk name [] all = tt
-beside-IfOk name (row ∷ more) all =
-    cond-IfOk R (bytes_eq name row.0) row.1 (beside name more) all.0 (beside-IfOk name more all.1)
+looked_up-IfOk : (name : List ℕ) (table : List (List ℕ × Result Draft LineFault))
+    → AllByRecursion (λ row. IfOk row.1 R) table → IfOk (looked_up name table) R
+looked_up-IfOk name [] all = tt
+looked_up-IfOk name (row ∷ more) all =
+    cond-IfOk R (bytes_eq name row.0) row.1 (looked_up name more) all.0 (looked_up-IfOk name more all.1)
 
 ranges_of_one : (a : List ℕ) → AllByRecursion (λ row. IfOk row.1 R) (table_of_one a)
 ranges_of_one a = (
@@ -114,8 +114,8 @@ ranges_of_three a b c = (
 )
 
 pub instruction_in-range : (name : List ℕ) (operands : List (List ℕ)) → IfOk (instruction_in name operands) IsInRange
-instruction_in-range name [] = beside-IfOk name table_alone (tt, (tt, (tt, (tt, tt))))
-instruction_in-range name (a ∷ []) = beside-IfOk name (table_of_one a) (ranges_of_one a)
-instruction_in-range name (a ∷ b ∷ []) = beside-IfOk name (table_of_two a b) (ranges_of_two a b)
-instruction_in-range name (a ∷ b ∷ c ∷ []) = beside-IfOk name (table_of_three a b c) (ranges_of_three a b c)
+instruction_in-range name [] = looked_up-IfOk name table_alone (tt, (tt, (tt, (tt, tt))))
+instruction_in-range name (a ∷ []) = looked_up-IfOk name (table_of_one a) (ranges_of_one a)
+instruction_in-range name (a ∷ b ∷ []) = looked_up-IfOk name (table_of_two a b) (ranges_of_two a b)
+instruction_in-range name (a ∷ b ∷ c ∷ []) = looked_up-IfOk name (table_of_three a b c) (ranges_of_three a b c)
 instruction_in-range name (a ∷ b ∷ c ∷ d ∷ more) = tt

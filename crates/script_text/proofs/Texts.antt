@@ -37,7 +37,7 @@ one_more : (line : List ℕ) (lines : List (List ℕ)) (s : Statement) (ss : Lis
     → map say lines ≡ map Ok ss → map say (line ∷ lines) ≡ map Ok (s ∷ ss)
 one_more line lines s ss here rest = cc
 
--- a line of words, and the text behind it
+-- a line of words, and the text after it
 pub reads-line : (text : List ℕ) (words : List (List ℕ)) (rest : List ℕ) (s : Statement) (ss : List Statement)
     → AllByRecursion IsWord words
     → text ≡ joined words ++ 10 ∷ [] → statement_of words ≡ Ok s → Reads rest ss → Reads (text ++ rest) (s ∷ ss)

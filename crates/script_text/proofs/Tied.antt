@@ -47,7 +47,7 @@ same_names o before s ties none name =
     ∙ ap (or_else (data_from 0 before name)) (sym (none (0 + length (strings_in before)) name))
     ∙ sym (data_from-append 0 before (s ∷ []) name)
 
--- a new name behind the others
+-- a new name after the others
 put : (b : Bool) (n m : ℕ) (o : Option ℕ) → n ≡ m → (b ≡ true → o ≡ None)
     → cond b (Some n) o ≡ or_else o (cond b (Some m) None)
 put true n m o is new = rw (new refl) (ap Some is)

@@ -27,5 +27,5 @@ abbrev pub program_before : List ℕ → List NumberedLine → Result Listing Sc
 program_before end lines = program_of_lines (before_first (is_end end) lines)
 
 -- the lines after it
-abbrev pub lines_behind : List ℕ → List NumberedLine → List NumberedLine
-lines_behind end lines = after_first (is_end end) lines
+abbrev pub lines_after : List ℕ → List NumberedLine → List NumberedLine
+lines_after end lines = after_first (is_end end) lines

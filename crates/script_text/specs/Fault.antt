@@ -9,24 +9,24 @@ use Rattle.script_text.specs.declared.faults.ScriptFault.{ScriptFault}
 use Rattle.script_text.specs.declared.faults.ScriptFault.TheVariants.{Syntax, UnknownName, Range, TooLong, OutOfMemory}
 
 -- of two faults of a line, the one that is reported
-abbrev pub told_first : LineFault → LineFault → LineFault
-told_first line.Syntax other = line.Syntax
-told_first line.UnknownName line.Syntax = line.Syntax
-told_first line.UnknownName line.UnknownName = line.UnknownName
-told_first line.UnknownName line.Range = line.UnknownName
-told_first line.UnknownName line.TooLong = line.UnknownName
-told_first line.Range line.Syntax = line.Syntax
-told_first line.Range line.UnknownName = line.UnknownName
-told_first line.Range line.Range = line.Range
-told_first line.Range line.TooLong = line.Range
-told_first line.TooLong other = other
+abbrev pub reported_first : LineFault → LineFault → LineFault
+reported_first line.Syntax other = line.Syntax
+reported_first line.UnknownName line.Syntax = line.Syntax
+reported_first line.UnknownName line.UnknownName = line.UnknownName
+reported_first line.UnknownName line.Range = line.UnknownName
+reported_first line.UnknownName line.TooLong = line.UnknownName
+reported_first line.Range line.Syntax = line.Syntax
+reported_first line.Range line.UnknownName = line.UnknownName
+reported_first line.Range line.Range = line.Range
+reported_first line.Range line.TooLong = line.Range
+reported_first line.TooLong other = other
 
 -- two parts of a line
 abbrev pub both : {A B : Type 0} → Result A LineFault → Result B LineFault → Result (A × B) LineFault
 both (Ok a) (Ok b) = Ok (a, b)
 both (Ok a) (Err fault) = Err fault
 both (Err fault) (Ok b) = Err fault
-both (Err fault) (Err other) = Err (told_first fault other)
+both (Err fault) (Err other) = Err (reported_first fault other)
 
 -- what is wrong with a number is this fault of its line
 abbrev pub number_fault : NumberFault → LineFault

@@ -38,9 +38,9 @@ abbrev pub number16_in : List ℕ → Result ℕ LineFault
 number16_in word = number_below (2 ^ 16) word
 
 -- what a table of operations has for a name; another name is no operation
-abbrev pub beside : List ℕ → List (List ℕ × Result Draft LineFault) → Result Draft LineFault
-beside name [] = Err Syntax
-beside name (row ∷ more) = if bytes_eq name row.0 then row.1 else beside name more
+abbrev pub looked_up : List ℕ → List (List ℕ × Result Draft LineFault) → Result Draft LineFault
+looked_up name [] = Err Syntax
+looked_up name (row ∷ more) = if bytes_eq name row.0 then row.1 else looked_up name more
 
 -- the operations without operands
 abbrev pub table_alone : List (List ℕ × Result Draft LineFault)
@@ -89,8 +89,8 @@ table_of_three a b c =
 
 -- the instruction of an operation's name and its operands
 abbrev pub instruction_in : List ℕ → List (List ℕ) → Result Draft LineFault
-instruction_in name [] = beside name table_alone
-instruction_in name (a ∷ []) = beside name (table_of_one a)
-instruction_in name (a ∷ b ∷ []) = beside name (table_of_two a b)
-instruction_in name (a ∷ b ∷ c ∷ []) = beside name (table_of_three a b c)
+instruction_in name [] = looked_up name table_alone
+instruction_in name (a ∷ []) = looked_up name (table_of_one a)
+instruction_in name (a ∷ b ∷ []) = looked_up name (table_of_two a b)
+instruction_in name (a ∷ b ∷ c ∷ []) = looked_up name (table_of_three a b c)
 instruction_in name (a ∷ b ∷ c ∷ d ∷ more) = Err Syntax

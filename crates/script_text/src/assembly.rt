@@ -4,7 +4,7 @@ ghost use Rattle.std.specs.Prelude.{◌≡◌, ◌≢◌, IfOk, IfErr, IfSome, I
 ghost use Rattle.std.specs.List.{after_first, before_first, list_any};
 ghost use Rattle.text_format.specs.Lines.{line_of, lines_of};
 ghost use Rattle.text_format.specs.Words.{words_of};
-ghost use Rattle.script_text.specs.End.{has_end, is_end, is_only, lines_behind, program_before};
+ghost use Rattle.script_text.specs.End.{has_end, is_end, is_only, lines_after, program_before};
 ghost use Rattle.script_text.specs.Fault.{Gives};
 ghost use Rattle.script_text.specs.Outline.{blank};
 ghost use Rattle.script_text.specs.Script.{with_line, with_lines, program_of};
@@ -71,7 +71,7 @@ fn read_before<'a>(
     ensures sheet { Gives (λ read. read.0) result
         (with_lines blank (before_first (is_end end.now) lines.old)) }
     ensures end { IfOk result (λ read. read.1 ≡ has_end end.now lines.old) }
-    ensures behind { IfOk result (λ read. lines.new ≡ lines_behind end.now lines.old) }
+    ensures behind { IfOk result (λ read. lines.new ≡ lines_after end.now lines.old) }
 {
     let mut sheet = Sheet::new(alloc);
     'script: while let Some(line) = lines.next() {
@@ -95,7 +95,7 @@ pub fn assemble_before(
     ensures program { IfOk result (λ found. IfSome found (λ program.
         program_before end.now lines.old ≡ Ok program)) }
     ensures behind { IfOk result (λ found. IfSome found (λ _. (has_end end.now lines.old ≡ true)
-        × (lines.new ≡ lines_behind end.now lines.old))) }
+        × (lines.new ≡ lines_after end.now lines.old))) }
     ensures endless { result ≡ Ok None
         → (has_end end.now lines.old ≡ false) × IsOk (program_before end.now lines.old) }
     ensures fault { IfErr result (λ fault. fault ≢ ScriptFault.OutOfMemory

@@ -1,7 +1,7 @@
 //! Why a text isn't a script.
 
 ghost use Rattle.std.specs.Prelude.{◌≡◌};
-ghost use Rattle.script_text.specs.Fault.{both, told_first, fault_at};
+ghost use Rattle.script_text.specs.Fault.{both, reported_first, fault_at};
 
 use std::alloc::{AllocError, AllocFailed};
 use text_format::NumberFault;
@@ -91,8 +91,8 @@ impl From<NumberFault> for LineFault {
 
 impl LineFault {
     /// Of two faults of a line, the one that is reported.
-    fn told_first(self, other: LineFault) -> LineFault
-        ensures { result ≡ told_first self other }
+    fn reported_first(self, other: LineFault) -> LineFault
+        ensures { result ≡ reported_first self other }
     {
         match (self, other) {
             (LineFault::Syntax, _) | (_, LineFault::Syntax) => LineFault::Syntax,
@@ -126,6 +126,6 @@ pub(crate) fn both<A: Drop, B: Drop>(
         (Ok(a), Ok(b)) => Ok((a, b)),
         (Ok(_), Err(fault)) => Err(fault),
         (Err(fault), Ok(_)) => Err(fault),
-        (Err(fault), Err(other)) => Err(fault.told_first(other)),
+        (Err(fault), Err(other)) => Err(fault.reported_first(other)),
     }
 }

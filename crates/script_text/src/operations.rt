@@ -1,7 +1,7 @@
 //! Reads an instruction: the operation's name and its operands.
 
 ghost use Rattle.std.specs.Prelude.{◌≡◌};
-ghost use Rattle.script_text.specs.Operation.{beside, table_alone, table_of_one, table_of_two, table_of_three};
+ghost use Rattle.script_text.specs.Operation.{looked_up, table_alone, table_of_one, table_of_two, table_of_three};
 ghost use Rattle.script_text.specs.Operation.{instruction_in, direction_in, link_in, group_in, number16_in};
 ghost use Rattle.script_text.specs.Target.{number_below};
 
@@ -75,7 +75,7 @@ fn word_number(word: &str) -> Result<u8, LineFault>
 
 /// The instruction of an operation without operands.
 fn alone<'a>(name: &str) -> Result<Draft<'a>, LineFault>
-    ensures { result ≡ beside name.now table_alone }
+    ensures { result ≡ looked_up name.now table_alone }
 {
     match name {
         "rx" => Ok(Instruction::RxStep),
@@ -88,7 +88,7 @@ fn alone<'a>(name: &str) -> Result<Draft<'a>, LineFault>
 
 /// The instruction of an operation with one operand.
 fn with_one<'a>(name: &str, a: &'a str) -> Result<Draft<'a>, LineFault>
-    ensures { result ≡ beside name.now (table_of_one a.now) }
+    ensures { result ≡ looked_up name.now (table_of_one a.now) }
 {
     match name {
         "r" => Ok(Instruction::Read(target(a)?)),
@@ -113,7 +113,7 @@ fn with_one<'a>(name: &str, a: &'a str) -> Result<Draft<'a>, LineFault>
 
 /// The instruction of an operation with two operands.
 fn with_two<'a>(name: &str, a: &'a str, b: &'a str) -> Result<Draft<'a>, LineFault>
-    ensures { result ≡ beside name.now (table_of_two a.now b.now) }
+    ensures { result ≡ looked_up name.now (table_of_two a.now b.now) }
 {
     match name {
         "w" => {
@@ -154,7 +154,7 @@ fn with_two<'a>(name: &str, a: &'a str, b: &'a str) -> Result<Draft<'a>, LineFau
 
 /// The instruction of an operation with three operands.
 fn with_three<'a>(name: &str, a: &str, b: &str, c: &str) -> Result<Draft<'a>, LineFault>
-    ensures { result ≡ beside name.now (table_of_three a.now b.now c.now) }
+    ensures { result ≡ looked_up name.now (table_of_three a.now b.now c.now) }
 {
     match name {
         "vw" => {

@@ -15,7 +15,7 @@ use Rattle.start_laws.specs.{Prelude.ring_words, Replies.NamedRegistersReply, Re
 use Rattle.pmd_driver.proofs.NicDevice.RegisterLaws.{RowBits.word_small, SideWords.receive-written, SideWords.transmit-written}
 use Rattle.pmd_driver.proofs.NicDevice.RegisterLaws.{SoundWords.low_bits, Switches.receive-asked, Switches.transmit-asked}
 use Rattle.pmd_driver.specs.NicDevice.RegisterLaws.{Laws.HasShape, Laws.after_write, Laws.word_after, Sides.TransmitQueue}
-use Rattle.pmd_driver.specs.NicDevice.VfMap.{Map.behind, Map.located, Pools.queues_of, declared.mode.Mode.Mode}
+use Rattle.pmd_driver.specs.NicDevice.VfMap.{Map.distance, Map.located, Pools.queues_of, declared.mode.Mode.Mode}
 use Rattle.pmd_driver.specs.NicDevice.{Access.named_read, Named.at_location, RegisterFile.Registers.Registers, Transmit.staged_by}
 use Rattle.ring_laws.proofs.HistoryLaws.Written.{merged_all, merged_low, receive-tail, transmit-tail}
 use Rattle.ring_laws.specs.HistoryLaws.Sides.{LeavesSide, receive_side, transmit_side}
@@ -228,11 +228,11 @@ is_in (Some queues) number queue e =
 
 module _ (mode : Mode) (vfs v number queue : ℕ) (there : v < vfs) (x : IsIn (queues_of mode v) number queue) where
   received : (row : RowId) → is_receive row ≡ true
-      → located mode vfs v (0x1000 + 0x40 * number + behind Rdbal row) ≡ located_as.Register (place row queue)
+      → located mode vfs v (0x1000 + 0x40 * number + distance Rdbal row) ≡ located_as.Register (place row queue)
   received row side = grind (arith, common_steps, queue_registers)
 
   sent : (row : RowId) → is_transmit row ≡ true
-      → located mode vfs v (0x2000 + 0x40 * number + behind Tdbal row) ≡ located_as.Register (place row queue)
+      → located mode vfs v (0x2000 + 0x40 * number + distance Tdbal row) ≡ located_as.Register (place row queue)
   sent row side = grind (arith, common_steps, queue_registers)
 
 named_at : (s : State) (port : Port) (own queue : ℕ) → queue_at (mode_in s.registers) s.vfs port own ≡ Some queue

@@ -1,5 +1,5 @@
 -- Each call beside a driver that receives, and over a whole history, gets a healthy reply, and no call ends with the
--- device at fault: the frames that wait go on fitting, and what a reply rests on holds behind each call.
+-- device at fault: the frames that wait go on fitting, and what a reply rests on holds after each call.
 use Rattle.start_laws.proofs.InOrder.{Runs, driven_runs, first_doer, goes, heads, own_here, played_on, runs_on}
 use Rattle.start_laws.proofs.Meeting.{Meets, driven_meets, others_apart, steps_harmless}
 use Rattle.start_laws.proofs.Prelude.{AreFitting, Deed, IsDriven, IsHealthy, IsUp, begun_stays, both_apart, doer_of}
@@ -14,7 +14,7 @@ use Rattle.start_laws.specs.Prelude.{drive, either, is_on, leads_to, lends, piec
 use Rattle.start_laws.specs.{Faults.NoFault, Healthy.AreHealthy, Healthy.IsUnshared, Healthy.OwnRepliesAreHealthy}
 use Rattle.pmd_driver.{proofs.Followed.others_own, proofs.Followed.others_played, specs.Apart.is_healthy}
 use Rattle.ring_laws.proofs.HistoryLaws.{Deeds.receiving_did, Lent.follows_known, Lent.only_lent_stays}
-use Rattle.ring_laws.specs.{Delivered.goes_on, Fitting.begun_on, TransmitHealthy.LendsAnew, TransmitLent.SparesNumbers}
+use Rattle.ring_laws.specs.{Delivered.goes_on, Fitting.partial_on, TransmitHealthy.LendsAnew, TransmitLent.SparesNumbers}
 use Rattle.std.proofs.Common.{Bool, List, None, Option, Some, [], arith, false, nat_lt, refl, rules, subst, sym, true}
 use Rattle.std.proofs.Common.{ℕ, ◌&&◌, ◌++◌, ◌==◌, ◌∷◌, ◌≡◌, ◌≢◌}
 use Rattle.std.proofs.lemmas.Bool.{and_parts, both_ways, cond_both, eq-eqb, eqb-false, eqb-true, lt-ltb, not-true}
@@ -53,14 +53,14 @@ off_silent queue s e sound off = search (rules, silent, receiving_did)
 -- over a history
 
 abbrev Unbegun : ℕ → State → Option (List Piece) → Type 0
-Unbegun queue s so_far = so_far ≡ Some [] → begun_on queue s.waiting ≡ 0
+Unbegun queue s so_far = so_far ≡ Some [] → partial_on queue s.waiting ≡ 0
 
 none_more : (qs ps : List Piece) → qs ++ ps ≡ [] → (qs ≡ []) × (ps ≡ [])
 none_more [] ps empty = (refl, empty)
 none_more (q ∷ qs) ps empty = cc
 
 module _ (queue : ℕ) (s : State) (e : Event Block) (sound : IsSound s) where
-  went_on : goes_on queue s (after s e) ≡ true → begun_on queue (after s e).waiting ≡ 0
+  went_on : goes_on queue s (after s e) ≡ true → partial_on queue (after s e).waiting ≡ 0
   went_on goes = grind (arith, common_steps, not-true, and_parts, begun_stays, none_begun_while_off, off_silent)
 
   stayed : (so_far : Option (List Piece)) → Unbegun queue s so_far
@@ -68,7 +68,7 @@ module _ (queue : ℕ) (s : State) (e : Event Block) (sound : IsSound s) where
   stayed so_far before is = search (rules, none_more, begun_stays)
 
 unbegun_on : (queue : ℕ) (s : State) (so_far : Option (List Piece)) (es : List Entry) → IsSound s → AreEvents es
-    → Unbegun queue s so_far → pieces_since queue s so_far es ≡ Some [] → begun_on queue (leads_to s es).waiting ≡ 0
+    → Unbegun queue s so_far → pieces_since queue s so_far es ≡ Some [] → partial_on queue (leads_to s es).waiting ≡ 0
 unbegun_on queue s so_far [] sound events before is = before is
 unbegun_on queue s so_far (e ∷ es) sound events before is =
     let t = after s e.event in
@@ -80,7 +80,7 @@ unbegun_on queue s so_far (e ∷ es) sound events before is =
 
 -- so it is where the side went on, and nothing is written since
 pub unbegun_since : (queue : ℕ) (s : State) (es : List Entry) → IsSound s → AreEvents es
-    → pieces_since queue s None es ≡ Some [] → begun_on queue (leads_to s es).waiting ≡ 0
+    → pieces_since queue s None es ≡ Some [] → partial_on queue (leads_to s es).waiting ≡ 0
 unbegun_since queue s es sound events is = unbegun_on queue s None es sound events (λ e. cc) is
 
 -- what either has lent, the other first
@@ -162,7 +162,7 @@ only_pass_lent pass own known s (e ∷ es) legal events none only n is has =
     (entry_lent own known s only pass e legal.0 events.0 none.0 (e.pass == pass) refl) n is has in
     grind (arith, common_steps)
 
--- what the first entry lends, and those behind it
+-- what the first entry lends, and those after it
 apart_here : (own : Blocks) (h : Halves) (doers : List Doer) (e : Entry) (b : Bool) (calls : List Call)
     → AllOwn h doers (with_call b e calls) → (b ≡ false → LendsNone own e.event)
     → AllLendApart own h doers (with_call b e calls)
@@ -223,7 +223,7 @@ pub known_along : (w : Watched) (origin : State) (start rest : List Entry) (h : 
 known_along w origin start rest h doers own d known others apart =
     (along own doers rest (driven_meets d) (driven_runs d) known others apart).1
 
--- the calls behind some
+-- the calls after some
 healthy_behind : (h : Halves) (ds es : List Doer) (ms ns : List Call) → AllOwn h ds ms
     → AreHealthy h (ds ++ es) (ms ++ ns) → AreHealthy (played_by h ds ms) es ns
 healthy_behind h [] es [] ns own are = are

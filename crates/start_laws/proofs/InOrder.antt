@@ -9,7 +9,7 @@ use Rattle.start_laws.specs.Prelude.{calls_of, delivered, is_neither, is_on, lea
 use Rattle.start_laws.specs.Prelude.{packets_if_any, pieces, pieces_in, pieces_since, played_by, records_of, reply_to}
 use Rattle.start_laws.specs.{Histories.NoneIsAllBefore, Histories.OthersLeaveAlone, Waiting.WaitingIsNotAll}
 use Rattle.start_laws.{proofs.Parts.with_call, specs.Prelude.sent_by, specs.Prelude.sent_in, specs.Prelude.sent_since}
-use Rattle.ring_laws.proofs.InOrder.{all_taken, between, drained, grows, handed_first, lent_behind, pieces-append}
+use Rattle.ring_laws.proofs.InOrder.{all_taken, between, drained, grows, handed_first, lent_after, pieces-append}
 use Rattle.ring_laws.proofs.InOrder.{first_sent, idle-all, sent_in-append, waiting-left}
 use Rattle.ring_laws.specs.{HistoryLaws.Lent.LendsOneOf, Delivered.IsPrefixOf, HistoryLaws.Alone.AllAlone}
 use Rattle.std.proofs.Common.{Bool, List, None, Some, [], ap, append_assoc, arith, false, inl, inr, nat_lt}
@@ -27,7 +27,7 @@ lends_mine : (pass : ℕ) (mine : Blocks) (own : ℕ) (e : Event Block) (r : Rep
     → LendsOneOf mine e r
 lends_mine pass mine own e r same made all = grind (arith, common_steps)
 
--- the next call, and those behind it
+-- the next call, and those after it
 
 pub record Next (h : Halves) (doers : List Doer) (e : Entry) (b : Bool) (behind : List Call) : Type 0 where
   pub own : OwnCall h (doer_of b doers) (call_in e)
@@ -53,7 +53,7 @@ pub record Led (w : Watched) (mine : Blocks) (s : State) (out : List Piece) (sen
   pub counted : IsUp w.queue s → (so_far : List (List ℕ))
       → sent_since w.queue s so_far es ≡ so_far ++ sent_in w.queue s es
 
--- entries of a history behind a place where the halves meet the device: it is legal, leaves the queue and these blocks
+-- entries of a history after a place where the halves meet the device: it is legal, leaves the queue and these blocks
 -- alone but for the halves, whose calls the doers make in turn, and the pass lends these blocks alone
 pub record Runs (w : Watched) (mine : Blocks) (s : State) (h : Halves) (doers : List Doer) (es : List Entry) : Type 0
   where
@@ -69,7 +69,7 @@ pub driven_runs : {w : Watched} {origin : State} {start rest : List Entry} {h : 
     → IsDriven w origin start rest h doers
     → Runs w (lent_by w.pass (start ++ rest)) (leads_to origin start) h doers rest
 driven_runs {w = w} {origin = origin} {start = start} {rest = rest} d =
-    search (rules, legal_behind, events_behind, alone_by_entries, lent_behind)
+    search (rules, legal_behind, events_behind, alone_by_entries, lent_after)
 
 -- the first of them
 module _ {w : Watched} {mine : Blocks} {s : State} {out : List Piece} {sent : List (List ℕ)} {h : Halves}

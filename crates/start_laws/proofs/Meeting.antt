@@ -46,7 +46,7 @@ steps_harmless (c ∷ calls) steps = (step_harmless c.event steps.0, steps_harml
 pub steps_add_harmless : StepsAddHarmless
 steps_add_harmless old new (before, made, steps) = (before, made, steps_harmless before steps)
 
--- and so is a harmless call behind them
+-- and so is a harmless call after them
 last_harmless : (calls : List Call) (c : Call) → AreHarmless calls → IsTrue (is_harmless c.event)
     → AreHarmless (calls ++ c ∷ [])
 last_harmless [] c harmless is = (is, tt)
@@ -148,7 +148,7 @@ harmless_apart own old new h (more, made, harmless) = record {
   apart = others_apart own h more harmless;
 }
 
--- and by calls behind such calls
+-- and by calls after such calls
 pub apart_leads_on : (own : Blocks) (old mid new : List Call) (h j k : Halves) → LeadsApart own old h mid j
     → LeadsApart own mid j new k → LeadsApart own old h new k
 unfolding leads_on
@@ -187,7 +187,7 @@ spared_resets : (w : Watched) (s : State) → w.vfs ≡ s.vfs → (e : Event Blo
     → LeavesRegisters w (mode_in s.registers) e → ResetsNoPool w.queue s e
 spared_resets w s vfs e left = grind (arith, common_steps, place_at, place_named)
 
--- what holds behind an event: these halves meet the device, a side that was up is so still, no setting is written, and
+-- what holds after an event: these halves meet the device, a side that was up is so still, no setting is written, and
 -- the queue's pool isn't reset
 pub record Goes (w : Watched) (mine : Blocks) (s : State) (out : List Piece) (sent : List (List ℕ)) (e : Event Block)
     (k : Halves) : Type 0 where

@@ -59,7 +59,7 @@ pub record Around (pass : ℕ) (h : List Entry) (calls : List Call) (c : Call) (
   pub later : calls_of pass behind ≡ more
 
 module _ (pass : ℕ) where
-  -- so it is behind one more entry
+  -- so it is after one more entry
   ahead : (e : Entry) (es : List Entry) (xs calls : List Call) (c : Call) (more : List Call)
       → ((g : List Entry) → calls_of pass g ≡ xs → calls_of pass (e ∷ g) ≡ calls) → Around pass es xs c more
       → Around pass (e ∷ es) calls c more

@@ -6,8 +6,10 @@ pub use Rattle.pmd_driver.specs.NicDevice.RegTable.{Rows.row_of, Runs.runs, decl
 pub use Rattle.pmd_driver.specs.NicDevice.RegisterFile.Access.{asks_pool_reset, asks_reset}
 pub use Rattle.pmd_driver.specs.NicDevice.RegisterFile.{Owner.owner_of, Registers.word_of}
 pub use Rattle.pmd_driver.specs.NicDevice.declared.event.Reply.TheVariants.{Done, Wrote}
-pub use Rattle.pmd_driver.specs.NicDevice.{Access.named_written, Outcome.Outcome, Outcome.gives, VfMap.Owner.is_transmit}
-pub use Rattle.pmd_driver.{proofs.NicDevice.Cases.lent_cases, proofs.NicDevice.Steps.keeps_sound, specs.NicDevice.VfMap.Owner.is_receive}
+pub use Rattle.pmd_driver.specs.NicDevice.{Access.named_written, Outcome.Outcome}
+pub use Rattle.pmd_driver.specs.NicDevice.{Outcome.gives, VfMap.Owner.is_transmit}
+pub use Rattle.pmd_driver.{proofs.NicDevice.Cases.lent_cases, proofs.NicDevice.Steps.keeps_sound}
+pub use Rattle.pmd_driver.specs.NicDevice.VfMap.Owner.{is_receive}
 pub use Rattle.pmd_driver.specs.PmdAccess.QueueMade.{IsOtherwise, IsStrayRead, StopsBy}
 pub use Rattle.pmd_driver.{proofs.Apart.both_apart, specs.PmdAccess.Sides.PollsEnd, specs.PmdTx.Sending.IsOwn}
 pub use Rattle.ring_laws.proofs.InOrder.{calls_other, calls_own, since-append, vfs_stays}

@@ -95,7 +95,7 @@ module _ {w : Watched} {origin : State} {h : List Entry} (x : IsAlong w origin h
     pub foreign_left : e.pass ≢ w.pass → IsLeft w (lent_by w.pass h) (leads_to origin done) e.event
     foreign_left other = grind (arith, common_steps, entry_is, free_left, alone)
 
-  -- what holds of the entries so far, and of the calls that the pass makes behind them, goes on holding over entries of
+  -- what holds of the entries so far, and of the calls that the pass makes after them, goes on holding over entries of
   -- others, and over each of these calls
   module _ (P : List Entry → List Call → Type 0)
       (kept : (cs : List Call) → KeptOver w origin (lent_by w.pass h) (λ done. P done cs))
@@ -194,7 +194,7 @@ module _ {w : Watched} {origin : State} {h : List Entry} (x : IsAlong w origin h
       added_before (λ done. P (leads_to origin done)) (state_kept w origin (lent_by w.pass h) P kept) old _ c.event
       c.reply (before, refl, steps) some at
 
-  -- and so does what the pass's own calls of a kind keep, behind these
+  -- and so does what the pass's own calls of a kind keep, after these
   module _ (P : State → Type 0) (K : Event Block → Type 0) (kept : IsKept w (lent_by w.pass h) P)
       (own : (s : State) (e : Event Block) → IsMet w.queue s → IsEvent e → K e → P s → P (after s e)) where
     pub made_next : (calls old new : List Call) → new ≡ old ++ calls → Each (λ c. K c.event) calls

@@ -17,7 +17,7 @@ use Rattle.std.proofs.Common.{Bool, List, [], ap, append_assoc, arith, false, in
 use Rattle.std.proofs.Common.{zero, ℕ, ◌++◌, ◌+◌, ◌-◌, ◌<◌, ◌∙◌, ◌∷◌, ◌≡◌, ◌≢◌}
 use Rattle.std.proofs.lemmas.{Bool.eq-eqb, Bool.or_left, Bool.or_right, Grind.common_steps, List.append-nil}
 use Rattle.std.specs.{List.range_with_len, Prelude.IsFalse, Prelude.⊤, Prelude.◌==◌}
-use Rattle.{pmd_driver.specs.DeviceLock.Alone.lends, ring_laws.proofs.HistoryLaws.Alone.lent_behind}
+use Rattle.{pmd_driver.specs.DeviceLock.Alone.lends, ring_laws.proofs.HistoryLaws.Alone.lent_after}
 use Rattle.pmd_driver.specs.NicDevice.declared.event.Event.TheVariants as event
 use Rattle.pmd_driver.specs.NicDevice.declared.event.Reply.TheVariants as reply
 use Rattle.pmd_driver.specs.PmdAccess.declared.fault.PmdFault.TheVariants as fault
@@ -218,7 +218,7 @@ lent_along {w = w} {h = h} number calls along has done rest all is =
     cc (append_assoc x.before (x.entry ∷ x.behind) rest) in
     let is = entry_is along x.before (x.behind ++ rest) x.entry whole in
     let there : IsLentBy w.pass number (x.entry ∷ (x.behind ++ rest)) = grind (arith, common_steps, x, is) in
-    search (rules, lent_behind)
+    search (rules, lent_after)
 
 -- where a ring was prepared some calls were made, and each of its blocks was lent by one of them
 

@@ -115,7 +115,7 @@ module _ {w : Watched} {origin : State} {h : List Entry} (q : AtPort) (frame : �
         → IsEnding q e → One P s → One P (after s e)
     one_ending P is s e met made ends (g, p) = search (rules, plain_keeps, ending_plain, ending_keeps P is)
 
-    -- and behind them an access leads from one to the other
+    -- and after them an access leads from one to the other
     asked_leads : (P Q : Side → Type 0) → IsShutting P → IsShutting Q → (xs : List Access) (a : Access)
         → OfCall q a (λ c. Leads w.queue c (One P) (One Q)) → AllAre MayAsk xs → (old mid new : List Call)
         → AreMade q old mid xs → IsMade q mid new a → old ≢ [] → AtCalls w origin h old (One P)
@@ -128,7 +128,7 @@ module _ {w : Watched} {origin : State} {h : List Entry} (q : AtPort) (frame : �
         (made_next along (One P) (IsEnding q) (one_kept P is.stays) (one_ending P is) calls old mid same each
         (then_before along (One P) (one_kept P is.stays) old some at)))
 
-  -- so both sides are off behind accesses amid which each is asked off, and seen off then
+  -- so both sides are off after accesses amid which each is asked off, and seen off then
   module _ (all : List Access) (ask : AllAre MayAsk all)
       (turns : (dir : Dir) → (xs : List Access) × (ys : List Access) × (zs : List Access)
       × (all ≡ xs ++ Sets (enable_row dir) 0 ∷ (ys ++ Sees (enable_row dir) false ∷ zs))) (old new : List Call)

@@ -157,7 +157,7 @@ module _ {w : Watched} {origin : State} {h : List Entry} (q : AtPort) (frame : �
   abbrev Next : (State → Type 0) → List Call → Type 0
   Next P old = BeforeNext w origin h old P
 
-  -- what holds before the next call, behind a driver's own calls
+  -- what holds before the next call, after a driver's own calls
 
   plain_next : (old new : List Call) → AreMadeOf (IsPlain q) old new → Next Ground old → Next Ground new
   plain_next old new (calls, is, each) =

@@ -1,7 +1,7 @@
 -- Both rings came up and both sides went on; the receive ring may be filled next.
 use Rattle.std.specs.Prelude.{[], ◌≡◌, List, true, ℕ}
 use Rattle.start_laws.specs.Prelude.{Agree, Agrees, AtPort, Call, Entry, IsReceiveReady, IsSwitched, IsTransmitReady}
-use Rattle.start_laws.specs.Prelude.{Numbers, Receive, Sender, State, Watched, begun_on, is_frame, is_size}
+use Rattle.start_laws.specs.Prelude.{Numbers, Receive, Sender, State, Watched, partial_on, is_frame, is_size}
 use Rattle.start_laws.specs.{Along.AtCalls, Along.AtEntries, Along.BeforeLast, Along.IsAlong, Points.HasGround}
 use Rattle.start_laws.specs.{Unused.WentOn}
 
@@ -39,4 +39,4 @@ SwitchedSidesGoOn = WhereOn (λ w origin h new v t. AtEntries w h new (WentOn w.
 -- and nothing is written there yet of a frame that waits for the queue
 abbrev pub SwitchedSidesBeginNone : Type 0
 SwitchedSidesBeginNone =
-    WhereOn (λ w origin h new v t. AtCalls w origin h new (λ s. begun_on w.queue s.waiting ≡ 0))
+    WhereOn (λ w origin h new v t. AtCalls w origin h new (λ s. partial_on w.queue s.waiting ≡ 0))

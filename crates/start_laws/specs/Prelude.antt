@@ -1,19 +1,25 @@
 -- The names that the laws on a driver cite most, passed on from one place. Declares nothing.
-pub use Rattle.pmd_driver.specs.NicDevice.{DmaArena.Memory.Memory, DmaArena.Memory.has_block, DmaRing.declared.dir.Dir.Dir}
-pub use Rattle.pmd_driver.specs.NicDevice.{DmaRing.declared.ring.Ring.Ring, Named.named, Receive.is_empty, RegTable.Rows.row_of}
+pub use Rattle.pmd_driver.specs.NicDevice.{DmaArena.Memory.Memory, DmaArena.Memory.has_block}
+pub use Rattle.pmd_driver.specs.NicDevice.DmaRing.declared.dir.Dir.{Dir}
+pub use Rattle.pmd_driver.specs.NicDevice.{DmaRing.declared.ring.Ring.Ring, Named.named}
+pub use Rattle.pmd_driver.specs.NicDevice.{Receive.is_empty, RegTable.Rows.row_of}
 pub use Rattle.pmd_driver.specs.NicDevice.{RegTable.declared.place.Place.Place, RegTable.declared.rows.RowId.RowId}
 pub use Rattle.pmd_driver.specs.NicDevice.{RegisterFile.Access.asks_pool_reset, RegisterFile.Bits.has_bit}
-pub use Rattle.pmd_driver.specs.NicDevice.{RegisterFile.Columns.place, RegisterFile.Pools.mode_in, RegisterFile.Queue.enable_row}
+pub use Rattle.pmd_driver.specs.NicDevice.{RegisterFile.Columns.place, RegisterFile.Pools.mode_in}
+pub use Rattle.pmd_driver.specs.NicDevice.RegisterFile.Queue.{enable_row}
 pub use Rattle.pmd_driver.specs.NicDevice.{RegisterFile.Queue.is_on, RegisterFile.Settings.frame_limit, Sound.IsEvent}
 pub use Rattle.pmd_driver.specs.NicDevice.{Sound.IsSound, State.State, State.new_state, Step.after, Step.reply_to}
-pub use Rattle.pmd_driver.specs.NicDevice.{VfMap.declared.mode.Mode.Mode, declared.event.Event.Event, declared.event.Port.Port}
+pub use Rattle.pmd_driver.specs.NicDevice.{VfMap.declared.mode.Mode.Mode, declared.event.Event.Event}
+pub use Rattle.pmd_driver.specs.NicDevice.declared.event.Port.{Port}
 pub use Rattle.pmd_driver.specs.NicDevice.{declared.event.Reply.Reply, declared.named.Named.TheVariants.Register}
 pub use Rattle.pmd_driver.specs.NicDevice.DmaArena.Block.{Block, zero_block}
 pub use Rattle.pmd_driver.specs.NicDevice.DmaArena.Numbers.{Numbers, is_free, is_own}
 pub use Rattle.pmd_driver.specs.NicDevice.DmaArena.Whereabouts.{places_of, times_in_hand}
 pub use Rattle.pmd_driver.specs.NicDevice.DmaRing.declared.dir.Dir.TheVariants.{Rx, Tx}
-pub use Rattle.pmd_driver.specs.NicDevice.RegTable.declared.rows.RowId.TheVariants.{Rdbah, Rdbal, Rdh, Rdlen, Rdt, Rxdctl, Srrctl}
-pub use Rattle.pmd_driver.specs.NicDevice.RegTable.declared.rows.RowId.TheVariants.{Tdbah, Tdbal, Tdh, Tdlen, Tdt, Tdwbal, Txdctl}
+pub use Rattle.pmd_driver.specs.NicDevice.RegTable.declared.rows.RowId.TheVariants.{Rdbah, Rdbal, Rdh, Rdlen, Rdt}
+pub use Rattle.pmd_driver.specs.NicDevice.RegTable.declared.rows.RowId.TheVariants.{Rxdctl, Srrctl}
+pub use Rattle.pmd_driver.specs.NicDevice.RegTable.declared.rows.RowId.TheVariants.{Tdbah, Tdbal, Tdh, Tdlen, Tdt}
+pub use Rattle.pmd_driver.specs.NicDevice.RegTable.declared.rows.RowId.TheVariants.{Tdwbal, Txdctl}
 pub use Rattle.pmd_driver.specs.NicDevice.declared.event.Port.TheVariants.{Pf, Vf}
 pub use Rattle.pmd_driver.specs.DeviceLock.Alone.{Blocks, LeavesBlocks, LeavesRegisters, WritesOutside, lends, lent_by}
 pub use Rattle.pmd_driver.specs.DeviceLock.History.{AreEvents, IsLegal, call_in, calls_of, leads_to}
@@ -43,7 +49,7 @@ pub use Rattle.pmd_driver.specs.Starting.{IsPrepared, IsReceiveReady, IsTransmit
 pub use Rattle.pmd_driver.specs.Starting.{ReceiveFails}
 pub use Rattle.pmd_driver.specs.declared.driver.Rings.TheVariants.{Down, Up}
 pub use Rattle.ring_laws.specs.{Agreeing.Agrees, Agreeing.bytes_of, DeviceLaws.Laws.WritesNoSetting}
-pub use Rattle.ring_laws.specs.{DeviceLaws.Leaving.LeavesBlock, Fitting.FitsBlocks, Fitting.begun_on}
+pub use Rattle.ring_laws.specs.{DeviceLaws.Leaving.LeavesBlock, Fitting.FitsBlocks, Fitting.partial_on}
 pub use Rattle.ring_laws.specs.{Finding.FindsNone, Finding.ShowsNone, HistoryLaws.Alone.LeavesAloneFrom}
 pub use Rattle.ring_laws.specs.{HistoryLaws.Sides.Side, HistoryLaws.Sides.side_of, Joint.Agree, Pieces.Piece}
 pub use Rattle.ring_laws.specs.{Pieces.pieces, Sent.sent_by, Sent.sent_in, Sent.sent_since, TransmitUp.IsUp}

@@ -7,15 +7,15 @@ abbrev pub AreSame : List Entry → List Entry → Type 0
 AreSame h g = map call_in h ≡ map call_in g
 
 -- an entry that is the driver's keeps its tag, and one that isn't gets the tag of another pass
-abbrev pub told_as : ℕ → Bool → Entry → Entry
-told_as other true e = e
-told_as other false e = record e { pass = other }
+abbrev pub marked_as : ℕ → Bool → Entry → Entry
+marked_as other true e = e
+marked_as other false e = record e { pass = other }
 
 -- a history whose entries are marked in turn as the driver's or not. Those after the last mark are unchanged
 abbrev pub retold : ℕ → List Bool → List Entry → List Entry
 retold other [] h = h
 retold other (is ∷ own) [] = []
-retold other (is ∷ own) (e ∷ es) = told_as other is e ∷ retold other own es
+retold other (is ∷ own) (e ∷ es) = marked_as other is e ∷ retold other own es
 
 -- so it is of the same calls
 abbrev pub RetoldIsSame : Type 0

@@ -2,7 +2,7 @@
 pub use Rattle.ring_laws.specs.HistoryLaws.Left.{IsLeft}
 use Rattle.std.specs.Prelude.{[], ◌≡◌, IsTrue, Some, ℕ}
 use Rattle.ring_laws.specs.HistoryLaws.Left.{IsLeft}
-use Rattle.start_laws.specs.Prelude.{Block, Blocks, Dir, Event, Memory, Side, State, Watched, after, begun_on}
+use Rattle.start_laws.specs.Prelude.{Block, Blocks, Dir, Event, Memory, Side, State, Watched, after, partial_on}
 use Rattle.start_laws.specs.Prelude.{frame_limit, is_empty, mode_in, pieces, sent_by, side_of, zero_block}
 use Rattle.std.specs.FinMap as map
 
@@ -22,7 +22,7 @@ IsZero m number = map.get m number ≡ Some (zero_block number).bytes
 -- zero
 pub record Stand (queue : ℕ) (sides : Dir → Side) (rings : Blocks) (s : State) : Type 0 where
   pub side : (dir : Dir) → Stands (side_of dir queue s) (sides dir)
-  pub begun : begun_on queue s.waiting ≡ 0
+  pub begun : partial_on queue s.waiting ≡ 0
   pub zero : (number : ℕ) → IsTrue (rings number) → IsZero s.memory number
 
 -- an event that leaves the queue and these blocks alone keeps both sides at rest; it receives and sends nothing on the

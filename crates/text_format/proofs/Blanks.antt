@@ -30,7 +30,7 @@ is_blank-ascii byte blank = grind (arith, nat_tests)
 ends_word-ascii : (byte : ℕ) → ends_word byte ≡ true → byte < 128
 ends_word-ascii byte end = grind (arith, nat_tests)
 
--- a character begins behind the ASCII bytes in front that pass a test
+-- a character begins after the ASCII bytes in front that pass a test
 behind : (test : ℕ → Bool) → ((byte : ℕ) → test byte ≡ true → byte < 128) → (text : List ℕ) (n : ℕ)
     → n ≡ prefix_len test text → IsUtf8 text → IsCharBoundary text n
 behind test ascii text zero is utf8 = IsCharBoundary-start text utf8
@@ -45,10 +45,10 @@ not_not : (b : Bool) → not (not b) ≡ true → b ≡ true
 not_not true h = refl
 not_not false h = cc
 
--- a character begins behind the blanks in front
-pub IsCharBoundary-behind_blanks : (text : List ℕ) (n : ℕ) → n ≡ position_or_len (λ byte. not (is_blank byte)) text
+-- a character begins after the blanks in front
+pub IsCharBoundary-after_blanks : (text : List ℕ) (n : ℕ) → n ≡ position_or_len (λ byte. not (is_blank byte)) text
     → IsUtf8 text → IsCharBoundary text n
-IsCharBoundary-behind_blanks text n is utf8 = behind (λ byte. not (not (is_blank byte)))
+IsCharBoundary-after_blanks text n is utf8 = behind (λ byte. not (not (is_blank byte)))
     (λ byte blank. is_blank-ascii byte (not_not (is_blank byte) blank)) text n is utf8
 
 -- a character begins at the end of a word

@@ -53,7 +53,7 @@ ends hash blank byte = hash byte || blank byte
 abbrev pub end_in : (ℕ → Bool) → (ℕ → Bool) → List ℕ → ℕ
 end_in hash blank text = position_or_len (ends hash blank) text
 
--- the first part ends at the first end of a word, and the parts with a byte behind it are those of what is left
+-- the first part ends at the first end of a word, and the parts with a byte after it are those of what is left
 abbrev FirstPart : (ℕ → Bool) → (ℕ → Bool) → List ℕ → Type 0
 FirstPart hash blank text = (others : List (List ℕ))
     × (parts_of hash blank text ≡ take (end_in hash blank text) text ∷ others)

@@ -39,7 +39,7 @@ behind-next radix digit byte rest more is said small =
     let yes : is_digit byte radix ≡ true = rw (← said) (lt-ltb digit radix small) in
     sym (ap (λ r. drop (digits_in_front radix r) r) is ∙ drop-digit radix byte more yes)
 
--- digits with something else behind them are no number
+-- digits with something else after them are no number
 pub capped_numeral-stopped : (radix value : ℕ) (text : List ℕ)
     → 1 ≤ length (drop (digits_in_front radix text) text) → capped_numeral radix value text ≡ None
 capped_numeral-stopped radix value [] some = absurd (omega arith)

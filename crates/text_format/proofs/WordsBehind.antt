@@ -39,7 +39,7 @@ drop-unblank : (blank : ℕ → Bool) (byte : ℕ) (more : List ℕ) → blank b
 drop-unblank blank byte more other =
     ap (λ n. drop n (byte ∷ more)) (position-yes (λ b. not (blank b)) byte more (ap not other))
 
--- behind the blanks in front the same words stand, and no blank
+-- after the blanks in front the same words stand, and no blank
 abbrev Behind : (ℕ → Bool) → (ℕ → Bool) → List ℕ → Type 0
 Behind hash blank text = BeginsUnblank blank (drop (front_of blank text) text)
     × (filled (parts_of hash blank text) ≡ filled (parts_of hash blank (drop (front_of blank text) text)))
@@ -87,15 +87,15 @@ words-none text rest word is_rest is_word empty =
     same ∙ ap (λ t. filled (parts_of is_hash is_blank t)) (sym is_rest)
     ∙ filled-none is_hash is_blank rest starts (ap (λ w. length w == 0) (sym is_word) ∙ empty)
 
--- the first word, and those behind it
+-- the first word, and those after it
 pub words-some : (text rest word behind : List ℕ)
     → rest ≡ drop (position_or_len (λ byte. not (is_blank byte)) text) text
     → word ≡ take (position_or_len ends_word rest) rest → behind ≡ drop (position_or_len ends_word rest) rest
     → (length word == 0) ≡ false → words_of text ≡ word ∷ words_of behind
 unfolding words_of words_between_blanks
-words-some text rest word behind is_rest is_word is_behind long =
+words-some text rest word behind is_rest is_word is_past long =
     let (begins, same) = behind-blanks is_hash is_blank blank-apart text in
     same ∙ ap (λ t. filled (parts_of is_hash is_blank t)) (sym is_rest)
     ∙ filled-some is_hash is_blank rest (ap (λ w. length w == 0) (sym is_word) ∙ long)
     ∙ ap (λ w. w ∷ filled (parts_of is_hash is_blank (drop (position_or_len ends_word rest) rest))) (sym is_word)
-    ∙ ap (λ b. word ∷ filled (parts_of is_hash is_blank b)) (sym is_behind)
+    ∙ ap (λ b. word ∷ filled (parts_of is_hash is_blank b)) (sym is_past)

@@ -74,7 +74,7 @@ fn word_length(bytes: &[u8]) -> usize
 }
 
 /// A text without its leading blanks.
-fn behind_blanks(text: &str) -> &str
+fn after_blanks(text: &str) -> &str
     ensures { result.now ≡ drop (position_or_len (λ byte. not (is_blank byte)) text.now) text.now }
 {
     let blanks = blanks_in_front(text.as_bytes());
@@ -95,7 +95,7 @@ fn split_word(text: &str) -> Option<(&str, &str)>
     ensures { MatchOption result (words_of text.now ≡ [])
         (λ parts. words_of text.now ≡ parts.0.now ∷ words_of parts.1.now) }
 {
-    let (word, behind) = split_at_end(behind_blanks(text));
+    let (word, behind) = split_at_end(after_blanks(text));
     if word.is_empty() {
         None
     } else {

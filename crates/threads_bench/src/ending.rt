@@ -1,25 +1,14 @@
 //! Ends what a run owns: arenas, jobs, drivers and the device.
 
 use crate::refused::Refused;
-use nic_device::{Arena, Device, Parts};
-use std::mem::ManuallyDrop;
+use nic_device::{Arena, Device, Parts, leave};
 use workers::{Home, Job, Rest};
-
-/// Leaks a value that can't be dropped and can't be ended either. Its memory is lost to the process, which ends next:
-/// this happens only on the way to a status other than 0.
-pub(crate) fn leave<T>(value: T) {
-    // The value is moved in, so that nobody uses it again, and nothing else refers to what it owns.
-    let _left = unsafe { ManuallyDrop::new_unchecked(value) };
-}
 
 /// Closes an arena. It is leaked where one of its blocks isn't free.
 pub(crate) fn end_arena(arena: Arena) -> Result<(), Refused> {
     match arena.close() {
         Ok(()) => Ok(()),
-        Err(arena) => {
-            leave(arena);
-            Err(Refused::Other)
-        }
+        Err(arena) => Err(leave(arena, Refused::Other)),
     }
 }
 
@@ -54,10 +43,7 @@ pub(crate) fn end_rest(rest: Rest) -> Result<(), Refused> {
             } = home;
             end_arena(arena)
         }
-        Rest::Running(pmd) => {
-            leave(pmd);
-            Err(Refused::Other)
-        }
+        Rest::Running(pmd) => Err(leave(pmd, Refused::Other)),
     }
 }
 
@@ -70,9 +56,6 @@ pub(crate) fn end_device(device: Device) -> Result<(), Refused> {
     } = device.dismantle();
     match memory.finish() {
         Ok(()) => Ok(()),
-        Err(memory) => {
-            leave(memory);
-            Err(Refused::Other)
-        }
+        Err(memory) => Err(leave(memory, Refused::Other)),
     }
 }

@@ -3,14 +3,14 @@
 ghost use Rattle.std.specs.Prelude.{◌≡◌, ◌≢◌, ◌+◌, ◌≤◌, ◌<◌, ◌⊎◌, ◌↔◌, IsTrue, IfOk, true, vec_len};
 ghost use Rattle.threads_bench.specs.Summary.{HasItsQueue, HaveTheirQueues, IsTold, Tells};
 
-use crate::ending::{end_device, end_jobs, leave};
+use crate::ending::{end_device, end_jobs};
 use crate::frames::frames;
 use crate::gathered::{Gathered, gather};
 use crate::jobs::{FRAME, jobs, setup};
 use crate::refused::Refused;
 use crate::summary::{Summary, sent_in, write_summary};
 use bench_commands::{DONE, FAILED, Output};
-use nic_device::Port;
+use nic_device::{Port, leave};
 use std::alloc::Global;
 use std::io::Write;
 use std::sync::Wait;
@@ -142,10 +142,7 @@ fn close(bench: Bench, passes: Vec<Pass>, workers: u8) -> Result<usize, Refused>
                 shared,
                 passes: _,
             },
-        ) => {
-            leave(shared);
-            Err(Refused::from(fault))
-        }
+        ) => Err(leave(shared, Refused::from(fault))),
     }
 }
 
@@ -165,10 +162,7 @@ fn run<R: Threads + Wait + Sync>(
             let sent = close(bench, passes, workers)?;
             Ok(Summary { reports, sent })
         }
-        Err(refused) => {
-            leave(bench);
-            Err(refused)
-        }
+        Err(refused) => Err(leave(bench, refused)),
     }
 }
 

@@ -8,7 +8,7 @@ use Rattle.tx_ring.specs.Fetch.{Outcome, descriptor_of, buffer_bytes}
 use Rattle.tx_ring.specs.Laws.{command_at, Turn, turn_of, piece_of, pieces_of, staged_after, GoOn, PacketLaw}
 use Rattle.tx_ring.proofs.Fetches.{fetch_cases}
 
--- where no packet ends, the piece is staged behind what was
+-- where no packet ends, the piece is staged after what was
 
 abbrev Stages : Turn → List ℕ → Outcome → Type 0
 Stages t staged o = (f : Fetched) → o.answer ≡ Ok f → f.frame ≡ None → o.staged ≡ staged ++ piece_of t
@@ -29,7 +29,7 @@ stages t staged =
     let ends : (if c.end then Some (frame_of t.tx.pad bytes) else None) ≡ None = cc in
     rw (ne_eqb c.kind 2 other) (still_staged c.end (frame_of t.tx.pad bytes) bytes ends))
 
--- where one ends, it goes out with the piece behind what was staged
+-- where one ends, it goes out with the piece after what was staged
 
 abbrev Ends : Turn → List ℕ → Outcome → Type 0
 Ends t staged o =

@@ -54,16 +54,16 @@ inside r (Some a) base four = let low = four a refl in (omega arith, omega arith
 inside r None base four = let low = slots_are_in_blocks r r.head base in (omega (arith, low), omega (arith, low))
 
 -- what is reported lies where it is told
-told_at : (asked : Bool) (r : Ring) (tx : Tx) (f : Fetched) (at : ℕ) → f.rs ≡ asked → ReportsAt r tx f
+answered_at : (asked : Bool) (r : Ring) (tx : Tx) (f : Fetched) (at : ℕ) → f.rs ≡ asked → ReportsAt r tx f
     → f.back ≡ Some at
     → (writeback : Option ℕ) → tx.writeback ≡ writeback → unwrap_or writeback (head_address r) ≡ at
-told_at false r tx f at is told back writeback w = absurd (cc (told.none is))
-told_at true r tx f at is told back (Some a) w = let e = told.head a w is in cc
-told_at true r tx f at is told back None w = let e = told.descriptor w is in cc
+answered_at false r tx f at is told back writeback w = absurd (cc (told.none is))
+answered_at true r tx f at is told back (Some a) w = let e = told.head a w is in cc
+answered_at true r tx f at is told back None w = let e = told.descriptor w is in cc
 
 pub reports_in_one_block : ReportsInOneBlock
 reports_in_one_block m staged r tx f at aligned is back =
     let e : unwrap_or tx.writeback (head_address r) ≡ at =
-    told_at f.rs r tx f at refl (report_law m staged r tx f is) back tx.writeback refl in
+    answered_at f.rs r tx f at refl (report_law m staged r tx f is) back tx.writeback refl in
     subst (λ (a : ℕ). LiesIn (a / 2048) a (report_length tx.writeback)) e
     (inside r tx.writeback aligned.base aligned.writeback)

@@ -6,7 +6,7 @@ use Rattle.std.proofs.lemmas.List.{drop-replicate, take_all, length-append, leng
 use Rattle.tx_ring.specs.Frame.{frame_of}
 use Rattle.dma_arena.specs.Memory.{put_bytes}
 
--- bytes that are put in front of zeros, behind what is there
+-- bytes that are put in front of zeros, after what is there
 put_bytes-behind : (old bytes : List ℕ) (n zeros : ℕ) → n ≡ length old + length bytes + zeros
     → put_bytes (take n old ++ replicate (n - length old) 0) (length old) bytes ≡ (old ++ bytes) ++ replicate zeros 0
 unfolding put_bytes
@@ -27,7 +27,7 @@ length-staged old bytes zeros =
     rw (length-append (old ++ bytes) (replicate zeros 0), length-append old bytes, length-replicate {A = ℕ} zeros 0)
     refl
 
--- old bytes made longer by zeros, and then bytes put behind the old ones
+-- old bytes made longer by zeros, and then bytes put after the old ones
 pub put_into_longer : (old bytes longer new : List ℕ) (n zeros : ℕ) → n ≡ length old + length bytes + zeros
     → longer ≡ take n old ++ replicate (n - length old) 0
     → new ≡ put_bytes longer (length old) bytes
@@ -37,7 +37,7 @@ put_into_longer old bytes longer new n zeros all made put =
     let whole : n ≡ length new = all ∙ rw (is, length-staged old bytes zeros) refl in
     rw whole (take-append_seam new (drop (length new) longer)) ∙ is
 
--- a packet's bytes, with the zeros behind them that its end asks for
+-- a packet's bytes, with the zeros after them that its end asks for
 
 abbrev pub held_of : Bool → Bool → List ℕ → List ℕ
 held_of end pad bytes = bytes ++ replicate (if end && pad then 60 - length bytes else 0) 0

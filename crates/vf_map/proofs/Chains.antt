@@ -4,8 +4,9 @@ use Rattle.std.specs.List.{flat_map, range_with_len, list_all}
 use Rattle.std.proofs.lemmas.Bool.{cases_Bool, cond-true, cond-false, eqb-true, eq-eqb, and_parts, ltb-true, false_from_ne_true, both_ways}
 use Rattle.reg_table.specs.declared.place.Place.{Place}
 use Rattle.reg_table.specs.declared.rows.RowId.{RowId}
-use Rattle.vf_map.specs.Map.{Entry, found, behind, side_entries}
-use Rattle.vf_map.specs.Parts.{place_at, located_at, row_behind, of_queue}
+use Rattle.vf_map.specs.Map.{Entry, found, distance, side_entries}
+use Rattle.vf_map.specs.Parts.{place_at, row_after, of_queue}
+use Rattle.vf_map.proofs.LocatedAt.{located_at}
 
 -- the first part has it
 pub in_first : (es fs : List Entry) (o : ℕ) (a : Place) → place_at es o ≡ Some a → place_at (es ++ fs) o ≡ Some a
@@ -85,31 +86,31 @@ in_piece g k (suc n) o w l h free =
 
 -- registers of a side from an offset on
 pub in_side : (c q r : ℕ) (first : RowId) (rs : List RowId) →
-    place_at (side_entries c first rs q) (c + r) ≡ of_queue (row_behind first rs r) q
+    place_at (side_entries c first rs q) (c + r) ≡ of_queue (row_after first rs r) q
 in_side c q r first [] = refl
 in_side c q r first (x ∷ rs) =
-    elim (cases_Bool (behind first x == r)) [
+    elim (cases_Bool (distance first x == r)) [
       | inl t ↦
-          let same : behind first x ≡ r = eqb-true _ _ t in
-          cond-true (c + behind first x == c + r) _ _ (eq-eqb _ _ (ap (λ y. c + y) same))
-          ∙ ap (λ o. of_queue o q) (sym (cond-true (behind first x == r) (Some x) (row_behind first rs r) t))
+          let same : distance first x ≡ r = eqb-true _ _ t in
+          cond-true (c + distance first x == c + r) _ _ (eq-eqb _ _ (ap (λ y. c + y) same))
+          ∙ ap (λ o. of_queue o q) (sym (cond-true (distance first x == r) (Some x) (row_after first rs r) t))
       | inr f ↦
-          let other : behind first x ≢ r = λ s. both_ways _ f (eq-eqb _ _ s) in
-          cond-false (c + behind first x == c + r) _ _
-          (false_from_ne_true _ (λ t. let s = eqb-true (c + behind first x) (c + r) t in other (omega arith)))
+          let other : distance first x ≢ r = λ s. both_ways _ f (eq-eqb _ _ s) in
+          cond-false (c + distance first x == c + r) _ _
+          (false_from_ne_true _ (λ t. let s = eqb-true (c + distance first x) (c + r) t in other (omega arith)))
           ∙ in_side c q r first rs
-          ∙ ap (λ o. of_queue o q) (sym (cond-false (behind first x == r) (Some x) (row_behind first rs r) f))
+          ∙ ap (λ o. of_queue o q) (sym (cond-false (distance first x == r) (Some x) (row_after first rs r) f))
     ]
 
 -- an offset that is outside
 pub in_no_side : (c q o : ℕ) (first : RowId) (rs : List RowId) →
-    list_all (λ x. nat_lt (behind first x) 0x40) rs ≡ true →
+    list_all (λ x. nat_lt (distance first x) 0x40) rs ≡ true →
     ((x : ℕ) → x < 0x40 → c + x ≢ o) → place_at (side_entries c first rs q) o ≡ None
 in_no_side c q o first [] e free = refl
 in_no_side c q o first (x ∷ rs) e free =
-    let both = and_parts (nat_lt (behind first x) 0x40) (list_all (λ x. nat_lt (behind first x) 0x40) rs) e in
-    cond-false (c + behind first x == o) _ _
-    (false_from_ne_true _ (λ t. free (behind first x) (ltb-true _ _ both.0) (eqb-true _ _ t)))
+    let both = and_parts (nat_lt (distance first x) 0x40) (list_all (λ x. nat_lt (distance first x) 0x40) rs) e in
+    cond-false (c + distance first x == o) _ _
+    (false_from_ne_true _ (λ t. free (distance first x) (ltb-true _ _ both.0) (eqb-true _ _ t)))
     ∙ in_no_side c q o first rs both.1 free
 
 -- what the table's search finds

@@ -1,3 +1,4 @@
+pub mod LocatedAt
 pub mod Chains
 pub mod Places
 pub mod Whole

@@ -10,7 +10,8 @@ use Rattle.vf_map.specs.declared.located.Located.TheVariants.{Absent, Register}
 use Rattle.vf_map.specs.Pools.{queues_of, queues_each, pools_in}
 use Rattle.vf_map.specs.Owner.{is_of_pool, is_shared}
 use Rattle.vf_map.specs.Map.{Entry, entries, located}
-use Rattle.vf_map.specs.Parts.{place_at, located_at}
+use Rattle.vf_map.specs.Parts.{place_at}
+use Rattle.vf_map.proofs.LocatedAt.{located_at}
 use Rattle.vf_map.proofs.Whole.{located_beyond, located_none, located_some}
 
 -- whether an entry of a function is aligned, and its place there and the pool's or shared

@@ -4,8 +4,8 @@ use Rattle.std.specs.Prelude.{nat_lt, true}
 use Rattle.std.specs.List.{list_all}
 use Rattle.reg_table.specs.Rows.{rows}
 use Rattle.reg_table.specs.declared.rows.RowId.TheVariants.{Pvtivar, Pfmbmem, Rdbal, Tdbal}
-use Rattle.vf_map.specs.Map.{Entry, message_entries, vector_entries, side_entries, behind, queue_entries, receive_rows, transmit_rows}
-use Rattle.vf_map.specs.Parts.{place_at, row_behind, of_queue, queues_entries}
+use Rattle.vf_map.specs.Map.{Entry, message_entries, vector_entries, side_entries, distance, queue_entries, receive_rows, transmit_rows}
+use Rattle.vf_map.specs.Parts.{place_at, row_after, of_queue, queues_entries}
 use Rattle.vf_map.specs.Pools.{most_queues}
 use Rattle.vf_map.proofs.Chains.{in_second, in_either, in_no_word, in_word, in_no_piece, in_piece, in_side, in_no_side}
 
@@ -52,11 +52,11 @@ receive_block x q = side_entries (0x1000 + 0x40 * x) Rdbal receive_rows q
 abbrev transmit_block : (x q : ℕ) → List Entry
 transmit_block x q = side_entries (0x2000 + 0x40 * x) Tdbal transmit_rows q
 
-receive_near : list_all (λ x. nat_lt (behind Rdbal x) 0x40) receive_rows ≡ true
+receive_near : list_all (λ x. nat_lt (distance Rdbal x) 0x40) receive_rows ≡ true
 unfolding rows
 receive_near = refl
 
-transmit_near : list_all (λ x. nat_lt (behind Tdbal x) 0x40) transmit_rows ≡ true
+transmit_near : list_all (λ x. nat_lt (distance Tdbal x) 0x40) transmit_rows ≡ true
 unfolding rows
 transmit_near = refl
 
@@ -70,7 +70,7 @@ transmit_absent x q o free = in_no_side (0x2000 + 0x40 * x) q o Tdbal transmit_r
 
 -- the registers of a queue, at an offset of its receive block
 receive_there : (x q o : ℕ) → x < 0x40 → o / 0x1000 ≡ 1 → o % 0x1000 / 0x40 ≡ x →
-    place_at (queue_entries x q) o ≡ of_queue (row_behind Rdbal receive_rows (o % 0x40)) q
+    place_at (queue_entries x q) o ≡ of_queue (row_after Rdbal receive_rows (o % 0x40)) q
 receive_there x q o l s e =
     in_either (receive_block x q) (transmit_block x q) o
     (transmit_absent x q o (λ r h. no_block 2 x o r l (omega arith) h))
@@ -79,7 +79,7 @@ receive_there x q o l s e =
 
 -- the same of its transmit block
 transmit_there : (x q o : ℕ) → x < 0x40 → o / 0x1000 ≡ 2 → o % 0x1000 / 0x40 ≡ x →
-    place_at (queue_entries x q) o ≡ of_queue (row_behind Tdbal transmit_rows (o % 0x40)) q
+    place_at (queue_entries x q) o ≡ of_queue (row_after Tdbal transmit_rows (o % 0x40)) q
 transmit_there x q o l s e =
     in_second (receive_block x q) (transmit_block x q) o
     (receive_absent x q o (λ r h. no_block 1 x o r l (omega arith) h))
@@ -119,16 +119,16 @@ queue_there first count o l h =
 
 pub receive_at : (first count o q : ℕ) → count ≤ most_queues → o % 0x1000 / 0x40 < count → o / 0x1000 ≡ 1 →
     q ≡ first + o % 0x1000 / 0x40 →
-    place_at (queues_entries first count) o ≡ of_queue (row_behind Rdbal receive_rows (o % 0x40)) q
+    place_at (queues_entries first count) o ≡ of_queue (row_after Rdbal receive_rows (o % 0x40)) q
 receive_at first count o q l h s e =
     queue_there first count o l h
     ∙ receive_there (o % 0x1000 / 0x40) (first + o % 0x1000 / 0x40) o (omega arith) s refl
-    ∙ ap (λ x. of_queue (row_behind Rdbal receive_rows (o % 0x40)) x) (sym e)
+    ∙ ap (λ x. of_queue (row_after Rdbal receive_rows (o % 0x40)) x) (sym e)
 
 pub transmit_at : (first count o q : ℕ) → count ≤ most_queues → o % 0x1000 / 0x40 < count → o / 0x1000 ≡ 2 →
     q ≡ first + o % 0x1000 / 0x40 →
-    place_at (queues_entries first count) o ≡ of_queue (row_behind Tdbal transmit_rows (o % 0x40)) q
+    place_at (queues_entries first count) o ≡ of_queue (row_after Tdbal transmit_rows (o % 0x40)) q
 transmit_at first count o q l h s e =
     queue_there first count o l h
     ∙ transmit_there (o % 0x1000 / 0x40) (first + o % 0x1000 / 0x40) o (omega arith) s refl
-    ∙ ap (λ x. of_queue (row_behind Tdbal transmit_rows (o % 0x40)) x) (sym e)
+    ∙ ap (λ x. of_queue (row_after Tdbal transmit_rows (o % 0x40)) x) (sym e)

@@ -10,8 +10,9 @@ use Rattle.vf_map.specs.declared.mode.Mode.TheVariants.{Off, Pools16, Pools32, P
 use Rattle.vf_map.specs.declared.located.Located.TheVariants.{Register}
 use Rattle.vf_map.specs.Pools.{pools_in, queues_each, most_queues, queues_of, pool_of}
 use Rattle.vf_map.specs.Owner.{is_receive, is_transmit}
-use Rattle.vf_map.specs.Map.{behind, own_entries, message_entries, function_entries, receive_rows, transmit_rows, located}
-use Rattle.vf_map.specs.Parts.{place_at, of_queue, located_at, queues_entries, row_behind}
+use Rattle.vf_map.specs.Map.{distance, own_entries, message_entries, function_entries, receive_rows, transmit_rows, located}
+use Rattle.vf_map.specs.Parts.{place_at, of_queue, queues_entries, row_after}
+use Rattle.vf_map.proofs.LocatedAt.{located_at}
 use Rattle.vf_map.specs.Laws.{EachQueueHasOnePool, QueueRegistersAreThere}
 use Rattle.vf_map.proofs.Chains.{in_second}
 use Rattle.vf_map.proofs.Inverse.{Some-one, inverse, pool_within}
@@ -56,12 +57,12 @@ each_queue mode queue other small =
 
 -- ---- their registers
 
--- a row that stands so far behind the first of its side
+-- a row that stands so far after the first of its side
 record StandsAt (first row : RowId) (rows : List RowId) (b : ℕ) : Type 0 where
-  same : behind first row ≡ b
+  same : distance first row ≡ b
   near : b < 0x40
   own : b ≢ 0x1C
-  is : row_behind first rows b ≡ Some row
+  is : row_after first rows b ≡ Some row
 
 abbrev Stands : RowId → RowId → List RowId → Type 0
 Stands first row rows = (b : ℕ) × StandsAt first row rows b
@@ -153,7 +154,7 @@ module _ (mode : Mode) (vfs v first count x : ℕ) (there : v < vfs) (pool : que
       (vector_absent first count o (λ w less. let small = few in omega (arith, small)))
       ∙ is)
 
-  receive_row : (row : RowId) (b : ℕ) → x < count → b < 0x40 → b ≢ 0x1C → row_behind Rdbal receive_rows b ≡ Some row
+  receive_row : (row : RowId) (b : ℕ) → x < count → b < 0x40 → b ≢ 0x1C → row_after Rdbal receive_rows b ≡ Some row
       → located mode vfs v (0x1000 + 0x40 * x + b) ≡ Register (record { row = row; index = first + x })
   receive_row row b low near other is =
       let small = few in
@@ -162,9 +163,9 @@ module _ (mode : Mode) (vfs v first count x : ℕ) (there : v < vfs) (pool : que
       at o (record { row = row; index = first + x }) (omega arith) (omega arith)
       (receive_at first count o (first + x) small (omega (arith, small, low)) (omega (arith, small, low))
       (ap (λ n. first + n) (omega (arith, small, low)))
-      ∙ ap (λ n. of_queue (row_behind Rdbal receive_rows n) (first + x)) here ∙ ap (λ r. of_queue r (first + x)) is)
+      ∙ ap (λ n. of_queue (row_after Rdbal receive_rows n) (first + x)) here ∙ ap (λ r. of_queue r (first + x)) is)
 
-  transmit_row : (row : RowId) (b : ℕ) → x < count → b < 0x40 → b ≢ 0x1C → row_behind Tdbal transmit_rows b ≡ Some row
+  transmit_row : (row : RowId) (b : ℕ) → x < count → b < 0x40 → b ≢ 0x1C → row_after Tdbal transmit_rows b ≡ Some row
       → located mode vfs v (0x2000 + 0x40 * x + b) ≡ Register (record { row = row; index = first + x })
   transmit_row row b low near other is =
       let small = few in
@@ -173,7 +174,7 @@ module _ (mode : Mode) (vfs v first count x : ℕ) (there : v < vfs) (pool : que
       at o (record { row = row; index = first + x }) (omega arith) (omega arith)
       (transmit_at first count o (first + x) small (omega (arith, small, low)) (omega (arith, small, low))
       (ap (λ n. first + n) (omega (arith, small, low)))
-      ∙ ap (λ n. of_queue (row_behind Tdbal transmit_rows n) (first + x)) here ∙ ap (λ r. of_queue r (first + x)) is)
+      ∙ ap (λ n. of_queue (row_after Tdbal transmit_rows n) (first + x)) here ∙ ap (λ r. of_queue r (first + x)) is)
 
   vector_word : x < count / 2
       → located mode vfs v (0x120 + 4 * x) ≡ Register (record { row = Pvtivar; index = first / 2 + x })

@@ -6,7 +6,8 @@ use Rattle.vf_map.specs.declared.mode.Mode.{Mode}
 use Rattle.vf_map.specs.declared.located.Located.TheVariants.{Absent}
 use Rattle.vf_map.specs.Pools.{queues_of}
 use Rattle.vf_map.specs.Map.{function_entries, vector_entries, entries, located, located_in}
-use Rattle.vf_map.specs.Parts.{place_at, located_at, queues_entries}
+use Rattle.vf_map.specs.Parts.{place_at, queues_entries}
+use Rattle.vf_map.proofs.LocatedAt.{located_at}
 use Rattle.vf_map.proofs.Chains.{in_first, in_second, found_at}
 
 -- an offset of the function's own registers

@@ -8,7 +8,7 @@ use Rattle.reg_table.specs.declared.rows.RowId.{RowId}
 use Rattle.reg_table.specs.declared.rows.RowId.TheVariants.{Pvtivar, Rdbal, Tdbal}
 use Rattle.vf_map.specs.Pools.{queues_of, pool_of, queues_each, pools_in}
 use Rattle.vf_map.specs.Owner.{is_of_pool, is_shared, is_receive, is_transmit}
-use Rattle.vf_map.specs.Map.{entries, behind, located, mapped}
+use Rattle.vf_map.specs.Map.{entries, distance, located, mapped}
 use Rattle.vf_map.specs.declared.mode.Mode.{Mode}
 use Rattle.vf_map.specs.declared.mode.Mode.TheVariants.{Off}
 use Rattle.vf_map.specs.declared.located.Located.{Located}
@@ -76,10 +76,10 @@ EachQueueHasOnePool =
 pub record QueueRegistersAreThere : Type 0 where
   pub receive : (mode : Mode) (vfs v first count x : ℕ) (row : RowId) → v < vfs →
       queues_of mode v ≡ Some (first, count) → x < count → IsTrue (is_receive row) →
-      located mode vfs v (0x1000 + 0x40 * x + behind Rdbal row) ≡ Register (record { row = row; index = first + x })
+      located mode vfs v (0x1000 + 0x40 * x + distance Rdbal row) ≡ Register (record { row = row; index = first + x })
   pub transmit : (mode : Mode) (vfs v first count x : ℕ) (row : RowId) → v < vfs →
       queues_of mode v ≡ Some (first, count) → x < count → IsTrue (is_transmit row) →
-      located mode vfs v (0x2000 + 0x40 * x + behind Tdbal row) ≡ Register (record { row = row; index = first + x })
+      located mode vfs v (0x2000 + 0x40 * x + distance Tdbal row) ≡ Register (record { row = row; index = first + x })
   pub vectors : (mode : Mode) (vfs v first count x : ℕ) → v < vfs →
       queues_of mode v ≡ Some (first, count) → x < count / 2 →
       located mode vfs v (0x120 + 4 * x) ≡ Register (record { row = Pvtivar; index = first / 2 + x })

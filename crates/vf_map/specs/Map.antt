@@ -52,12 +52,12 @@ abbrev pub transmit_rows : List RowId
 transmit_rows = filter is_transmit rows
 
 -- how far a row's first register follows another's
-abbrev pub behind : (first row : RowId) → ℕ
-behind first row = (first_of row).first - (first_of first).first
+abbrev pub distance : (first row : RowId) → ℕ
+distance first row = (first_of row).first - (first_of first).first
 
 -- the registers of a side of a queue of the device, from an offset on, with the device's distances
 abbrev pub side_entries : (offset : ℕ) → (first : RowId) → List RowId → (queue : ℕ) → List Entry
-side_entries offset first rows queue = map (λ row. entry (offset + behind first row) row queue) rows
+side_entries offset first rows queue = map (λ row. entry (offset + distance first row) row queue) rows
 
 -- the registers of queue x of the function, which is this queue of the device
 abbrev pub queue_entries : (x queue : ℕ) → List Entry

@@ -3,23 +3,16 @@ use Rattle.std.specs.Prelude.{ℕ, ◌+◌, ◌==◌, List, [], ◌∷◌, find,
 use Rattle.std.specs.List.{flat_map, range_with_len}
 use Rattle.reg_table.specs.declared.place.Place.{Place}
 use Rattle.reg_table.specs.declared.rows.RowId.{RowId}
-use Rattle.vf_map.specs.Map.{Entry, behind, queue_entries}
-use Rattle.vf_map.specs.declared.located.Located.{Located}
-use Rattle.vf_map.specs.declared.located.Located.TheVariants.{Hole, Register}
+use Rattle.vf_map.specs.Map.{Entry, distance, queue_entries}
 
 -- the place of the first entry with the offset
 abbrev pub place_at : List Entry → ℕ → Option Place
 place_at [] offset = None
 place_at (entry ∷ entries) offset = if entry.0 == offset then Some entry.1 else place_at entries offset
 
--- what an offset is, by the place that it is mapped to
-abbrev pub located_at : Option Place → Located
-located_at None = Hole
-located_at (Some place) = Register place
-
 -- the row of a side at this distance from its first
-abbrev pub row_behind : (first : RowId) → List RowId → ℕ → Option RowId
-row_behind first rows bytes = find (λ row. behind first row == bytes) rows
+abbrev pub row_after : (first : RowId) → List RowId → ℕ → Option RowId
+row_after first rows bytes = find (λ row. distance first row == bytes) rows
 
 -- the place of a queue in a row
 abbrev pub of_queue : Option RowId → (queue : ℕ) → Option Place

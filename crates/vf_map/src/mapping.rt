@@ -2,7 +2,7 @@ ghost use Rattle.std.specs.Prelude.{◌≡◌, ◌<◌, ◌≤◌, Some, None, i
 ghost use Rattle.vf_map.specs.Laws.{IsInRange};
 ghost use Rattle.vf_map.specs.Map.{located, mapped, entries, own_entries, message_entries, function_entries, vector_entries, receive_rows, transmit_rows};
 ghost use Rattle.vf_map.specs.Pools.{most_queues};
-ghost use Rattle.vf_map.specs.Parts.{place_at, queues_entries, row_behind, of_queue};
+ghost use Rattle.vf_map.specs.Parts.{place_at, queues_entries, row_after, of_queue};
 ghost use Rattle.reg_table.specs.declared.rows.RowId.TheVariants as row;
 
 use crate::located::Located;
@@ -183,7 +183,7 @@ fn queue_register(row: Option<RowId>, queue: u16) -> Option<Place>
 #[rattlefmt::skip]
 #[tactic(auto, unfolding(reg_table::specs::Rows::rows))]
 fn receive_row(bytes: u32) -> Option<RowId>
-    ensures { result ≡ row_behind row.Rdbal receive_rows bytes }
+    ensures { result ≡ row_after row.Rdbal receive_rows bytes }
 {
     match bytes {
         0x00 => Some(RowId::Rdbal),
@@ -201,7 +201,7 @@ fn receive_row(bytes: u32) -> Option<RowId>
 #[rattlefmt::skip]
 #[tactic(auto, unfolding(reg_table::specs::Rows::rows))]
 fn transmit_row(bytes: u32) -> Option<RowId>
-    ensures { result ≡ row_behind row.Tdbal transmit_rows bytes }
+    ensures { result ≡ row_after row.Tdbal transmit_rows bytes }
 {
     match bytes {
         0x00 => Some(RowId::Tdbal),

@@ -6,13 +6,13 @@ use Rattle.pmd_driver.specs.DeviceLock.Told.{settings_through}
 use Rattle.pmd_driver.specs.DeviceLock.declared.alone.Watched.{Watched}
 use Rattle.pmd_driver.specs.DeviceLock.declared.entry.Entry.{Entry}
 use Rattle.pmd_driver.specs.DeviceLock.declared.told.Settings.{Settings}
-use Rattle.workers.specs.Before.{first_told, holds_of, told_after, told_before, told_behind, told_through}
+use Rattle.workers.specs.Before.{first_told, holds_of, told_after, told_before, told_after_entry, told_through}
 use Rattle.workers.specs.Quiet.{NeverAskedOn, asks_on}
 use Rattle.workers.specs.declared.before.Told.{Told}
 use Rattle.workers.proofs.FirstOwn.{test_decides}
 
 module _ (w : Watched) where
-  -- no entry asks, behind others that tell these settings
+  -- no entry asks, after others that tell these settings
   abbrev NoneAsks : Settings → List Entry → Type 0
   NoneAsks s h =
       (before : List Entry) (e : Entry) (behind : List Entry) → before ++ e ∷ behind ≡ h
@@ -49,7 +49,7 @@ module _ (w : Watched) where
 pub never_decides : (w : Watched) (from : ℕ) (h : List Entry) (o : Option Told) → o ≡ told_before w first_told from h
     → IsTrue (holds_of (λ t. not t.asked) o) ↔ NeverAskedOn w from h
 never_decides w from h o told =
-    let decides = test_decides (told_behind w) w (λ t. not t.asked) first_told from h o told in (
+    let decides = test_decides (told_after_entry w) w (λ t. not t.asked) first_told from h o told in (
       λ is old long x. none_asks w first_told x.before (not-true _ (decides.0 is old long x)),
       λ never.
           decides.1 (λ old long x. ap not (none_asked w first_told x.before refl (never old long x))),

@@ -9,10 +9,10 @@ use Rattle.pmd_driver.specs.DeviceLock.declared.entry.Call.{Call}
 use Rattle.pmd_driver.specs.DeviceLock.declared.entry.Entry.{Entry}
 use Rattle.pmd_driver.specs.PmdAccess.Events.{is_step}
 use Rattle.pmd_driver.specs.PmdAccess.Made.{AreSteps}
-use Rattle.workers.specs.Before.{holds_of, is_first, known_before, known_through, left_behind}
+use Rattle.workers.specs.Before.{holds_of, is_first, known_before, known_through, still_left}
 use Rattle.workers.specs.Starts.{Starts}
 
--- the calls of a pass, behind an entry
+-- the calls of a pass, after an entry
 
 calls_own : (pass : ℕ) (e : Entry) (h : List Entry) → (e.pass == pass) ≡ true
     → calls_of pass (e ∷ h) ≡ call_in e ∷ calls_of pass h
@@ -34,7 +34,7 @@ module _ {S : Type 0} (next : S → Entry → S) (w : Watched) (test : S → Boo
 
   at_other : (t : S) (left : ℕ) (e : Entry) (es : List Entry) → is_first w left e ≡ false
       → known_before next w t left (e ∷ es)
-      ≡ known_before next w (next t e) (left_behind w left e) es
+      ≡ known_before next w (next t e) (still_left w left e) es
   at_other t left e es is = rw is refl
 
   foreign : (left : ℕ) (e : Entry) → (e.pass == w.pass) ≡ false → is_first w left e ≡ false
@@ -58,10 +58,10 @@ module _ {S : Type 0} (next : S → Entry → S) (w : Watched) (test : S → Boo
     | inr other ↦ rw other refl
   ]
 
-  behind_own : (left : ℕ) (e : Entry) → (e.pass == w.pass) ≡ true → left_behind w left e ≡ left - 1
+  behind_own : (left : ℕ) (e : Entry) → (e.pass == w.pass) ≡ true → still_left w left e ≡ left - 1
   behind_own left e own = rw own refl
 
-  behind_other : (left : ℕ) (e : Entry) → (e.pass == w.pass) ≡ false → left_behind w left e ≡ left
+  behind_other : (left : ℕ) (e : Entry) → (e.pass == w.pass) ≡ false → still_left w left e ≡ left
   behind_other left e other = rw other refl
 
   -- where the test holds of some entries, it does at the first of the driver's own among these
@@ -79,11 +79,11 @@ module _ {S : Type 0} (next : S → Entry → S) (w : Watched) (test : S → Boo
       → is_first w left e ≡ true
   first_is left e own event none = rw (eq-eqb e.pass w.pass own, eq-eqb left 0 none, event) refl
 
-  -- behind an entry of the pass, what is left of the calls before the driver, or of its steps
+  -- after an entry of the pass, what is left of the calls before the driver, or of its steps
   record Behind (left : ℕ) (f : Entry) (before : List Entry) : Type 0 where
     skipped : is_first w left f ≡ false
     old : List Call
-    long : length old ≡ left_behind w left f
+    long : length old ≡ still_left w left f
     steps : List Call
     stepped : AreSteps steps
     calls : calls_of w.pass before ≡ old ++ steps
@@ -134,10 +134,10 @@ module _ {S : Type 0} (next : S → Entry → S) (w : Watched) (test : S → Boo
         | inl mine ↦
             let x =
             one_behind left f before old steps long stepped mine (sym (calls_own w.pass f before mine) ∙ called) in
-            each then (left_behind w left f) h (ap (holds_of test) (sym (at_other t left f h x.skipped)) ∙ is) x.old
+            each then (still_left w left f) h (ap (holds_of test) (sym (at_other t left f h x.skipped)) ∙ is) x.old
             x.long before first behind rest own event x.steps x.stepped x.calls
         | inr other ↦
-            each then (left_behind w left f) h
+            each then (still_left w left f) h
             (ap (holds_of test) (sym (at_other t left f h (foreign left f other))) ∙ is) old
             (long ∙ sym (behind_other left f other)) before first behind rest own event steps stepped
             (sym (calls_other w.pass f before other) ∙ called)
@@ -150,7 +150,7 @@ module _ {S : Type 0} (next : S → Entry → S) (w : Watched) (test : S → Boo
 
   all_own : (t : S) (left : ℕ) (f : Entry) (h : List Entry) → (f.pass == w.pass) ≡ true
       → is_first w left f ≡ false → AllAt t left (f ∷ h)
-      → AllAt (next t f) (left_behind w left f) h
+      → AllAt (next t f) (still_left w left f) h
   all_own t zero f h mine skipped names old long before first behind both own event steps stepped calls =
       let none : length old ≡ 0 = long ∙ behind_own 0 f mine ∙ omega arith in
       let step : is_step f.event ≡ true = elim (cases_Bool (is_step f.event)) [
@@ -168,12 +168,12 @@ module _ {S : Type 0} (next : S → Entry → S) (w : Watched) (test : S → Boo
       steps stepped (calls_own w.pass f before mine ∙ ap (λ (l : List Call). call_in f ∷ l) calls)
 
   all_other : (t : S) (left : ℕ) (f : Entry) (h : List Entry) → (f.pass == w.pass) ≡ false
-      → AllAt t left (f ∷ h) → AllAt (next t f) (left_behind w left f) h
+      → AllAt t left (f ∷ h) → AllAt (next t f) (still_left w left f) h
   all_other t left f h other names old long before first behind both own event steps stepped calls =
       names old (long ∙ behind_other left f other) (f ∷ before) first behind (ap (λ (l : List Entry). f ∷ l) both) own
       event steps stepped (calls_other w.pass f before other ∙ calls)
 
-  -- an entry that is the first of the driver's own is one of the pass, behind none of its calls, and no step
+  -- an entry that is the first of the driver's own is one of the pass, after none of its calls, and no step
   first_says : (left : ℕ) (f : Entry) → is_first w left f ≡ true
       → (f.pass ≡ w.pass) × (left ≡ 0) × (is_step f.event ≡ false)
   first_says left f is =
@@ -191,9 +191,9 @@ module _ {S : Type 0} (next : S → Entry → S) (w : Watched) (test : S → Boo
             ap (holds_of test) (at_first t left f h here) ∙ names [] (sym none) [] f h refl own event [] tt refl
         | inr skipped ↦
             ap (holds_of test) (at_other t left f h skipped)
-            ∙ elim (cases_Bool (f.pass == w.pass)) as (λ _. Tells then (left_behind w left f) h) [
-              | inl mine ↦ all then (left_behind w left f) h (all_own t left f h mine skipped names)
-              | inr other ↦ all then (left_behind w left f) h (all_other t left f h other names)
+            ∙ elim (cases_Bool (f.pass == w.pass)) as (λ _. Tells then (still_left w left f) h) [
+              | inl mine ↦ all then (still_left w left f) h (all_own t left f h mine skipped names)
+              | inr other ↦ all then (still_left w left f) h (all_other t left f h other names)
             ]
       ]
 

@@ -26,7 +26,7 @@ use Rattle.driver_laws.specs.StartLaws.RingLaws.Delivered as receive
 use Rattle.driver_laws.specs.StartLaws.RingLaws.Laws as transmit
 
 -- A driver that lived: what it left, counted from its first event on. From there on its history is one by itself, in
--- which the driver lived, behind no calls of its pass.
+-- which the driver lived, after no calls of its pass.
 
 -- the first of some calls that is no step of the device
 one_first : (xs ys : List Call) (c d : Call) (cs ds : List Call) → AreSteps xs → AreSteps ys → IsFalse (is_step c.event)
@@ -39,7 +39,7 @@ one_first xs ys c d cs ds one two none other same = grind (arith, common_steps)
 module _ (w : Watched) (origin : State) (h : List Entry) {q : AtPort} {size frame : ℕ} {old : List Call} {a : Numbers}
     {new : List Call} {left : Rest} {late : Option PmdFault} (lived : HasLived q size frame old a new left late)
     (made : calls_of w.pass h ≡ new) where
-  -- its start's first access, behind steps of the device
+  -- its start's first access, after steps of the device
 
   abbrev seen : IsSeen q old lived.lives.up.receive.quiet.0 Rxdctl false
   seen = lived.lives.up.receive.quiet.1
@@ -50,7 +50,7 @@ module _ (w : Watched) (origin : State) (h : List Entry) {q : AtPort} {size fram
   abbrev call : Call
   call = call_of (event.Read q.port seen.0) (reply.Word seen.1)
 
-  -- the calls behind it, of its start, of its halves and of its stop: they are such behind whichever others
+  -- the calls after it, of its start, of its halves and of its stop: they are such after whichever others
 
   start : Shifts (Behind q (λ o n. AreUp q size frame o a n lived.lives.fresh) (λ o n y. y.receive.quiet.0))
       lived.lives.up.receive.quiet.0 lived.lives.made

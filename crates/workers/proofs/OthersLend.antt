@@ -9,7 +9,7 @@ use Rattle.pmd_driver.specs.DeviceLock.declared.alone.Watched.{Watched}
 use Rattle.pmd_driver.specs.DeviceLock.declared.entry.Entry.{Entry}
 use Rattle.pmd_driver.proofs.DeviceLock.Walks.{split}
 use Rattle.workers.specs.Before.{holds_of, known_before}
-use Rattle.workers.specs.Lending.{NoneLentBefore, OnlyPassLends, OthersLendNone, are_from, lends_none, lent_behind, lent_through, no_block, only_pass_lends}
+use Rattle.workers.specs.Lending.{NoneLentBefore, OnlyPassLends, OthersLendNone, are_from, lends_none, lent_after, lent_through, no_block, only_pass_lends}
 use Rattle.workers.proofs.FirstOwn.{test_decides}
 
 -- entry by entry: whether no other pass lends
@@ -85,17 +85,17 @@ none_decides lent first count = (
 -- so both tests decide it
 
 none_before_decides : (w : Watched) (from first count : ℕ) (h : List Entry)
-    → (holds_of (λ lent. none_of lent first count) (known_before lent_behind w no_block from h) ≡ true)
+    → (holds_of (λ lent. none_of lent first count) (known_before lent_after w no_block from h) ≡ true)
     ↔ NoneLentBefore w from (are_from first count) h
 none_before_decides w from first count h =
-    let decides = test_decides lent_behind w (λ lent. none_of lent first count) no_block from h _ refl in (
+    let decides = test_decides lent_after w (λ lent. none_of lent first count) no_block from h _ refl in (
       λ is old long x. (none_decides (lent_through x.before) first count).0 (decides.0 is old long x),
       λ none. decides.1 (λ old long x. (none_decides (lent_through x.before) first count).1 (none old long x)),
     )
 
 pub others_decide : (w : Watched) (from first count : ℕ) (h : List Entry) (only none : Bool)
     → only ≡ only_pass_lends w.pass (are_from first count) h
-    → none ≡ holds_of (λ lent. none_of lent first count) (known_before lent_behind w no_block from h)
+    → none ≡ holds_of (λ lent. none_of lent first count) (known_before lent_after w no_block from h)
     → IsTrue (only && none) ↔ OthersLendNone w from (are_from first count) h
 others_decide w from first count h only none is_only is_none =
     let only_so = only_decides w.pass (are_from first count) h in

@@ -3,7 +3,7 @@ use Rattle.std.proofs.Common.{◌≡◌, ℕ, ◌+◌, ◌<◌, suc, true, false
 use Rattle.std.proofs.Math.Seq.{drop-length}
 use Rattle.pmd_driver.specs.DeviceLock.declared.alone.Watched.{Watched}
 use Rattle.pmd_driver.specs.DeviceLock.declared.entry.Entry.{Entry}
-use Rattle.workers.specs.Before.{is_first, known_before, left_behind}
+use Rattle.workers.specs.Before.{is_first, known_before, still_left}
 
 split : (h : List Entry) (i : ℕ) (d : Entry) → i < length h → drop i h ≡ get_or h i d ∷ drop (i + 1) h
 split h i d lt = let one : i + 1 ≡ suc i = omega arith in rw one (drop-cons h i d lt)
@@ -19,7 +19,7 @@ module _ {S : Type 0} (next : S → Entry → S) (w : Watched) (s : S) (left : �
 
     -- an entry isn't
     pub known_there : is_first w left e ≡ false → (then : S) (behind : ℕ) → then ≡ next s e
-        → behind ≡ left_behind w left e
+        → behind ≡ still_left w left e
         → known_before next w s left (drop i h) ≡ known_before next w then behind (drop (i + 1) h)
     known_there is then behind moved fewer =
         ap (known_before next w s left) begins ∙ rw (is, moved, fewer) refl

@@ -6,7 +6,7 @@ use Rattle.pmd_driver.specs.DeviceLock.Told.{settings_through}
 use Rattle.pmd_driver.specs.DeviceLock.declared.alone.Watched.{Watched}
 use Rattle.pmd_driver.specs.DeviceLock.declared.entry.Entry.{Entry}
 use Rattle.pmd_driver.specs.DeviceLock.declared.told.Settings.{Settings}
-use Rattle.workers.specs.Before.{first_told, holds_of, told_after, told_before, told_behind, told_through}
+use Rattle.workers.specs.Before.{first_told, holds_of, told_after, told_before, told_after_entry, told_through}
 use Rattle.workers.specs.Beginning.{BeginsWell, Fits, begins, is_queue}
 use Rattle.workers.specs.Queues.{queue_at}
 use Rattle.workers.specs.declared.before.Told.{Told}
@@ -42,7 +42,7 @@ pub begins_decides : (w : Watched) (from : ℕ) (given : Given) (h : List Entry)
     → o ≡ told_before w first_told from h
     → IsTrue (holds_of (λ t. begins w t.settings given) o) ↔ BeginsWell w from given h
 begins_decides w from given h o told =
-    let decides = test_decides (told_behind w) w (λ t. begins w t.settings given) first_told from h o told in (
+    let decides = test_decides (told_after_entry w) w (λ t. begins w t.settings given) first_told from h o told in (
       λ is old long x.
           subst (λ (s : Settings). Fits w s given) (settings_told w first_told x.before)
           (fitting w _ given (decides.0 is old long x)),

@@ -13,9 +13,9 @@ use Rattle.workers.specs.declared.before.Told.{Told}
 abbrev pub is_first : Watched → ℕ → Entry → Bool
 is_first w left e = (e.pass == w.pass) && ((left == 0) && not (is_step e.event))
 
--- how many are left behind an entry
-abbrev pub left_behind : Watched → ℕ → Entry → ℕ
-left_behind w left e = if e.pass == w.pass then left - 1 else left
+-- how many are left after an entry
+abbrev pub still_left : Watched → ℕ → Entry → ℕ
+still_left w left e = if e.pass == w.pass then left - 1 else left
 
 -- a test of what is known, which holds where nothing is
 abbrev pub holds_of : {S : Type 0} → (S → Bool) → Option S → Bool
@@ -23,7 +23,7 @@ holds_of test None = true
 holds_of test (Some s) = test s
 
 module _ {S : Type 0} (next : S → Entry → S) where
-  -- what is known behind the entries of a history, where each moves it on
+  -- what is known after the entries of a history, where each moves it on
   abbrev pub known_through : S → List Entry → S
   known_through s [] = s
   known_through s (e ∷ es) = known_through (next s e) es
@@ -32,27 +32,27 @@ module _ {S : Type 0} (next : S → Entry → S) where
   abbrev pub known_before : Watched → S → ℕ → List Entry → Option S
   known_before w s left [] = None
   known_before w s left (e ∷ es) =
-      if is_first w left e then Some s else known_before w (next s e) (left_behind w left e) es
+      if is_first w left e then Some s else known_before w (next s e) (still_left w left e) es
 
 -- what the entries of a new device's history tell: at first
 
 abbrev pub first_told : Told
 first_told = record { settings = first_settings; asked = false }
 
--- behind an event, and behind an entry
+-- after an event, and after an entry
 abbrev pub told_after : Watched → Told → Event Block → Told
 told_after w t e = record {
   settings = settings_after w.vfs t.settings e;
   asked = t.asked || asks_on w t.settings.mode e;
 }
 
-abbrev pub told_behind : Watched → Told → Entry → Told
-told_behind w t e = told_after w t e.event
+abbrev pub told_after_entry : Watched → Told → Entry → Told
+told_after_entry w t e = told_after w t e.event
 
--- behind those of a history
+-- after those of a history
 abbrev pub told_through : Watched → Told → List Entry → Told
-told_through w = known_through (told_behind w)
+told_through w = known_through (told_after_entry w)
 
 -- and just before the first of a driver's own
 abbrev pub told_before : Watched → Told → ℕ → List Entry → Option Told
-told_before w = known_before (told_behind w) w
+told_before w = known_before (told_after_entry w) w

@@ -16,7 +16,7 @@ pub record Fits (w : Watched) (s : Settings) (x : Given) : Type 0 where
   pub names : queue_at s.mode w.vfs x.port x.queue ≡ Some w.queue
   pub limit : limit_of s.frames ≡ packet_limit x.frame
 
--- so it is just before the first entry of a driver's own, behind so many calls of its pass, as the entries before tell
+-- so it is just before the first entry of a driver's own, after so many calls of its pass, as the entries before tell
 abbrev pub BeginsWell : Watched → ℕ → Given → List Entry → Type 0
 BeginsWell w from start h =
     (old : List Call) → length old ≡ from → (x : Starts w.pass old h) →

@@ -16,15 +16,15 @@ abbrev pub let_in_by : Event Block → Reply Block → ℕ
 let_in_by (event.Arrive frame) Done = length frame
 let_in_by event reply = 0
 
--- how many the longest has that was let in, behind an entry; and behind those of a history
+-- how many the longest has that was let in, after an entry; and after those of a history
 
-abbrev pub longest_behind : ℕ → Entry → ℕ
-longest_behind longest e = max longest (let_in_by e.event e.reply)
+abbrev pub longest_after : ℕ → Entry → ℕ
+longest_after longest e = max longest (let_in_by e.event e.reply)
 
 abbrev pub longest_let_in : List Entry → ℕ
-longest_let_in h = known_through longest_behind 0 h
+longest_let_in h = known_through longest_after 0 h
 
--- no frame of more than so many bytes was let in before the first entry of a driver's own, behind so many calls of its
+-- no frame of more than so many bytes was let in before the first entry of a driver's own, after so many calls of its
 -- pass
 abbrev pub FramesFit : Watched → ℕ → ℕ → List Entry → Type 0
 FramesFit w from most h =

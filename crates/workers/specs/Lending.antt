@@ -32,20 +32,20 @@ abbrev pub takes : Event Block → Reply Block → Blocks
 takes (event.Take taken) (Buf block) number = number == taken
 takes event reply number = false
 
--- the blocks that are lent behind an entry, of which each has a number below 65,536; and behind those of a history, of
+-- the blocks that are lent after an entry, of which each has a number below 65,536; and after those of a history, of
 -- a device that was new
 
-abbrev pub lent_behind : Blocks → Entry → Blocks
-lent_behind lent e number =
+abbrev pub lent_after : Blocks → Entry → Blocks
+lent_after lent e number =
     (nat_lt number 65536 && lends e.event e.reply number) || (lent number && not (takes e.event e.reply number))
 
 abbrev pub no_block : Blocks
 no_block number = false
 
 abbrev pub lent_through : List Entry → Blocks
-lent_through h = known_through lent_behind no_block h
+lent_through h = known_through lent_after no_block h
 
--- none of some blocks is lent just before the first entry of a driver's own, behind so many calls of its pass
+-- none of some blocks is lent just before the first entry of a driver's own, after so many calls of its pass
 abbrev pub NoneLentBefore : Watched → ℕ → Blocks → List Entry → Type 0
 NoneLentBefore w from own h =
     (old : List Call) → length old ≡ from → (x : Starts w.pass old h) → (number : ℕ) → IsTrue (own number) →

@@ -8,7 +8,7 @@ use Rattle.workers.specs.Starts.{Starts}
 abbrev pub JustBefore : (vfs fifo tag : ℕ) → List Call → List Entry → (State → Type 0) → Type 0
 JustBefore vfs fifo tag old h P = (x : Starts tag old h) → P (leads_to (new_state vfs fifo) x.before)
 
--- and so behind these calls of its pass, as a start has it, and a driver that came up then
+-- and so after these calls of its pass, as a start has it, and a driver that came up then
 pub record HoldsAtFirst (w : Watched) (fifo : ℕ) (old : List Call) (h : List Entry) (P : State → Type 0) : Type 0 where
   pub first : JustBefore w.vfs fifo w.pass old h P
   pub next : BeforeNext w (new_state w.vfs fifo) h old P

@@ -38,7 +38,7 @@ NoneAsksOn w h =
     (before : List Entry) (e : Entry) (behind : List Entry) → before ++ e ∷ behind ≡ h →
     IsFalse (asks_on w (settings_through w.vfs first_settings before).mode e.event)
 
--- and so none does before the first entry of a driver's own, behind so many calls of its pass
+-- and so none does before the first entry of a driver's own, after so many calls of its pass
 abbrev pub NeverAskedOn : Watched → ℕ → List Entry → Type 0
 NeverAskedOn w from h =
     (old : List Call) → length old ≡ from → (x : Starts w.pass old h) → NoneAsksOn w x.before

@@ -6,7 +6,7 @@ use Rattle.pmd_driver.specs.DeviceLock.declared.entry.Entry.{Entry}
 use Rattle.pmd_driver.specs.PmdAccess.Events.{is_step}
 use Rattle.pmd_driver.specs.PmdAccess.Made.{AreSteps}
 
--- an entry of a history is the first of a driver's own, behind the calls that its pass had made before the driver, and
+-- an entry of a history is the first of a driver's own, after the calls that its pass had made before the driver, and
 -- steps of the device
 pub record Starts (tag : ℕ) (old : List Call) (h : List Entry) : Type 0 where
   pub before : List Entry

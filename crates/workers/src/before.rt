@@ -2,7 +2,7 @@
 
 ghost use Rattle.std.specs.Prelude.{◌≡◌};
 ghost use Rattle.pmd_driver.specs.PmdAccess.Events.{is_step};
-ghost use Rattle.workers.specs.Before.{first_told, is_first, left_behind, told_after, told_before};
+ghost use Rattle.workers.specs.Before.{first_told, is_first, still_left, told_after, told_before};
 ghost use Rattle.workers.specs.Quiet.{asks_on, is_enable};
 
 use pmd_driver::{Entry, Event, EventNote, Mode, Place, RowId, Settings, Watched, place_at};
@@ -11,7 +11,7 @@ use register_bits::{Rxdctl, has_flag};
 /// What the entries before a point report: the settings, and whether the watched queue was asked on.
 #[derive(Clone, Copy, PartialEq, Eq, Debug)]
 pub(crate) struct Told {
-    /// The device's settings behind them.
+    /// The device's settings after them.
     pub settings: Settings,
     /// Whether one of them asks the watched queue on.
     pub asked: bool,
@@ -88,9 +88,9 @@ pub(crate) fn is_first(watched: Watched, left: usize, entry: &Entry) -> bool
     entry.pass == watched.pass && left == 0 && !is_step(&entry.event)
 }
 
-/// How many are left behind an entry.
-pub(crate) fn left_behind(watched: Watched, left: usize, entry: &Entry) -> usize
-    ensures { result ≡ left_behind watched left entry.now }
+/// How many are left after an entry.
+pub(crate) fn still_left(watched: Watched, left: usize, entry: &Entry) -> usize
+    ensures { result ≡ still_left watched left entry.now }
 {
     if entry.pass == watched.pass {
         left.saturating_sub(1)
@@ -99,7 +99,7 @@ pub(crate) fn left_behind(watched: Watched, left: usize, entry: &Entry) -> usize
     }
 }
 
-/// What is told just before the first entry of the driver's own, which is behind so many calls of its pass and no step
+/// What is told just before the first entry of the driver's own, which is after so many calls of its pass and no step
 /// of the device; none where there is no such entry. No memory is asked for.
 pub(crate) fn told_before(watched: Watched, from: usize, history: &[Entry]) -> Option<Told>
     ensures { result ≡ told_before watched first_told from history.now }
@@ -111,7 +111,7 @@ pub(crate) fn told_before(watched: Watched, from: usize, history: &[Entry]) -> O
             return Some(told);
         }
         told = told.after(watched, &entry.event);
-        left = left_behind(watched, left, entry);
+        left = still_left(watched, left, entry);
     }
     None
 }

@@ -23,8 +23,8 @@ pub struct Given {
     pub frame: u16,
 }
 
-/// The queue of the device, below 128, that a port and a queue's number there name, while the queues are parted by a
-/// mode and there are so many virtual functions. At the physical function's port it is the queue of that number, at a
+/// The queue of the device, below 128, that a port and a queue's number there name, in a mode of pools and with so
+/// many virtual functions. At the physical function's port it is the queue of that number, at a
 /// virtual function's that queue of its pool. None where there is no such queue.
 pub fn queue_at(mode: Mode, vfs: u8, port: Port, number: u16) -> Option<u16>
     ensures { result ≡ queue_at mode vfs port number }
@@ -54,7 +54,7 @@ fn begins(watched: Watched, settings: Settings, given: Given) -> bool
 }
 
 /// Whether a driver begins well in a history from a new device: just before the first event of the driver's own, which
-/// is behind so many calls of its pass and no step of the device, its port and queue name the watched queue, and the
+/// is after so many calls of its pass and no step of the device, its port and queue name the watched queue, and the
 /// device's frame limit is that of its frames. So it is where there is none. No memory is asked for.
 pub fn begins_well(watched: Watched, from: usize, given: Given, history: &[Entry]) -> bool
     ensures { IsTrue result ↔ BeginsWell watched from given history.now }

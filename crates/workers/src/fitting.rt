@@ -3,9 +3,9 @@
 ghost use Rattle.std.specs.Prelude.{◌≡◌, ◌↔◌, ◌*◌, IsTrue};
 ghost use Rattle.pmd_driver.specs.PmdAccess.Frames.{most_blocks};
 ghost use Rattle.workers.specs.Before.{known_before};
-ghost use Rattle.workers.specs.Fitting.{FramesFit, let_in_by, longest_behind};
+ghost use Rattle.workers.specs.Fitting.{FramesFit, let_in_by, longest_after};
 
-use crate::before::{is_first, left_behind};
+use crate::before::{is_first, still_left};
 use crate::beginning::FRAME_CHECK;
 use pmd_driver::{BLOCK_BYTES, Entry, Event, Reply, Watched};
 
@@ -22,7 +22,7 @@ fn let_in_by(entry: &Entry) -> usize
 /// How many bytes the longest frame has that was let in before the first entry of the driver's own; none where there is
 /// no such entry.
 fn longest_before(watched: Watched, from: usize, history: &[Entry]) -> Option<usize>
-    ensures { result ≡ known_before longest_behind watched 0 from history.now }
+    ensures { result ≡ known_before longest_after watched 0 from history.now }
 {
     let mut longest = 0usize;
     let mut left = from;
@@ -31,7 +31,7 @@ fn longest_before(watched: Watched, from: usize, history: &[Entry]) -> Option<us
             return Some(longest);
         }
         longest = longest.max(let_in_by(entry));
-        left = left_behind(watched, left, entry);
+        left = still_left(watched, left, entry);
     }
     None
 }
@@ -46,7 +46,7 @@ fn room_of(frame: u16) -> usize
 }
 
 /// Whether the frames that were let in before a driver's start fit its packets, in a history from a new device: before
-/// the first event of the driver's own, which is behind so many calls of its pass and no step of the device, no entry
+/// the first event of the driver's own, which is after so many calls of its pass and no step of the device, no entry
 /// lets in a frame of more bytes than the blocks hold, 2,048 each, that a packet of the driver is in at most, where a
 /// frame has up to `frame` bytes with its check sequence. A frame that was dropped doesn't count. So it is where there
 /// is no such event. No memory is asked for.

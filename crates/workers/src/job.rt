@@ -30,8 +30,8 @@ pub struct Job {
 
 impl Job {
     /// Whether the device steps before its calls are those of its own queue: `pf_queue` is the queue that its port and
-    /// queue name, while the queues are parted by a mode and there are so many virtual functions. Where it isn't, only
-    /// others can switch its queue on.
+    /// queue name, in a mode of pools and with so many virtual functions. Where it isn't, only others can switch its
+    /// queue on.
     pub fn steps_its_queue(&self, mode: Mode, vfs: u8) -> bool
         ensures { IsTrue result ↔ (queue_at mode vfs self.now.port self.now.queue ≡ Some self.now.pf_queue) }
     {

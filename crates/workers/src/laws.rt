@@ -10,7 +10,7 @@ ghost use Rattle.workers.specs.Order.{EndsAreInOrder};
 /// Over every history of a device that was new which leaves the queue of a job alone: the packets that the job's driver
 /// handed out, as its end tells them, are a prefix of those delivered on the queue, and the frames sent there are a
 /// prefix of those that the driver accepted, up to the last note of the end's pass; both are counted since the sides
-/// went on behind the first event of the driver's own. There port and queue name the job's queue, and the device's
+/// went on after the first event of the driver's own. There port and queue name the job's queue, and the device's
 /// frame limit is that of the job's frames; and where the end has a fault, both sides are off and not wanted on. Where
 /// the driver has no event of its own there, it handed out and accepted nothing.
 pub fn ends_are_in_order()
@@ -19,7 +19,7 @@ pub fn ends_are_in_order()
 
 /// Over the history of a device that was new: where `begins_well` says so of a driver, its port and queue name the
 /// watched queue just before the first event of the driver's own, and the device's frame limit is that of its frames,
-/// as `run_workers` asks in its clause `order`, and the laws of `driver_laws` on a driver's life behind the same calls
+/// as `run_workers` asks in its clause `order`, and the laws of `driver_laws` on a driver's life after the same calls
 /// of its pass.
 pub fn worker_begins_well()
     ensures { BegunHasGround }

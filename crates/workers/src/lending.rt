@@ -4,9 +4,9 @@
 ghost use Rattle.std.specs.Prelude.{◌≡◌, ◌↔◌, ◌==◌, ◌&&◌, ◌||◌, not, nat_lt, ℕ, IsTrue, if◌then◌else◌};
 ghost use Rattle.pmd_driver.specs.DeviceLock.Watching.{marked, none_of};
 ghost use Rattle.workers.specs.Before.{holds_of, known_before};
-ghost use Rattle.workers.specs.Lending.{OthersLendNone, are_from, lends_none, lent_behind, no_block, only_pass_lends};
+ghost use Rattle.workers.specs.Lending.{OthersLendNone, are_from, lends_none, lent_after, no_block, only_pass_lends};
 
-use crate::before::{is_first, left_behind};
+use crate::before::{is_first, still_left};
 use pmd_driver::{BLOCK_NUMBERS, Entry, Event, EventNote, Reply, Watched};
 
 /// For each number of a block, whether it is lent.
@@ -53,7 +53,7 @@ fn note(lent: &mut Lent, block: u32, is: bool)
 
 /// Notes what an entry lends, and what it takes back.
 fn note_lent(lent: &mut Lent, entry: &Entry)
-    ensures { (number : ℕ) → marked lent.new number ≡ lent_behind (marked lent.old) entry.now number }
+    ensures { (number : ℕ) → marked lent.new number ≡ lent_after (marked lent.old) entry.now number }
 {
     match (&entry.event, &entry.reply) {
         (Event::Lend(block), Reply::Done) => note(lent, block.number(), true),
@@ -91,7 +91,7 @@ fn none_lent_before(
     history: &[Entry],
 ) -> bool
     ensures { result ≡ holds_of (λ lent. none_of lent first count)
-        (known_before lent_behind watched no_block from history.now) }
+        (known_before lent_after watched no_block from history.now) }
 {
     let mut lent = [false; BLOCK_NUMBERS as usize];
     let mut left = from;
@@ -100,15 +100,15 @@ fn none_lent_before(
             return none_lent(&lent, first, count);
         }
         note_lent(&mut lent, entry);
-        left = left_behind(watched, left, entry);
+        left = still_left(watched, left, entry);
     }
     true
 }
 
 /// Whether others lend none of a driver's blocks in a history from a new device, which are `count` from `first` on, as
 /// its arena has them: no entry of another pass lends any of them, and none of them is lent just before the first event
-/// of the driver's own, which is behind so many calls of its pass and no step of the device. Lent is a block that an
-/// entry before lends, and none behind that one takes back. No memory is asked for.
+/// of the driver's own, which is after so many calls of its pass and no step of the device. Lent is a block that an
+/// entry before lends, and none after that one takes back. No memory is asked for.
 pub fn others_lend_none(
     watched: Watched,
     from: usize,

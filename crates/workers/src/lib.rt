@@ -61,7 +61,7 @@ pub use pmd_driver::{
     Arrived, Bufs, Call, CallFault, Calls, CloseFault, CloseRefused, Closed, Direct, Entry,
     Finished, Home, Interleaved, LONGEST_FRAME, Made, NewFault, Nic, POLLS, Packet, Pass, Pmd,
     PmdFault, Queue, Reaped, Record, Rest, SHORTEST_FRAME, Settings, Setup, Shared, StartRefused,
-    StopRefused, ThroughLock, TxAnswer, TxFault, Watched, arrive, history_of, left_alone,
+    StopRefused, ThroughLock, TxAnswer, TxFault, Watched, arrive, history_of, leave, left_alone,
     marked_history, pf_setup,
 };
 pub use quiet::never_asked_on;

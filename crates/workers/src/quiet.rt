@@ -7,7 +7,7 @@ use crate::before::told_before;
 use pmd_driver::{Entry, Watched};
 
 /// Whether no entry of a history from a new device asks the watched queue on before the first event of its driver's
-/// own, which is behind so many calls of its pass and no step of the device: none is a write, by whichever name, of a
+/// own, which is after so many calls of its pass and no step of the device: none is a write, by whichever name, of a
 /// word with bit 25 to the RXDCTL or the TXDCTL of the queue. So it is where there is no such event. No memory is asked
 /// for.
 pub fn never_asked_on(watched: Watched, from: usize, history: &[Entry]) -> bool

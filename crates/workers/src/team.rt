@@ -142,7 +142,7 @@ fn run_in<R: Threads + Wait + Sync, G: Gate + Sync, const VFS: u8, const FIFO: u
 ///
 /// What each end tells is in order over every history of the device that leaves the queue of its job alone, up to the
 /// last call of the end's pass: the packets that its driver handed out are a prefix of those delivered on the queue,
-/// and the frames sent there a prefix of those that it accepted, since the sides went on behind the first event of the
+/// and the frames sent there a prefix of those that it accepted, since the sides went on after the first event of the
 /// driver's own. So it is over the history that the passes close, where `left_alone` and `begins_well` answer so of the
 /// end's pass and the job, and the end has no fault, or `never_asked_on` answers so too.
 ///

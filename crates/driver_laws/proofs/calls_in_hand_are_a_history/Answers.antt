@@ -1,4 +1,4 @@
--- What was made of a device in hand is a history of it: the calls of pass 0 are those behind what others made.
+-- What was made of a device in hand is a history of it: the calls of pass 0 are those after what others made.
 use Rattle.start_laws.specs.Prelude.{entries_in}
 use Rattle.driver_laws.proofs.Prelude.{LeadsTo, LeavesAloneFrom, List, State, [], after, ap, arith, calls_joined}
 use Rattle.driver_laws.proofs.Prelude.{calls_of, calls_other, common_steps, events-append, false, has_begun}

@@ -4,15 +4,15 @@ use Rattle.driver_laws.proofs.Prelude.{inr, is_free, left, refl, suc, true, zero
 use Rattle.driver_laws.proofs.Prelude.{◌≤◌, ◌⊎◌}
 use Rattle.driver_laws.{proofs.Prelude.is_some, proofs.Prelude.true_from_ne_false, specs.Room.HasTwoRuns}
 use Rattle.start_laws.proofs.NicDevice.DmaArena.{Owned.is_own-of_free, Owned.own_within, RunLaws.one_taken, Runs.found_behind}
-use Rattle.start_laws.specs.NicDevice.DmaArena.Run.{IsFreeRun, are_free, run_behind, run_from, run_in}
-use Rattle.start_laws.specs.PmdDriver.Runs.{behind_run, second_run}
+use Rattle.start_laws.specs.NicDevice.DmaArena.Run.{IsFreeRun, are_free, lowest_run, run_from, run_in}
+use Rattle.start_laws.specs.PmdDriver.Runs.{run_after, second_run}
 
 all_free : (a : Numbers) (first count : ℕ) → IsFreeRun a first count → are_free a first count ≡ true
 all_free a first count free =
     true_from_ne_false (are_free a first count) (λ taken.
     let (k, below, is) = one_taken a first count (is_free a first) refl taken in both_ways _ is (free k below))
 
--- a search that comes by a run finds one, and none behind it
+-- a search that comes by a run finds one, and none after it
 by_run : (a : Numbers) (count number left n : ℕ) → number ≤ n → n < number + left → are_free a n count ≡ true
     → (m : ℕ) × (run_from a count number left ≡ Some m) × (m ≤ n)
 unfolding run_from
@@ -25,7 +25,7 @@ by_run a count number (suc left) n low high free =
     (m, simp taken is, early)) (cases_Bool (are_free a number count))
 
 run_finds : (a : Numbers) (count from n : ℕ) → 0 < count → from ≤ n ⊎ (from ≡ a.first) → IsFreeRun a n count
-    → (m : ℕ) × (run_behind a count from ≡ Some m) × (m ≤ n)
+    → (m : ℕ) × (lowest_run a count from ≡ Some m) × (m ≤ n)
 run_finds a count from n some low free =
     let within = own_within a (n + 0) (is_own-of_free a (n + 0) (free 0 some)) in
     by_run a count from (a.first + count_of a - from) n (omega (arith, low, within.0)) (omega (arith, low, within.1))
@@ -41,7 +41,7 @@ among_low a count number (suc left) n is =
     (λ taken. let later = among_low a count (number + 1) left n (rw taken at is) in omega (arith, later))
     (cases_Bool (are_free a number count))
 
-found_runs : (a : Numbers) (count : ℕ) (one two : Option ℕ) → run_in a count ≡ one → behind_run a count one ≡ two
+found_runs : (a : Numbers) (count : ℕ) (one two : Option ℕ) → run_in a count ≡ one → run_after a count one ≡ two
     → is_some two ≡ true → HasTwoRuns a count
 found_runs a count None two first second some = cc
 found_runs a count (Some ring) None first second some = cc

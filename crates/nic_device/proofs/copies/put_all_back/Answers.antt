@@ -1,7 +1,7 @@
 use Rattle.std.proofs.Common.{◌≡◌, ◌-◌, ◌∷◌, List, ℕ, None, refl, sym, ap, subst, ◌∙◌, arith, drop, length}
 use Rattle.std.specs.FinMap as map
-use Rattle.nic_device.specs.Blocks.{memory_of, IsFrom}
-use Rattle.nic_device.proofs.BlockCopies.{next-copy}
+use Rattle.nic_device.specs.Blocks.{memory_of}
+use Rattle.nic_device.proofs.BlockCopies.{IsFrom, next-copy}
 use Rattle.nic_device.proofs.Returning.{all-returned, no-copy-here, no-copy-left, returned-next, start-return, still-lent, written-next}
 use Rattle.nic_device.proofs.copies.put_all_back.Goals as goal
 use Rattle.nic_device.proofs.copies.put_all_back.Goals.{else-at-gt0-via-then-at-gt0+else-copies-at, else-at-gt0-via-else-at-gt0}

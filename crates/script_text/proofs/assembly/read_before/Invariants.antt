@@ -1,6 +1,6 @@
 use Rattle.std.proofs.Common.{◌≡◌, length}
 use Rattle.std.specs.List.{before_first}
-use Rattle.script_text.specs.End.{has_end, is_end, lines_behind}
+use Rattle.script_text.specs.End.{has_end, is_end, lines_after}
 use Rattle.script_text.specs.Outline.{blank}
 use Rattle.script_text.specs.Script.{with_lines}
 use Rattle.script_text.proofs.assembly.read_before.Given as goal
@@ -11,7 +11,7 @@ invariant-script l = record {
   said : with_lines l.sheet (before_first (is_end l.end) l.lines)
       ≡ with_lines blank (before_first (is_end l.end) l.fn.lines);
   ended : has_end l.end l.lines ≡ has_end l.end l.fn.lines;
-  behind : lines_behind l.end l.lines ≡ lines_behind l.end l.fn.lines;
+  behind : lines_after l.end l.lines ≡ lines_after l.end l.fn.lines;
 }
 
 abbrev pub decreases-script : goal.decreases-script

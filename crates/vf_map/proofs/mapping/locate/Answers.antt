@@ -1,5 +1,5 @@
 use Rattle.std.proofs.Common.{sym, ◌∙◌, ap}
-use Rattle.vf_map.specs.Parts.{located_at}
+use Rattle.vf_map.proofs.LocatedAt.{located_at}
 use Rattle.vf_map.proofs.Reached.{in_range}
 use Rattle.vf_map.specs.declared.located.Located.TheVariants.{Register}
 use Rattle.vf_map.proofs.Whole.{located_beyond, located_none, located_some}

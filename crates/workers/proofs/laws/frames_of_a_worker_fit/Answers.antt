@@ -7,7 +7,7 @@ use Rattle.driver_laws.proofs.{StartLaws.RingLaws.Fitting.all_wait}
 use Rattle.workers.proofs.WorkerTold.{holds_at_first}
 use Rattle.workers.specs.AtFirst.{AllFitBlocks}
 use Rattle.std.proofs.lemmas.List.Elements.{All-nil, All-push, All-weaker}
-use Rattle.workers.specs.{Before.known_through, Fitting.let_in_by, Fitting.longest_behind, Fitting.longest_let_in}
+use Rattle.workers.specs.{Before.known_through, Fitting.let_in_by, Fitting.longest_after, Fitting.longest_let_in}
 use Rattle.pmd_driver.specs.NicDevice.declared.event.Event.TheVariants as event
 
 -- and how long the frames are that wait: none is longer than the longest that was let in
@@ -31,10 +31,10 @@ module _ (longest : ℕ) (s : State) (h : All (IsUpTo longest) s.waiting) where
   behind e = more 0 _ (all_wait (IsUpTo longest) (λ w n short. short) s h e (λ frame t is. cc))
 
 longest_along : (longest : ℕ) (s : State) (h : List Entry) → IsLegal s h → All (IsUpTo longest) s.waiting
-    → All (IsUpTo (known_through longest_behind longest h)) (leads_to s h).waiting
+    → All (IsUpTo (known_through longest_after longest h)) (leads_to s h).waiting
 longest_along longest s [] legal all = all
 longest_along longest s (e ∷ es) legal all =
-    longest_along (longest_behind longest e) (after s e.event) es legal.1 (rw legal.0 (behind longest s all e.event))
+    longest_along (longest_after longest e) (after s e.event) es legal.1 (rw legal.0 (behind longest s all e.event))
 
 pub returns : Rattle.workers.proofs.laws.frames_of_a_worker_fit.Goals.returns
 returns c w fifo old frame h legal fit =

@@ -14,13 +14,13 @@ use Rattle.driver_laws.proofs.Prelude.{nat_cmp, nat_lt, new_state, refl, reply_t
 use Rattle.workers.proofs.WorkerTold.{holds_at_first}
 use Rattle.std.{proofs.lemmas.Bool.Decides.nat_tests, proofs.lemmas.Bool.or_left, specs.Prelude.not}
 use Rattle.workers.specs.Lending.{lends_none, takes}
-use Rattle.workers.specs.{Before.known_through, Lending.lent_behind, Lending.lent_through, Lending.no_block}
+use Rattle.workers.specs.{Before.known_through, Lending.lent_after, Lending.lent_through, Lending.no_block}
 use Rattle.std.specs.FinMap as map
 use Rattle.workers.specs.Lending as told
 
 -- which of some blocks are lent
 
--- what is told behind an event and its reply
+-- what is told after an event and its reply
 abbrev LentBehind : Blocks → Event Block → Reply Block → Blocks
 LentBehind known e r n = (nat_lt n 65536 && lends e r n) || (known n && not (takes e r n))
 
@@ -35,10 +35,10 @@ lent_here own known s only e made n is has =
     grind (arith, common_steps, follows)
 
 lent_along : (own known : Blocks) (s : State) (h : List Entry) → IsLegal s h → AreEvents h
-    → OnlyLent own known s.memory → OnlyLent own (known_through lent_behind known h) (leads_to s h).memory
+    → OnlyLent own known s.memory → OnlyLent own (known_through lent_after known h) (leads_to s h).memory
 lent_along own known s [] legal events only = only
 lent_along own known s (e ∷ es) legal events only =
-    lent_along own (lent_behind known e) (after s e.event) es legal.1 events.1
+    lent_along own (lent_after known e) (after s e.event) es legal.1 events.1
     (rw legal.0 (lent_here own known s only e.event events.0))
 
 -- where the entries say that others lend none of a driver's blocks, they do so for those laws

@@ -1,6 +1,6 @@
 use Rattle.std.proofs.Common.{◌≡◌, ◌+◌, true, false, Some, refl, sym, ap, ◌∙◌, arith}
 use Rattle.dma_arena.specs.Numbers.{Numbers, is_free, with_free}
-use Rattle.dma_arena.specs.Run.{BlockRun, run_behind, run_in}
+use Rattle.dma_arena.specs.Run.{BlockRun, lowest_run, run_in}
 use Rattle.dma_arena.proofs.Runs.{found_behind, next_free, without_run-none, without_run-more}
 use Rattle.dma_arena.proofs.arena.Arena.take_run.Goals as goal
 
@@ -42,7 +42,7 @@ pub returns-clause-run : goal.returns-clause-run
 returns-clause-run c =
     let e : c.loop-k.k ≡ c.args.count = omega (arith, c.loop-k-test.false, c.loop-k.auto.k-end) in
     let found : run_in c.args.self.now c.args.count ≡ Some c.in_ok-first.first =
-    ap (λ from. run_behind c.args.self.now c.args.count from) (sym c.first.ensures) ∙ sym c.in_ok-first.ensures.run in
+    ap (λ from. lowest_run c.args.self.now c.args.count from) (sym c.first.ensures) ∙ sym c.in_ok-first.ensures.run in
     rw (c.loop-k.invariant.run, e, found) refl
 
 pub returns-clause-small : goal.returns-clause-small

@@ -1,6 +1,6 @@
 use Rattle.std.proofs.Common.{◌≡◌, List, ℕ, ap, sym, subst, ◌∙◌, arith, ◌-◌}
-use Rattle.nic_device.specs.Blocks.{memory_of, AreRising, IsFrom}
-use Rattle.nic_device.proofs.BlockCopies.{from_all, from_past, from_some, rising_more}
+use Rattle.nic_device.specs.Blocks.{memory_of, AreRising}
+use Rattle.nic_device.proofs.BlockCopies.{IsFrom, from_all, from_past, from_some, rising_more}
 use Rattle.nic_device.proofs.copies.Blocks.copied.Goals as goal
 
 pub each-init : goal.each-init

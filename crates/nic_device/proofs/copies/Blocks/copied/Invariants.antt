@@ -1,4 +1,5 @@
-use Rattle.nic_device.specs.Blocks.{memory_of, AreRising, IsFrom}
+use Rattle.nic_device.specs.Blocks.{memory_of, AreRising}
+use Rattle.nic_device.proofs.BlockCopies.{IsFrom}
 use Rattle.nic_device.proofs.copies.Blocks.copied.Given as goal
 
 -- the blocks from a number on are copied

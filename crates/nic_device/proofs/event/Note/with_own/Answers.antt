@@ -10,4 +10,4 @@ pub returns : goal.returns
 returns c =
     c.new.ensures
     ∙ held-whole c.args.buf.now c.args.bytes c.args.kept _ _ _ c.own.ensures c.requires.kept c.requires.bytes
-    c.block.ensures.number c.zeros_behind-zeros.ensures
+    c.block.ensures.number c.zeros_after-zeros.ensures

@@ -13,13 +13,13 @@ lent-requires-clause-free c =
 pub invariant_of-result : goal.invariant_of-result
 invariant_of-result c =
     subst IsSound
-    (sym (lent-again c.self.inside.rest _ _ _ _ c.with_memory.ensures c.in-Ok.ensures
+    (sym (lent-again c.self.inside.state _ _ _ _ c.with_memory.ensures c.in-Ok.ensures
     c.in-Ok-lent.ensures.lent))
     c.self.invariant
 
 pub returns-in-Ok-lent-clause-restored : goal.returns-in-Ok-lent-clause-restored
 returns-in-Ok-lent-clause-restored c =
-    lent-again c.self.inside.rest _ _ _ _ c.with_memory.ensures c.in-Ok.ensures
+    lent-again c.self.inside.state _ _ _ _ c.with_memory.ensures c.in-Ok.ensures
     c.in-Ok-lent.ensures.lent ∙ c.self.view_is
 
 pub returns-in-Ok-lent-clause-left : goal.returns-in-Ok-lent-clause-left

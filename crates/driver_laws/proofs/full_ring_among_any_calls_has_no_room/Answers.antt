@@ -1,7 +1,7 @@
 use Rattle.driver_laws.proofs.Told.{full_lacks, none_lacks, room, runs}
 use Rattle.driver_laws.proofs.{Beside.own_anew, Prelude.Moment, Prelude.ap, Prelude.last, Prelude.sym, Prelude.◌∙◌}
 
-pub returns : Rattle.driver_laws.proofs.full_ring_beside_any_calls_has_no_room.Goals.returns
+pub returns : Rattle.driver_laws.proofs.full_ring_among_any_calls_has_no_room.Goals.returns
 returns c = record {
   told = λ q size frame old a m later ahead own n p x.
       let t = own_anew x in

@@ -2,7 +2,7 @@ use Rattle.driver_laws.proofs.Prelude.{Rxdctl, Sees, arith, false, faults_are_ea
 use Rattle.driver_laws.proofs.{Beside.never_beside, Prelude.common_steps, Prelude.◌++◌, Shifted.access}
 use Rattle.driver_laws.proofs.{Shifted.up_behind}
 
-pub returns : Rattle.driver_laws.proofs.driver_beside_any_calls_starts.Goals.returns
+pub returns : Rattle.driver_laws.proofs.driver_among_any_calls_starts.Goals.returns
 returns c = record {
   adds = λ q size frame old a new r up.
       let first = access q (Sees Rxdctl false) old _ up.receive.quiet.1 in

@@ -6,7 +6,7 @@ use Rattle.driver_laws.proofs.{Faultless.burst_amid, Lent.each_in_one_place, Len
 same_memory : (x : Beside) → memory_after x.origin x.h ≡ memory_after x.origin x.g
 same_memory x = ap (λ (s : State). s.memory) (same_leads x.origin x.h x.g x.retold.was.same)
 
-pub returns : Rattle.driver_laws.proofs.driver_beside_any_calls_keeps_its_blocks.Goals.returns
+pub returns : Rattle.driver_laws.proofs.driver_among_any_calls_keeps_its_blocks.Goals.returns
 returns c = record {
   finds = λ x n finds y.
       let r = (goes (told x)).rings in

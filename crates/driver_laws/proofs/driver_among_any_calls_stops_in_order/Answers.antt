@@ -10,7 +10,7 @@ stopping x new y =
     let ends = made_first (IsEnding x.q) (now x).made new y.since y.rest y.ends y.made in
     record { ends = (y.since, refl, ends); calls = y.calls }
 
-pub returns : Rattle.driver_laws.proofs.driver_beside_any_calls_stops_in_order.Goals.returns
+pub returns : Rattle.driver_laws.proofs.driver_among_any_calls_stops_in_order.Goals.returns
 returns c = record {
   handed = λ x new y.
       rw (rings_up x, same_delivers x.w.queue x.origin x.h x.g x.retold.was.same)

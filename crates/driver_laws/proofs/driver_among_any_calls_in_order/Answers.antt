@@ -4,7 +4,7 @@ use Rattle.driver_laws.proofs.Told.{goes, none_before, none_first, up_next, wait
 use Rattle.driver_laws.proofs.{Order.handed, Order.idle, Order.ran, Order.sent_first, Prelude.HasNoneOut, Prelude.arith}
 use Rattle.start_laws.specs.Prelude.{entries_in, marked_entries}
 
-pub returns : Rattle.driver_laws.proofs.driver_beside_any_calls_in_order.Goals.returns
+pub returns : Rattle.driver_laws.proofs.driver_among_any_calls_in_order.Goals.returns
 returns c = record {
   told = λ q size frame old a m later ahead own x. own_anew x;
   lived = λ x. ((goes (told x)).rings, rings_up x, is_life x);

@@ -1,6 +1,6 @@
 use Rattle.std.proofs.Common.{ap, arith, length}
 use Rattle.nic_device.proofs.Trimmed.{kept_len_le}
-use Rattle.nic_device.proofs.notes.zeros_behind.Goals as goal
+use Rattle.nic_device.proofs.notes.zeros_after.Goals as goal
 
 pub overflow_sub-result : goal.overflow_sub-result
 overflow_sub-result c =

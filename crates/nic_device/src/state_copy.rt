@@ -1,4 +1,4 @@
-//! The state of a device without packet memory, as plain data.
+//! A copy of a device's state without packet memory, as plain data.
 
 ghost use Rattle.std.specs.Prelude.{◌≡◌, ◌++◌, length, IfOk, OnOk};
 ghost use Rattle.std.specs.FinMap as map;
@@ -14,9 +14,9 @@ use std::collections::VecDeque;
 use std::marker::Model;
 use tx_ring::Staged;
 
-/// The state of a device without its packet memory. Contracts see it as a state in which no block is lent.
+/// A copy of a device's state without its packet memory. Contracts see it as a state in which no block is lent.
 #[derive(Drop)]
-pub(crate) struct Rest {
+pub(crate) struct StateCopy {
     registers: Box<RegisterFile>,
     waiting: VecDeque<Waiting>,
     staged: Vec<Staged>,
@@ -27,7 +27,7 @@ pub(crate) struct Rest {
     pub(crate) alloc: Global,
 }
 
-impl Model for Rest {
+impl Model for StateCopy {
     ghost use Rattle.std.specs.Prelude.{◌≡◌, length};
     ghost use Rattle.std.specs.FinMap as map;
     ghost use Rattle.nic_device.specs.State.{State, state_code};
@@ -53,8 +53,8 @@ impl Model for Rest {
 
 impl Engine {
     /// A copy of all but the packet memory.
-    pub(crate) fn rest(&self) -> Result<Rest, AllocError>
-        ensures { IfOk result (λ rest. rest ≡ record self.now { memory = map.empty }) }
+    pub(crate) fn state_copy(&self) -> Result<StateCopy, AllocError>
+        ensures { IfOk result (λ copy. copy ≡ record self.now { memory = map.empty }) }
     {
         let alloc = self.alloc;
         let registers = copied_registers(alloc, &self.registers)?;
@@ -62,7 +62,7 @@ impl Engine {
         let staged = copied_staged(alloc, &self.staged)?;
         let out = copied_out(alloc, &self.out)?;
         let image = self.image.copy()?;
-        Ok(Rest {
+        Ok(StateCopy {
             registers,
             waiting,
             staged,
@@ -75,10 +75,10 @@ impl Engine {
     }
 }
 
-impl Rest {
+impl StateCopy {
     /// A second copy. `AllocError` where there is no memory for it.
-    pub(crate) fn copy(&self) -> Result<Rest, AllocError>
-        ensures { IfOk result (λ rest. rest ≡ self.now) }
+    pub(crate) fn copy(&self) -> Result<StateCopy, AllocError>
+        ensures { IfOk result (λ copy. copy ≡ self.now) }
     {
         let alloc = self.alloc;
         let registers = copied_registers(alloc, &self.registers)?;
@@ -86,7 +86,7 @@ impl Rest {
         let staged = copied_staged(alloc, &self.staged)?;
         let out = copied_out(alloc, &self.out)?;
         let image = self.image.copy()?;
-        Ok(Rest {
+        Ok(StateCopy {
             registers,
             waiting,
             staged,
@@ -102,7 +102,7 @@ impl Rest {
     pub(crate) fn with_memory(self, memory: LentMemory) -> Engine
         ensures { result ≡ record self { memory = memory } }
     {
-        let Rest {
+        let StateCopy {
             registers,
             waiting,
             staged,

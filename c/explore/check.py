@@ -289,6 +289,7 @@ def check_faults(kit: Kit) -> str:
 
 def check_refusals(kit: Kit) -> str:
     """What can't be taken is refused with status 2 and why; a schedule's file with its line."""
+    ran([kit.build(HERE / "tests/again.c")])
     program, out = kit.build(HERE / "tests/faulty.c"), kit.folder / "faults"
     for mode, wanted in REFUSALS.items():
         told(ran([program, mode, "--quiet"], 2), wanted, mode)

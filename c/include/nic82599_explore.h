@@ -185,7 +185,7 @@ typedef struct nicx_chooser {
     void *argument;
 } nicx_chooser;
 
-/* Brings a scenario's device up: null, or why it can't be. One scenario a process. */
+/* Brings a scenario's device up: null, or why it can't be; then nothing is left open. One scenario at a time. */
 const char *nicx_open(const nicx_scenario *scenario);
 /* Makes one schedule. In a driver that crashes it doesn't return. */
 void nicx_run(const nicx_chooser *chooser, nicx_result *result);

@@ -169,6 +169,15 @@ static const char *try_begin(void)
     return nicxi.tasks ? NULL : "begin names no task";
 }
 
+/* Undoes what was opened of a scenario that is refused, and keeps the words that say why. */
+static const char *closed_for(const char *fault)
+{
+    static char why[300];
+    snprintf(why, sizeof why, "%s", fault);
+    nicx_close();
+    return why;
+}
+
 const char *nicx_open(const nicx_scenario *scenario)
 {
     if (nicxi.phase != CLOSED)
@@ -186,7 +195,9 @@ const char *nicx_open(const nicx_scenario *scenario)
         return "there is no memory";
     nicxi_heap_open();
     fault = bring_up();
-    return fault ? fault : try_begin();
+    if (!fault)
+        fault = try_begin();
+    return fault ? closed_for(fault) : NULL;
 }
 
 void nicx_close(void)

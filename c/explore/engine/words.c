@@ -4,6 +4,14 @@
 
 #include "names.h"
 
+static const char *fault_words(const nic_told *told, char *room)
+{
+    int length = snprintf(room, MOST_WORDS, "fault queue %u %s", told->queue, nic_fault_name(told->why));
+    if (told->why == NIC_FAULT_NOT_LENT)
+        snprintf(room + length, MOST_WORDS - (size_t)length, " 0x%05llx", (unsigned long long)told->bus);
+    return room;
+}
+
 static const char *told_words(const struct step *step, char *room)
 {
     const nic_told *told = &step->told;
@@ -14,7 +22,7 @@ static const char *told_words(const struct step *step, char *room)
         break;
     case NIC_ADVANCED: snprintf(room, MOST_WORDS, "advanced queue %u slot %u", told->queue, told->slot); break;
     case NIC_SENT: snprintf(room, MOST_WORDS, "sent queue %u len %u", told->queue, (unsigned)told->len); break;
-    case NIC_FAULT: snprintf(room, MOST_WORDS, "fault queue %u %s", told->queue, nic_fault_name(told->why)); break;
+    case NIC_FAULT: return fault_words(told, room);
     case NIC_MESSAGE:
         if (told->group)
             snprintf(room, MOST_WORDS, "message vf %u vector %u", told->group - 1u, told->vector);

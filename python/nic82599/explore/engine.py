@@ -11,7 +11,8 @@ from collections.abc import Callable
 from dataclasses import dataclass, field
 from typing import TYPE_CHECKING, Any
 
-from .. import Advanced, Dropped, Event, Fault, Message, Nic, NicError, NoGroup, OutOfMemory, Sent, Wrote
+from .. import Event, Fault, Message, Nic, NicError, NoGroup, OutOfMemory
+from ..printed import printed
 
 if TYPE_CHECKING:
     from . import Scenario
@@ -85,24 +86,6 @@ class Actor:
     of: int = 0
     is_idle: bool = False
     last: int = 0
-
-
-def reply(event: Event | None) -> str:
-    """What a step of the device did, as `nicbench run` prints it."""
-    match event:
-        case Dropped(why):
-            return f"dropped {why}"
-        case Wrote(queue, slot, end):
-            return f"wrote queue {queue} slot {slot} {'end' if end else 'more'}"
-        case Advanced(queue, slot):
-            return f"advanced queue {queue} slot {slot}"
-        case Sent(queue, length):
-            return f"sent queue {queue} len {length}"
-        case Fault(_, queue, why):
-            return f"fault queue {queue} {why}"
-        case Message(function, vector):
-            return f"message {'pf' if function is None else f'vf {function}'} vector {vector}"
-    return "done"
 
 
 class Run:
@@ -205,7 +188,7 @@ class Run:
         event = self._device_event(actor)
         if event is not None and self.scenario._script:
             who = "device" if self.is_running else "bring-up"
-            self.scenario._script.line(actor.name, f"{who}: {reply(event)}")
+            self.scenario._script.line(actor.name, f"{who}: {printed(event)}")
         return event
 
     def _device_event(self, actor: Actor) -> Event | bool | None:
@@ -234,7 +217,7 @@ class Run:
             return "link up" if up else "link down"
         frame = self.frames[self.next_frame]
         self.next_frame += 1
-        told = reply(self.nic.arrive(frame))
+        told = printed(self.nic.arrive(frame) or True)
         if script:
             script.line(f"arrive {script.data(frame)}", f"link: {told}")
         return told
@@ -248,7 +231,7 @@ class Run:
             if event is None:
                 actor.is_idle = True
                 return False
-            words = reply(event)
+            words = printed(event)
             self._judge(event)
         self.note(actor, words)
         self.acts += 1

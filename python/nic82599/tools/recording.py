@@ -14,6 +14,7 @@ from pathlib import Path
 
 import nic82599
 from nic82599 import Nic, NicError, Snapshot
+from nic82599.printed import printed
 
 from .regs import ENABLE, REGISTERS, first
 from .run import Run, of_trace
@@ -62,26 +63,6 @@ def instruction(words: list[str], names: dict[str, int]) -> Instruction:
     return Instruction(op, 0, int(words[1]) if op in (Op.LEND, Op.UNLEND, Op.TX) else 0, 0, 0)
 
 
-def _told(event: object) -> str:
-    """What a step or an arrival tells, as `nicbench run` prints it."""
-    match event:
-        case nic82599.Dropped(why):
-            return f"dropped {why}"
-        case nic82599.Wrote(queue, slot, end):
-            return f"wrote queue {queue} slot {slot} {'end' if end else 'more'}"
-        case nic82599.Advanced(queue, slot):
-            return f"advanced queue {queue} slot {slot}"
-        case nic82599.Sent(queue, length):
-            return f"sent queue {queue} len {length}"
-        case nic82599.Fault(_, queue, why, bus):
-            return f"fault queue {queue} {why}" + ("" if bus is None else f" 0x{bus:05x}")
-        case nic82599.Message(function, vector):
-            return f"message {'pf' if function is None else f'vf {function}'} vector {vector}"
-        case nic82599.Frame(queue, data):
-            return f"frame queue {queue} {data.hex()}"
-    return "idle"
-
-
 def _word(word: nic82599.Word) -> str:
     return f"{'stray' if word.stray else 'word'} 0x{word.word:08x}"
 
@@ -117,13 +98,13 @@ def _of_memory(nic: Nic, one: Instruction, data: list[bytes]) -> str:
 
 def _step(nic: Nic, one: Instruction) -> str:
     if one.op == Op.RX:
-        return _told(nic.rx_step())
+        return printed(nic.rx_step())
     if one.op == Op.TX:
-        return _told(nic.tx_step(one.x))
+        return printed(nic.tx_step(one.x))
     if one.op == Op.INT:
-        return _told(nic.int_step(one.x if one.sub else None))
+        return printed(nic.int_step(one.x if one.sub else None))
     if one.op == Op.COLLECT:
-        return _told(nic.collect())
+        return printed(nic.collect())
     if one.op == Op.QSTEP:
         done = nic.queue_step("tx" if one.sub else "rx", one.x)
     elif one.op == Op.EESTEP:
@@ -148,7 +129,7 @@ def played(nic: Nic, one: Instruction, data: list[bytes]) -> str:
             return _of_memory(nic, one, data)
         if one.op == Op.ARRIVE:
             dropped = nic.arrive(data[one.x])
-            return _told(dropped) if dropped else "done"
+            return printed(dropped or True)
         return _step(nic, one)
     except tuple(REFUSALS) as refused:
         return REFUSALS[type(refused)]

@@ -1,0 +1,82 @@
+/* A refused scenario leaves nothing open: after each refusal another is opened, a schedule made, and closed. */
+#include <stdio.h>
+#include <string.h>
+
+#include "nic82599_explore.h"
+
+static const char *no_use(void)
+{
+    return "it has no use";
+}
+
+static const char *come_up(void)
+{
+    return NULL;
+}
+
+static void look(void *unused)
+{
+    (void)unused;
+    (void)nicx_read32(0x00008);
+}
+
+static void begin_nothing(void)
+{
+}
+
+static void begin(void)
+{
+    nicx_task("look", look, NULL);
+}
+
+static const char *end(void)
+{
+    return NULL;
+}
+
+static uint32_t first_of(void *unused, const uint16_t *can, uint32_t count)
+{
+    (void)unused;
+    (void)can;
+    (void)count;
+    return 0;
+}
+
+static int opened(void)
+{
+    static const nicx_scenario fine = {
+        .name = "fine", .fifo = 4, .blocks = 4, .queues = 1, .bring_up = come_up, .begin = begin, .end = end};
+    static const nicx_chooser chooser = {first_of, NULL};
+    nicx_result result;
+    const char *fault = nicx_open(&fine);
+    if (fault) {
+        printf("fine: %s\n", fault);
+        return 1;
+    }
+    nicx_run(&chooser, &result);
+    nicx_close();
+    return result.outcome != NICX_FINE;
+}
+
+static int refused(const nicx_scenario *scenario, const char *wanted)
+{
+    const char *fault = nicx_open(scenario);
+    if (fault && strstr(fault, wanted))
+        return opened();
+    printf("%s: %s\n", scenario->name, fault ? fault : "it is opened");
+    return 1;
+}
+
+int main(void)
+{
+    static const nicx_scenario small = {
+        .name = "small", .fifo = 0, .blocks = 4, .queues = 1, .bring_up = come_up, .begin = begin, .end = end};
+    static const nicx_scenario down = {
+        .name = "down", .fifo = 4, .blocks = 4, .queues = 1, .bring_up = no_use, .begin = begin, .end = end};
+    static const nicx_scenario idle = {
+        .name = "idle", .fifo = 4, .blocks = 4, .queues = 1, .bring_up = come_up, .begin = begin_nothing, .end = end};
+    int faults = refused(&small, "there is no such device") + refused(&down, "it has no use") +
+                 refused(&idle, "begin names no task");
+    printf("%d faults\n", faults);
+    return faults != 0;
+}

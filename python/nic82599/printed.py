@@ -1,0 +1,28 @@
+"""What the controller answered, in the words of `nicbench run`."""
+
+from __future__ import annotations
+
+from . import Advanced, Dropped, Event, Fault, Frame, Message, Sent, Wrote
+
+
+def printed(event: Event | Frame | bool | None) -> str:
+    """An event in the words that `nicbench run` prints: `idle` for None, and `done` for one without a line of its
+    own."""
+    match event:
+        case None:
+            return "idle"
+        case Dropped(why):
+            return f"dropped {why}"
+        case Wrote(queue, slot, end):
+            return f"wrote queue {queue} slot {slot} {'end' if end else 'more'}"
+        case Advanced(queue, slot):
+            return f"advanced queue {queue} slot {slot}"
+        case Sent(queue, length):
+            return f"sent queue {queue} len {length}"
+        case Fault(_, queue, why, bus):
+            return f"fault queue {queue} {why}" + ("" if bus is None else f" 0x{bus:05x}")
+        case Message(function, vector):
+            return f"message {'pf' if function is None else f'vf {function}'} vector {vector}"
+        case Frame(queue, data):
+            return f"frame queue {queue} {data.hex()}"
+    return "done"

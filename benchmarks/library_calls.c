@@ -1,13 +1,57 @@
 /* How long the calls of the library for C take: reads and writes of all addresses, shuffled, and of the tails of 64
-   queues. Its table is written by benchmarks/run. */
+   queues; snapshots and restores. Its table is written by benchmarks/run. */
 #include "measure.h"
 #include "nic82599.h"
 #include "same_table.h"
+#include <stdlib.h>
+#ifdef __GLIBC__
+#include <malloc.h>
+#endif
 
 /* A new card, as each measure of the device has: 32 functions with queues of their own. */
 static int opened(nic *n)
 {
     return nic_open(n, 32, 64, 256) == NIC_DONE && nic_write32(n, NIC_GCR_EXT, 3) == NIC_DONE;
+}
+
+/* Memory that is freed stays with the process, so that its pages aren't asked of the system again and again. */
+static void keep_pages(void)
+{
+#ifdef __GLIBC__
+    mallopt(M_TRIM_THRESHOLD, 64 << 20);
+#endif
+}
+
+/* A snapshot of a card of 256 blocks, of which this many are lent, none with the bytes of another; and a restore behind
+   a write of a register and one of 60 bytes of memory. */
+static int snapshots(const char *kept_name, const char *restored_name, uint32_t lent)
+{
+    static uint8_t bytes[60];
+    nic n;
+    nic_kept kept, other;
+    if (!opened(&n))
+        return 0;
+    for (uint32_t block = 0; block < lent; block++) {
+        bytes[0] = (uint8_t)block;
+        if (nic_lend(&n, block) != NIC_DONE || nic_dma_write(&n, 2048 * block, bytes, sizeof bytes) != NIC_DONE)
+            return 0;
+    }
+    if (nic_snapshot(&n, &kept) != NIC_DONE)
+        return 0;
+    MEASURE(kept_name, 1, 10000, {
+        if (nic_snapshot(&n, &other) != NIC_DONE)
+            return 0;
+        nic_drop_snapshot(&other);
+    });
+    MEASURE(restored_name, 1, 10000, {
+        bytes[0] = (uint8_t)~round;
+        if (nic_write32(&n, NIC_RDT(0), 1) != NIC_DONE || nic_dma_write(&n, 0, bytes, sizeof bytes) != NIC_DONE ||
+            nic_restore(&n, &kept) != NIC_DONE)
+            return 0;
+    });
+    nic_drop_snapshot(&kept);
+    nic_close(&n);
+    return 1;
 }
 
 int main(void)
@@ -36,5 +80,6 @@ int main(void)
     });
     nic_close(&n);
     sink = sum;
-    return 0;
+    keep_pages();
+    return !snapshots("kept2", "restored2", 2) || !snapshots("kept128", "restored128", 128);
 }

@@ -22,7 +22,7 @@ static void keep_pages(void)
 #endif
 }
 
-/* A snapshot of a card of 256 blocks, of which this many are lent, none with the bytes of another; and a restore behind
+/* A snapshot of a card of 256 blocks, of which this many are lent, none with the bytes of another; and a restore after
    a write of a register and one of 60 bytes of memory. */
 static int snapshots(const char *kept_name, const char *restored_name, uint32_t lent)
 {

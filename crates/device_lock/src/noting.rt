@@ -48,6 +48,7 @@ fn note_event(alloc: Global, notes: &mut Notes, event: &Event) -> Result<EventNo
 
 /// The note of a reply, of a block as that of an event. Where there is no memory for it, it is in the spare vector,
 /// which has room for it.
+#[inline(always)]
 pub(crate) fn note_of(
     alloc: Global,
     reply: &Reply,
@@ -68,6 +69,7 @@ pub(crate) fn note_of(
 
 /// The note of a reply in a vector of its own, or in the spare one where there is no memory for that. The spare one has
 /// room for it.
+#[inline(always)]
 fn note_alone(alloc: Global, reply: &Reply, spare: &mut Vec<u8>) -> ReplyNote
     requires empty { spare.old.items ≡ [] }
     requires room { note_length reply.now ≤ vec_capacity spare.old }

@@ -39,6 +39,7 @@ const LEAST_ROOM: u32 = 131_072;
 /// Makes room for so many entries one by one, where there may be so many. Answers whether there is memory for them. It
 /// makes more room than that where it can, since room that grows little by little is moved, and so touched, before
 /// anything is put there.
+#[inline(always)]
 pub(crate) fn hold_room(whole: &mut Vec<Entry>, count: u32, limit: u32) -> bool
     ensures same { whole.new.items ≡ whole.old.items }
     ensures more { vec_capacity whole.old ≤ vec_capacity whole.new }
@@ -66,6 +67,7 @@ pub(crate) fn has_room(whole: &mut Vec<Entry>, count: u32, limit: u32) -> bool
 }
 
 /// Puts an entry after the others and the idle steps after the last of them. There is room for it.
+#[inline(always)]
 pub(crate) fn put_entry(
     packed: &mut Vec<Packed>,
     rested: &mut Option<Rested>,

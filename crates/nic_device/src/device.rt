@@ -80,6 +80,7 @@ impl Device {
     /// Makes one event. An event for which there is no memory comes back in the error, and the device is unchanged.
     /// Only these can lack memory: `Lend` of a block that isn't lent, `Arrive` of a frame that would be accepted, and
     /// `TxStep` of a queue that isn't idle.
+    #[inline(always)]
     pub fn step(&mut self, event: Event) -> Result<Reply, OutOfMemory<Event>>
         ensures reply { IfOk result (λ reply. reply ≡ (step_of self.old event).reply) }
         ensures state { OnOk result (self.new ≡ (step_of self.old event).state) }

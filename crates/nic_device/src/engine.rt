@@ -89,8 +89,8 @@ impl Engine {
     }
 
     #[tactic(auto, unfolding(crate::specs::Step::step_of))]
-    /// Makes an event of any kind, in a function of its own so that `step` stays small.
-    #[inline(never)]
+    /// Makes an event of any kind.
+    #[inline(always)]
     fn step_any(&mut self, event: Event) -> Result<Reply, OutOfMemory<Event>>
         ensures reply { IfOk result (λ reply. reply ≡ (step_of self.old event).reply) }
         ensures state { OnOk result (self.new ≡ (step_of self.old event).state) }

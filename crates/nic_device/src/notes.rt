@@ -176,6 +176,7 @@ impl Reply {
     }
 
     /// The note of a reply, as `note_in`, where the caller already has the result of `note_length`.
+    #[inline(always)]
     pub fn note_of_length(&self, length: usize, room: Vec<u8>) -> ReplyNote
         requires length { length ≡ note_length self.now }
         requires empty { room.items ≡ [] }
@@ -194,6 +195,7 @@ impl Reply {
     }
 
     /// The note of a reply that contains neither a block nor a frame.
+    #[inline(always)]
     fn plain_note(&self) -> ReplyNote
         requires { is_plain self.now ≡ true }
         ensures { result ≡ self.now }

@@ -29,6 +29,7 @@ impl Notes {
     /// The note of a block. It shares the bytes of the last note at the block's place where they are equal.
     ///
     /// `AllocError` where there is no memory for a new copy of the bytes.
+    #[inline(always)]
     pub fn of(&mut self, alloc: Global, buf: &Buf) -> Result<Note, AllocError>
         ensures { IfOk result (λ note. note ≡ buf.now) }
     {

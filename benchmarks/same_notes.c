@@ -9,8 +9,9 @@
 
 /* as in driver_frames.rt.in */
 enum { RUNS = 50, FRAMES = 2000 };
-/* the events of a frame: the device steps before each take no room of their own where they are idle */
-enum { EVENTS = 12 };
+/* the entries of a frame: 12 events, and the four device steps before two of them, one of which does something; where
+   all four are idle they take no room of their own */
+enum { ENTRIES = 12 + 2 * 4 };
 /* the bytes of a call, in hand or of a pass, and of an entry of the history, each with the idle steps before it */
 enum { MADE = 88, ENTRY = 88 };
 /* the notes of a frame with its bytes: it arrives and is collected, noted in each list of calls; the notes of its
@@ -34,7 +35,7 @@ static int copies(int locked)
 /* one frame's calls, in hand in one list or, under the lock, in two, and its bytes */
 __attribute__((noinline)) static uint8_t *note(uint8_t *at, size_t length, int locked)
 {
-    for (int i = 0; i < EVENTS; i++) {
+    for (int i = 0; i < ENTRIES; i++) {
         call[i] ^= (uint8_t)length;
         at = put(at, call, MADE);
         if (locked)
@@ -47,7 +48,7 @@ __attribute__((noinline)) static uint8_t *note(uint8_t *at, size_t length, int l
 
 static void measure(const char *name, size_t length, int locked)
 {
-    size_t calls = EVENTS * (MADE + (locked ? ENTRY : 0));
+    size_t calls = ENTRIES * (MADE + (locked ? ENTRY : 0));
     size_t size = FRAMES * (calls + (size_t)copies(locked) * length);
     uint64_t took = 0;
     for (int run = 0; run < RUNS; run++) {

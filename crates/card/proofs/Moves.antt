@@ -1,6 +1,8 @@
 -- Events of a card's device: which blocks are free and lent before and after.
-use Rattle.std.proofs.Common.{◌≡◌, IsFalse, refl, sym, ◌∙◌, ap, subst, ℕ, Bool, true, false, is_some, option_map, List, Option, Some, None, Result, Ok, Err, OnOk, OnErr}
+use Rattle.std.proofs.Common.{◌≡◌, IsFalse, refl, sym, ◌∙◌, ap, subst, ℕ, Bool, true, false, is_some, option_map, List, Option, Some, None, Result, Ok, Err, OnOk, OnErr, inl, inr}
 use Rattle.std.specs.FinMap as map
+use Rattle.std.specs.Prelude.{IsOk}
+use Rattle.std.proofs.lemmas.Bool.Decides.{eqb_tells}
 use Rattle.nic_device.specs.DmaArena.Block.{Block, zero_block}
 use Rattle.nic_device.specs.DmaArena.Memory.{Memory, has_block, block_at, write_at}
 use Rattle.nic_device.specs.DmaArena.Numbers.{Numbers, is_own, is_free, with_free}
@@ -17,7 +19,7 @@ use Rattle.nic_device.specs.declared.Event.{Event}
 use Rattle.nic_device.specs.declared.Event.TheVariants as event
 use Rattle.nic_device.specs.declared.Reply.{Reply}
 use Rattle.nic_device.specs.declared.Reply.TheVariants.{Done}
-use Rattle.nic_device.proofs.DmaArena.Bus.{SameLent-write_at}
+use Rattle.nic_device.proofs.DmaArena.Bus.{SameLent-write_at, get-insert_same, get-insert_other}
 use Rattle.nic_device.proofs.KeptBlocks.{keeps_blocks}
 use Rattle.card.specs.Card.{Holdings, AreShared, CanReturn, arena_after, IsOfWrite, with_lent, with_taken}
 use Rattle.card.proofs.Sharing.{lent_away, free_not_lent, shared-taken, shared-lent, shared-same, with_free-back}
@@ -198,3 +200,22 @@ written-shared s t a true bus bytes h written kept =
     (shared-same s.memory (write_at s.memory bus bytes) a h (SameLent-write_at s.memory bus bytes))
 written-shared s t a false bus bytes h written kept =
     subst (λ (u : State). AreShared u.memory a) (sym (kept refl)) h
+
+-- a lent block has other memory
+
+exchanged_has : (m : Memory) (n q : ℕ) (bytes : List ℕ) → has_block m n ≡ true
+    → has_block (map.insert m n bytes) q ≡ has_block m q
+exchanged_has m n q bytes lent = elim (eqb_tells q n) [
+  | inl (test, is) ↦ rw is (ap is_some (get-insert_same m n bytes) ∙ sym lent)
+  | inr (test, other) ↦ ap is_some (get-insert_other m n bytes q other)
+]
+
+pub exchanged-shared : {A E : Type 0} (s t : State) (a : Numbers) (n : ℕ) (bytes : List ℕ) (result : Result A E)
+    → AreShared s.memory a → (IsOk result → has_block s.memory n ≡ true)
+    → OnOk result (t ≡ record s { memory = map.insert s.memory n bytes }) → OnErr result (t ≡ s)
+    → AreShared t.memory a
+exchanged-shared s t a n bytes (Ok former) h lent put kept =
+    subst (λ (u : State). AreShared u.memory a) (sym put)
+    (shared-same s.memory (map.insert s.memory n bytes) a h (λ q. exchanged_has s.memory n q bytes (lent refl)))
+exchanged-shared s t a n bytes (Err back) h lent put kept =
+    subst (λ (u : State). AreShared u.memory a) (sym kept) h

@@ -1,6 +1,7 @@
 -- A card: a device and its packet memory, of which each block is free or lent.
 use Rattle.std.specs.Prelude.{◌≡◌, ℕ, zero, suc, Bool, not, true, false, ⊤, List, Option, Some, None, refl, if◌then◌else◌}
 use Rattle.std.specs.Coded.{Coded, code_by, coded×, coded_ℕ, coded_bool, coded_list}
+use Rattle.std.specs.FinMap as map
 use Rattle.nic_device.specs.DmaArena.Block.{Block, zero_block}
 use Rattle.nic_device.specs.DmaArena.Memory.{Memory, has_block, write_at}
 use Rattle.nic_device.specs.DmaArena.Numbers.{Numbers, is_own, is_free, with_free, all_free}
@@ -97,6 +98,10 @@ lent_below c (suc block) = with_lent (lent_below c block) block
 -- the card after bytes are written over the bus
 abbrev pub written : Holdings → ℕ → List ℕ → Holdings
 written c bus bytes = record c { device = record c.device { memory = write_at c.device.memory bus bytes } }
+
+-- the card after a lent block has other bytes
+abbrev pub with_bytes : Holdings → ℕ → List ℕ → Holdings
+with_bytes c block bytes = record c { device = record c.device { memory = map.insert c.device.memory block bytes } }
 
 -- the card with another EEPROM image
 abbrev pub with_image : Holdings → List ℕ → Holdings

@@ -1,10 +1,12 @@
 //! Access to packet memory by bus address.
 
-ghost use Rattle.std.specs.Prelude.{◌≡◌, true, false, length};
-ghost use Rattle.nic_device.specs.DmaArena.Memory.{is_lent, read_at};
-ghost use Rattle.card.specs.Card.{written};
+ghost use Rattle.std.specs.Prelude.{◌≡◌, ◌↔◌, true, false, length, Some, IsTrue, IsOk, IfOk, IfErr, OnOk, OnErr};
+ghost use Rattle.std.specs.FinMap as map;
+ghost use Rattle.nic_device.specs.DmaArena.Memory.{has_block, is_lent, read_at};
+ghost use Rattle.card.specs.Card.{written, with_bytes};
 
 use crate::card::Card;
+use nic_device::BlockBox;
 
 impl Card {
     /// Fills the slice with the bytes from a bus address on. Returns `false`, and leaves the slice unchanged, exactly
@@ -25,5 +27,18 @@ impl Card {
         ensures kept { result ≡ false → self.new ≡ self.old }
     {
         self.device.dma_write(bus, bytes)
+    }
+
+    /// Exchanges the memory of a lent block for another: the block has that one's bytes from now on, and its former
+    /// memory is returned with the bytes that the block had. The other memory comes back, and nothing changes, exactly
+    /// where the block isn't lent.
+    pub fn exchange(&mut self, block: u32, memory: BlockBox) -> Result<BlockBox, BlockBox>
+        ensures ok { IsOk result ↔ IsTrue (has_block self.old.device.memory block) }
+        ensures put { OnOk result (self.new ≡ with_bytes self.old block memory.value) }
+        ensures former { IfOk result (λ former. Some former.value ≡ map.get self.old.device.memory block) }
+        ensures back { IfErr result (λ back. back ≡ memory) }
+        ensures kept { OnErr result (self.new ≡ self.old) }
+    {
+        self.device.exchange(block, memory)
     }
 }

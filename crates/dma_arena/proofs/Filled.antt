@@ -200,6 +200,21 @@ module _ {s : List (Option Block)} {f n : ℕ} (table : IsTable s f n) {m : Memo
       (λ r ne. get_or-set_other s q r (Some c) None ne)
       ∙ ap (λ (k : Memory). fin.insert k q c.bytes) view)
 
+  -- a block gets other bytes, and what it had is known
+
+  pub shown-exchanged : (q : ℕ) (c : Block) (bytes : List ℕ) → has_block m q ≡ true → c.bytes ≡ bytes
+      → shown (set s q (Some c)) ≡ fin.insert m q bytes
+  shown-exchanged q c bytes has e =
+      rw (← e)
+      (shown-insert s (set s q (Some c)) q c (get_or-set_same s q (Some c) None (place_of q has))
+      (λ r ne. get_or-set_other s q r (Some c) None ne)
+      ∙ ap (λ (k : Memory). fin.insert k q c.bytes) view)
+
+  pub got-there : (q : ℕ) (b : Block) (bytes : List ℕ) → at_place s q ≡ Some b → bytes ≡ b.bytes
+      → Some bytes ≡ fin.get m q
+  got-there q b bytes is e =
+      ap (λ bs. Some bs) e ∙ sym (ap (λ (k : Memory). fin.get k q) (sym view) ∙ get-shown s q ∙ rw is refl)
+
   -- places up to that of a number, which is not lent
   module _ (q : ℕ) (small : q < 65536) (free : has_block m q ≡ false) {t : List (Option Block)}
       (made : t ≡ s ++ replicate (q + 1 - length s) None) where

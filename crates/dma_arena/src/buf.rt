@@ -6,9 +6,13 @@ ghost use Rattle.dma_arena.specs.Memory.{put_bytes};
 use crate::raw::Raw;
 use std::alloc::{AllocError, Global};
 use std::marker::Model;
+use std::mem;
 
 /// The size of a block in bytes.
 pub const BLOCK_BYTES: usize = 2048;
+
+/// The memory of one block, in a box that can be dropped.
+pub type BlockBox = Box<[u8; BLOCK_BYTES], Global>;
 
 /// The memory of one block. It moves from owner to owner, and only `free` frees it.
 pub(crate) type RawBlock = Raw<[u8; BLOCK_BYTES], Global>;
@@ -81,6 +85,16 @@ impl Buf {
             bytes,
         } = self;
         bytes
+    }
+
+    /// Exchanges the block's memory for another: the block has that one's bytes from now on, and its former memory is
+    /// returned with the bytes that the block had. Nothing is copied.
+    pub(crate) fn exchange(&mut self, memory: BlockBox) -> BlockBox
+        ensures put { self.new ≡ record self.old { bytes = memory.value } }
+        ensures former { result.value ≡ self.old.bytes }
+    {
+        self.written = 2048;
+        mem::replace(&mut self.bytes, Raw::of(memory)).into_box()
     }
 
     /// Copies bytes into the block from index `at` on. They must fit: the block has 2,048 bytes.

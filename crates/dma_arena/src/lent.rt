@@ -1,9 +1,9 @@
-ghost use Rattle.std.specs.Prelude.{◌≡◌, ◌↔◌, ◌<◌, ℕ, true, false, length, IsTrue, IfSome, IfNone, IfErr, IsOk, IsNone, OnOk, OnErr};
+ghost use Rattle.std.specs.Prelude.{◌≡◌, ◌↔◌, ◌<◌, ℕ, true, false, length, IsTrue, Some, IfSome, IfNone, IfOk, IfErr, IsOk, IsNone, OnOk, OnErr};
 ghost use Rattle.std.specs.FinMap as map;
 ghost use Rattle.dma_arena.specs.Memory.{has_block, block_at, is_lent, read_at, write_at, IsWhole};
 ghost use Rattle.dma_arena.specs.LendRefused.{back_of, IsTwice};
 
-use crate::buf::Buf;
+use crate::buf::{BLOCK_BYTES, BlockBox, Buf};
 use crate::ranges;
 use crate::table::Table;
 use std::alloc::Global;
@@ -133,6 +133,25 @@ impl LentMemory {
         ensures { self.new ≡ write_at self.old address bytes.now }
     {
         ranges::write_bytes(&mut self.blocks, address, bytes);
+    }
+
+    /// Exchanges the memory of a lent block for another: the block has that one's bytes from now on, and its former
+    /// memory is returned with the bytes that the block had. Nothing is copied.
+    ///
+    /// Errors: the other memory comes back exactly where the block isn't lent.
+    pub fn exchange(&mut self, block: u32, memory: BlockBox) -> Result<BlockBox, BlockBox>
+        ensures ok { IsOk result ↔ IsTrue (has_block self.old block) }
+        ensures put { OnOk result (self.new ≡ map.insert self.old block memory.value) }
+        ensures former { IfOk result (λ former. Some former.value ≡ map.get self.old block) }
+        ensures back { IfErr result (λ back. back ≡ memory) }
+        ensures kept { OnErr result (self.new ≡ self.old) }
+    {
+        if !self.blocks.has(block) {
+            return Err(memory);
+        }
+        let all: &[u8] = &*memory;
+        prove!(all.len() == BLOCK_BYTES);
+        Ok(self.blocks.exchange(block, memory))
     }
 
     /// Ends the lent memory. It comes back unchanged exactly when a block is lent.

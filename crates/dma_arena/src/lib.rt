@@ -24,7 +24,7 @@ mod run;
 mod table;
 
 pub use arena::{Arena, ArenaFault, BLOCK_NUMBERS, SplitFault, SplitRefused};
-pub use buf::{BLOCK_BYTES, Buf};
+pub use buf::{BLOCK_BYTES, BlockBox, Buf};
 pub use ending::leave;
 pub use lent::{LendRefused, LentMemory};
 pub use octets::Octets;

@@ -36,7 +36,7 @@ impl<T: Drop, A: Allocator> Raw<T, A> {
     }
 
     /// The value's box again, whose drop frees the memory.
-    fn into_box(self) -> Box<T, A>
+    pub(crate) fn into_box(self) -> Box<T, A>
         ensures { result.value ≡ self.value }
     {
         let Raw { at, alloc } = self;

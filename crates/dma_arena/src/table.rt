@@ -1,11 +1,11 @@
 //! The lent blocks by number.
 
-ghost use Rattle.std.specs.Prelude.{ℕ, ◌≡◌, ◌↔◌, ◌+◌, ◌-◌, ◌<◌, ◌≤◌, ◌++◌, true, false, None, length, replicate, is_some, count_by, option_copied, unwrap_or, [], IsTrue, IfSome, IfNone, IfErr, IsNone, OnOk, OnErr};
+ghost use Rattle.std.specs.Prelude.{ℕ, ◌≡◌, ◌↔◌, ◌+◌, ◌-◌, ◌<◌, ◌≤◌, ◌++◌, true, false, Some, None, length, replicate, is_some, count_by, option_copied, unwrap_or, [], IsTrue, IfSome, IfNone, IfErr, IsNone, OnOk, OnErr};
 ghost use Rattle.std.specs.FinMap as map;
 ghost use Rattle.dma_arena.specs.Memory.{has_block, block_at, put_bytes};
 ghost use Rattle.dma_arena.specs.Shown.{NoneBelow, IsFirst};
 
-use crate::buf::{Buf, nothing};
+use crate::buf::{BlockBox, Buf, nothing};
 use std::alloc::{AllocError, Global};
 use std::marker::Model;
 
@@ -96,6 +96,18 @@ impl Table {
     {
         match &mut self.places[number as usize] {
             Some(buf) => buf.put(offset, bytes),
+            None => unreachable!(),
+        }
+    }
+
+    /// Exchanges the memory of a lent block for another, and returns the former one.
+    pub(crate) fn exchange(&mut self, number: u32, memory: BlockBox) -> BlockBox
+        requires lent { has_block self.old number ≡ true }
+        ensures put { self.new ≡ map.insert self.old number memory.value }
+        ensures former { Some result.value ≡ map.get self.old number }
+    {
+        match &mut self.places[number as usize] {
+            Some(buf) => buf.exchange(memory),
             None => unreachable!(),
         }
     }

@@ -1,5 +1,11 @@
 -- The two handles, as forms.
 use mathlib.Core.Path.{refl}
+use denote.Array.{Array}
+use denote.Builtin.{u8}
+use denote.Param.Laws.{of_field, array_laws}
+use denote.Param.Shared.{copy_shared}
+use denote.Struct.Field.{u8-field}
+use denote.Struct.Laws.{u8-laws, u8-copy}
 use Rattle.std_heap.specs.contracts.Global as Heap
 use Rattle.card.specs.contracts.card.Card as Card
 use Rattle.card.specs.contracts.kept.Kept as Kept
@@ -7,6 +13,7 @@ use Rattle.card.proofs.card.Card.TheLaws as card
 use Rattle.card.proofs.kept.Kept.TheLaws as kept
 use Rattle.nic82599_c.specs.contracts.handle.Handle as Handle
 use Rattle.nic82599_c.specs.contracts.handle.KeptHandle as KeptHandle
+use Rattle.nic82599_c.specs.contracts.memory.Memory as Memory
 use Rattle.nic82599_c.proofs.HandleForm.{Form}
 
 abbrev pub of_card : Form
@@ -33,4 +40,17 @@ of_kept = record {
   eta = λ h. refl;
   beta = λ v. refl;
   codes = KeptHandle.the_codes Heap.the_row.coded;
+}
+
+abbrev pub of_memory : Form
+of_memory = record {
+  of = Array u8 2048;
+  laws = array_laws u8 (of_field u8-field u8-laws refl (copy_shared u8-field u8-copy)) 2048;
+  name = Memory.struct.name;
+  D = Memory.struct.D;
+  box = λ h. record { ptr = h.ptr; alloc = h.alloc; value = h.bytes };
+  handle = λ v. record { ptr = v.ptr; alloc = v.alloc; bytes = v.value };
+  eta = λ h. refl;
+  beta = λ v. refl;
+  codes = Memory.the_codes Heap.the_row.coded;
 }

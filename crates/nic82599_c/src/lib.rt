@@ -14,6 +14,7 @@ mod handle;
 mod hashing;
 mod images;
 mod life;
+mod memory;
 mod packets;
 mod parts;
 mod registers;

@@ -1,9 +1,13 @@
 -- Ranges of the bus as events: n peeks or pokes in order do what one read or write does.
-use Rattle.std.proofs.Common.{◌≡◌, ℕ, zero, suc, ◌+◌, ◌*◌, ◌%◌, ◌≤◌, true, List, [], ◌∷◌, ◌++◌, length, take, drop, refl, sym, ap, subst, Bool, false, ◌∙◌, arith}
+use Rattle.std.proofs.Common.{◌≡◌, ℕ, zero, suc, ◌+◌, ◌*◌, ◌%◌, ◌≤◌, true, List, [], ◌∷◌, ◌++◌, length, take, drop, refl, sym, ap, subst, Bool, false, ◌∙◌, arith, Result, Ok, Err, OnOk, OnErr, Some}
+use Rattle.std.specs.FinMap as map
+use Rattle.std.specs.Prelude.{IsOk}
 use Rattle.std.proofs.lemmas.Bool.{and_parts}
-use Rattle.std.proofs.lemmas.List.{length-drop, length-take-le, nil_from_length, take-append-drop}
-use Rattle.rx_ring.specs.DmaArena.Memory.{Memory, is_lent, read_at, write_at}
-use Rattle.rx_ring.proofs.DmaArena.Bus.{SameLent-write_at, is_lent-same}
+use Rattle.std.proofs.lemmas.List.{drop_all, append-nil, length-drop, length-take-le, nil_from_length, take-append-drop}
+use Rattle.rx_ring.specs.DmaArena.Block.{Block}
+use Rattle.rx_ring.specs.DmaArena.Memory.{Memory, has_block, is_lent, read_at, write_at, put_bytes, IsWhole}
+use Rattle.rx_ring.proofs.DmaArena.Bus.{SameLent-write_at, is_lent-same, of_some, small_of_lent}
+use Rattle.rx_ring.proofs.DmaArena.Blocks.{is_lent_in, write_at_in}
 use Rattle.rx_ring.proofs.DmaArena.Joined.{is_lent-append, read_at-append, write_at-append}
 use Rattle.nic_device.specs.Bus.{peeks, pokes, reported_bytes, PeeksTell, PokesLead}
 use Rattle.nic_device.specs.Lending.{peeked, poked}
@@ -12,7 +16,7 @@ use Rattle.nic_device.specs.Run.{replies_of, state_after}
 use Rattle.nic_device.specs.Sound.{AreBytes, IsSound}
 use Rattle.nic_device.specs.State.{State}
 use Rattle.nic_device.specs.Step.{step_of}
-use Rattle.nic_device.proofs.Blocks.{AreBlocks-write_at}
+use Rattle.nic_device.proofs.Blocks.{AreBlocks-insert, AreBlocks-write_at}
 use Rattle.nic_device.proofs.Keeping.{sound-memory}
 use Rattle.nic_device.specs.declared.event.Reply.TheVariants.{Bytes, Done}
 
@@ -122,3 +126,44 @@ sound-written s t a bytes true written kept h small =
     subst IsSound (sym (written refl))
     (sound-memory s (write_at s.memory a bytes) h (AreBlocks-write_at s.memory a bytes h.blocks small))
 sound-written s t a bytes false written kept h small = subst IsSound (sym (kept refl)) h
+
+-- what is exchanged leaves a device sound
+pub sound-exchanged : {A E : Type 0} (s t : State) (number : ℕ) (bytes : List ℕ) (result : Result A E)
+    → (IsOk result → has_block s.memory number ≡ true)
+    → OnOk result (t ≡ record s { memory = map.insert s.memory number bytes }) → OnErr result (t ≡ s) → IsSound s
+    → length bytes ≡ 2048 → AreBytes bytes → IsSound t
+sound-exchanged s t number bytes (Ok former) lent put kept h size small =
+    let block : Block = record { number = number; bytes = bytes } in
+    subst IsSound (sym put)
+    (sound-memory s (map.insert s.memory number bytes) h (AreBlocks-insert s.memory block h.blocks (record {
+      whole = record { size = size; small = small_of_lent s.memory number h.blocks.whole (lent refl) };
+      bytes = small;
+    })))
+sound-exchanged s t number bytes (Err back) lent put kept h size small = subst IsSound (sym kept) h
+
+-- what is exchanged is what writing the whole block leaves
+
+whole_put : (xs bs : List ℕ) → length xs ≡ 2048 → length bs ≡ 2048 → put_bytes xs 0 bs ≡ bs
+unfolding put_bytes
+whole_put xs bs old new = rw (drop_all (0 + length bs) xs (omega (arith, old, new))) (append-nil bs)
+
+all_written : (m : Memory) (number : ℕ) (bytes : List ℕ) → IsWhole m → has_block m number ≡ true → length bytes ≡ 2048
+    → map.insert m number bytes ≡ write_at m (2048 * number) bytes
+all_written m number bytes whole lent size =
+    let here : (xs : List ℕ) × (map.get m number ≡ Some xs) = of_some (map.get m number) lent in
+    let old = (whole.block number here.0 here.1).size in
+    let at_0 : 2048 * number ≡ 2048 * number + 0 = omega arith in
+    sym (ap (λ k. write_at m k bytes) at_0
+    ∙ write_at_in m bytes number 0 here.0 here.1 old (omega (arith, size))
+    ∙ ap (λ bs. map.insert m number bs) (whole_put here.0 bytes old size))
+
+pub pokes-exchanged : {A E : Type 0} (s t : State) (number : ℕ) (bytes : List ℕ) (result : Result A E) → IsWhole s.memory
+    → (IsOk result → has_block s.memory number ≡ true)
+    → OnOk result (t ≡ record s { memory = map.insert s.memory number bytes }) → length bytes ≡ 2048 → IsOk result
+    → PokesLead s (2048 * number) 128 bytes t
+pokes-exchanged s t number bytes (Ok former) whole lent put size ok =
+    let aligned : (2048 * number) % 16 ≡ 0 = omega arith in
+    pokes-written s t (2048 * number) 128 bytes
+    (is_lent_in s.memory (2048 * number) (length bytes) number 0 (lent refl) (omega arith) (omega (arith, size)))
+    (put ∙ ap (λ m. record s { memory = m }) (all_written s.memory number bytes whole (lent refl) size)) aligned size
+pokes-exchanged s t number bytes (Err back) whole lent put size ok = cc

@@ -1,11 +1,14 @@
 //! Ranges of the bus, read and written at once: for a program that owns the device.
 
-ghost use Rattle.std.specs.Prelude.{◌≡◌, ◌*◌, ◌%◌, ℕ, true, false, length};
-ghost use Rattle.rx_ring.specs.DmaArena.Memory.{is_lent, read_at, write_at};
+ghost use Rattle.std.specs.Prelude.{◌≡◌, ◌*◌, ◌%◌, ◌↔◌, ℕ, true, false, length, Some, IsTrue, IsOk, IfOk, IfErr, OnOk, OnErr};
+ghost use Rattle.std.specs.FinMap as map;
+ghost use Rattle.rx_ring.specs.DmaArena.Memory.{has_block, is_lent, read_at, write_at};
 ghost use Rattle.nic_device.specs.Bus.{PeeksTell, PokesLead};
 
 use crate::device::Device;
 use crate::engine::Engine;
+use crate::event::Event;
+use rx_ring::{BLOCK_BYTES, BlockBox};
 
 impl Device {
     /// Fills the slice with the bytes of packet memory from a bus address on; the range may span blocks. Returns
@@ -38,6 +41,29 @@ impl Device {
     }
 }
 
+impl Device {
+    /// Exchanges the memory of a lent block for another: the block has that one's bytes from now on, and its former
+    /// memory is returned with the bytes that the block had. Nothing is copied.
+    ///
+    /// For the device it is a write of the other memory's 2,048 bytes to the block. Errors: the other memory comes back
+    /// exactly where the block isn't lent.
+    pub fn exchange(&mut self, block: u32, memory: BlockBox) -> Result<BlockBox, BlockBox>
+        ensures ok { IsOk result ↔ IsTrue (has_block self.old.memory block) }
+        ensures put { OnOk result (self.new ≡
+            record self.old { memory = map.insert self.old.memory block memory.value }) }
+        ensures former { IfOk result (λ former. Some former.value ≡ map.get self.old.memory block) }
+        ensures back { IfErr result (λ back. back ≡ memory) }
+        ensures kept { OnErr result (self.new ≡ self.old) }
+        ensures pokes { IsOk result → PokesLead self.old (2048 * block) 128 memory.value self.new }
+    {
+        let all: &[u8] = &*memory;
+        prove!(all.len() == BLOCK_BYTES);
+        // It is kept that each lent byte is one, as is told of these.
+        Event::are_bytes(all);
+        self.engine.exchange(block, memory)
+    }
+}
+
 impl Engine {
     /// Fills the slice with the bytes from a bus address on, where all of them are lent.
     fn read_range(&self, bus: u64, bytes: &mut [u8]) -> bool
@@ -50,6 +76,18 @@ impl Engine {
         }
         self.memory.read_at(bus, bytes);
         true
+    }
+
+    /// Exchanges the memory of a block, where it is lent.
+    fn exchange(&mut self, block: u32, memory: BlockBox) -> Result<BlockBox, BlockBox>
+        ensures ok { IsOk result ↔ IsTrue (has_block self.old.memory block) }
+        ensures put { OnOk result (self.new ≡
+            record self.old { memory = map.insert self.old.memory block memory.value }) }
+        ensures former { IfOk result (λ former. Some former.value ≡ map.get self.old.memory block) }
+        ensures back { IfErr result (λ back. back ≡ memory) }
+        ensures kept { OnErr result (self.new ≡ self.old) }
+    {
+        self.memory.exchange(block, memory)
     }
 
     /// Writes the bytes of the slice from a bus address on, where all of them are lent.

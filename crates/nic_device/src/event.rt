@@ -140,7 +140,7 @@ impl Event {
     }
 
     /// States that each byte is below 256. It does nothing.
-    fn are_bytes(bytes: &[u8])
+    pub(crate) fn are_bytes(bytes: &[u8])
         ensures { AreBytes bytes.now }
     {
         let _all = bytes;

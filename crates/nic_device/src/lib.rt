@@ -52,7 +52,7 @@ pub use register_file::{
 };
 pub use runs::RunStop;
 pub use rx_ring::{
-    Arena, BLOCK_BYTES, BLOCK_NUMBERS, Buf, Dir, LentMemory, Octets, RingFault, Run,
+    Arena, BLOCK_BYTES, BLOCK_NUMBERS, BlockBox, Buf, Dir, LentMemory, Octets, RingFault, Run,
     data_descriptor_word, first_half, is_last, is_sent, is_written_back, leave, of_halves,
     posted_word, reported_hash, reported_length, reported_rss, second_half,
 };

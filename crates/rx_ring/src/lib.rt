@@ -15,7 +15,7 @@ pub mod laws;
 mod slot;
 
 pub use dma_arena::{
-    Arena, BLOCK_BYTES, BLOCK_NUMBERS, Buf, LendRefused, LentMemory, Octets, Run, leave,
+    Arena, BLOCK_BYTES, BLOCK_NUMBERS, BlockBox, Buf, LendRefused, LentMemory, Octets, Run, leave,
 };
 pub use dma_ring::{
     Dir, Packet, Ring, RingFault, data_descriptor_word, first_half, is_last, is_sent,

@@ -1,0 +1,105 @@
+//! Packet memory that is the caller's own: the memory of a lent block is exchanged for 2,048 bytes of the caller's.
+//!
+//! C hands the memory over as a pointer, and has it again by another exchange. Between two calls all that a controller
+//! owns is C's, so C may read and write it there: a call's contract is about the bytes that it finds.
+
+ghost use Rattle.std.specs.Borrow.{Array, u8};
+ghost use Rattle.std.specs.Coded.{coded_ℕ, coded_list, coded_option};
+ghost use Rattle.std.specs.Prelude.{◌≡◌, List, Option, Some, ℕ};
+ghost use Rattle.std.specs.FinMap as map;
+ghost use Rattle.card.specs.Card.{with_bytes};
+ghost use Rattle.nic_device.specs.DmaArena.Memory.{has_block};
+ghost use Rattle.nic82599_c.specs.Handle.{owns_box, owns_some};
+ghost use Rattle.nic82599_c.specs.Statuses.{bus_status};
+
+use crate::handle::{Handle, Opaque};
+use crate::parts::Parts;
+use crate::status::{DONE, NOT_LENT};
+use nic_device::BLOCK_BYTES;
+use std::alloc::Global;
+use std::marker::Model;
+
+/// 2,048 bytes of the caller's. In C it is a struct with one pointer.
+#[repr(C)]
+pub struct Memory {
+    ptr: *mut Opaque,
+    alloc: Global,
+    pub ghost bytes: { List ℕ } by { coded_list coded_ℕ },
+}
+
+/// The place where C receives the pointer to 2,048 bytes. In C it is a struct with one pointer.
+#[repr(C)]
+#[derive(Drop)]
+pub struct MemoryOut {
+    ptr: *mut Opaque,
+    alloc: Global,
+    pub ghost bytes: { Option (List ℕ) } by { coded_option (coded_list coded_ℕ) },
+}
+
+impl Model for Memory {
+    ghost also_owns = { λ m. owns_box (Array u8 2048) m.alloc m.ptr m.bytes };
+}
+
+impl Model for MemoryOut {
+    ghost also_owns = { λ m. owns_some (Array u8 2048) m.alloc m.ptr m.bytes };
+}
+
+impl Memory {
+    /// The parts of the box that the pointer was made of.
+    fn into_parts(self) -> Parts<[u8; BLOCK_BYTES], Global>
+        ensures { result.value ≡ self.bytes }
+    {
+        let Memory { ptr, alloc } = self;
+        Parts {
+            ptr: ptr as *mut [u8; BLOCK_BYTES],
+            alloc,
+        }
+    }
+}
+
+impl MemoryOut {
+    /// An out-parameter with the pointer of a box of these parts.
+    fn of(parts: Parts<[u8; BLOCK_BYTES], Global>) -> MemoryOut
+        ensures { result.bytes ≡ Some parts.value }
+    {
+        let Parts { ptr, alloc } = parts;
+        MemoryOut {
+            ptr: ptr as *mut Opaque,
+            alloc,
+        }
+    }
+}
+
+impl Drop for Memory {
+    fn drop(self) {
+        drop(self.into_parts().into_box());
+    }
+}
+
+/// Exchanges the memory of a lent block for another, without a copy: the block has that one's bytes from now on, and
+/// `former` is the block's former memory, with the bytes that the block had. DONE, or NOT_LENT: then nothing changes,
+/// and `former` is the memory that was handed in. What `former` had before is leaked.
+#[unsafe(no_mangle)]
+pub extern "C" fn nic_exchange(
+    nic: &mut Handle,
+    block: u32,
+    memory: Memory,
+    former: &mut MemoryOut,
+) -> u8
+    ensures status { result ≡ bus_status (has_block nic.old.card.device.memory block) }
+    ensures put { result ≡ DONE → nic.new.card ≡ with_bytes nic.old.card block memory.bytes }
+    ensures former { result ≡ DONE → former.new.bytes ≡ map.get nic.old.card.device.memory block }
+    ensures kept { result ≡ NOT_LENT → nic.new.card ≡ nic.old.card }
+    ensures back { result ≡ NOT_LENT → former.new.bytes ≡ Some memory.bytes }
+{
+    match nic.lend().exchange(block, memory.into_parts().into_box()) {
+        Ok(boxed) => {
+            *former = MemoryOut::of(Parts::of(boxed));
+            DONE
+        }
+        Err(boxed) => {
+            *former = MemoryOut::of(Parts::of(boxed));
+            NOT_LENT
+        }
+    }
+}

@@ -1,4 +1,4 @@
--- The two handles, as forms.
+-- The handles, as forms.
 use mathlib.Core.Path.{refl}
 use denote.Array.{Array}
 use denote.Builtin.{u8}
@@ -13,7 +13,7 @@ use Rattle.card.proofs.card.Card.TheLaws as card
 use Rattle.card.proofs.kept.Kept.TheLaws as kept
 use Rattle.nic82599_c.specs.contracts.handle.Handle as Handle
 use Rattle.nic82599_c.specs.contracts.handle.KeptHandle as KeptHandle
-use Rattle.nic82599_c.specs.contracts.memory.Memory as Memory
+use Rattle.nic82599_c.specs.contracts.exchange.BlockHandle as BlockHandle
 use Rattle.nic82599_c.proofs.HandleForm.{Form}
 
 abbrev pub of_card : Form
@@ -42,15 +42,15 @@ of_kept = record {
   codes = KeptHandle.the_codes Heap.the_row.coded;
 }
 
-abbrev pub of_memory : Form
-of_memory = record {
+abbrev pub of_block : Form
+of_block = record {
   of = Array u8 2048;
   laws = array_laws u8 (of_field u8-field u8-laws refl (copy_shared u8-field u8-copy)) 2048;
-  name = Memory.struct.name;
-  D = Memory.struct.D;
+  name = BlockHandle.struct.name;
+  D = BlockHandle.struct.D;
   box = λ h. record { ptr = h.ptr; alloc = h.alloc; value = h.bytes };
   handle = λ v. record { ptr = v.ptr; alloc = v.alloc; bytes = v.value };
   eta = λ h. refl;
   beta = λ v. refl;
-  codes = Memory.the_codes Heap.the_row.coded;
+  codes = BlockHandle.the_codes Heap.the_row.coded;
 }

@@ -1,4 +1,4 @@
--- C's places for the two handles, as forms.
+-- C's places for the handles, as forms.
 use mathlib.Core.Path.{refl}
 use denote.Array.{Array}
 use denote.Builtin.{u8}
@@ -13,7 +13,7 @@ use Rattle.card.proofs.card.Card.TheLaws as card
 use Rattle.card.proofs.kept.Kept.TheLaws as kept
 use Rattle.nic82599_c.specs.contracts.handed.HandleOut as HandleOut
 use Rattle.nic82599_c.specs.contracts.handed.KeptHandleOut as KeptHandleOut
-use Rattle.nic82599_c.specs.contracts.memory.MemoryOut as MemoryOut
+use Rattle.nic82599_c.specs.contracts.exchange.BlockHandleOut as BlockHandleOut
 use Rattle.nic82599_c.proofs.OutForm.{Form}
 
 abbrev pub of_card : Form
@@ -42,15 +42,15 @@ of_kept = record {
   codes = KeptHandleOut.the_codes Heap.the_row.coded;
 }
 
-abbrev pub of_memory : Form
-of_memory = record {
+abbrev pub of_block : Form
+of_block = record {
   of = Array u8 2048;
   laws = array_laws u8 (of_field u8-field u8-laws refl (copy_shared u8-field u8-copy)) 2048;
-  name = MemoryOut.struct.name;
-  D = MemoryOut.struct.D;
+  name = BlockHandleOut.struct.name;
+  D = BlockHandleOut.struct.D;
   box = λ d. record { ptr = d.ptr; alloc = d.alloc; value = d.bytes };
   out = λ v. record { ptr = v.ptr; alloc = v.alloc; bytes = v.value };
   eta = λ d. refl;
   beta = λ v. refl;
-  codes = MemoryOut.the_codes Heap.the_row.coded;
+  codes = BlockHandleOut.the_codes Heap.the_row.coded;
 }

@@ -39,9 +39,7 @@ impl Device {
     {
         self.engine.write_range(bus, bytes)
     }
-}
 
-impl Device {
     /// Exchanges the memory of a lent block for another: the block has that one's bytes from now on, and its former
     /// memory is returned with the bytes that the block had. Nothing is copied.
     ///

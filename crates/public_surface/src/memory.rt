@@ -5,7 +5,8 @@ ghost use Rattle.dma_arena.specs.Memory.{is_lent};
 
 use crate::typed::is;
 use dma_arena::{
-    Arena, ArenaFault, Buf, LendRefused, LentMemory, Octets, Run, SplitFault, SplitRefused, leave,
+    Arena, ArenaFault, BlockBox, Buf, LendRefused, LentMemory, Octets, Run, SplitFault,
+    SplitRefused, leave,
 };
 use std::alloc::Global;
 
@@ -155,6 +156,14 @@ pub fn lent_write_at(memory: &mut LentMemory, address: u64, bytes: &[u8])
     requires { is_lent memory.old address (length bytes.now) ≡ true }
 {
     memory.write_at(address, bytes);
+}
+
+pub fn lent_exchange(
+    memory: &mut LentMemory,
+    block: u32,
+    other: BlockBox,
+) -> Result<BlockBox, BlockBox> {
+    memory.exchange(block, other)
 }
 
 pub fn lent_finish(memory: LentMemory) -> Result<(), LentMemory> {

@@ -19,37 +19,38 @@ use nic_device::BLOCK_BYTES;
 use std::alloc::Global;
 use std::marker::Model;
 
-/// 2,048 bytes of the caller's. In C it is a struct with one pointer.
+/// A handle of 2,048 bytes of a block. In C it is a struct with one pointer, to memory of the caller's too: the library
+/// for C passes over such memory where the heap is asked to free it.
 #[repr(C)]
-pub struct Memory {
+pub struct BlockHandle {
     ptr: *mut Opaque,
     alloc: Global,
     pub ghost bytes: { List ℕ } by { coded_list coded_ℕ },
 }
 
-/// The place where C receives the pointer to 2,048 bytes. In C it is a struct with one pointer.
+/// The place where C receives the pointer to a block's 2,048 bytes, as `HandleOut`.
 #[repr(C)]
 #[derive(Drop)]
-pub struct MemoryOut {
+pub struct BlockHandleOut {
     ptr: *mut Opaque,
     alloc: Global,
     pub ghost bytes: { Option (List ℕ) } by { coded_option (coded_list coded_ℕ) },
 }
 
-impl Model for Memory {
+impl Model for BlockHandle {
     ghost also_owns = { λ m. owns_box (Array u8 2048) m.alloc m.ptr m.bytes };
 }
 
-impl Model for MemoryOut {
+impl Model for BlockHandleOut {
     ghost also_owns = { λ m. owns_some (Array u8 2048) m.alloc m.ptr m.bytes };
 }
 
-impl Memory {
+impl BlockHandle {
     /// The parts of the box that the pointer was made of.
     fn into_parts(self) -> Parts<[u8; BLOCK_BYTES], Global>
         ensures { result.value ≡ self.bytes }
     {
-        let Memory { ptr, alloc } = self;
+        let BlockHandle { ptr, alloc } = self;
         Parts {
             ptr: ptr as *mut [u8; BLOCK_BYTES],
             alloc,
@@ -57,20 +58,20 @@ impl Memory {
     }
 }
 
-impl MemoryOut {
+impl BlockHandleOut {
     /// An out-parameter with the pointer of a box of these parts.
-    fn of(parts: Parts<[u8; BLOCK_BYTES], Global>) -> MemoryOut
+    fn of(parts: Parts<[u8; BLOCK_BYTES], Global>) -> BlockHandleOut
         ensures { result.bytes ≡ Some parts.value }
     {
         let Parts { ptr, alloc } = parts;
-        MemoryOut {
+        BlockHandleOut {
             ptr: ptr as *mut Opaque,
             alloc,
         }
     }
 }
 
-impl Drop for Memory {
+impl Drop for BlockHandle {
     fn drop(self) {
         drop(self.into_parts().into_box());
     }
@@ -83,8 +84,8 @@ impl Drop for Memory {
 pub extern "C" fn nic_exchange(
     nic: &mut Handle,
     block: u32,
-    memory: Memory,
-    former: &mut MemoryOut,
+    memory: BlockHandle,
+    former: &mut BlockHandleOut,
 ) -> u8
     ensures status { result ≡ bus_status (has_block nic.old.card.device.memory block) }
     ensures put { result ≡ DONE → nic.new.card ≡ with_bytes nic.old.card block memory.bytes }
@@ -94,11 +95,11 @@ pub extern "C" fn nic_exchange(
 {
     match nic.lend().exchange(block, memory.into_parts().into_box()) {
         Ok(boxed) => {
-            *former = MemoryOut::of(Parts::of(boxed));
+            *former = BlockHandleOut::of(Parts::of(boxed));
             DONE
         }
         Err(boxed) => {
-            *former = MemoryOut::of(Parts::of(boxed));
+            *former = BlockHandleOut::of(Parts::of(boxed));
             NOT_LENT
         }
     }

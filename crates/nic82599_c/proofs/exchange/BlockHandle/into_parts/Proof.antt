@@ -1,0 +1,9 @@
+-- `into_parts` is that of any handle.
+use Rattle.nic82599_c.specs.contracts.exchange.BlockHandle.into_parts.Key.{name as #self}
+use Rattle.nic82599_c.proofs.Handles.{of_block}
+use Rattle.nic82599_c.proofs.IntoParts.{meets}
+use Rattle.nic82599_c.proofs.exchange.BlockHandle.into_parts.Statement.{statement}
+use Rattle.nic82599_c.proofs.exchange.BlockHandle.into_parts.Code.{unfolded}
+
+pub into_parts_spec : {M : Type 1} → statement M
+into_parts_spec 𝓤 𝓛 𝓜 𝓡 wired = meets of_block 𝓛 𝓜 𝓡 #self (unfolded 𝓤 𝓛.H 𝓜 𝓡 wired)

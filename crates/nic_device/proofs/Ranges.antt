@@ -157,8 +157,8 @@ all_written m number bytes whole lent size =
     ∙ write_at_in m bytes number 0 here.0 here.1 old (omega (arith, size))
     ∙ ap (λ bs. map.insert m number bs) (whole_put here.0 bytes old size))
 
-pub pokes-exchanged : {A E : Type 0} (s t : State) (number : ℕ) (bytes : List ℕ) (result : Result A E) → IsWhole s.memory
-    → (IsOk result → has_block s.memory number ≡ true)
+pub pokes-exchanged : {A E : Type 0} (s t : State) (number : ℕ) (bytes : List ℕ) (result : Result A E)
+    → IsWhole s.memory → (IsOk result → has_block s.memory number ≡ true)
     → OnOk result (t ≡ record s { memory = map.insert s.memory number bytes }) → length bytes ≡ 2048 → IsOk result
     → PokesLead s (2048 * number) 128 bytes t
 pokes-exchanged s t number bytes (Ok former) whole lent put size ok =

@@ -28,6 +28,9 @@ struct place {
     uint8_t kind, queue;
 };
 
+static const uint8_t usual_mac[6] = {0x02, 0x00, 0x00, 0x00, 0x82, 0x99};
+static const char *const one_phase[] = {"run", NULL};
+
 struct bus_inside bus_inside;
 static struct place places[WORDS];
 
@@ -162,6 +165,11 @@ static void forget_reset(unsigned int function, uint32_t offset, uint32_t word)
         forget((offset - NIC_PVFCTRL(0)) / 4 * each, each);
 }
 
+static bool is_tail(struct place place)
+{
+    return place.kind == TRANSMIT_TAIL || place.kind == RECEIVE_TAIL;
+}
+
 /* What a write gives to the device, before the device sees it. */
 static void give(struct place place, uint32_t word)
 {
@@ -180,6 +188,8 @@ void bus_write(unsigned int function, uint32_t offset, uint32_t word)
     counts.in[bus_inside.phase].writes++;
     counts.accesses[function]++;
     trace(function, 'w', offset, word);
+    if (hooks.giving && is_tail(place))
+        hooks.giving(place.kind == TRANSMIT_TAIL, place.queue, word);
     give(place, word);
     forget_reset(function, offset, word);
     if (function == BUS_PHYSICAL)
@@ -191,7 +201,7 @@ void bus_write(unsigned int function, uint32_t offset, uint32_t word)
         act(place);
     if (place.kind == TRANSMIT_TAIL)
         steps_transmit(place.queue);
-    if (hooks.tail && (place.kind == TRANSMIT_TAIL || place.kind == RECEIVE_TAIL))
+    if (hooks.tail && is_tail(place))
         hooks.tail(place.kind == TRANSMIT_TAIL, place.queue);
     if (hooks.written)
         hooks.written(function, offset);
@@ -244,7 +254,12 @@ static bool install_eeprom(const uint8_t mac[6])
 
 bool bus_open(const struct bus_options *options)
 {
+    static const uint8_t none[6] = {0};
     bus_inside = (struct bus_inside){.options = *options};
+    if (!options->phases)
+        bus_inside.options.phases = one_phase;
+    if (memcmp(options->mac, none, sizeof none) == 0)
+        memcpy(bus_inside.options.mac, usual_mac, sizeof usual_mac);
     mark_places();
     memory_begin();
     mailbox_begin();
@@ -252,7 +267,7 @@ bool bus_open(const struct bus_options *options)
     if (nic_open(bus_device(), options->functions, options->fifo, BLOCKS) != NIC_DONE)
         return false;
     nic_link(bus_device(), true);
-    return strays_begin() && install_eeprom(options->mac);
+    return strays_begin() && install_eeprom(bus_inside.options.mac);
 }
 
 void bus_close(void)
@@ -303,4 +318,6 @@ void bus_check_counts(uint64_t drops_expected, uint64_t faults_expected)
     if (counts.faults != faults_expected || counts.refusals || counts.drops != drops_expected)
         problem("%" PRIu64 " faults, %" PRIu64 " frames dropped, %" PRIu64 " copies refused", counts.faults,
                 counts.drops, counts.refusals);
+    if (!counts.frames_in && !counts.frames_out)
+        printf("no frame passed: none was received, and none was sent\n");
 }

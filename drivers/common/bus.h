@@ -38,17 +38,20 @@ enum bus_answer {
 struct bus_hooks {
     void (*reading)(unsigned int function, uint32_t offset); /* before a read */
     void (*written)(unsigned int function, uint32_t offset); /* after a write, and the steps that it makes */
-    void (*filled)(uint16_t queue, bool ends);               /* a receive descriptor; `ends`: a frame's last one */
-    void (*tail)(bool is_transmit, uint16_t queue);          /* a tail moved; what it gave away is sent */
+    /* a receive descriptor was filled, at this bus address; `ends`: it is a frame's last one */
+    void (*filled)(uint16_t queue, uint64_t descriptor, bool ends);
+    /* a tail is to move there: nothing is copied yet, and the device hasn't seen it */
+    void (*giving)(bool is_transmit, uint16_t queue, uint32_t tail);
+    void (*tail)(bool is_transmit, uint16_t queue); /* a tail moved; what it gave away is sent */
 };
 
 struct bus_options {
-    uint8_t mac[6];            /* the EEPROM's, which a reset writes to RAL[0] and RAH[0] */
+    uint8_t mac[6];            /* the EEPROM's, which a reset writes to RAL[0] and RAH[0]; zeros: 02:00:00:00:82:99 */
     uint8_t functions;         /* virtual functions, at most 63 */
     uint16_t fifo;             /* frames that may wait in front of the queues, 1 to 4,096 */
     unsigned int answers;      /* enum bus_answer, or together */
     bool acts_at_writes;       /* enables and EEPROM act when they are asked for, not when they are polled */
-    const char *const *phases; /* what parts of the run are called; at most BUS_PHASES, then null */
+    const char *const *phases; /* what parts of the run are called; at most BUS_PHASES, then null; null: one part */
     struct bus_hooks hooks;
     FILE *trace; /* each access, a line; null: none */
     /* to try a run: one byte of the frame with this number, counted from 1, is turned on its way; 0: of none */
@@ -136,7 +139,8 @@ unsigned int bus_answer_named(const char *name);
 void bus_tell_answers(unsigned int answers);
 /* Accesses by phases, steps, bytes. */
 void bus_tell_counts(void);
-/* Refusals are problems, and frames dropped or faults by another number than was expected. */
+/* Refusals are problems, and frames dropped or faults by another number than was expected. Says so where no frame
+   passed: then little was tried. */
 void bus_check_counts(uint64_t drops_expected, uint64_t faults_expected);
 
 #endif

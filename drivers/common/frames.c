@@ -127,9 +127,14 @@ size_t frame_hashed(const struct frame *frame, size_t *at)
 
 bool line_up_begin(struct line_up *line_up, unsigned int room)
 {
-    free(line_up->numbers);
     *line_up = (struct line_up){.numbers = calloc(room ? room : 1, sizeof *line_up->numbers), .room = room};
     return line_up->numbers != NULL;
+}
+
+void line_up_end(struct line_up *line_up)
+{
+    free(line_up->numbers);
+    *line_up = (struct line_up){0};
 }
 
 void line_up_put(struct line_up *line_up, uint32_t number)

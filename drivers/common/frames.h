@@ -38,8 +38,10 @@ struct line_up {
     unsigned int room, put, taken;
 };
 
-/* Empties a line-up and makes room: false where memory is short. */
+/* Makes an empty line-up with room for so many: false where memory is short. What the struct held before isn't looked
+   at; line_up_end frees it. */
 bool line_up_begin(struct line_up *line_up, unsigned int room);
+void line_up_end(struct line_up *line_up);
 void line_up_put(struct line_up *line_up, uint32_t number);
 /* False, and *number is as it was, where none is left. */
 bool line_up_take(struct line_up *line_up, uint32_t *number);

@@ -60,7 +60,7 @@ static void wrote(const nic_told *told)
             *last ^= 1;
     }
     if (hooks.filled)
-        hooks.filled(told->queue, told->end);
+        hooks.filled(told->queue, told->desc, told->end);
 }
 
 unsigned int bus_receive(void)

@@ -28,6 +28,8 @@ DCA_RXCTRL[0..15]   02200 4 16
 DCA_RXCTRL[16..63]  0140C 40 48
 DCA_RXCTRL[64..127] 0D00C 40 64
 PVFGORC             01020 40 64
+RSCCTL[0..63]       0102C 40 64
+RSCCTL[64..127]     0D02C 40 64
 QBRC_L              01034 40 16
 QBRC_H              01038 40 16
 FCOERPDC            0241C
@@ -148,10 +150,17 @@ VFGORC              01020
 VFGORC, high        01024
 VFMPRC              01034
 DCA_TXCTRL          0200C 40 8
+RSCCTL              0102C 40 8
+RDBAL, not its own  01000 40 8
+RDBAH, not its own  01004 40 8
+RDLEN, not its own  01008 40 8
 RDH, not its own    01010 40 8
 SRRCTL, not its own 01014 40 8
 RDT, not its own    01018 40 8
 RXDCTL, not its own 01028 40 8
+TDBAL, not its own  02000 40 8
+TDBAH, not its own  02004 40 8
+TDLEN, not its own  02008 40 8
 TDH, not its own    02010 40 8
 TDT, not its own    02018 40 8
 TXDCTL, not its own 02028 40 8

@@ -36,9 +36,12 @@ static void clear(unsigned int first, unsigned int last)
 {
     for (unsigned int which = first; which <= last; which++) {
         tallies[which] = (struct tally){0};
-        for (unsigned int queue = 0; queue < PORT_QUEUES; queue++)
+        for (unsigned int queue = 0; queue < PORT_QUEUES; queue++) {
+            line_up_end(&in[which][queue]);
+            line_up_end(&out[which][queue]);
             if (!line_up_begin(&in[which][queue], setting.frames) || !line_up_begin(&out[which][queue], setting.frames))
                 rte_exit(1, "memory is short\n");
+        }
     }
 }
 

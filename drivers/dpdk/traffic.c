@@ -18,9 +18,11 @@ static unsigned int alike, hashes, unhashed;
 /* None is expected; room is for a pass, and for what fills a ring. */
 static void clear(struct line_up *lists)
 {
-    for (unsigned int queue = 0; queue < QUEUES; queue++)
+    for (unsigned int queue = 0; queue < QUEUES; queue++) {
+        line_up_end(&lists[queue]);
         if (!line_up_begin(&lists[queue], frames_of_pass + SLOTS))
             rte_exit(1, "memory is short\n");
+    }
 }
 
 static void make_next(struct line_up *list, struct frame *frame, const uint8_t *to, const uint8_t *from)

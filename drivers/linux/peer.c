@@ -63,8 +63,9 @@ static uint16_t queue_of(const struct frame *frame, unsigned int function)
     }
 }
 
-void peer_filled(uint16_t queue, bool ends)
+void peer_filled(uint16_t queue, uint64_t descriptor, bool ends)
 {
+    (void)descriptor;
     if (!ends)
         return;
     all.written++;

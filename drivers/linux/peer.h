@@ -11,7 +11,7 @@
 
 /* The bus' hooks and sink. */
 void peer_takes(uint16_t queue, const uint8_t *frame, size_t length);
-void peer_filled(uint16_t queue, bool ends);
+void peer_filled(uint16_t queue, uint64_t descriptor, bool ends);
 void peer_goes_on(bool is_transmit, uint16_t queue);
 
 void peer_orders(uint32_t what, struct order_words *words);

@@ -12,7 +12,16 @@
 #include "verdict.h"
 #include "window.h"
 
-enum { RING = 0x1000, BUFFER = 0x2000, SLOTS = 8, FIRST_BUS = 0x8000, BYTES = 0x4000, QUEUE = 4, FUNCTION = 3 };
+enum {
+    RING = 0x1000,
+    BUFFER = 0x2000,
+    LATE = 0x2800,
+    SLOTS = 8,
+    FIRST_BUS = 0x8000,
+    BYTES = 0x4000,
+    QUEUE = 4,
+    FUNCTION = 3
+};
 
 static const uint8_t card[6] = {2, 0, 0, 0, 0x82, 0x99}, peer[6] = {2, 0, 0, 0, 0, 1};
 static const char *const phases[] = {"first", "second", NULL};
@@ -20,7 +29,7 @@ static const char *const phases[] = {"first", "second", NULL};
 
 static uint8_t host_memory[BYTES];
 static struct frame sent;
-static unsigned int frames_sent, filled, tails, messages, last_vector;
+static unsigned int frames_sent, filled, given, tails, messages, last_vector;
 
 /* ---- frames ---- */
 
@@ -58,16 +67,19 @@ static void frames_follow_from_their_numbers(void)
 
 static void line_ups_keep_their_order(void)
 {
-    struct line_up line_up = {0};
+    struct line_up line_up;
     uint32_t number = 7;
+    memset(&line_up, 0xA5, sizeof line_up); /* what it held isn't looked at */
     CHECK(line_up_begin(&line_up, 2) && !line_up_take(&line_up, &number) && number == 7);
     line_up_put(&line_up, 5);
     line_up_put(&line_up, 3);
     line_up_put(&line_up, 1); /* there is no room for it */
     CHECK(line_up_left(&line_up) == 2 && line_up_take(&line_up, &number) && number == 5);
     CHECK(line_up_take(&line_up, &number) && number == 3 && !line_up_take(&line_up, &number));
+    line_up_end(&line_up);
     CHECK(line_up_begin(&line_up, 0) && line_up_left(&line_up) == 0);
-    free(line_up.numbers);
+    line_up_end(&line_up);
+    line_up_end(&line_up); /* it has no memory now */
 }
 
 static void numbers_are_read_whole(void)
@@ -131,9 +143,9 @@ static void on_sent(uint16_t queue, const uint8_t *frame, size_t length)
     frames_sent++;
 }
 
-static void on_filled(uint16_t queue, bool ends)
+static void on_filled(uint16_t queue, uint64_t descriptor, bool ends)
 {
-    CHECK(queue == QUEUE && ends);
+    CHECK(queue == QUEUE && ends && descriptor == FIRST_BUS + RING);
     filled++;
 }
 
@@ -158,7 +170,7 @@ static void open_bus(struct bus_options options)
     memcpy(options.mac, card, sizeof card);
     CHECK(bus_open(&options));
     memset(host_memory, 0, sizeof host_memory);
-    filled = tails = frames_sent = messages = 0;
+    filled = given = tails = frames_sent = messages = 0;
 }
 
 static uint64_t bus_of(uint32_t offset)
@@ -169,6 +181,15 @@ static uint64_t bus_of(uint32_t offset)
 static void put64(uint32_t offset, uint64_t value)
 {
     memcpy(host_memory + offset, &value, sizeof value);
+}
+
+/* The device has seen nothing yet, so what is written here counts. */
+static void on_giving(bool is_transmit, uint16_t queue, uint32_t tail)
+{
+    CHECK(!is_transmit && queue == QUEUE && tail == SLOTS - 1 && tails == given);
+    CHECK(bus_peek(NIC_RDT(QUEUE)) == 0);
+    put64(RING, bus_of(LATE));
+    given++;
 }
 
 static uint64_t get64(uint32_t offset)
@@ -223,7 +244,8 @@ static void memory_is_lent_in_pieces(void)
 static void frames_come_in(uint64_t turned)
 {
     static struct frame frame;
-    open_bus((struct bus_options){.hooks = {.filled = on_filled, .tail = on_tail}, .turn_in = turned});
+    open_bus(
+        (struct bus_options){.hooks = {.filled = on_filled, .giving = on_giving, .tail = on_tail}, .turn_in = turned});
     CHECK(memory_lend(bus_of(0), host_memory, BYTES));
     bus_write(BUS_PHYSICAL, NIC_RXCTRL, NIC_RXCTRL_RXEN);
     bus_write(BUS_PHYSICAL, NIC_FCTRL, NIC_FCTRL_UPE);
@@ -239,8 +261,8 @@ static void frames_come_in(uint64_t turned)
     rss_of_registers(&rss);
     CHECK(rss.key[0] == 1 && rss.key[3] == 4 && rss_hash(&rss, &frame, &hash));
     CHECK(rss_queue(&rss, &frame, 16) == QUEUE && rss_queue(&rss, &frame, 4) == 0);
-    CHECK(bus_arrive(frame.bytes, frame.length) && bus_receive() == 1 && filled == 1 && tails == 1);
-    CHECK(frame_is(&frame, host_memory + BUFFER, frame.length) == (turned == 0));
+    CHECK(bus_arrive(frame.bytes, frame.length) && bus_receive() == 1 && filled == 1 && given == 1 && tails == 1);
+    CHECK(frame_is(&frame, host_memory + LATE, frame.length) == (turned == 0));
     CHECK((get64(RING + 8) & 3) == 3 && (get64(RING + 8) >> 32 & 0xFFFF) == frame.length);
     CHECK(memory_unlike(bus_of(RING), SLOTS - 1) == 0 && bus_is_settled(BUS_QUEUES));
     CHECK(!bus_arrive(frame.bytes, 59) && bus_counts()->arrive_whys[NIC_WHY_SHORT] == 1 &&
@@ -419,6 +441,19 @@ static void strays_are_kept(void)
     bus_close();
 }
 
+/* A run that names no parts and no address. In it no frame passes, which is told (the script looks for it). */
+static void a_bus_needs_no_names(void)
+{
+    unsigned int wrong = problems();
+    CHECK(bus_open(&(struct bus_options){.fifo = 1}));
+    bus_write(BUS_PHYSICAL, NIC_CTRL, NIC_CTRL_RST);
+    CHECK(bus_peek(NIC_RAL(0)) == 0x00000002 && bus_peek(NIC_RAH(0)) == (NIC_RAH_AV | 0x9982));
+    bus_tell_counts();
+    bus_check_counts(0, 0);
+    CHECK(problems() == wrong);
+    bus_close();
+}
+
 int main(void)
 {
     frames_follow_from_their_numbers();
@@ -426,6 +461,7 @@ int main(void)
     numbers_are_read_whole();
     hashes_are_those_published();
     hashes_are_the_librarys();
+    a_bus_needs_no_names();
     memory_is_lent_in_pieces();
     frames_come_in(0);
     frames_come_in(1);

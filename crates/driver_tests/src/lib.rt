@@ -11,6 +11,8 @@ mod bench;
 #[cfg(test)]
 mod bursts;
 #[cfg(test)]
+mod closing;
+#[cfg(test)]
 mod deeds;
 #[cfg(test)]
 mod driver;
@@ -52,3 +54,5 @@ mod storm;
 mod stranger;
 #[cfg(test)]
 mod team;
+#[cfg(test)]
+mod worker;

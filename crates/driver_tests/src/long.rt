@@ -1,14 +1,15 @@
 //! A driver of long frames, of up to 9,728 bytes with their frame check sequence.
 
 use crate::bench::{
-    PLAIN, Why, close, count_calls, end, holds_bytes, in_hand, is_why, reason, set_up, stopped,
-    untouched,
+    PLAIN, Why, close, count_calls, end, holds_bytes, in_hand, is_why, reason, release, set_up,
+    stopped, untouched,
 };
 use crate::driver::{come_home, free_blocks, refused_start};
 use crate::outcome::{Hand, done, fail, push, refused, same, same_bytes, same_pair, sees, some};
 use crate::rig::Rig;
 use nic_device::{Arena, Event, Octets, Port, Reply};
 use pmd::{Direct, Nic, Packet, Pmd, Setup, pf_setup};
+use std::collections::VecDeque;
 
 /// A device and a driver of queue 0 for the longest frames.
 fn rig_for_long_frames(rt: &impl Hand) -> Rig {
@@ -91,6 +92,70 @@ fn a_frame_of_5_000_bytes_is_received_and_sent_again(rt: HostRuntime) {
     rig.arrive(rt, long_frame(rt));
     let packet = received_soon(rt, &mut rig);
     goes_out(rt, rig, packet, (1, 1));
+}
+
+/// How many bytes a frame has, and how many Bufs its packet is in: the frame fills none of them, some or all.
+#[rattlefmt::skip]
+const IN_BUFS: [(u16, usize); 11] = [
+    (60, 1), (2047, 1), (2048, 1), (2049, 2), (4095, 2), (4096, 2), (4097, 3), (6144, 3), (8192, 4), (8193, 5),
+    (9724, 5),
+];
+
+/// A frame of this many bytes to the broadcast address.
+fn frame_of_len(rt: &impl Hand, len: u16) -> Vec<u8> {
+    let mut bytes = done(rt, Vec::from_array(rt.alloc(), [0xFF; 6]));
+    for number in 6..len {
+        push(rt, &mut bytes, (number % 253) as u8);
+    }
+    bytes
+}
+
+/// Checks that a packet is the frame of this many bytes, and in so many Bufs.
+fn is_in_bufs(rt: &impl Hand, packet: &Packet, (len, bufs): (u16, usize)) {
+    same(rt, usize::from(packet.len), usize::from(len));
+    same(rt, packet.bufs.count(), bufs);
+    holds_bytes(rt, packet, frame_of_len(rt, len).as_slice());
+}
+
+/// Each of these frames is received alone, and is in so many Bufs.
+fn come_one_by_one(rt: &impl Hand, rig: &mut Rig) {
+    for (len, bufs) in IN_BUFS {
+        rig.arrive(rt, frame_of_len(rt, len));
+        let packet = received_soon(rt, rig);
+        is_in_bufs(rt, &packet, (len, bufs));
+        release(rt, &mut rig.pmd, packet);
+    }
+}
+
+/// All of these frames are received by bursts, and are in so many Bufs.
+fn come_by_bursts(rt: &impl Hand, rig: &mut Rig) {
+    for (len, _bufs) in IN_BUFS {
+        rig.arrive(rt, frame_of_len(rt, len));
+    }
+    let mut packets = VecDeque::new(rt.alloc());
+    for _burst in 0..40u32 {
+        let burst = rig
+            .pmd
+            .rx_burst(rt.alloc(), &mut rig.direct, 4, &mut packets);
+        let _count = done(rt, burst);
+    }
+    for (len, bufs) in IN_BUFS {
+        let packet = some(rt, packets.pop_front());
+        is_in_bufs(rt, &packet, (len, bufs));
+        release(rt, &mut rig.pmd, packet);
+    }
+    assert!(rt; packets.is_empty());
+    packets.destroy_empty();
+}
+
+/// A packet has its frame's bytes, as many as the frame has, and no Buf beside those that these need.
+#[test]
+fn a_packet_is_in_as_many_bufs_as_its_frame_fills(rt: HostRuntime) {
+    let rt = &rt;
+    let mut rig = rig_for_long_frames(rt);
+    come_one_by_one(rt, &mut rig);
+    come_by_bursts(rt, &mut rig);
+    ends_empty(rt, rig, (2 * IN_BUFS.len(), 0));
 }
 
 /// Ends a device by which no call was made.

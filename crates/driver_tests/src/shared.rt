@@ -1,14 +1,16 @@
 //! Calls of several passes at a shared device: their replies, what is refused, and the history.
 
 use crate::bench::{count_calls, end, is_done, word_in};
-use crate::outcome::{Hand, done, fail, push, refused, same, same_pair, sees, some};
+use crate::outcome::{
+    Hand, done, emptied, empty, fail, push, refused, same, same_pair, sees, some,
+};
 use device_lock::{CallFault, CloseFault, CloseRefused, Closed, Pass, Shared};
 use nic_device::{Dir, Event, Port, Reply};
 use pmd::{Nic, POLLS, Queue, ThroughLock};
 use std::thread::join_mut;
 
 /// A shared device without virtual functions.
-type Bench = Shared<0, 64>;
+pub type Bench = Shared<0, 64>;
 
 /// A call through a pass.
 fn reply(rt: &impl Hand, bench: &Bench, pass: &mut Pass, event: Event) -> Reply {
@@ -29,7 +31,7 @@ fn why(rt: &impl Hand, fault: CallFault) -> CallFault<()> {
 }
 
 /// This is a full history.
-fn is_full(rt: &impl Hand, why: CallFault<()>) {
+pub fn is_full(rt: &impl Hand, why: CallFault<()>) {
     sees(rt, matches!(why, CallFault::HistoryFull(())));
 }
 
@@ -39,12 +41,12 @@ fn close(rt: &impl Hand, bench: Bench, passes: Vec<Pass>) -> Closed<0, 64> {
 }
 
 /// A shared device, its bench's number and this many passes, whose history has this many entries at most.
-fn shared(rt: &impl Hand, bench: u64, passes: u8, limit: u32) -> (Bench, Vec<Pass>) {
+pub fn shared(rt: &impl Hand, bench: u64, passes: u8, limit: u32) -> (Bench, Vec<Pass>) {
     done(rt, Bench::new(rt.alloc(), bench, passes, limit))
 }
 
 /// A step of receiving by a pass is refused. Returns why.
-fn refused_step(rt: &impl Hand, bench: &Bench, pass: &mut Pass) -> CallFault<()> {
+pub fn refused_step(rt: &impl Hand, bench: &Bench, pass: &mut Pass) -> CallFault<()> {
     why(
         rt,
         refused(rt, bench.call(rt, rt.alloc(), pass, Event::RxStep)),
@@ -53,7 +55,7 @@ fn refused_step(rt: &impl Hand, bench: &Bench, pass: &mut Pass) -> CallFault<()>
 
 /// Closes a shared device to which no memory is lent, and from which no frame went out. Returns how many calls its
 /// history has, and how many of them are of the pass of this tag.
-fn counted(rt: &impl Hand, bench: Bench, passes: Vec<Pass>, tag: u8) -> (usize, usize) {
+pub fn counted(rt: &impl Hand, bench: Bench, passes: Vec<Pass>, tag: u8) -> (usize, usize) {
     let closed = close(rt, bench, passes);
     let counts = (
         closed.history().len(),
@@ -65,13 +67,13 @@ fn counted(rt: &impl Hand, bench: Bench, passes: Vec<Pass>, tag: u8) -> (usize, 
 
 /// Closes a shared device to which no memory is lent, and from which no frame went out. Returns how many calls its
 /// history has.
-fn closed(rt: &impl Hand, bench: Bench, passes: Vec<Pass>) -> usize {
+pub fn closed(rt: &impl Hand, bench: Bench, passes: Vec<Pass>) -> usize {
     let (made, _own) = counted(rt, bench, passes, 0);
     made
 }
 
 /// A list of two passes.
-fn passes_of(rt: &impl Hand, passes: [Pass; 2]) -> Vec<Pass> {
+pub fn passes_of(rt: &impl Hand, passes: [Pass; 2]) -> Vec<Pass> {
     done(rt, Vec::from_array(rt.alloc(), passes))
 }
 
@@ -96,7 +98,7 @@ fn write_and_see(rt: &impl Hand, bench: &Bench, pass: &mut Pass, address: u32, w
 }
 
 /// Writes the EITR word that a pass has for itself and reads it back, in turn, ten calls in all.
-fn write_and_read(rt: &impl Hand, bench: &Bench, pass: Pass) -> Pass {
+pub fn write_and_read(rt: &impl Hand, bench: &Bench, pass: Pass) -> Pass {
     let mut pass = pass;
     let tag = u32::from(pass.tag());
     for turn in 0..5u32 {
@@ -107,7 +109,7 @@ fn write_and_read(rt: &impl Hand, bench: &Bench, pass: Pass) -> Pass {
 
 /// Switches a side of a queue on and off through the lock. Each is a write and a poll, and each of these four calls has
 /// four steps of the device before it.
-fn switch(rt: &impl Hand, bench: &Bench, pass: Pass, queue: u16) -> Pass {
+pub fn switch(rt: &impl Hand, bench: &Bench, pass: Pass, queue: u16) -> Pass {
     let mut nic = ThroughLock::new(rt, bench, pass, queue);
     let at = some(rt, Queue::new(Port::Pf, queue));
     for on in [true, false] {
@@ -163,6 +165,24 @@ fn two_threads_read_what_they_wrote(rt: HostRuntime) {
 #[test]
 fn two_threads_switch_queues_of_one_device(rt: HostRuntime) {
     two_threads(&rt, Deed::Switches, 1, (40, 20));
+}
+
+/// Each of 64 passes switches the queue of twice its number and one, up to queue 127: 20 calls each.
+fn switch_64_queues(rt: &impl Hand) {
+    let (bench, mut passes) = shared(rt, 1, 64, 1280);
+    let mut back = empty(rt);
+    for _pass in 0..64u32 {
+        let pass = some(rt, passes.pop());
+        let queue = 2 * u16::from(pass.tag() % 64) + 1;
+        push(rt, &mut back, switch(rt, &bench, pass, queue));
+    }
+    emptied(rt, passes);
+    same_pair(rt, counted(rt, bench, back, 63), (1280, 20));
+}
+
+#[test]
+fn queues_up_to_the_last_are_stepped_through_the_lock(rt: HostRuntime) {
+    switch_64_queues(&rt);
 }
 
 /// Reads HLREG0 through a way to a device.
@@ -238,7 +258,7 @@ fn a_pass_of_another_bench_is_foreign(rt: HostRuntime) {
 }
 
 /// Three steps of receiving by a pass, each of which finds nothing.
-fn three_steps(rt: &impl Hand, bench: &Bench, pass: &mut Pass) {
+pub fn three_steps(rt: &impl Hand, bench: &Bench, pass: &mut Pass) {
     for _call in 0..3u32 {
         match reply(rt, bench, pass, Event::RxStep) {
             Reply::Idle => {}

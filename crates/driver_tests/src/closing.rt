@@ -1,0 +1,97 @@
+//! A shared device that doesn't close with the wrong passes: its history stays as it is, takes further calls up to its
+//! limit, and closes with the right passes.
+
+use crate::bench::count_calls;
+use crate::outcome::{Hand, push, refused, same, same_pair, sees, some};
+use crate::shared::{
+    Bench, closed, counted, is_full, passes_of, refused_step, shared, three_steps, write_and_read,
+};
+use device_lock::{CloseFault, CloseRefused, Pass};
+
+/// A shared device whose history takes 16 calls. Pass 0 has made ten of them, and pass 1 three.
+fn called(rt: &impl Hand) -> (Bench, Vec<Pass>) {
+    let (bench, mut passes) = shared(rt, 1, 2, 16);
+    let mut second = some(rt, passes.pop());
+    three_steps(rt, &bench, &mut second);
+    let first = write_and_read(rt, &bench, some(rt, passes.pop()));
+    (bench, passes_of(rt, [first, second]))
+}
+
+/// A shared device doesn't close with these passes, for this reason. Both come back.
+fn stays_open(
+    rt: &impl Hand,
+    bench: Bench,
+    passes: Vec<Pass>,
+    wanted: CloseFault,
+) -> (Bench, Vec<Pass>) {
+    let count = passes.len();
+    let CloseRefused {
+        fault,
+        shared,
+        passes,
+    } = refused(rt, bench.close(passes));
+    sees(rt, fault == wanted);
+    same(rt, passes.len(), count);
+    (shared, passes)
+}
+
+/// Pass 1 makes three calls more, and the history takes no other. Then it closes with both passes, and has all 16
+/// calls, ten of pass 0 and six of pass 1.
+fn goes_on(rt: &impl Hand, bench: Bench, passes: Vec<Pass>) {
+    let mut passes = passes;
+    let mut second = some(rt, passes.pop());
+    let first = some(rt, passes.pop());
+    three_steps(rt, &bench, &mut second);
+    is_full(rt, refused_step(rt, &bench, &mut second));
+    same(rt, count_calls(first.calls()), 10);
+    let passes = passes_of(rt, [first, second]);
+    same_pair(rt, counted(rt, bench, passes, 1), (16, 6));
+}
+
+/// It is closed without pass 1, which made calls.
+fn withhold_a_pass(rt: &impl Hand) {
+    let (bench, mut passes) = called(rt);
+    let withheld = some(rt, passes.pop());
+    let (bench, mut passes) = stays_open(rt, bench, passes, CloseFault::MissingPass(1));
+    push(rt, &mut passes, withheld);
+    goes_on(rt, bench, passes);
+}
+
+#[test]
+fn a_close_without_a_pass_keeps_the_history(rt: HostRuntime) {
+    withhold_a_pass(&rt);
+}
+
+/// It is closed with a third pass, which is another shared device's.
+fn add_a_foreign_pass(rt: &impl Hand) {
+    let (bench, mut passes) = called(rt);
+    let (other, mut others) = shared(rt, 2, 1, 16);
+    push(rt, &mut passes, some(rt, others.pop()));
+    let (bench, mut passes) = stays_open(rt, bench, passes, CloseFault::ForeignPass);
+    push(rt, &mut others, some(rt, passes.pop()));
+    goes_on(rt, bench, passes);
+    same(rt, closed(rt, other, others), 0);
+}
+
+#[test]
+fn a_close_with_a_foreign_pass_keeps_the_history(rt: HostRuntime) {
+    add_a_foreign_pass(&rt);
+}
+
+/// It is closed with pass 1 of another shared device of its number, which made no call.
+fn put_a_namesakes_pass(rt: &impl Hand) {
+    let (bench, mut passes) = called(rt);
+    let (other, mut others) = shared(rt, 1, 2, 16);
+    let own = some(rt, passes.pop());
+    push(rt, &mut passes, some(rt, others.pop()));
+    let (bench, mut passes) = stays_open(rt, bench, passes, CloseFault::Mismatch(1));
+    push(rt, &mut others, some(rt, passes.pop()));
+    push(rt, &mut passes, own);
+    goes_on(rt, bench, passes);
+    same(rt, closed(rt, other, others), 0);
+}
+
+#[test]
+fn a_close_with_a_namesakes_pass_keeps_the_history(rt: HostRuntime) {
+    put_a_namesakes_pass(&rt);
+}

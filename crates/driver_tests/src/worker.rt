@@ -1,0 +1,205 @@
+//! The run of one worker: what it has done as it comes to its last point, and what it does after that.
+
+use crate::bench::{PLAIN, close, end, word_in};
+use crate::outcome::{
+    Hand, done, emptied, empty, fail, push, same, same_bytes, same_pair, sees, some,
+};
+use device_lock::{Pass, Shared};
+use nic_device::{Arena, Event, Octets, Port, Reply};
+use pmd::{Gate, Job, Lockstep, Ran, Rest, Setup, ThroughLock, WorkerEnd, pf_setup, run_workers};
+use std::sync::Mutex;
+
+/// A shared device without virtual functions.
+type Bench = Shared<0, 64>;
+
+/// The set-up for the longest frames.
+const LONG: Setup = Setup {
+    frame: 9728,
+    ..PLAIN
+};
+
+/// What a look at the device shows: whether both sides of queue 0 are on, and the frame that went out, or no bytes.
+struct Seen {
+    is_on: bool,
+    frame: Octets,
+}
+
+/// A gate at which a worker and the host meet. As the worker comes to point 2, it looks at the device by a pass of its
+/// own.
+struct Looking<'a, R> {
+    rt: &'a R,
+    bench: &'a Bench,
+    meeting: Lockstep<'a, R>,
+    pass: Mutex<Pass>,
+    seen: Mutex<Vec<Seen>>,
+}
+
+/// A call through a pass.
+fn reply(rt: &impl Hand, bench: &Bench, pass: &mut Pass, event: Event) -> Reply {
+    done(rt, bench.call(rt, rt.alloc(), pass, event))
+}
+
+/// Whether the side of queue 0 is on that has this control register.
+fn is_on(rt: &impl Hand, bench: &Bench, pass: &mut Pass, register: u32) -> bool {
+    let word = word_in(rt, reply(rt, bench, pass, Event::Read(Port::Pf, register)));
+    word & 0x0200_0000 != 0
+}
+
+/// The oldest frame that went out. No bytes where there is none.
+fn collected(rt: &impl Hand, bench: &Bench, pass: &mut Pass) -> Octets {
+    match reply(rt, bench, pass, Event::Collect) {
+        Reply::Frame { bytes, .. } => bytes,
+        Reply::Idle => Octets::of(empty(rt)),
+        _other => fail(rt, "another reply"),
+    }
+}
+
+/// Looks at the device.
+fn look(rt: &impl Hand, bench: &Bench, pass: &mut Pass) -> Seen {
+    let receives = is_on(rt, bench, pass, 0x01028); // RXDCTL
+    let sends = is_on(rt, bench, pass, 0x06028); // TXDCTL
+    Seen {
+        is_on: receives && sends,
+        frame: collected(rt, bench, pass),
+    }
+}
+
+impl<'a, R: Hand> Gate for Looking<'a, R> {
+    fn pass(&self, worker: usize, point: u8) -> bool {
+        if worker == 0 && point == 2 {
+            let seen = {
+                let mut pass = self.pass.lock(self.rt);
+                look(self.rt, self.bench, &mut *pass)
+            };
+            push(self.rt, &mut *self.seen.lock(self.rt), seen);
+        }
+        self.meeting.pass(worker, point)
+    }
+
+    fn leave(&self, worker: usize) {
+        self.meeting.leave(worker);
+    }
+}
+
+/// A frame of 9,000 bytes to the broadcast address, which is in five Bufs.
+fn frame(rt: &impl Hand) -> Vec<u8> {
+    let mut bytes = done(rt, Vec::from_array(rt.alloc(), [0xFF; 6]));
+    for number in 6..9000_u16 {
+        push(rt, &mut bytes, (number % 251) as u8);
+    }
+    bytes
+}
+
+/// Sets the device up for the longest frames.
+fn set_up(rt: &impl Hand, bench: &Bench, pass: Pass) -> Pass {
+    let mut nic = ThroughLock::new(rt, bench, pass, 0);
+    done(rt, pf_setup(rt.alloc(), &mut nic, &LONG));
+    nic.finish()
+}
+
+/// A job of queue 0, which looks once for a packet.
+fn job(rt: &impl Hand, pass: Pass) -> Vec<Job> {
+    let job = Job {
+        pass,
+        port: Port::Pf,
+        queue: 0,
+        pf_queue: 0,
+        size: 16,
+        frame: 9728,
+        arena: done(rt, Arena::new(rt.alloc(), 0, 32)),
+        rounds: 1,
+    };
+    let mut jobs = empty(rt);
+    push(rt, &mut jobs, job);
+    jobs
+}
+
+/// Runs the job while the frame arrives. Returns the worker's end.
+fn run<G: Gate + Sync>(
+    rt: &impl Hand,
+    gate: &G,
+    bench: &Bench,
+    jobs: Vec<Job>,
+    host: &mut Pass,
+) -> WorkerEnd {
+    let mut frames = empty(rt);
+    push(rt, &mut frames, frame(rt));
+    let Ran { mut ends, fed } = done(
+        rt,
+        run_workers(rt, rt.alloc(), gate, bench, jobs, host, frames),
+    );
+    same(rt, fed, 1);
+    let end = some(rt, ends.pop());
+    emptied(rt, ends);
+    end
+}
+
+/// The worker took one packet and sent it, and has all blocks back. Returns its pass.
+fn has_echoed(rt: &impl Hand, end: WorkerEnd) -> Pass {
+    let WorkerEnd {
+        pass,
+        rest,
+        reports,
+        fault,
+    } = end;
+    sees(rt, fault.is_none());
+    same(rt, reports.len(), 1);
+    match rest {
+        Rest::Home(home) => same_pair(rt, close(rt, home), (1, 1)),
+        Rest::Running(_pmd) => fail(rt, "the driver runs on"),
+    }
+    pass
+}
+
+/// Runs the job at such a gate. Returns the host's pass, the worker's and the gate's, and what the gate saw.
+fn watched(rt: &impl Hand, bench: &Bench, passes: Vec<Pass>) -> (Vec<Pass>, Vec<Seen>) {
+    let mut passes = passes;
+    let mut host = set_up(rt, bench, some(rt, passes.pop()));
+    let jobs = job(rt, some(rt, passes.pop()));
+    let gate = Looking {
+        rt,
+        bench,
+        meeting: Lockstep::new(rt, 2),
+        pass: Mutex::new(some(rt, passes.pop())),
+        seen: Mutex::new(empty(rt)),
+    };
+    emptied(rt, passes);
+    let pass = has_echoed(rt, run(rt, &gate, bench, jobs, &mut host));
+    let Looking {
+        rt: _,
+        bench: _,
+        meeting: _,
+        pass: own,
+        seen,
+    } = gate;
+    let passes = done(
+        rt,
+        Vec::from_array(rt.alloc(), [own.into_inner(), pass, host]),
+    );
+    (passes, seen.into_inner())
+}
+
+/// The worker came to its last point once: its queue was on, and the frame had gone out.
+fn saw_it_done(rt: &impl Hand, seen: Vec<Seen>) {
+    let mut seen = seen;
+    let Seen { is_on, frame: out } = some(rt, seen.pop());
+    sees(rt, is_on);
+    same_bytes(rt, out.bytes(), frame(rt).as_slice());
+    emptied(rt, seen);
+}
+
+/// Runs one worker, and closes the device.
+fn run_one(rt: &impl Hand) {
+    let (bench, passes) = done(rt, Bench::new(rt.alloc(), 1, 3, 100_000));
+    let (passes, seen) = watched(rt, &bench, passes);
+    saw_it_done(rt, seen);
+    let closed = done(rt, bench.close(passes));
+    same(rt, end(rt, closed.into_device()).len(), 0);
+}
+
+/// A worker that looks once for a packet reaps until the packet's five descriptors are done, which takes a call for
+/// each: so the frame has gone out as the worker comes to its last point. Only after that does it stop its driver.
+#[test]
+fn a_worker_reaps_all_before_its_last_point_and_stops_after_it(rt: HostRuntime) {
+    run_one(&rt);
+}

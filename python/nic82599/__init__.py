@@ -22,16 +22,21 @@ import ctypes
 import operator
 import os
 import re
-from collections.abc import Iterable
+from collections.abc import Callable, Iterable
 from dataclasses import dataclass
 from difflib import get_close_matches
 from functools import cache
-from typing import NamedTuple
+from typing import TYPE_CHECKING, NamedTuple, NoReturn, SupportsIndex, cast, overload
 
 from . import places, statuses
+from .buffers import bytes_of
 from .pcap import NoCapture, read_pcap, write_pcap
 from .registers import FIELDS, OFFSETS, REGISTERS
 from .version import VERSION as __version__
+
+if TYPE_CHECKING:
+    from .buffers import HasBytes
+    from .rings import Ring
 
 __all__ = [
     "Advanced", "BadBlocks", "BadFifo", "Closed", "Done", "Dropped", "Event", "Fault", "Frame", "Function",
@@ -376,6 +381,13 @@ def _whole(value: int, bits: int, what: str) -> int:
     return number
 
 
+def _side(side: str) -> str:
+    """A side of a queue; ValueError where it is none."""
+    if side not in ("rx", "tx"):
+        raise ValueError(f"a queue has the sides rx and tx, and not {side!r}")
+    return side
+
+
 # --- names ---
 
 _NAME = re.compile(r"(\w+?)(?:\[(\d+)\])?")
@@ -421,15 +433,25 @@ def fields_of(name: str, word: int) -> dict[str, int]:
     return {field: word >> low & (1 << high - low + 1) - 1 for field, (high, low) in fields.items()}
 
 
-def rss_hash(key: bytes, data: bytes) -> int:
+def rss_hash(key: HasBytes, data: HasBytes) -> int:
     """The hash of receive side scaling of at most 36 bytes by a key of 40. TooLong, ValueError."""
+    key, data = bytes_of(key), bytes_of(data)
     if len(key) != 40:
         raise ValueError(f"a key of {len(key)} bytes, and not of 40")
     word = ctypes.c_uint32()
-    status = _library().nic_hash(bytes(key), bytes(data), len(data), ctypes.byref(word))
+    status = _library().nic_hash(key, data, len(data), ctypes.byref(word))
     if status != statuses.DONE:
         raise _refused(status, f"{len(data)} bytes")
     return word.value
+
+
+class _OneOwner:
+    """What owns memory of the library: a copy would end it a second time, so there is none."""
+
+    _copied_by = ""
+
+    def __reduce_ex__(self, _protocol: SupportsIndex) -> NoReturn:
+        raise TypeError(f"a {type(self).__name__} is neither copied nor pickled: {self._copied_by}")
 
 
 class _Registers:
@@ -437,7 +459,18 @@ class _Registers:
 
     # Else a loop over them would read them one by one.
     __iter__ = None
-    __contains__ = None
+    _names: Iterable[str] = ()
+
+    def __contains__(self, name: str | int) -> bool:
+        """Whether a register has this name or number, and is there now; no register is read."""
+        try:
+            return self.peek32(self._at(name)) is not None
+        except (NoSuchRegister, ValueError):
+            return False
+
+    def _ipython_key_completions_(self) -> list[str]:
+        """The names that a prompt offers behind `nic["`."""
+        return list(self._names)
 
     def _at(self, name: str | int) -> int:
         raise NotImplementedError
@@ -484,6 +517,8 @@ class _Registers:
 class Function(_Registers):
     """A virtual function of a controller, with its own registers by the names of docs/DESCRIPTORS.md."""
 
+    _names = OFFSETS
+
     def __init__(self, nic: Nic, number: int) -> None:
         self.nic, self.number = nic, number
 
@@ -523,7 +558,11 @@ class Function(_Registers):
 
 class Memory:
     """Lent packet memory by bus address: `memory[a]` is a byte, `memory[a:b]` those from a up to b, which may be
-    written by as many bytes. NotLent if one of them isn't lent; then nothing is read or written."""
+    written by as many bytes. NotLent if one of them isn't lent; then nothing is read or written. `a in memory` tells
+    whether it is lent."""
+
+    # Else a loop over it would read it byte by byte.
+    __iter__ = None
 
     def __init__(self, nic: Nic) -> None:
         self._nic = nic
@@ -534,9 +573,9 @@ class Memory:
         self._nic._ask("nic_dma_read", _whole(bus, 64, "bus address"), room, length)
         return room.raw[:length]
 
-    def write(self, bus: int, data: bytes) -> None:
-        """Writes bytes from a bus address on."""
-        given = bytes(data)
+    def write(self, bus: int, data: HasBytes) -> None:
+        """Writes bytes from a bus address on; those of an array, whatever the size of its items."""
+        given = bytes_of(data)
         self._nic._ask("nic_dma_write", _whole(bus, 64, "bus address"), given, len(given))
 
     def _range(self, part: slice) -> tuple[int, int]:
@@ -547,23 +586,46 @@ class Memory:
             raise ValueError(f"a range of memory that ends before it begins: 0x{start:x} to 0x{stop:x}")
         return start, stop - start
 
+    @overload
+    def __getitem__(self, at: int) -> int: ...
+
+    @overload
+    def __getitem__(self, at: slice) -> bytes: ...
+
     def __getitem__(self, at: int | slice) -> int | bytes:
         if isinstance(at, slice):
             return self.read(*self._range(at))
         return self.read(at, 1)[0]
 
-    def __setitem__(self, at: int | slice, data: int | bytes) -> None:
+    @overload
+    def __setitem__(self, at: int, data: int) -> None: ...
+
+    @overload
+    def __setitem__(self, at: slice, data: HasBytes) -> None: ...
+
+    def __setitem__(self, at: int | slice, data: int | HasBytes) -> None:
         if not isinstance(at, slice):
-            self.write(at, bytes([data]))
+            self.write(at, bytes([operator.index(cast(int, data))]))
             return
         start, length = self._range(at)
-        if len(data) != length:
-            raise ValueError(f"{len(data)} bytes for a range of {length}")
-        self.write(start, data)
+        given = bytes_of(cast("HasBytes", data))
+        if len(given) != length:
+            raise ValueError(f"{len(given)} bytes for a range of {length}")
+        self.write(start, given)
+
+    def __contains__(self, at: int) -> bool:
+        """Whether the byte at a bus address is lent."""
+        try:
+            self.read(at, 1)
+        except (NotLent, ValueError):
+            return False
+        return True
 
 
-class Snapshot:
+class Snapshot(_OneOwner):
     """The state of a controller, from `Nic.snapshot`. It ends by `drop`, or at the end of a `with`."""
+
+    _copied_by = "restore it as often as you like"
 
     def __init__(self, nic: Nic) -> None:
         self._kept: _Kept | None = None
@@ -594,10 +656,13 @@ class Snapshot:
         return f"<Snapshot of {self.vfs} virtual functions and {self.blocks} blocks{ended}>"
 
 
-class Nic(_Registers):
+class Nic(_Registers, _OneOwner):
     """A controller as after power-up, with `vfs` virtual functions (63 at most), room for `fifo` frames that wait to be
     received (1 to 4,096), and `blocks` blocks of packet memory (1 to 65,536), none of them lent. It ends by `close`, or
     at the end of a `with`. TooManyVfs, BadFifo, BadBlocks, OutOfMemory, LibraryMissing."""
+
+    _names = REGISTERS
+    _copied_by = "`snapshot` saves its state, and `restore` puts it into another one"
 
     def __init__(
         self, vfs: int = 0, fifo: int = 64, blocks: int = 256, *, library: str | os.PathLike[str] | None = None
@@ -644,7 +709,7 @@ class Nic(_Registers):
         """The status of a call."""
         if self._handle is None:
             raise Closed("the controller was closed")
-        return getattr(self._library, name)(self._handle, *words)
+        return cast(int, getattr(self._library, name)(self._handle, *words))
 
     def _ask(self, name: str, *words: object) -> None:
         """A call that is done or refused."""
@@ -711,11 +776,18 @@ class Nic(_Registers):
         for block in blocks:
             self._ask("nic_take", _whole(block, 32, "block"))
 
+    def ring(self, side: str, queue: int) -> Ring:
+        """What a ring holds now, `rx` or `tx` of a queue: printed it is lines of text, and a notebook shows a table.
+        The device doesn't change. NoQueue, ValueError."""
+        from .rings import ring_of
+
+        return ring_of(self, _side(side), _whole(queue, 16, "queue"))
+
     # --- the link ---
 
-    def arrive(self, frame: bytes) -> Dropped | None:
+    def arrive(self, frame: HasBytes) -> Dropped | None:
         """A frame arrives, without its check sequence: it waits for receive steps, or was dropped."""
-        given = bytes(frame)
+        given = bytes_of(frame)
         event = self._event("nic_arrive", given, len(given))
         return event if isinstance(event, Dropped) else None
 
@@ -757,17 +829,15 @@ class Nic(_Registers):
 
     def rx_step(self) -> Wrote | Dropped | Fault | None:
         """Writes one buffer's worth of the frame that waits longest."""
-        return self._event("nic_rx_step")
+        return cast("Wrote | Dropped | Fault | None", self._event("nic_rx_step"))
 
     def tx_step(self, queue: int) -> Advanced | Sent | Fault | None:
         """Fetches one descriptor of a transmit queue. NoQueue, OutOfMemory."""
-        return self._event("nic_tx_step", _whole(queue, 16, "queue"))
+        return cast("Advanced | Sent | Fault | None", self._event("nic_tx_step", _whole(queue, 16, "queue")))
 
     def queue_step(self, side: str, queue: int) -> bool:
         """Enables or disables a side of a queue, `rx` or `tx`, as RXDCTL or TXDCTL bit 25 asks. NoQueue."""
-        if side not in ("rx", "tx"):
-            raise ValueError(f"a queue has the sides rx and tx, and not {side!r}")
-        return self._event("nic_queue_step", side == "tx", _whole(queue, 16, "queue")) is not None
+        return self._event("nic_queue_step", _side(side) == "tx", _whole(queue, 16, "queue")) is not None
 
     def eeprom_step(self) -> bool:
         """The EEPROM answers EERD; False if no read was started."""
@@ -778,7 +848,7 @@ class Nic(_Registers):
         group = 0 if function is None else _whole(function, 8, "virtual function") + 1
         if group > 255:
             raise NoGroup(f"{NoGroup.__doc__} ({function})")
-        return self._event("nic_int_step", group)
+        return cast("Message | None", self._event("nic_int_step", group))
 
     def settle(self, queues: int = QUEUES) -> list[Event]:
         """Makes all steps that do something, for the queues below this number, until none does: for each queue its
@@ -798,9 +868,9 @@ class Nic(_Registers):
 
     # --- the EEPROM ---
 
-    def install_image(self, image: bytes) -> None:
+    def install_image(self, image: HasBytes) -> None:
         """Installs an EEPROM image, as `nicbench eeprom` makes it. ImageRefused, OutOfMemory."""
-        given = bytes(image)
+        given = bytes_of(image)
         status = self._call("nic_install_image", given, len(given))
         if status in _IMAGE:
             raise ImageRefused(_IMAGE[status])
@@ -817,7 +887,7 @@ class Nic(_Registers):
             raise _refused(status, "install_text")
 
 
-_TELLERS = {
+_TELLERS: dict[int, Callable[[_Told], Event]] = {
     statuses.DONE: lambda told: Done(statuses.STEPS[told.step], told.of),
     statuses.DROPPED: lambda told: Dropped(statuses.WHYS[told.why]),
     statuses.WROTE: lambda told: Wrote(told.queue, told.slot, bool(told.end), told.desc, told.at, told.len),

@@ -16,9 +16,13 @@ what the bench does by each field; `descriptor_fields` has them as tables.
 from __future__ import annotations
 
 import struct
-from typing import NamedTuple
+from typing import TYPE_CHECKING, NamedTuple
 
+from .buffers import bytes_of
 from .descriptor_fields import RX_READ, RX_WRITTEN, TX_DATA, TX_WRITTEN, RssType
+
+if TYPE_CHECKING:
+    from .buffers import HasBytes
 
 __all__ = ["BYTES", "Received", "RssType", "head", "is_sent", "received", "rx_descriptor", "tx_descriptor"]
 
@@ -44,11 +48,13 @@ class Received(NamedTuple):
     udp: bool
 
 
-def halves_of(data: bytes) -> tuple[int, int]:
+def halves_of(data: HasBytes) -> tuple[int, int]:
     """The two halves of a descriptor. ValueError where it hasn't 16 bytes."""
-    if len(data) != BYTES:
-        raise ValueError(f"a descriptor has {BYTES} bytes, and this has {len(data)}")
-    return struct.unpack("<QQ", data)
+    given = bytes_of(data)
+    if len(given) != BYTES:
+        raise ValueError(f"a descriptor has {BYTES} bytes, and this has {len(given)}")
+    low, high = struct.unpack("<QQ", given)
+    return low, high
 
 
 def _value(halves: tuple[int, int], fields: Fields, name: str) -> int:
@@ -75,7 +81,7 @@ def rx_descriptor(buffer: int) -> bytes:
     return packed(RX_READ, BUFFER=buffer >> 1)
 
 
-def received(data: bytes) -> Received:
+def received(data: HasBytes) -> Received:
     """What the device wrote back to a receive descriptor."""
     halves = halves_of(data)
 
@@ -105,13 +111,14 @@ def tx_descriptor(
     return packed(TX_DATA, BUFFER=buffer, DTALEN=length, DTYP=3, EOP=end, IFCS=1, RS=report, DEXT=1, PAYLEN=whole)
 
 
-def is_sent(data: bytes) -> bool:
+def is_sent(data: HasBytes) -> bool:
     """Whether the device reported this transmit descriptor: it does of one with `report`, unless it writes the head."""
     return bool(_value(halves_of(data), TX_WRITTEN, "DD"))
 
 
-def head(data: bytes) -> int:
+def head(data: HasBytes) -> int:
     """The number of the slot that the device fetches next, from the 4 bytes at the address in TDWBAL and TDWBAH."""
-    if len(data) != 4:
-        raise ValueError(f"a written head has 4 bytes, and this has {len(data)}")
-    return int.from_bytes(data, "little")
+    given = bytes_of(data)
+    if len(given) != 4:
+        raise ValueError(f"a written head has 4 bytes, and this has {len(given)}")
+    return int.from_bytes(given, "little")

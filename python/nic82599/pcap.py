@@ -5,6 +5,12 @@ from __future__ import annotations
 import struct
 from collections.abc import Iterable, Iterator
 from os import PathLike
+from typing import TYPE_CHECKING
+
+from .buffers import bytes_of
+
+if TYPE_CHECKING:
+    from .buffers import HasBytes
 
 ETHERNET = 1
 MAGICS = {b"\xd4\xc3\xb2\xa1": "<", b"\x4d\x3c\xb2\xa1": "<", b"\xa1\xb2\xc3\xd4": ">", b"\xa1\xb2\x3c\x4d": ">"}
@@ -52,7 +58,8 @@ def _pcap_frames(data: bytes, order: str) -> Iterator[bytes]:
 
 
 def _pcapng_frames(data: bytes) -> Iterator[bytes]:
-    at, order, links = 0, "<", []
+    at, order = 0, "<"
+    links: list[tuple[int, ...]] = []
     while at < len(data):
         (kind,) = _unpacked(order + "I", data, at)
         if kind == SECTION:
@@ -95,9 +102,9 @@ def read_pcap(path: str | PathLike[str]) -> list[bytes]:
         return list(frames_of(file.read()))
 
 
-def write_pcap(path: str | PathLike[str], frames: Iterable[bytes]) -> int:
+def write_pcap(path: str | PathLike[str], frames: Iterable[HasBytes]) -> int:
     """Writes a capture of frames, a microsecond apart, and answers how many they are; OSError."""
-    records = [record_of(number, bytes(frame)) for number, frame in enumerate(frames)]
+    records = [record_of(number, bytes_of(frame)) for number, frame in enumerate(frames)]
     with open(path, "wb") as file:
         file.write(HEADER + b"".join(records))
     return len(records)

@@ -9,6 +9,9 @@ from __future__ import annotations
 
 import argparse
 import doctest
+import os
+import shutil
+import subprocess
 import sys
 import tempfile
 import unittest
@@ -17,23 +20,39 @@ from types import ModuleType
 
 sys.dont_write_bytecode = True
 HERE = Path(__file__).resolve().parent
+PROMPT = HERE.parent / "examples/prompt.txt"
 sys.path[:0] = [str(HERE.parent), str(HERE)]
 import calls  # noqa: E402
 import chance  # noqa: E402
 import descriptors_of_device  # noqa: E402
 import explorer  # noqa: E402
 import nic82599  # noqa: E402
+import nic82599.buffers  # noqa: E402
 import nic82599.descriptors  # noqa: E402
 import packing  # noqa: E402
 
 
 def texts() -> int:
     """How many examples the texts show, each of which gives what stands there."""
-    module, packed = doctest.testmod(nic82599), doctest.testmod(nic82599.descriptors)
-    prompt = doctest.testfile(str(HERE.parent / "examples/prompt.txt"), module_relative=False)
-    if module.failed or packed.failed or prompt.failed:
+    told = [doctest.testmod(it) for it in (nic82599, nic82599.buffers, nic82599.descriptors)]
+    told.append(doctest.testfile(str(PROMPT), module_relative=False))
+    if any(it.failed for it in told):
         sys.exit(1)
-    return module.attempted + packed.attempted + prompt.attempted
+    return sum(it.attempted for it in told)
+
+
+def types() -> str:
+    """What mypy says of the example at a prompt by its strictest rules: nothing. Else this ends."""
+    if not shutil.which("mypy"):
+        return "types not looked at, since mypy isn't installed"
+    with tempfile.TemporaryDirectory() as folder:
+        file = Path(folder) / "prompt.py"
+        file.write_text("".join(it.source for it in doctest.DocTestParser().get_examples(PROMPT.read_text())))
+        how = {**os.environ, "MYPYPATH": str(HERE.parent), "MYPY_CACHE_DIR": folder}
+        made = subprocess.run(["mypy", "--strict", file], env=how, capture_output=True, text=True, check=False)
+    if made.returncode:
+        sys.exit(made.stdout + made.stderr)
+    return "types of the prompt's example by mypy --strict"
 
 
 def units(module: ModuleType) -> int:
@@ -51,6 +70,7 @@ def main() -> None:
     parser.add_argument("--batches", type=int, default=4)
     given = parser.parse_args()
     print(f"{texts()} examples of texts")
+    print(types())
     print(f"{units(calls)} tests of calls")
     print(f"{units(descriptors_of_device)} tests of descriptors")
     print(f"{units(explorer)} tests of the explorer")

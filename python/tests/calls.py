@@ -2,15 +2,22 @@
 
 from __future__ import annotations
 
+import array
+import copy
 import gc
 import os
+import pickle
 import re
+import subprocess
+import sys
 import tempfile
+import typing
 import unittest
 from pathlib import Path
 
 import nic82599
-from nic82599 import Advanced, Dropped, Fault, Frame, Message, Nic, Sent, Wrote
+import nic82599.descriptors
+from nic82599 import Advanced, Dropped, Fault, Frame, Memory, Message, Nic, Sent, Wrote
 
 FRAME = bytes.fromhex("0200000000010200000000020800450000280000000040060000420995bba18e64500aea06e6") + bytes(22)
 KEY = bytes.fromhex("6d5a56da255b0ec24167253d43a38fb0d0ca2bcbae7b30b477cb2da38030f20c6a42b73bbeac01fa")
@@ -125,6 +132,45 @@ class Snapshots(unittest.TestCase):
         gc.collect()
 
 
+COPIES = """
+import copy, gc, sys
+from nic82599 import Nic
+nic = Nic(blocks=1)
+one = nic if sys.argv[1] == "nic" else nic.snapshot()
+try:
+    other = copy.copy(one)
+except TypeError as fault:
+    print(fault)
+    other = None
+del one, other, nic
+gc.collect()
+"""
+
+
+class Copies(unittest.TestCase):
+    """What owns memory of the library is its only owner."""
+
+    def test_refused(self) -> None:
+        with Nic(blocks=1) as nic, nic.snapshot() as kept:
+            for one in (nic, kept):
+                for call in (copy.copy, copy.deepcopy, pickle.dumps, lambda it: copy.deepcopy([it])):
+                    with self.assertRaisesRegex(TypeError, f"^a {type(one).__name__} is neither copied nor pickled: "):
+                        call(one)
+            for part in (nic.vf(0), nic.memory):
+                self.assertEqual(type(copy.copy(part)), type(part))
+                with self.assertRaises(TypeError):
+                    copy.deepcopy(part)
+
+    def test_ends_once(self) -> None:
+        """In a process of its own, which a second end of one device would take down."""
+        paths = {**os.environ, "PYTHONPATH": str(Path(__file__).resolve().parents[1])}
+        for which in ("nic", "snapshot"):
+            call = [sys.executable, "-c", COPIES, which]
+            made = subprocess.run(call, env=paths, capture_output=True, text=True, check=False)
+            self.assertEqual((made.returncode, made.stderr), (0, ""), which)
+            self.assertRegex(made.stdout, "is neither copied nor pickled", which)
+
+
 class Registers(unittest.TestCase):
     def setUp(self) -> None:
         self.nic = Nic(vfs=2, blocks=4)
@@ -200,6 +246,34 @@ class Registers(unittest.TestCase):
         with self.assertRaisesRegex(nic82599.NoBlock, "can be lent: it is lent already, or there is none. .lend 0.$"):
             self.nic.lend(0, 0)
 
+    def test_in(self) -> None:
+        """Whether a name or a number is that of a register that is there."""
+        nic = self.nic
+        nic["EICS"] = 5
+        for name in ("RXCTRL", "RDT[127]", "RDT", " RDT[3] ", 0, 0x05C0C, "EICR"):
+            self.assertIn(name, nic)
+        for name in ("NOSUCH", "RDT[128]", "RXCTRL[1]", "", 0xC, -1, 1 << 32):
+            self.assertNotIn(name, nic)
+        self.assertEqual(nic["EICR"], 5)
+        self.assertNotIn("VFRDT[0]", nic.vf(1))
+        nic["GCR_EXT"] = 3
+        self.assertIn("VFRDT[1]", nic.vf(1))
+        for name in ("VFRDT[2]", "RDT", 4):
+            self.assertNotIn(name, nic.vf(1))
+        with self.assertRaises(TypeError):
+            list(nic)
+
+    def test_completions(self) -> None:
+        """What a prompt completes behind a bracket are names, each of a register."""
+        names = self.nic._ipython_key_completions_()
+        self.assertLessEqual({"RDT", "SRRCTL", "EIMS"}, {*names})
+        self.assertEqual([it for it in names if it not in self.nic], [])
+        self.nic["GCR_EXT"] = 1
+        function = self.nic.vf(0)
+        names = function._ipython_key_completions_()
+        self.assertLessEqual({"VFRDT", "VTEIMS", "VFMBMEM"}, {*names})
+        self.assertEqual([it for it in names if it not in function], [])
+
     def test_peek_has_no_effect(self) -> None:
         nic = self.nic
         nic["EICS"] = 5
@@ -245,6 +319,54 @@ class MemoryOfPackets(unittest.TestCase):
                 nic.memory[0:4] = bytes(5)
             with self.assertRaises(ValueError):
                 nic.memory[-1]
+
+    def test_lengths_are_bytes(self) -> None:
+        """Of whatever items an object has: 16 bytes are 16 bytes, and one number is none."""
+        with Nic(blocks=1) as nic:
+            nic.lend()
+            two = array.array("Q", [1, 2])
+            nic.memory[0:16] = two
+            self.assertEqual(nic.memory[0:16], two.tobytes())
+            with self.assertRaisesRegex(ValueError, "^16 bytes for a range of 2$"):
+                nic.memory[0:2] = two
+            nic.memory.write(32, two)
+            self.assertEqual(nic.memory[32:48], two.tobytes())
+            nic.memory[64:68] = memoryview(b"0a1b2c3d")[::2]
+            self.assertEqual(nic.memory[64:68], b"0123")
+            nic.memory[64:66] = [7, 8]
+            self.assertEqual(nic.memory[64:66], b"\7\10")
+            for call in (
+                lambda: nic.memory.write(0, 5), lambda: nic.memory.__setitem__(slice(0, 5), 5), lambda: nic.arrive(60),
+                lambda: nic.install_image(128), lambda: nic82599.rss_hash(KEY, 8), lambda: nic.memory.write(0, "text"),
+            ):  # fmt: skip
+                with self.assertRaises(TypeError):
+                    call()
+            self.assertEqual(nic.memory[0:16], two.tobytes())
+            nic["RXCTRL"] = 1
+            self.assertEqual(nic.arrive(array.array("Q", bytes(56))), Dropped("short"))
+            self.assertEqual(nic.arrive(array.array("Q", bytes(64))), Dropped("filter"))
+            self.assertEqual(nic82599.rss_hash(array.array("Q", KEY), FRAME[26:38]), 0x51CCC178)
+            with self.assertRaises(nic82599.TooLong):
+                nic82599.rss_hash(KEY, array.array("Q", bytes(40)))
+            self.assertFalse(nic82599.descriptors.received(two).done)
+            with self.assertRaisesRegex(ValueError, "this has 128"):
+                nic82599.descriptors.received(array.array("Q", bytes(128)))
+            self.assertEqual(nic82599.descriptors.head(array.array("I", [3])), 3)
+
+    def test_lent_or_not(self) -> None:
+        with Nic(blocks=2) as nic:
+            nic.lend(1)
+            self.assertEqual([at in nic.memory for at in (0, 2047, 2048, 4095, 4096, -1, 1 << 64)], [
+                False, False, True, True, False, False, False,
+            ])  # fmt: skip
+            with self.assertRaises(TypeError):
+                list(nic.memory)
+
+    def test_types_of_items(self) -> None:
+        """One address is a number, a range is bytes, to a reader of types too."""
+        given = [typing.get_type_hints(it)["return"] for it in typing.get_overloads(Memory.__getitem__)]
+        self.assertEqual(given, [int, bytes])
+        self.assertEqual(len(typing.get_overloads(Memory.__setitem__)), 2)
 
     def test_blocks(self) -> None:
         with Nic(blocks=3) as nic:
@@ -342,6 +464,89 @@ class Steps(unittest.TestCase):
         self.assertEqual(events[0], nic82599.Done("qstep rx", 0))
         self.assertGreater(len(events), 256)
         self.assertEqual(sum(nic.collect() is not None for _ in range(300)), 255)
+
+
+TABLE = """<table>
+<caption>rx 0 on  base 0x0  8 slots  head 1  tail 2</caption>
+<tr><th>slot</th><th></th><th>address</th><th></th><th>descriptor</th></tr>
+"""
+ROW = "<tr><td>{}</td><td>{}</td><td>0x{:x}</td><td>{}</td><td>{}</td></tr>"
+
+
+class Rings(unittest.TestCase):
+    def setUp(self) -> None:
+        self.nic = nic = Nic(blocks=4)
+        nic.lend(0, 1)
+        for name, word in (("RXCTRL", 1), ("FCTRL", 0x200), ("RDLEN[0]", 128), ("SRRCTL[0]", TYPE)):
+            nic[name] = word
+        nic["RXDCTL[0]"] = ENABLE
+        nic.settle()
+        nic.memory[0:8], nic.memory[16:24], nic["RDT[0]"] = half(0x800), half(0xC00), 2
+        nic.arrive(FRAME)
+        nic.settle()
+
+    def tearDown(self) -> None:
+        self.nic.close()
+
+    def test_slots(self) -> None:
+        ring = self.nic.ring("rx", 0)
+        self.assertEqual(repr(ring), "<ring rx 0, on: 8 slots, head 1, tail 2>")
+        self.assertEqual([it.owner for it in ring.slots], ["driver", "device"] + ["driver"] * 6)
+        self.assertEqual([(it.number, it.at, it.done) for it in ring.slots][:2], [(0, 0, True), (1, 16, False)])
+        self.assertEqual((ring.slots[0].fields["PKT_LEN"], ring.slots[1].fields), ("60", {"buffer": "0xc00"}))
+        lines = str(ring).splitlines()
+        self.assertEqual(lines[:3], ["rx 0 on  base 0x0  8 slots  head 1  tail 2", "   HT", "  +D......"])
+        self.assertRegex(lines[3], "^     0 written back: DD 1, EOP 1, PKT_LEN 60, ")
+        self.assertEqual(lines[4:], ["     1 read format: buffer 0xc00"])
+
+    def test_table(self) -> None:
+        ring = self.nic.ring("rx", 0)
+        shown = ring._repr_html_()
+        self.assertEqual(shown[: len(TABLE)], TABLE)
+        rows = shown.splitlines()[3:-1]
+        self.assertEqual(rows[1], ROW.format(1, "head", 16, "device", "read format: buffer 0xc00"))
+        self.assertEqual(rows[2:], [ROW.format(k, "tail" * (k == 2), 16 * k, "driver", "") for k in range(2, 8)])
+
+    def test_a_long_one(self) -> None:
+        nic = self.nic
+        nic["RXDCTL[0]"] = 0
+        nic.settle()
+        nic["RDLEN[0]"] = 0xFFF80
+        ring = nic.ring("rx", 0)
+        self.assertEqual((len(ring.slots), ring.slots[256].data), (65_528, None))
+        shown = ring._repr_html_()
+        self.assertEqual(shown.count("<tr>"), 65)
+        self.assertIn("(65464 slots more aren&#x27;t shown)", shown)
+        self.assertIn(ROW.format(1, "head", 16, "device", "read format: buffer 0xc00"), shown)
+        self.assertIn(ROW.format(65_527, "", 16 * 65_527, "driver", ""), shown)
+        nic["RDBAL[0]"] = 0x1000
+        self.assertIn(ROW.format(1, "head", 0x1010, "device", "not lent"), nic.ring("rx", 0)._repr_html_())
+
+    def test_leaves_all_as_it_is(self) -> None:
+        nic = self.nic
+        nic["EICS"] = 5
+        before = [nic.peek(name) for name in nic82599.REGISTERS]
+        for side in ("rx", "tx"):
+            for queue in (0, 127):
+                str(nic.ring(side, queue)), nic.ring(side, queue)._repr_html_()
+        self.assertEqual([nic.peek(name) for name in nic82599.REGISTERS], before)
+
+    def test_written_head(self) -> None:
+        nic = self.nic
+        nic["TDLEN[0]"], nic["TDWBAL[0]"] = 128, 0x901
+        nic.memory[0x900:0x904] = (3).to_bytes(4, "little")
+        self.assertIn("head written back to 0x900: 3", str(nic.ring("tx", 0)))
+        nic["TDWBAL[0]"] = 0x1001
+        self.assertIn("head written back to 0x1000: not lent", str(nic.ring("tx", 0)))
+
+    def test_refuses(self) -> None:
+        nic = self.nic
+        for queue in (128, 65_535):
+            with self.assertRaises(nic82599.NoQueue):
+                nic.ring("rx", queue)
+        for side, queue in (("up", 0), ("rx", -1), ("tx", 65_536)):
+            with self.assertRaises(ValueError):
+                nic.ring(side, queue)
 
 
 class Rest(unittest.TestCase):

@@ -18,32 +18,12 @@ LONG = 64
 UNKNOWN = ("not read", "not lent")
 
 
-class State:
-    """The machine while a run is told step by step."""
+class Slots:
+    """What slots of rings say, by the memory that is known: 16 bytes at each address, and which blocks are lent."""
 
-    def __init__(self, run: Run) -> None:
-        self.run = run
-        self.words = dict(run.start)
+    def __init__(self) -> None:
         self.memory: dict[int, bytes | None] = {}
         self.lent: set[int] = set()
-        self.waiting: list[int] = []
-        self.out: list[int] = []
-
-    def make(self, step: Step) -> None:
-        for address, _, new in step.changes:
-            self.words[address] = new
-        self.memory.update(step.memory)
-        for sign, block in step.lent:
-            self.lent = self.lent | {block} if sign == "+" else self.lent - {block}
-        for sign, frames in step.waiting:
-            self.waiting = self.waiting + frames if sign == "+" else [one for one in self.waiting if one not in frames]
-        for sign, frames in step.out:
-            self.out = self.out + frames if sign == "+" else [one for one in self.out if one not in frames]
-
-    def rings(self) -> list[Ring]:
-        """The rings that have slots or are on."""
-        rings = [ring_of(self.words, side, queue) for side, queue in self.run.seen.sides]
-        return [ring for ring in rings if ring.slots or ring.on]
 
     def said(self, ring: Ring, slot: int) -> Descriptor:
         """What a slot's descriptor says."""
@@ -70,7 +50,34 @@ class State:
         return str(int.from_bytes(content[at : at + 4], "little"))
 
 
-def ring_lines(ring: Ring, state: State) -> list[str]:
+class State(Slots):
+    """The machine while a run is told step by step."""
+
+    def __init__(self, run: Run) -> None:
+        super().__init__()
+        self.run = run
+        self.words = dict(run.start)
+        self.waiting: list[int] = []
+        self.out: list[int] = []
+
+    def make(self, step: Step) -> None:
+        for address, _, new in step.changes:
+            self.words[address] = new
+        self.memory.update(step.memory)
+        for sign, block in step.lent:
+            self.lent = self.lent | {block} if sign == "+" else self.lent - {block}
+        for sign, frames in step.waiting:
+            self.waiting = self.waiting + frames if sign == "+" else [one for one in self.waiting if one not in frames]
+        for sign, frames in step.out:
+            self.out = self.out + frames if sign == "+" else [one for one in self.out if one not in frames]
+
+    def rings(self) -> list[Ring]:
+        """The rings that have slots or are on."""
+        rings = [ring_of(self.words, side, queue) for side, queue in self.run.seen.sides]
+        return [ring for ring in rings if ring.slots or ring.on]
+
+
+def ring_lines(ring: Ring, state: Slots) -> list[str]:
     """A ring as a strip: `H` over the head, `T` over the tail, `B` where they are the same. What is no slot of the ring
     stands behind it, with its number."""
     facts = f"{ring.name} {'on' if ring.on else 'off'}  base 0x{ring.base:x}  {ring.slots} slots"

@@ -314,7 +314,10 @@ def _part(
 ) -> tuple[Shown, list[Shown], Shown]:
     """The registers after each of some steps in a row, with some before and some behind all. A step is made together
     with the next one where nothing is asked of it and its view tells nothing."""
-    show = lambda addresses: [f"show 0x{address:x}" for address in addresses]  # noqa: E731
+
+    def show(addresses: list[int]) -> list[str]:
+        return [f"show 0x{address:x}" for address in addresses]
+
     commands, views, together = ([f"step {steps[0].number}"] if steps and steps[0].number else []) + show(before), [], 0
     skipped = len(commands) - len(before)
     for step, addresses in zip(steps, asked):

@@ -1,0 +1,29 @@
+"""Bytes that a caller hands over, in whichever object they are."""
+
+from __future__ import annotations
+
+from collections.abc import Iterable
+from typing import TYPE_CHECKING, SupportsBytes
+
+if TYPE_CHECKING:
+    from _typeshed import ReadableBuffer
+
+    HasBytes = ReadableBuffer | SupportsBytes | Iterable[int]
+
+
+def bytes_of(data: HasBytes) -> bytes:
+    """The bytes of `bytes`, an array of items of any size, a packet that makes itself bytes, or numbers up to 255.
+    TypeError for one number, of which `bytes` would make so many zeros.
+
+    >>> import array
+    >>> len(bytes_of(array.array("Q", [1, 2])))
+    16
+    """
+    if type(data) is bytes:
+        return data
+    try:
+        return memoryview(data).tobytes()  # type: ignore[arg-type]
+    except TypeError:
+        if hasattr(data, "__index__"):
+            raise TypeError(f"{type(data).__name__} {data} is a number, and bytes are wanted") from None
+    return bytes(data)

@@ -1,0 +1,102 @@
+"""A ring of descriptors as a prompt or a notebook shows it: `print(nic.ring("rx", 3))`.
+
+Registers are read by peeks and slots from lent memory, so the device doesn't change; a recording has the reads of
+memory. What a slot says is told by the tools' code, as `nicview` tells it.
+"""
+
+from __future__ import annotations
+
+from dataclasses import dataclass
+from html import escape
+from typing import TYPE_CHECKING
+
+from . import QUEUES, NoQueue, NotLent, address_of
+from .tools import draw, memory
+
+if TYPE_CHECKING:
+    from . import Nic
+
+BYTES = 16
+REGISTERS = {
+    "rx": ("RDBAL", "RDBAH", "RDLEN", "RDH", "RDT", "RXDCTL"),
+    "tx": ("TDBAL", "TDBAH", "TDLEN", "TDH", "TDT", "TXDCTL", "TDWBAL", "TDWBAH"),
+}
+# A table has so many rows at most, and begins so many slots before the head where the ring has more.
+ROWS, BEHIND = 64, 8
+
+
+@dataclass(frozen=True)
+class Slot:
+    """A slot of a ring: its bus address; whose it is: `device`, `driver`, or `nobody` where head or tail is no slot;
+    its 16 bytes, None where they aren't lent; what they say, in which form and with which fields; and whether the
+    device is done with it."""
+
+    number: int
+    at: int
+    owner: str
+    data: bytes | None
+    form: str
+    fields: dict[str, str]
+    done: bool
+
+
+class Ring:
+    """A ring as it was when it was asked for: `side`, `queue`, `base`, `head`, `tail`, whether it is `on`, and `slots`.
+    `str` gives it in lines, as `nicview --text` does: D the device's slot, + done, . the driver's."""
+
+    def __init__(self, ring: memory.Ring, known: draw.Slots) -> None:
+        self._ring, self._known = ring, known
+        self.side, self.queue, self.base, self.on = ring.side, ring.queue, ring.base, ring.on
+        self.head, self.tail = ring.head, ring.tail
+        self.slots = [self._slot(number) for number in range(ring.slots)]
+
+    def _slot(self, number: int) -> Slot:
+        at, said = self.base + BYTES * number, self._known.said(self._ring, number)
+        data = self._known.memory.get(at)
+        return Slot(number, at, self._ring.owner(number), data, said.form, dict(said.fields), said.done)
+
+    def __repr__(self) -> str:
+        state = "on" if self.on else "off"
+        return f"<ring {self._ring.name}, {state}: {len(self.slots)} slots, head {self.head}, tail {self.tail}>"
+
+    def __str__(self) -> str:
+        return "\n".join(draw.ring_lines(self._ring, self._known))
+
+    def _row(self, slot: Slot) -> str:
+        marks = [name for name, at in (("head", self.head), ("tail", self.tail)) if at == slot.number]
+        told = self._known.told(self._ring, slot.number)
+        cells = (str(slot.number), " ".join(marks), f"0x{slot.at:x}", self._known.look(self._ring, slot.number), told)
+        return "<tr>" + "".join(f"<td>{escape(it)}</td>" for it in cells) + "</tr>"
+
+    def _repr_html_(self) -> str:
+        """A table of the slots; of a long ring some of them, from the head on."""
+        count = len(self.slots)
+        first = self.head - BEHIND if count > ROWS and self.head < count else 0
+        shown = [self.slots[(first + row) % count] for row in range(min(count, ROWS))]
+        left = f" ({count - len(shown)} slots more aren't shown)" if count > len(shown) else ""
+        names = "".join(f"<th>{it}</th>" for it in ("slot", "", "address", "", "descriptor"))
+        title = escape(draw.ring_lines(self._ring, self._known)[0] + left)
+        rows = "\n".join(self._row(it) for it in shown)
+        return f"<table>\n<caption>{title}</caption>\n<tr>{names}</tr>\n{rows}\n</table>"
+
+
+def _read(nic: Nic, at: int, known: draw.Slots) -> None:
+    """Reads 16 bytes, where they are lent."""
+    try:
+        known.memory[at] = nic.memory.read(at, BYTES)
+        known.lent.add(at >> 11)
+    except (NotLent, ValueError):
+        known.memory[at] = None
+
+
+def ring_of(nic: Nic, side: str, queue: int) -> Ring:
+    """A ring of a controller; NoQueue where there is no such queue."""
+    if queue >= QUEUES:
+        raise NoQueue(f"{NoQueue.__doc__} (ring {side} {queue})")
+    words = {address_of(f"{name}[{queue}]"): nic.peek(f"{name}[{queue}]") for name in REGISTERS[side]}
+    ring, known = memory.ring_of(words, side, queue), draw.Slots()
+    for number in range(ring.slots):
+        _read(nic, ring.base + BYTES * number, known)
+    if ring.back is not None:
+        _read(nic, ring.back & ~15, known)
+    return Ring(ring, known)

@@ -6,7 +6,11 @@
 #define SWSM 0x10140u
 #define SWSM_SMBI 0x1u /* the drivers' semaphore: a read gives it and sets it */
 #define ANLP1 0x042B0u
-#define ANLP1_STATE 0x10000u /* bits 19:16, the state of the negotiation: not 0, so one is going on */
+#define FWSM 0x10148u
+#define FWSM_VALID 0x8000u
+#define RXPBSIZE 0x03C00u
+#define RXPBSIZE_ALL 0x80000u /* bits 19:10: 512 KB */
+#define ANLP1_STATE 0x10000u  /* bits 19:16, the state of the negotiation: not 0, so one is going on */
 
 static const struct {
     const char *name;
@@ -23,6 +27,10 @@ static const struct {
      "the bench is idle then, and drivers read their EEPROM meanwhile"},
     {"ABSENT", BUS_ABSENT, "functions that the mode has no pool for: STATUS, LINKS, mailbox and causes",
      "the bench reads all ones, which Linux takes for a card that is gone"},
+    {"FWSM", BUS_FWSM, "FWSM (0x10148) by itself: bit 15, there is valid firmware",
+     "the table lacks it, and Linux 6.12 warns of a firmware error every two seconds"},
+    {"RXPBSIZE", BUS_RXPBSIZE, "RXPBSIZE[0] (0x03C00) by itself: 512 KB",
+     "the table lacks it, and Linux warns that it has no headroom"},
 };
 
 static uint32_t semaphore;
@@ -69,6 +77,10 @@ uint32_t answer_stray(uint32_t address, uint32_t word)
     }
     if (address == ANLP1 && given(BUS_ANLP1))
         word = ANLP1_STATE;
+    if (address == FWSM && given(BUS_FWSM))
+        word = FWSM_VALID;
+    if (address == RXPBSIZE && given(BUS_RXPBSIZE))
+        word = RXPBSIZE_ALL;
     return word;
 }
 

@@ -42,11 +42,12 @@ static struct place places[WORDS];
 /* What the driver polls happens now: the enable of a queue, a word of the EEPROM. */
 static void act(struct place place)
 {
-    nic_told told;
+    if (bus_inside.is_held)
+        return;
     if (place.kind == RECEIVE_CONTROL || place.kind == TRANSMIT_CONTROL)
-        counts.enables += nic_queue_step(bus_device(), place.kind == TRANSMIT_CONTROL, place.queue, &told) == NIC_DONE;
+        bus_enable(place.kind == TRANSMIT_CONTROL, place.queue);
     else if (place.kind == EEPROM)
-        answer_eeprom();
+        bus_eeprom();
 }
 
 unsigned int bus_pool_queues(void)
@@ -68,9 +69,14 @@ static uint32_t queue_address(unsigned int function, uint32_t offset)
     return BUS_SPACE;
 }
 
+static uint32_t physical_address(unsigned int function, uint32_t offset)
+{
+    return function == BUS_PHYSICAL ? offset : queue_address(function, offset);
+}
+
 static struct place place_of(unsigned int function, uint32_t offset)
 {
-    uint32_t address = function == BUS_PHYSICAL ? offset : queue_address(function, offset);
+    uint32_t address = physical_address(function, offset);
     return address < BUS_SPACE ? places[address / 4] : (struct place){OTHER, 0};
 }
 
@@ -119,6 +125,8 @@ uint32_t bus_read(unsigned int function, uint32_t offset)
     counts.accesses[function]++;
     act(place_of(function, offset));
     uint32_t word = function == BUS_PHYSICAL ? read_physical(offset) : read_virtual(function, offset);
+    if (hooks.to_driver)
+        word = hooks.to_driver(function, physical_address(function, offset), word);
     trace(function, 'r', offset, word);
     return word;
 }
@@ -149,6 +157,8 @@ static void forget(unsigned int first, unsigned int count)
     for (unsigned int queue = first; queue < first + count && queue < BUS_QUEUES; queue++) {
         memory_head(false, (uint16_t)queue, 0);
         memory_head(true, (uint16_t)queue, 0);
+        if (hooks.reset)
+            hooks.reset((uint16_t)queue);
     }
 }
 
@@ -188,6 +198,8 @@ void bus_write(unsigned int function, uint32_t offset, uint32_t word)
     counts.in[bus_inside.phase].writes++;
     counts.accesses[function]++;
     trace(function, 'w', offset, word);
+    if (hooks.to_device)
+        word = hooks.to_device(function, physical_address(function, offset), word);
     if (hooks.giving && is_tail(place))
         hooks.giving(place.kind == TRANSMIT_TAIL, place.queue, word);
     give(place, word);
@@ -199,7 +211,7 @@ void bus_write(unsigned int function, uint32_t offset, uint32_t word)
     mailbox_written(function, offset, word);
     if (bus_inside.options.acts_at_writes)
         act(place);
-    if (place.kind == TRANSMIT_TAIL)
+    if (place.kind == TRANSMIT_TAIL && !bus_inside.is_held)
         steps_transmit(place.queue);
     if (hooks.tail && is_tail(place))
         hooks.tail(place.kind == TRANSMIT_TAIL, place.queue);
@@ -210,6 +222,31 @@ void bus_write(unsigned int function, uint32_t offset, uint32_t word)
 void bus_wait(unsigned int microseconds)
 {
     counts.in[bus_inside.phase].waited += microseconds;
+}
+
+void bus_hold(bool is_held)
+{
+    bus_inside.is_held = is_held;
+}
+
+bool bus_enable(bool is_transmit, uint16_t queue)
+{
+    nic_told told;
+    bool is_done = nic_queue_step(bus_device(), is_transmit, queue, &told) == NIC_DONE;
+    counts.enables += is_done;
+    return is_done;
+}
+
+bool bus_eeprom(void)
+{
+    uint64_t before = counts.eeprom_words;
+    answer_eeprom();
+    return counts.eeprom_words != before;
+}
+
+void bus_transmit(uint16_t queue)
+{
+    steps_transmit(queue);
 }
 
 uint32_t bus_peek(uint32_t address)

@@ -27,11 +27,13 @@
 
 /* What the bus answers in the device's place, each for a reason that bus_tell_answers prints. */
 enum bus_answer {
-    BUS_SWSM = 1,   /* the drivers' semaphore */
-    BUS_ANLP1 = 2,  /* the state of the negotiation with the link partner */
-    BUS_EICS = 4,   /* a read of EICS gives EICR's causes, and clears none */
-    BUS_EERD = 8,   /* the EEPROM is answered under master disable */
-    BUS_ABSENT = 16 /* a function while the mode has no pool for it */
+    BUS_SWSM = 1,     /* the drivers' semaphore */
+    BUS_ANLP1 = 2,    /* the state of the negotiation with the link partner */
+    BUS_EICS = 4,     /* a read of EICS gives EICR's causes, and clears none */
+    BUS_EERD = 8,     /* the EEPROM is answered under master disable */
+    BUS_ABSENT = 16,  /* a function while the mode has no pool for it */
+    BUS_FWSM = 32,    /* the state of the firmware, which the card would have */
+    BUS_RXPBSIZE = 64 /* the size of the packet buffer */
 };
 
 /* What a run may do at events; each may be null. */
@@ -43,6 +45,12 @@ struct bus_hooks {
     /* a tail is to move there: nothing is copied yet, and the device hasn't seen it */
     void (*giving)(bool is_transmit, uint16_t queue, uint32_t tail);
     void (*tail)(bool is_transmit, uint16_t queue); /* a tail moved; what it gave away is sent */
+    /* for a run that has a memory.h of its own: a word on its way to the device, or read there, by the physical
+       function's address of the register; before a transmit step, or after a receive step wrote; a queue's reset */
+    uint32_t (*to_device)(unsigned int function, uint32_t address, uint32_t word);
+    uint32_t (*to_driver)(unsigned int function, uint32_t address, uint32_t word);
+    void (*stepping)(bool is_transmit, uint16_t queue);
+    void (*reset)(uint16_t queue);
 };
 
 struct bus_options {
@@ -69,7 +77,7 @@ struct bus_counts {
     uint64_t receive_steps, transmit_steps, frames_in, frames_out, enables, eeprom_words;
     uint64_t to_device, to_driver;        /* bytes copied */
     uint64_t absent_reads, absent_writes; /* of functions that the mode has no pool for */
-    uint64_t answered[5];                 /* how often each answer was given, by enum bus_answer's bit */
+    uint64_t answered[7];                 /* how often each answer was given, by enum bus_answer's bit */
     uint64_t faults, refusals;            /* what never happens in a good run; told on standard error */
     uint64_t fault_whys[16];              /* faults by enum nic_fault */
     uint64_t drops, not_let_in;           /* frames, by receive steps and at arrival; by enum nic_why: */
@@ -95,6 +103,13 @@ const char *bus_phase_name(unsigned int phase);
 uint32_t bus_read(unsigned int function, uint32_t offset);
 void bus_write(unsigned int function, uint32_t offset, uint32_t word);
 void bus_wait(unsigned int microseconds);
+/* While it is held the bus makes no step by itself: enables, EEPROM and sending are the run's to ask for, too. */
+void bus_hold(bool is_held);
+/* What a write of TDT does unless the bus is held: all of sending by this queue. */
+void bus_transmit(uint16_t queue);
+/* The step of a queue's enable, or that of the EEPROM: whether it did something. */
+bool bus_enable(bool is_transmit, uint16_t queue);
+bool bus_eeprom(void);
 
 /* A register's word as the bench has it, by the physical function's address and without effects; 0 where there is none.
  */

@@ -10,6 +10,7 @@ struct bus_inside {
     struct bus_counts counts;
     unsigned int phase;
     bus_sink *sink;
+    bool is_held; /* steps are the run's alone */
 };
 
 extern struct bus_inside bus_inside;

@@ -36,6 +36,8 @@ void steps_transmit(uint16_t queue)
 {
     for (;;) {
         nic_told told;
+        if (hooks.stepping)
+            hooks.stepping(true, queue);
         uint8_t status = nic_tx_step(bus_device(), queue, &told);
         if (status == NIC_FAULT)
             fault("sending", &told);
@@ -59,6 +61,8 @@ static void wrote(const nic_told *told)
         if (last)
             *last ^= 1;
     }
+    if (hooks.stepping)
+        hooks.stepping(false, told->queue);
     if (hooks.filled)
         hooks.filled(told->queue, told->desc, told->end);
 }

@@ -85,6 +85,7 @@ MFLCN               04294
 AUTOC2              042A8
 ANLP1               042B0
 MMNGC               042D0
+MACC                04330
 RTTDCS              04900
 RTTDQSEL            04904
 TXPBTHRESH          04950 4 8
@@ -96,6 +97,7 @@ RXMTRL              05120
 ETQF                05128 4 8
 TSYNCRXCTL          05188
 RXSTMPH             051A4
+WUFC                05808
 WUS                 05810
 DCA_TXCTRL          0600C 40 128
 VMVIR               08000 4 64
@@ -108,6 +110,12 @@ VMECM               08790 4 2
 FCOEPTC             08784
 FCOEDWTC            08788
 TXDGPC              087A0
+SECTXCTRL           08800
+SECTXSTAT           08804
+SECTXBUFFAF         08808
+SECTXMINIFG         08810
+IPSTXIDX, IPSTXSALT 08900 4 2
+IPSTXKEY            08908 4 4
 LSECTX..            08A3C 4 5
 TSYNCTXCTL          08C00
 TXSTMPH             08C08
@@ -115,6 +123,13 @@ SYSTIML, SYSTIMH    08C0C 4 2
 TIMINCA             08C14
 SECRXCTRL           08D00
 SECRXSTAT           08D04
+IPSRXIDX            08E00
+IPSRXIPADDR         08E04 4 4
+IPSRXSPI            08E14
+IPSRXIPIDX          08E18
+IPSRXKEY            08E1C 4 4
+IPSRXSALT           08E2C
+IPSRXMOD            08E30
 LSECRX..            08F40 4 17
 VFTA                0A000 4 128
 MPSAR, one past     0AA00 4 2
@@ -122,6 +137,7 @@ TXPBSIZE            0CC00 4 8
 MNGPTC              0CF90
 PVFMPRC             0D01C 40 64
 PVFGORC, high       0D020 40 64
+ETQS                0EC00 4 8
 FDIRCTRL            0EE00
 FDIRHASH, FDIRCMD   0EE28 4 2
 FDIRUSTAT           0EE50
@@ -137,6 +153,7 @@ SWSM                10140
 FWSM                10148
 FACTPS              10150
 SW_FW_SYNC          10160
+DCA_CTRL            11074
 HICR                15F00
 FWSTS               15F0C
 """

@@ -335,16 +335,66 @@ static void messages_and_the_line(void)
     bus_close();
 }
 
+/* ---- steps that the run makes ---- */
+
+static unsigned int steps, resets;
+
+static uint32_t plus_one(unsigned int function, uint32_t address, uint32_t word)
+{
+    CHECK(function == BUS_PHYSICAL);
+    return address == NIC_LEDCTL ? word + 1 : word;
+}
+
+static void on_stepping(bool is_transmit, uint16_t queue)
+{
+    CHECK(is_transmit && queue == QUEUE);
+    steps++;
+}
+
+static void on_reset(uint16_t queue)
+{
+    CHECK(queue == resets);
+    resets++;
+}
+
+/* What a run with a memory of its own hooks, and a device that is held. */
+static void a_held_bus_makes_no_step(void)
+{
+    const struct bus_hooks own = {
+        .to_device = plus_one, .to_driver = plus_one, .stepping = on_stepping, .reset = on_reset};
+    open_bus((struct bus_options){.hooks = own, .acts_at_writes = true});
+    bus_hold(true);
+    bus_write(BUS_PHYSICAL, NIC_LEDCTL, 5);
+    CHECK(bus_peek(NIC_LEDCTL) == 6 && bus_read(BUS_PHYSICAL, NIC_LEDCTL) == 7);
+    bus_write(BUS_PHYSICAL, NIC_TXDCTL(QUEUE), NIC_TXDCTL_ENABLE);
+    bus_write(BUS_PHYSICAL, NIC_TDT(QUEUE), 0);
+    bus_write(BUS_PHYSICAL, NIC_EERD, NIC_EERD_START);
+    CHECK(!(bus_read(BUS_PHYSICAL, NIC_TXDCTL(QUEUE)) & NIC_TXDCTL_ENABLE) && steps == 0);
+    CHECK(!(bus_read(BUS_PHYSICAL, NIC_EERD) & NIC_EERD_DONE));
+    CHECK(bus_enable(true, QUEUE) && !bus_enable(true, QUEUE) && bus_counts()->enables == 1);
+    CHECK(bus_eeprom() && !bus_eeprom() && bus_read(BUS_PHYSICAL, NIC_EERD) & NIC_EERD_DONE);
+    bus_transmit(QUEUE);
+    CHECK(steps == 1);
+    bus_hold(false);
+    bus_write(BUS_PHYSICAL, NIC_TDT(QUEUE), 0);
+    CHECK(steps == 2);
+    bus_write(BUS_PHYSICAL, NIC_CTRL, NIC_CTRL_RST);
+    CHECK(resets == BUS_QUEUES);
+    bus_close();
+}
+
 /* ---- answers ---- */
 
 static void answers_are_given_where_they_are_asked_for(bool given)
 {
-    open_bus((struct bus_options){.functions = 3, .answers = given ? 31 : 0});
+    open_bus((struct bus_options){.functions = 3, .answers = given ? 127 : 0});
     uint32_t first = bus_read(BUS_PHYSICAL, 0x10140);
     CHECK(first == 0 && bus_read(BUS_PHYSICAL, 0x10140) == given);
     bus_write(BUS_PHYSICAL, 0x10140, 2);
     CHECK(bus_read(BUS_PHYSICAL, 0x10140) == (given ? 2 : 0));
     CHECK(bus_read(BUS_PHYSICAL, 0x042B0) == (given ? 0x10000 : 0));
+    CHECK(bus_read(BUS_PHYSICAL, 0x10148) == (given ? 0x8000 : 0));
+    CHECK(bus_read(BUS_PHYSICAL, 0x03C00) == (given ? 0x80000 : 0) && bus_read(BUS_PHYSICAL, 0x03C04) == 0);
     bus_write(BUS_PHYSICAL, NIC_EICS, NIC_EICS_LSC);
     CHECK(bus_read(BUS_PHYSICAL, NIC_EICS) == (given ? NIC_EICR_LSC : 0) && bus_peek(NIC_EICR) == NIC_EICR_LSC);
     bus_write(BUS_PHYSICAL, NIC_CTRL, NIC_CTRL_MASTER_DISABLE);
@@ -469,6 +519,7 @@ int main(void)
     frames_go_out(9);
     a_reset_begins_rings_anew();
     messages_and_the_line();
+    a_held_bus_makes_no_step();
     answers_are_given_where_they_are_asked_for(false);
     answers_are_given_where_they_are_asked_for(true);
     functions_have_queues_of_their_own();

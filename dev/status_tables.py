@@ -7,7 +7,8 @@ python/nic82599/statuses.py, and src/status.rs of rust/nic82599.
 
 They are those of c/include/nic82599.h, which is written by hand and tells what each means. The crate of the library has
 them too, in its proved sources: where the header has others, both ways of calling end with status 1. Two of the crate's
-are answered by no call, and the header hasn't them.
+are answered by no call, and the header hasn't them. What C code around the crate's calls answers is the header's alone,
+with a number that the crate has not.
 """
 
 from __future__ import annotations
@@ -32,8 +33,9 @@ WORDS = {
     "FAULTS": ("nic_fault", "nic_fault_name"),
     "STEPS": ("nic_step", "nic_step_name"),
 }
-# What no call answers.
+# What no call answers, and what the C code around the crate's calls answers.
 UNANSWERED = {"TWICE", "MISALIGNED"}
+AROUND = {"BAD_MEMORY"}
 # What the crate calls otherwise than the header.
 OTHERWISE = {"DESC_TYPE": "TYPE"}
 HEAD_PYTHON = '''\
@@ -94,9 +96,11 @@ def lists() -> dict[str, Numbers]:
     """The four lists of the header, of which the first three are the crate's."""
     found = {name: numbers_of(name) for name in LISTS}
     for (name, mine), other in zip(list(found.items())[:3], of_crate(), strict=True):
-        odd = {it for it, _ in mine.items() ^ other.items()}
+        odd = {it for it, _ in mine.items() ^ other.items() if it not in AROUND}
         if odd:
             sys.exit(f"dev/status_tables.py: enum {name} and {CRATE} differ in {', '.join(sorted(odd))}")
+        taken = {mine[it] for it in AROUND & mine.keys()} & set(other.values())
+        assert not taken, f"{CRATE} has {taken} too"
     named = set(re.findall(r"case NIC_(\w+): return", text_of(HEADER)))
     assert named == found["nic_status"].keys() - {"IMAGE", "TEXT"}, "nic_status_name has other statuses"
     for name, function in WORDS.values():

@@ -68,6 +68,7 @@ enum nic_status {
     NIC_BAD_BLOCKS = 36,   /* nic_new: not 1 to 65,536 */
     NIC_NO_BLOCK = 37,     /* nic_lend: the block is lent already, or doesn't exist */
     NIC_MORE = 38,         /* nic_settle: the array is full, and there may be more to do */
+    NIC_BAD_MEMORY = 39,   /* nic_lend_memory: no multiples of 2,048, or bytes that are lent to it already */
     /* an EEPROM image or text is invalid, by the first of these that holds; the former image stays */
     NIC_IMAGE = 64, /* base of the following */
     NIC_IMAGE_ODD_LENGTH = 65,
@@ -215,10 +216,27 @@ uint8_t nic_vf_peek32(nic *n, uint8_t vf, uint32_t offset, uint32_t *word);
 
 /* Lends a block: DONE, NO_BLOCK (it is lent already, or doesn't exist), OUT_OF_MEMORY. Its bytes are 0. */
 uint8_t nic_lend(nic *n, uint32_t block);
-/* Takes a block back, and its bytes are gone: DONE, NOT_LENT. */
+/* Takes a block back, and its bytes are gone (not those of the caller's memory): DONE, NOT_LENT. */
 uint8_t nic_take(nic *n, uint32_t block);
 /* Lends all blocks that aren't lent: DONE, OUT_OF_MEMORY (then the blocks below the one that failed are lent). */
 uint8_t nic_lend_all(nic *n);
+
+/* Lends memory of the caller's own, which the device reads and writes in place: bus address bus + i is the byte at
+   memory + i, for each i below `bytes`. `bus` and `bytes` are multiples of 2,048; `memory` may be any address. DONE,
+   and no byte has changed; or all is as it was: BAD_MEMORY (no multiples of 2,048, or one of these bytes is lent to
+   this controller already), NO_BLOCK (a block is lent already, or doesn't exist), OUT_OF_MEMORY.
+   Between two calls the caller reads and writes it without a call, as a driver does; what it wrote is to the device as
+   written by nic_dma_write. Three things may not happen: a store into it during a call, by another thread, a signal
+   handler or another process; that one memory, mapped at two addresses, is lent by both; and that it is freed while it
+   is lent, which is until nic_unlend_memory or nic_take takes it back, or nic_close ends the controller. These leave
+   its bytes as they are.
+   nic_snapshot saves its bytes, and nic_restore writes those of the snapshot into it; of a block that isn't lent in the
+   snapshot it is taken back. Two controllers may have the same memory, if neither is called during a call of the other.
+   A child of fork has it lent as its parent has; of memory that both share only one may go on to make calls. */
+uint8_t nic_lend_memory(nic *n, uint64_t bus, void *memory, size_t bytes);
+/* Takes such memory back, also a part of what was lent at once: DONE; BAD_MEMORY: no multiples of 2,048; NOT_LENT: not
+   all of these blocks have memory of the caller's, and then none is taken back. */
+uint8_t nic_unlend_memory(nic *n, uint64_t bus, size_t bytes);
 
 /* Reads and writes lent memory as the driver does, `length` bytes from any bus address on, across blocks. DONE, or
    NOT_LENT if one of the bytes isn't lent: then nothing is read or written. */
@@ -367,6 +385,7 @@ static inline const char *nic_status_name(uint8_t status)
     case NIC_BAD_BLOCKS: return "bad number of blocks";
     case NIC_NO_BLOCK: return "no block";
     case NIC_MORE: return "more";
+    case NIC_BAD_MEMORY: return "bad memory";
     case NIC_IMAGE_ODD_LENGTH: return "image: odd length";
     case NIC_IMAGE_BAD_SIZE: return "image: bad size";
     case NIC_IMAGE_SECTION_OUTSIDE: return "image: section outside";

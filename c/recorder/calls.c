@@ -4,6 +4,7 @@
 #include <stdio.h>
 #include <string.h>
 
+#include "../memory/lent.h"
 #include "recording.h"
 
 enum { MOST_VFS = 63, MOST_BLOCKS = 65536, UNIT = 16, SHOWN = 4 };
@@ -12,16 +13,13 @@ enum { MOST_VFS = 63, MOST_BLOCKS = 65536, UNIT = 16, SHOWN = 4 };
 #define COLD static __attribute__((noinline, cold))
 
 uint8_t nicd_new(uint8_t vfs, uint16_t fifo, uint32_t blocks, void **device);
-void nicd_free(nic n);
 uint8_t nicd_snapshot(nic *n, nic_kept *kept);
-uint8_t nicd_restore(nic *n, const nic_kept *kept);
 void nicd_free_snapshot(nic_kept kept);
 uint8_t nicd_read32(nic *n, uint32_t address, uint32_t *word);
 uint8_t nicd_write32(nic *n, uint32_t address, uint32_t word);
 uint8_t nicd_vf_read32(nic *n, uint8_t vf, uint32_t offset, uint32_t *word);
 uint8_t nicd_vf_write32(nic *n, uint8_t vf, uint32_t offset, uint32_t word);
 uint8_t nicd_lend(nic *n, uint32_t block);
-uint8_t nicd_take(nic *n, uint32_t block);
 uint8_t nicd_lend_all(nic *n);
 uint8_t nicd_dma_read(nic *n, uint64_t bus, uint8_t *bytes, size_t length);
 uint8_t nicd_dma_write(nic *n, uint64_t bus, const uint8_t *bytes, size_t length);
@@ -105,7 +103,7 @@ void nic_free(nic n)
         nicd_end(nicd_enter(&n));
         nicd_leave(NULL);
     }
-    nicd_free(n);
+    nicd_free_in_place(n);
 }
 
 /* --- snapshots: lines that a script takes for comments --- */
@@ -124,7 +122,7 @@ uint8_t nic_snapshot(nic *n, nic_kept *kept)
 
 uint8_t nic_restore(nic *n, const nic_kept *kept)
 {
-    uint8_t status = nicd_restore(n, kept);
+    uint8_t status = nicd_restore_in_place(n, kept);
     if (IS_OFF)
         return status;
     struct recording *it = nicd_enter(n);
@@ -252,11 +250,45 @@ uint8_t nic_lend(nic *n, uint32_t block)
 uint8_t nic_take(nic *n, uint32_t block)
 {
     if (IS_OFF)
-        return nicd_take(n, block);
+        return nicd_take_in_place(n, block);
     struct recording *it = nicd_enter(n);
-    uint8_t status = nicd_take(n, block);
+    uint8_t status = nicd_take_in_place(n, block);
     if (it)
         moved(it, "unlend", block, status);
+    nicd_leave(it);
+    return status;
+}
+
+/* Each block has its line, as if it were lent or taken alone. */
+static void moved_range(struct recording *it, const char *call, uint64_t bus, size_t bytes, uint8_t status)
+{
+    uint64_t first = bus / NIC_BLOCK_BYTES, end = first + bytes / NIC_BLOCK_BYTES;
+    if (status != NIC_DONE)
+        refused(it, call, status);
+    for (uint64_t block = first; status == NIC_DONE && block < end; block++)
+        moved(it, call, (uint32_t)block, status);
+}
+
+uint8_t nic_lend_memory(nic *n, uint64_t bus, void *memory, size_t bytes)
+{
+    if (IS_OFF)
+        return nicd_lend_memory(n, bus, memory, bytes);
+    struct recording *it = nicd_enter(n);
+    uint8_t status = nicd_lend_memory(n, bus, memory, bytes);
+    if (it)
+        moved_range(it, "lend", bus, bytes, status);
+    nicd_leave(it);
+    return status;
+}
+
+uint8_t nic_unlend_memory(nic *n, uint64_t bus, size_t bytes)
+{
+    if (IS_OFF)
+        return nicd_unlend_memory(n, bus, bytes);
+    struct recording *it = nicd_enter(n);
+    uint8_t status = nicd_unlend_memory(n, bus, bytes);
+    if (it)
+        moved_range(it, "unlend", bus, bytes, status);
     nicd_leave(it);
     return status;
 }

@@ -1,5 +1,6 @@
 #define _POSIX_C_SOURCE 200809L
 #include "recording.h"
+#include "../memory/table.h"
 
 #include <errno.h>
 #include <fcntl.h>
@@ -133,9 +134,23 @@ static void finish_all(void)
     note();
 }
 
+/* A fork waits for other threads' calls, so that what they change is whole in the child. */
+static void before_fork(void)
+{
+    hold();
+    nicd_table_hold();
+}
+
+static void in_parent(void)
+{
+    nicd_table_let_go();
+    let_go();
+}
+
 /* A child has controllers that its parent records: in the child they aren't. Its own are, if the file is its own. */
 static void in_child(void)
 {
+    nicd_table_let_go();
     finish_all();
     files = 0;
     if (path && !strstr(path, "%p")) {
@@ -151,7 +166,7 @@ static void take_path(const char *given)
 {
     static bool is_prepared;
     if (!is_prepared)
-        pthread_atfork(hold, let_go, in_child);
+        pthread_atfork(before_fork, in_parent, in_child);
     is_prepared = is_told = true;
     free(path);
     path = given && *given ? malloc(strlen(given) + 1) : NULL;

@@ -258,6 +258,18 @@ static void keep_or_restore(nic *n, bool keeps)
     }
 }
 
+/* Memory of the test's own, lent and taken back anywhere. */
+static void memory_in_place(nic *n)
+{
+    static uint8_t memory[4 * NIC_BLOCK_BYTES];
+    uint64_t bus = below(4) ? (uint64_t)below(16) * NIC_BLOCK_BYTES : chance() * chance();
+    size_t from = below(2) * NIC_BLOCK_BYTES, bytes = below(8) ? below(3) * NIC_BLOCK_BYTES : below(4096);
+    if (below(2))
+        MAY(nic_lend_memory(n, bus, memory + from, bytes), NIC_DONE, NIC_BAD_MEMORY, NIC_NO_BLOCK);
+    else
+        MAY(nic_unlend_memory(n, bus, below(8) ? bytes : SIZE_MAX - 2047), NIC_DONE, NIC_BAD_MEMORY, NIC_NOT_LENT);
+}
+
 static void one_call(nic *n)
 {
     static uint8_t bytes[5000 + GUARD];
@@ -269,7 +281,7 @@ static void one_call(nic *n)
         bytes[k] = (uint8_t)chance();
     memset(bytes + length, 0x5A, GUARD);
     memset(key, (int)below(256), sizeof key);
-    unsigned which = below(26);
+    unsigned which = below(27);
     if (which < 6)
         call_of_registers(n, which);
     else if (which < 11)
@@ -285,6 +297,8 @@ static void one_call(nic *n)
         MAY(nic_install_text(n, bytes, length, &line), NIC_TEXT_SYNTAX, NIC_TEXT_NOT_UTF8);
     else if (which < 25)
         keep_or_restore(n, which == 23);
+    else if (which == 25)
+        memory_in_place(n);
     else
         MAY(nic_hash(key, bytes, below(2) ? length : below(37), &word), NIC_DONE, NIC_NO_ROOM);
     for (size_t k = length; k < length + GUARD; k++)

@@ -1,0 +1,160 @@
+/* Lending the caller's memory. The archive's nic_exchange gives a lent block another memory, and returns the former
+   one: the controller's own, which waits in the table until the caller's is given back. */
+#include "lent.h"
+
+#include "table.h"
+
+/* as C sees the archive's Memory and MemoryOut */
+struct memory {
+    void *bytes;
+};
+
+struct range {
+    uint32_t first, end;
+};
+
+uint8_t nicd_exchange(nic *n, uint32_t block, struct memory memory, struct memory *former);
+void nicd_free(nic n);
+uint8_t nicd_lend(nic *n, uint32_t block);
+uint8_t nicd_take(nic *n, uint32_t block);
+uint8_t nicd_restore(nic *n, const nic_kept *kept);
+uint8_t nicd_dma_read(nic *n, uint64_t bus, uint8_t *bytes, size_t length);
+
+/* The memory of a lent block is another from now on; its former one. */
+static uint8_t *exchange(nic *n, uint32_t block, uint8_t *bytes)
+{
+    struct memory former = {NULL};
+    nicd_exchange(n, block, (struct memory){bytes}, &former);
+    return former.bytes;
+}
+
+static bool is_whole(uint64_t bus, size_t bytes)
+{
+    return bus % NICD_BLOCK == 0 && bytes % NICD_BLOCK == 0;
+}
+
+/* The blocks of these bus addresses; false where there are none of such numbers. */
+static bool blocks_of(uint64_t bus, size_t bytes, struct range *range)
+{
+    if (bus / NICD_BLOCK > NICD_MOST_BLOCKS || bytes / NICD_BLOCK > NICD_MOST_BLOCKS - bus / NICD_BLOCK)
+        return false;
+    range->first = (uint32_t)(bus / NICD_BLOCK);
+    range->end = range->first + (uint32_t)(bytes / NICD_BLOCK);
+    return true;
+}
+
+static void take_each(nic *n, struct range range)
+{
+    for (uint32_t block = range.first; block < range.end; block++)
+        nicd_take(n, block);
+}
+
+/* All of them, or none. */
+static uint8_t lend_each(nic *n, struct range range)
+{
+    for (uint32_t block = range.first; block < range.end; block++) {
+        uint8_t status = nicd_lend(n, block);
+        if (status != NIC_DONE) {
+            take_each(n, (struct range){range.first, block});
+            return status;
+        }
+    }
+    return NIC_DONE;
+}
+
+uint8_t nicd_lend_memory(nic *n, uint64_t bus, void *memory, size_t bytes)
+{
+    struct range range;
+    if (!is_whole(bus, bytes))
+        return NIC_BAD_MEMORY;
+    if (!blocks_of(bus, bytes, &range))
+        return NIC_NO_BLOCK;
+    if (!bytes)
+        return NIC_DONE;
+    if (nicd_table_has_bytes(nicd_table_of(n), memory, bytes))
+        return NIC_BAD_MEMORY;
+    uint8_t status = lend_each(n, range);
+    if (status != NIC_DONE)
+        return status;
+    struct nicd_table *it = nicd_table_with_room(n, range.end);
+    if (!it) {
+        take_each(n, range);
+        return NIC_OUT_OF_MEMORY;
+    }
+    nicd_table_add(it, range.first, range.end, memory);
+    for (uint32_t block = range.first; block < range.end; block++)
+        it->blocks[block].own = exchange(n, block, it->blocks[block].host);
+    return NIC_DONE;
+}
+
+/* Blocks have their own memory again, which the caller's was in the place of. */
+static void end_in_place(nic *n, struct nicd_table *it, struct range range)
+{
+    for (uint32_t block = range.first; block < range.end; block++)
+        exchange(n, block, it->blocks[block].own);
+    nicd_table_remove(it, range.first, range.end);
+}
+
+uint8_t nicd_unlend_memory(nic *n, uint64_t bus, size_t bytes)
+{
+    struct range range;
+    struct nicd_table *it = nicd_table_of(n);
+    if (!is_whole(bus, bytes))
+        return NIC_BAD_MEMORY;
+    if (!blocks_of(bus, bytes, &range))
+        return NIC_NOT_LENT;
+    for (uint32_t block = range.first; block < range.end; block++)
+        if (!nicd_table_has(it, block))
+            return NIC_NOT_LENT;
+    if (bytes)
+        end_in_place(n, it, range);
+    take_each(n, range);
+    return NIC_DONE;
+}
+
+uint8_t nicd_take_in_place(nic *n, uint32_t block)
+{
+    struct nicd_table *it = nicd_table_of(n);
+    if (nicd_table_has(it, block))
+        end_in_place(n, it, (struct range){block, block + 1});
+    return nicd_take(n, block);
+}
+
+void nicd_free_in_place(nic n)
+{
+    struct nicd_table *it = nicd_table_of(&n);
+    if (it) {
+        for (uint32_t place = 0; place < it->count; place++)
+            exchange(&n, it->by_address[place], it->blocks[it->by_address[place]].own);
+        nicd_table_close(it);
+    }
+    nicd_free(n);
+    if (it)
+        nicd_table_end(it);
+}
+
+/* A block that has memory of the caller's has the bytes of the snapshot, and that memory again; where the snapshot
+   doesn't lend it, the memory is given back. A refused restore has left the bytes in the caller's memory. */
+static void back_in_place(nic *n, struct nicd_table *it, uint32_t number, bool is_restored)
+{
+    struct nicd_block *block = &it->blocks[number];
+    if (is_restored && nicd_dma_read(n, (uint64_t)number * NICD_BLOCK, block->host, NICD_BLOCK) != NIC_DONE)
+        nicd_table_remove(it, number, number + 1);
+    else
+        block->own = exchange(n, number, block->host);
+}
+
+/* A restored controller may have other memory of its own, and fewer blocks; so the caller's is out of it meanwhile. */
+uint8_t nicd_restore_in_place(nic *n, const nic_kept *kept)
+{
+    struct nicd_table *it = nicd_table_of(n);
+    uint32_t blocks = it && it->count ? it->room : 0;
+    for (uint32_t block = 0; block < blocks; block++)
+        if (nicd_table_has(it, block))
+            exchange(n, block, it->blocks[block].own);
+    uint8_t status = nicd_restore(n, kept);
+    while (blocks--)
+        if (nicd_table_has(it, blocks))
+            back_in_place(n, it, blocks, status == NIC_DONE);
+    return status;
+}

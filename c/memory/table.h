@@ -1,0 +1,44 @@
+/* Which blocks of which controllers have memory of the caller's, by block and by address. A controller's table is its
+   own thread's, as the controller is; that of others is read only to know whether memory may be freed. */
+#ifndef NICD_TABLE_H
+#define NICD_TABLE_H
+
+#include "nic82599.h"
+
+enum { NICD_BLOCK = NIC_BLOCK_BYTES, NICD_MOST_BLOCKS = 65536 };
+
+/* A block whose memory is the caller's. */
+struct nicd_block {
+    uint8_t *host; /* the caller's memory; null: this block has the controller's own */
+    uint8_t *own;  /* the memory that the controller made for it, which waits here */
+};
+
+struct nicd_table {
+    struct nicd_table *next;
+    void *device;
+    uint32_t count, room;
+    uint32_t *by_address;      /* the `count` blocks that have memory of the caller's, the lowest address first */
+    struct nicd_block *blocks; /* `room` of them, by number */
+};
+
+/* The table of a controller, or null: it never had memory of the caller's. */
+struct nicd_table *nicd_table_of(const nic *n);
+/* The same with room for the blocks below a number, made where there is none; null where memory is short. */
+struct nicd_table *nicd_table_with_room(const nic *n, uint32_t blocks);
+/* A controller ends: its table is no controller's from now on; what it has isn't freed before the table ends too. */
+void nicd_table_close(struct nicd_table *it);
+void nicd_table_end(struct nicd_table *it);
+
+/* Whether a block has memory of the caller's, and whether some of these bytes are a block's. Both take a null table. */
+bool nicd_table_has(const struct nicd_table *it, uint32_t block);
+bool nicd_table_has_bytes(const struct nicd_table *it, const void *memory, size_t bytes);
+
+/* Blocks first to end - 1 have memory of the caller's from now on, one after the other; and none of the caller's. */
+void nicd_table_add(struct nicd_table *it, uint32_t first, uint32_t end, uint8_t *host);
+void nicd_table_remove(struct nicd_table *it, uint32_t first, uint32_t end);
+
+/* All tables are held while the process forks, behind what else is held then. */
+void nicd_table_hold(void);
+void nicd_table_let_go(void);
+
+#endif

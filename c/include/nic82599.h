@@ -9,7 +9,8 @@
    nic_settle makes every step that has something to do.
 
    Threads: handles aren't thread-safe: one thread each, or your own lock around each call. Two handles share nothing,
-   so each may have its own thread. No call waits, none calls back, and none may be made in a signal handler.
+   so each may have its own thread. No call waits, and none calls back. None may be made in the handler of a signal that
+   can come during a call. In the handler of a fault that a driver's own load or store raises, on its thread, they may.
 
    Pointers: none may be null, also not for a buffer whose length is 0. Each points to what its type says, a buffer to
    as many bytes or items as the length after it says, and they don't overlap. The controller that a call is given must

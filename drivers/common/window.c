@@ -9,32 +9,39 @@
 #include "bus.h"
 #include "verdict.h"
 
-/* The physical function's window, then the others', each with as many addresses behind it that belong to none. */
+/* The physical function's window, then the others', each with as many addresses behind it that belong to none. Each
+   begins at a multiple of its size, as a BAR does. */
 #define PHYSICAL_STEP (2 * (size_t)BUS_SPACE)
 #define VIRTUAL_STEP (2 * (size_t)BUS_FUNCTION_SPACE)
 
-static unsigned char *windows;
+static unsigned char *windows, *reserved;
 static size_t length;
 
 bool window_open(unsigned int virtual_functions)
 {
     length = PHYSICAL_STEP + virtual_functions * VIRTUAL_STEP;
-    void *at = mmap(NULL, length, PROT_NONE, MAP_PRIVATE | MAP_ANONYMOUS, -1, 0);
+    void *at = mmap(NULL, length + PHYSICAL_STEP, PROT_NONE, MAP_PRIVATE | MAP_ANONYMOUS, -1, 0);
     if (at == MAP_FAILED)
         return false;
-    windows = at;
+    reserved = at;
+    windows = reserved + (PHYSICAL_STEP - (uintptr_t)at % PHYSICAL_STEP);
     return true;
 }
 
 void window_close(void)
 {
-    munmap(windows, length);
-    windows = NULL;
+    munmap(reserved, length + PHYSICAL_STEP);
+    windows = reserved = NULL;
 }
 
 void *window_of(unsigned int function)
 {
     return windows + (function == BUS_PHYSICAL ? 0 : PHYSICAL_STEP + (function - 1) * VIRTUAL_STEP);
+}
+
+bool window_has(const volatile void *address)
+{
+    return windows && (uintptr_t)address - (uintptr_t)windows < length;
 }
 
 void window_find(const volatile void *address, unsigned int *function, uint32_t *offset)

@@ -13,6 +13,9 @@ void window_close(void);
 /* The first address of a function's window. */
 void *window_of(unsigned int function);
 
+/* Whether an address lies in the windows, or between them. */
+bool window_has(const volatile void *address);
+
 /* Whose register is at this address. What lies in no window is a problem, and is told as of the physical function,
    beyond its registers. */
 void window_find(const volatile void *address, unsigned int *function, uint32_t *offset);

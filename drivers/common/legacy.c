@@ -1,0 +1,157 @@
+#include "legacy.h"
+
+#include <stdlib.h>
+#include <string.h>
+
+#include "bus.h"
+#include "memory.h"
+#include "verdict.h"
+
+enum { ADVANCED = 1, DATA = 3 };
+
+#define TYPE NIC_SRRCTL_DESCTYPE
+/* the second address of the first 16 queues */
+#define SRRCTL_ALIAS(queue) (0x02100u + 4 * (queue))
+#define ALIASES 16
+
+/* Of the second half of a transmit descriptor, its low word */
+#define LENGTH 0x0000FFFFu
+#define CHECKSUM 0x04000000u
+#define EXTENSION 0x20000000u /* the advanced form */
+#define TAG 0x40000000u
+#define DATA_TYPE ((uint32_t)DATA << 20)
+#define PAYLOAD_LOW 14 /* of its high word: how much is sent, in the advanced form */
+
+static struct {
+    uint64_t sent, received;
+    struct {
+        bool is_legacy;      /* the driver asked for type 0 */
+        uint64_t *addresses; /* of the buffers of the ring's slots, which a write-back hides */
+        uint32_t slots;
+    } of[BUS_QUEUES];
+} legacy;
+
+void legacy_begin(void)
+{
+    legacy_end();
+    memset(&legacy, 0, sizeof legacy);
+}
+
+void legacy_end(void)
+{
+    for (unsigned int queue = 0; queue < BUS_QUEUES; queue++) {
+        free(legacy.of[queue].addresses);
+        legacy.of[queue].addresses = NULL;
+    }
+}
+
+/* ---- SRRCTL ---- */
+
+/* Whose SRRCTL an address is, by either of its addresses; BUS_QUEUES: nobody's. */
+static unsigned int queue_of(uint32_t address)
+{
+    for (unsigned int queue = 0; queue < BUS_QUEUES; queue++)
+        if (address == NIC_SRRCTL(queue) || (queue < ALIASES && address == SRRCTL_ALIAS(queue)))
+            return queue;
+    return BUS_QUEUES;
+}
+
+uint32_t legacy_to_device(unsigned int function, uint32_t address, uint32_t word)
+{
+    unsigned int queue = queue_of(address);
+    (void)function;
+    if (queue == BUS_QUEUES)
+        return word;
+    legacy.of[queue].is_legacy = !(word & TYPE);
+    return legacy.of[queue].is_legacy ? word | NIC_SRRCTL_DESCTYPE_IS(ADVANCED) : word;
+}
+
+uint32_t legacy_to_driver(unsigned int function, uint32_t address, uint32_t word)
+{
+    unsigned int queue = queue_of(address);
+    (void)function;
+    return queue < BUS_QUEUES && legacy.of[queue].is_legacy ? word & ~TYPE : word;
+}
+
+/* ---- rings ---- */
+
+struct ring {
+    uint64_t base;
+    uint32_t slots, tail;
+};
+
+static struct ring ring_of(bool is_transmit, uint16_t queue)
+{
+    uint32_t low = is_transmit ? NIC_TDBAL(queue) : NIC_RDBAL(queue);
+    uint32_t length = bus_peek(is_transmit ? NIC_TDLEN(queue) : NIC_RDLEN(queue));
+    return (struct ring){
+        .base = (uint64_t)bus_peek(low + 4) << 32 | bus_peek(low),
+        .slots = length / BUS_SLOT,
+        .tail = bus_peek(is_transmit ? NIC_TDT(queue) : NIC_RDT(queue)),
+    };
+}
+
+static void make_advanced(uint32_t *descriptor)
+{
+    if (descriptor[2] & (EXTENSION | CHECKSUM | TAG))
+        return;
+    descriptor[3] = (descriptor[2] & LENGTH) << PAYLOAD_LOW;
+    descriptor[2] |= DATA_TYPE | EXTENSION;
+    legacy.sent++;
+}
+
+static bool has_room(uint16_t queue, uint32_t slots)
+{
+    if (legacy.of[queue].slots == slots)
+        return true;
+    uint64_t *addresses = calloc(slots, sizeof *addresses);
+    if (!addresses)
+        return false;
+    free(legacy.of[queue].addresses);
+    legacy.of[queue].addresses = addresses;
+    legacy.of[queue].slots = slots;
+    return true;
+}
+
+void legacy_giving(bool is_transmit, uint16_t queue, uint32_t tail)
+{
+    struct ring ring = ring_of(is_transmit, queue);
+    if (ring.tail >= ring.slots || tail >= ring.slots || (!is_transmit && !legacy.of[queue].is_legacy))
+        return;
+    if (!is_transmit && !has_room(queue, ring.slots)) {
+        problem("memory is short for the addresses of a legacy ring");
+        return;
+    }
+    for (uint32_t slot = ring.tail; slot != tail; slot = (slot + 1) % ring.slots) {
+        uint32_t *descriptor = memory_at(ring.base + (uint64_t)BUS_SLOT * slot, BUS_SLOT);
+        if (descriptor && is_transmit)
+            make_advanced(descriptor);
+        else if (descriptor)
+            memcpy(&legacy.of[queue].addresses[slot], descriptor, sizeof(uint64_t));
+    }
+}
+
+void legacy_filled(uint16_t queue, uint64_t at, bool ends)
+{
+    uint32_t *descriptor = memory_at(at, BUS_SLOT);
+    struct ring ring = ring_of(false, queue);
+    uint64_t slot = (at - ring.base) / BUS_SLOT;
+    (void)ends;
+    if (!legacy.of[queue].is_legacy || !descriptor || slot >= legacy.of[queue].slots)
+        return;
+    uint32_t status = descriptor[2] & 0xFF, length = descriptor[3] & LENGTH;
+    memcpy(descriptor, &legacy.of[queue].addresses[slot], sizeof(uint64_t));
+    descriptor[2] = length;
+    descriptor[3] = status;
+    legacy.received++;
+}
+
+uint64_t legacy_sent(void)
+{
+    return legacy.sent;
+}
+
+uint64_t legacy_received(void)
+{
+    return legacy.received;
+}

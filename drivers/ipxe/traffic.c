@@ -1,0 +1,270 @@
+#include "traffic.h"
+
+#include <stdio.h>
+#include <string.h>
+
+#include "bus.h"
+#include "card.h"
+#include "efi.h"
+#include "frames.h"
+#include "verdict.h"
+
+enum { ROOM = 4096, IDLE_MOST = 1000, BURST = 100, LET_IN = 64, FUNCTION_SLOTS = 8, AHEAD = 4, PATIENCE = 20 };
+enum { UNICAST = 1, MULTICAST = 2, BROADCAST = 4, PROMISCUOUS = 8, ALL_MULTICAST = 16 };
+
+static const uint8_t peer[6] = {0x02, 0, 0, 0, 0, 0x01};
+
+static unsigned int frames = 1000, alike_in, alike_out;
+static uint8_t own[6];
+static EFI_SIMPLE_NETWORK *network;
+static struct line_up due_in, due_out;
+
+void traffic_set(unsigned int count)
+{
+    frames = count;
+}
+
+uint64_t traffic_drops(void)
+{
+    return card_function() == BUS_PHYSICAL ? 0 : LET_IN - FUNCTION_SLOTS;
+}
+
+/* ---- in ---- */
+
+/* Whether the driver has a frame; where it has, in `room`, with its length. */
+static bool receive(uint8_t room[ROOM], size_t *length)
+{
+    UINTN header = 0, bytes = ROOM;
+    bus_receive();
+    EFI_STATUS status = network->Receive(network, &header, &bytes, room, NULL, NULL, NULL);
+    *length = bytes;
+    return status == EFI_SUCCESS;
+}
+
+static void compare_in(const uint8_t *bytes, size_t length)
+{
+    static struct frame frame;
+    uint32_t number = 0;
+    if (!line_up_take(&due_in, &number)) {
+        problem("a frame of %zu bytes comes in that nobody sent", length);
+        return;
+    }
+    frame_make(&frame, number, FRAME_MAX, own, peer);
+    if (frame_is(&frame, bytes, length))
+        alike_in++;
+    else
+        problem("frame %u comes in with %zu bytes, and isn't what was sent: %u bytes", number, length, frame.length);
+}
+
+/* As many as the ring has room for, and a few ahead of the driver. */
+static uint32_t give(uint32_t next, uint32_t end)
+{
+    static struct frame frame;
+    for (unsigned int room = bus_room(0); room && next < end && line_up_left(&due_in) < AHEAD; room--, next++) {
+        frame_make(&frame, next, FRAME_MAX, own, peer);
+        if (bus_arrive(frame.bytes, frame.length))
+            line_up_put(&due_in, next);
+        else
+            problem("frame %u isn't let in", next);
+    }
+    return next;
+}
+
+static void come_in(uint32_t first)
+{
+    static uint8_t room[ROOM];
+    uint32_t next = first, end = first + frames;
+    alike_in = 0;
+    for (unsigned int idle = 0; idle < IDLE_MOST && (next < end || line_up_left(&due_in));) {
+        size_t length;
+        next = give(next, end);
+        idle = receive(room, &length) ? 0 : idle + 1;
+        if (!idle)
+            compare_in(room, length);
+    }
+    printf("in:  %u of %u frames, byte by byte and in order\n", alike_in, frames);
+    if (alike_in != frames)
+        problem("%u of %u frames came in", alike_in, frames);
+}
+
+/* ---- out ---- */
+
+static void sent(uint16_t queue, const uint8_t *bytes, size_t length)
+{
+    static struct frame frame;
+    uint32_t number = 0;
+    (void)queue;
+    if (!line_up_take(&due_out, &number)) {
+        problem("a frame of %zu bytes goes out that nobody sent", length);
+        return;
+    }
+    frame_make(&frame, number, FRAME_MAX, peer, own);
+    if (frame_is(&frame, bytes, length))
+        alike_out++;
+    else
+        problem("frame %u goes out with %zu bytes, and isn't what was sent: %u bytes", number, length, frame.length);
+}
+
+/* Takes back the buffers of frames that went out: how many. */
+static unsigned int recycle(void)
+{
+    unsigned int count = 0;
+    for (void *buffer = &count; buffer; count += buffer != NULL) {
+        UINT32 causes = 0;
+        buffer = NULL;
+        if (network->GetStatus(network, &causes, &buffer) != EFI_SUCCESS)
+            break;
+    }
+    return count;
+}
+
+/* Whether the driver takes a frame within a while. */
+static bool transmit(const struct frame *frame)
+{
+    for (unsigned int idle = 0; idle < IDLE_MOST; idle++)
+        if (network->Transmit(network, 0, frame->length, (void *)frame->bytes, NULL, NULL, NULL) == EFI_SUCCESS)
+            return true;
+        else
+            recycle();
+    return false;
+}
+
+static void go_out(uint32_t first)
+{
+    static struct frame frame;
+    unsigned int recycled = 0, taken = 0;
+    alike_out = 0;
+    bus_send_to(sent);
+    for (; taken < frames; taken++) {
+        frame_make(&frame, first + taken, FRAME_MAX, peer, own);
+        line_up_put(&due_out, first + taken);
+        if (!transmit(&frame))
+            break;
+        recycled += recycle();
+    }
+    bus_send_to(NULL);
+    printf("out: %u of %u frames, byte by byte and in order; %u buffers given back\n", alike_out, frames, recycled);
+    if (alike_out != frames || recycled != frames)
+        problem("of %u frames %u were taken, %u went out, and %u buffers came back", frames, taken, alike_out,
+                recycled);
+}
+
+/* ---- what else ---- */
+
+/* How many frames the driver has, until it has none for a while. */
+static unsigned int poll_all(void)
+{
+    static uint8_t room[ROOM];
+    unsigned int count = 0;
+    size_t length;
+    for (unsigned int idle = 0; idle < PATIENCE; idle++)
+        if (receive(room, &length)) {
+            count++;
+            idle = 0;
+        }
+    return count;
+}
+
+static void arrives(const char *what, const uint8_t to[6], bool is_wanted)
+{
+    static struct frame frame;
+    frame_make(&frame, 77, FRAME_MAX, to, peer);
+    bool is_let_in = bus_arrive(frame.bytes, frame.length);
+    unsigned int got = poll_all();
+    if (is_let_in != is_wanted || got != is_wanted)
+        problem("a frame for %s: let in %d, and the driver has %u", what, is_let_in, got);
+}
+
+static void addresses(void)
+{
+    static const uint8_t all[6] = {255, 255, 255, 255, 255, 255}, other[6] = {2, 9, 9, 9, 9, 9};
+    arrives("its own address", own, true);
+    arrives("all", all, true);
+    arrives("another's address", other, card_function() == BUS_PHYSICAL); /* which is promiscuous */
+}
+
+static void link_changes(void)
+{
+    for (unsigned int is_up = 0; is_up < 2; is_up++) {
+        card_link(is_up);
+        poll_all();
+        if (network->Mode->MediaPresent != is_up)
+            problem("the link is %s, and the driver doesn't say so", is_up ? "up" : "down");
+    }
+}
+
+/* More frames at once than there is room for: a ring of the function is full, and the device drops by DROP_EN. */
+static void burst(void)
+{
+    static struct frame frame;
+    unsigned int let_in = 0, wanted = card_function() == BUS_PHYSICAL ? LET_IN : FUNCTION_SLOTS;
+    for (unsigned int number = 0; number < BURST; number++) {
+        frame_make(&frame, number, FRAME_MAX, own, peer);
+        let_in += bus_arrive(frame.bytes, frame.length);
+    }
+    unsigned int got = poll_all();
+    printf("%u frames at once: %u let in, %u at the driver\n", BURST, let_in, got);
+    if (let_in != LET_IN || got != wanted || bus_peek(NIC_MPC) != BURST - LET_IN)
+        problem("of %u frames at once %u were let in, %u counted as missed, and the driver has %u", BURST, let_in,
+                bus_peek(NIC_MPC), got);
+}
+
+/* ---- the whole ---- */
+
+static bool open_network(void)
+{
+    EFI_STATUS status = network->Start(network);
+    if (status == EFI_SUCCESS)
+        status = network->Initialize(network, 0, 0);
+    if (status == EFI_SUCCESS)
+        status = network->ReceiveFilters(network, UNICAST | MULTICAST | BROADCAST | PROMISCUOUS | ALL_MULTICAST, 0,
+                                         FALSE, 0, NULL);
+    if (status != EFI_SUCCESS)
+        problem("the network doesn't open: status 0x%llx", (unsigned long long)status);
+    return status == EFI_SUCCESS;
+}
+
+static void close_network(void)
+{
+    bus_enter(CLOSE);
+    if (network->Shutdown(network) != EFI_SUCCESS || network->Stop(network) != EFI_SUCCESS)
+        problem("the network doesn't close");
+}
+
+static void pass(unsigned int number)
+{
+    bus_enter(number ? REOPEN : OPEN);
+    if (!open_network())
+        return;
+    bus_enter(number ? AGAIN : TRAFFIC);
+    come_in(number * frames);
+    go_out(number * frames);
+    if (number) {
+        addresses();
+        link_changes();
+        burst();
+    }
+    close_network();
+}
+
+void traffic_run(void)
+{
+    network = handle_find(&efi_network);
+    if (!network) {
+        problem("the driver makes no network");
+        return;
+    }
+    memcpy(own, network->Mode->CurrentAddress.Addr, sizeof own);
+    printf("%s, address %02x:%02x:%02x:%02x:%02x:%02x\n",
+           card_function() == BUS_PHYSICAL ? "the physical function" : "virtual function 0", own[0], own[1], own[2],
+           own[3], own[4], own[5]);
+    if (!line_up_begin(&due_in, 2 * frames) || !line_up_begin(&due_out, 2 * frames)) {
+        problem("memory is short");
+        return;
+    }
+    pass(0);
+    pass(1);
+    line_up_end(&due_in);
+    line_up_end(&due_out);
+    bus_enter(END);
+}

@@ -35,7 +35,7 @@ WORDS = {
 }
 # What no call answers, and what the C code around the crate's calls answers.
 UNANSWERED = {"TWICE", "MISALIGNED"}
-AROUND = {"BAD_MEMORY"}
+AROUND = {"BAD_MEMORY", "CLOSED"}
 # What the crate calls otherwise than the header.
 OTHERWISE = {"DESC_TYPE": "TYPE"}
 HEAD_PYTHON = '''\

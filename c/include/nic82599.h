@@ -13,9 +13,10 @@
    can come during a call. In the handler of a fault that a driver's own load or store raises, on its thread, they may.
 
    Pointers: none may be null, also not for a buffer whose length is 0. Each points to what its type says, a buffer to
-   as many bytes or items as the length after it says, and they don't overlap. The controller that a call is given must
-   be open, and the snapshot kept: only nic_close and nic_drop_snapshot take one whose own pointer is null. Every other
-   argument may have any value: the call checks it, and returns a status. */
+   as many bytes or items as the length after it says, and they don't overlap. Of a controller that nic_close ended, or
+   that was never opened ({0}), each call answers CLOSED, and so it does of a snapshot that was dropped or never made. A
+   copy of the struct doesn't know that the other one was closed, so it must not be used any more. Every other argument
+   may have any value: the call checks it, and returns a status. */
 #ifndef NIC82599_H
 #define NIC82599_H
 
@@ -70,6 +71,7 @@ enum nic_status {
     NIC_NO_BLOCK = 37,     /* nic_lend: the block is lent already, or doesn't exist */
     NIC_MORE = 38,         /* nic_settle: the array is full, and there may be more to do */
     NIC_BAD_MEMORY = 39,   /* nic_lend_memory: no multiples of 2,048, or bytes that are lent to it already */
+    NIC_CLOSED = 40,       /* the controller or the snapshot isn't open: nic_close ended it, or nothing opened it */
     /* an EEPROM image or text is invalid, by the first of these that holds; the former image stays */
     NIC_IMAGE = 64, /* base of the following */
     NIC_IMAGE_ODD_LENGTH = 65,
@@ -169,7 +171,8 @@ bool nic_record(const char *path);
    holds) or OUT_OF_MEMORY. nic_open, below, is the same with a struct. */
 uint8_t nic_new(uint8_t vfs, uint16_t fifo, uint32_t blocks, void **device);
 
-/* Ends a controller, with its memory and its frames. It must be one that nic_new made and nic_free didn't end. */
+/* Ends a controller, with its memory and its frames. It must be one that nic_new made and nic_free didn't end; with a
+   null pointer in it nothing happens. */
 void nic_free(nic n);
 
 /* --- snapshots --- */
@@ -188,8 +191,8 @@ uint8_t nic_snapshot(nic *n, nic_kept *kept);
    thread-safe. */
 uint8_t nic_restore(nic *n, const nic_kept *kept);
 
-/* Ends a snapshot, which must be one that nic_snapshot made and that wasn't ended. No controller is affected.
-   nic_drop_snapshot, below, is the same with a pointer, and may be called again. */
+/* Ends a snapshot, which must be one that nic_snapshot made and that wasn't ended; with a null pointer in it nothing
+   happens. No controller is affected. nic_drop_snapshot, below, is the same with a pointer, and may be called again. */
 void nic_free_snapshot(nic_kept kept);
 
 /* --- registers --- */
@@ -248,7 +251,7 @@ uint8_t nic_dma_write(nic *n, uint64_t bus, const uint8_t *bytes, size_t length)
 
 /* A frame arrives: DONE, and it waits for receive steps; DROPPED (`why`); OUT_OF_MEMORY. */
 uint8_t nic_arrive(nic *n, const uint8_t *frame, size_t length, nic_told *told);
-/* The length of the oldest frame that went out and wasn't collected; 0 if there is none. */
+/* The length of the oldest frame that went out and wasn't collected; 0 if there is none, or it isn't open. */
 size_t nic_next_out(nic *n);
 /* Takes that frame into a buffer: FRAME (`queue`, `len`), IDLE if there is none, NO_ROOM if it is longer than `length`
    (it stays). */
@@ -387,6 +390,7 @@ static inline const char *nic_status_name(uint8_t status)
     case NIC_NO_BLOCK: return "no block";
     case NIC_MORE: return "more";
     case NIC_BAD_MEMORY: return "bad memory";
+    case NIC_CLOSED: return "closed";
     case NIC_IMAGE_ODD_LENGTH: return "image: odd length";
     case NIC_IMAGE_BAD_SIZE: return "image: bad size";
     case NIC_IMAGE_SECTION_OUTSIDE: return "image: section outside";

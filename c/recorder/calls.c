@@ -1,5 +1,5 @@
-/* The calls of the library that change a controller or read what it has. Each is the call of the proved archive, which
-   c/recorder/calls.syms gives another name, and while a controller is recorded also a line of the recording. */
+/* The calls of the library on a controller. Each is the call of the proved archive, which c/recorder/calls.syms gives
+   another name, for a controller that is open; and while a controller is recorded also a line of the recording. */
 #include <inttypes.h>
 #include <stdio.h>
 #include <string.h>
@@ -10,6 +10,8 @@
 enum { MOST_VFS = 63, MOST_BLOCKS = 65536, UNIT = 16, SHOWN = 4 };
 
 #define IS_OFF __builtin_expect(!__atomic_load_n(&nicd_is_recording, __ATOMIC_RELAXED), 1)
+/* A handle that was never opened, or that nic_close ended. */
+#define IS_CLOSED(n) __builtin_expect(!(n)->device, 0)
 #define COLD static __attribute__((noinline, cold))
 
 uint8_t nicd_new(uint8_t vfs, uint16_t fifo, uint32_t blocks, void **device);
@@ -19,11 +21,14 @@ uint8_t nicd_read32(nic *n, uint32_t address, uint32_t *word);
 uint8_t nicd_write32(nic *n, uint32_t address, uint32_t word);
 uint8_t nicd_vf_read32(nic *n, uint8_t vf, uint32_t offset, uint32_t *word);
 uint8_t nicd_vf_write32(nic *n, uint8_t vf, uint32_t offset, uint32_t word);
+uint8_t nicd_peek32(nic *n, uint32_t address, uint32_t *word);
+uint8_t nicd_vf_peek32(nic *n, uint8_t vf, uint32_t offset, uint32_t *word);
 uint8_t nicd_lend(nic *n, uint32_t block);
 uint8_t nicd_lend_all(nic *n);
 uint8_t nicd_dma_read(nic *n, uint64_t bus, uint8_t *bytes, size_t length);
 uint8_t nicd_dma_write(nic *n, uint64_t bus, const uint8_t *bytes, size_t length);
 uint8_t nicd_arrive(nic *n, const uint8_t *frame, size_t length, nic_told *told);
+size_t nicd_next_out(nic *n);
 uint8_t nicd_collect(nic *n, uint8_t *room, size_t length, nic_told *told);
 uint8_t nicd_link(nic *n, bool up);
 uint8_t nicd_rx_step(nic *n, nic_told *told);
@@ -99,6 +104,8 @@ uint8_t nic_new(uint8_t vfs, uint16_t fifo, uint32_t blocks, void **device)
 
 void nic_free(nic n)
 {
+    if (IS_CLOSED(&n))
+        return;
     if (!IS_OFF) {
         nicd_end(nicd_enter(&n));
         nicd_leave(NULL);
@@ -110,6 +117,8 @@ void nic_free(nic n)
 
 uint8_t nic_snapshot(nic *n, nic_kept *kept)
 {
+    if (IS_CLOSED(n))
+        return NIC_CLOSED;
     uint8_t status = nicd_snapshot(n, kept);
     if (IS_OFF)
         return status;
@@ -122,6 +131,8 @@ uint8_t nic_snapshot(nic *n, nic_kept *kept)
 
 uint8_t nic_restore(nic *n, const nic_kept *kept)
 {
+    if (IS_CLOSED(n) || !kept->kept)
+        return NIC_CLOSED;
     uint8_t status = nicd_restore_in_place(n, kept);
     if (IS_OFF)
         return status;
@@ -134,6 +145,8 @@ uint8_t nic_restore(nic *n, const nic_kept *kept)
 
 void nic_free_snapshot(nic_kept kept)
 {
+    if (!kept.kept)
+        return;
     if (!IS_OFF) {
         uint32_t number = 0;
         struct recording *it = nicd_enter_dropped(kept, &number);
@@ -160,6 +173,8 @@ COLD uint8_t read_register(nic *n, uint32_t address, uint32_t *word)
 
 uint8_t nic_read32(nic *n, uint32_t address, uint32_t *word)
 {
+    if (IS_CLOSED(n))
+        return NIC_CLOSED;
     return IS_OFF ? nicd_read32(n, address, word) : read_register(n, address, word);
 }
 
@@ -177,6 +192,8 @@ COLD uint8_t write_register(nic *n, uint32_t address, uint32_t word)
 
 uint8_t nic_write32(nic *n, uint32_t address, uint32_t word)
 {
+    if (IS_CLOSED(n))
+        return NIC_CLOSED;
     return IS_OFF ? nicd_write32(n, address, word) : write_register(n, address, word);
 }
 
@@ -196,6 +213,8 @@ COLD uint8_t read_vf(nic *n, uint8_t vf, uint32_t offset, uint32_t *word)
 
 uint8_t nic_vf_read32(nic *n, uint8_t vf, uint32_t offset, uint32_t *word)
 {
+    if (IS_CLOSED(n))
+        return NIC_CLOSED;
     return IS_OFF ? nicd_vf_read32(n, vf, offset, word) : read_vf(n, vf, offset, word);
 }
 
@@ -215,7 +234,26 @@ COLD uint8_t write_vf(nic *n, uint8_t vf, uint32_t offset, uint32_t word)
 
 uint8_t nic_vf_write32(nic *n, uint8_t vf, uint32_t offset, uint32_t word)
 {
+    if (IS_CLOSED(n))
+        return NIC_CLOSED;
     return IS_OFF ? nicd_vf_write32(n, vf, offset, word) : write_vf(n, vf, offset, word);
+}
+
+/* --- looks, of which a recording has nothing --- */
+
+uint8_t nic_peek32(nic *n, uint32_t address, uint32_t *word)
+{
+    return IS_CLOSED(n) ? (uint8_t)NIC_CLOSED : nicd_peek32(n, address, word);
+}
+
+uint8_t nic_vf_peek32(nic *n, uint8_t vf, uint32_t offset, uint32_t *word)
+{
+    return IS_CLOSED(n) ? (uint8_t)NIC_CLOSED : nicd_vf_peek32(n, vf, offset, word);
+}
+
+size_t nic_next_out(nic *n)
+{
+    return IS_CLOSED(n) ? 0 : nicd_next_out(n);
 }
 
 /* --- packet memory --- */
@@ -237,6 +275,8 @@ static void moved(struct recording *it, const char *call, uint32_t block, uint8_
 
 uint8_t nic_lend(nic *n, uint32_t block)
 {
+    if (IS_CLOSED(n))
+        return NIC_CLOSED;
     if (IS_OFF)
         return nicd_lend(n, block);
     struct recording *it = nicd_enter(n);
@@ -249,6 +289,8 @@ uint8_t nic_lend(nic *n, uint32_t block)
 
 uint8_t nic_take(nic *n, uint32_t block)
 {
+    if (IS_CLOSED(n))
+        return NIC_CLOSED;
     if (IS_OFF)
         return nicd_take_in_place(n, block);
     struct recording *it = nicd_enter(n);
@@ -271,6 +313,8 @@ static void moved_range(struct recording *it, const char *call, uint64_t bus, si
 
 uint8_t nic_lend_memory(nic *n, uint64_t bus, void *memory, size_t bytes)
 {
+    if (IS_CLOSED(n))
+        return NIC_CLOSED;
     if (IS_OFF)
         return nicd_lend_memory(n, bus, memory, bytes);
     struct recording *it = nicd_enter(n);
@@ -283,6 +327,8 @@ uint8_t nic_lend_memory(nic *n, uint64_t bus, void *memory, size_t bytes)
 
 uint8_t nic_unlend_memory(nic *n, uint64_t bus, size_t bytes)
 {
+    if (IS_CLOSED(n))
+        return NIC_CLOSED;
     if (IS_OFF)
         return nicd_unlend_memory(n, bus, bytes);
     struct recording *it = nicd_enter(n);
@@ -311,6 +357,8 @@ COLD uint8_t lend_all(nic *n)
 
 uint8_t nic_lend_all(nic *n)
 {
+    if (IS_CLOSED(n))
+        return NIC_CLOSED;
     return IS_OFF ? nicd_lend_all(n) : lend_all(n);
 }
 
@@ -353,6 +401,8 @@ COLD uint8_t read_memory(nic *n, uint64_t bus, uint8_t *bytes, size_t length)
 
 uint8_t nic_dma_read(nic *n, uint64_t bus, uint8_t *bytes, size_t length)
 {
+    if (IS_CLOSED(n))
+        return NIC_CLOSED;
     return IS_OFF ? nicd_dma_read(n, bus, bytes, length) : read_memory(n, bus, bytes, length);
 }
 
@@ -385,6 +435,8 @@ COLD uint8_t write_memory(nic *n, uint64_t bus, const uint8_t *bytes, size_t len
 
 uint8_t nic_dma_write(nic *n, uint64_t bus, const uint8_t *bytes, size_t length)
 {
+    if (IS_CLOSED(n))
+        return NIC_CLOSED;
     return IS_OFF ? nicd_dma_write(n, bus, bytes, length) : write_memory(n, bus, bytes, length);
 }
 
@@ -406,6 +458,8 @@ COLD uint8_t arrive(nic *n, const uint8_t *frame, size_t length, nic_told *told)
 
 uint8_t nic_arrive(nic *n, const uint8_t *frame, size_t length, nic_told *told)
 {
+    if (IS_CLOSED(n))
+        return NIC_CLOSED;
     return IS_OFF ? nicd_arrive(n, frame, length, told) : arrive(n, frame, length, told);
 }
 
@@ -431,11 +485,15 @@ COLD uint8_t collect(nic *n, uint8_t *room, size_t length, nic_told *told)
 
 uint8_t nic_collect(nic *n, uint8_t *room, size_t length, nic_told *told)
 {
+    if (IS_CLOSED(n))
+        return NIC_CLOSED;
     return IS_OFF ? nicd_collect(n, room, length, told) : collect(n, room, length, told);
 }
 
 uint8_t nic_link(nic *n, bool up)
 {
+    if (IS_CLOSED(n))
+        return NIC_CLOSED;
     if (IS_OFF)
         return nicd_link(n, up);
     struct recording *it = nicd_enter(n);
@@ -465,6 +523,8 @@ static uint8_t stepped(struct recording *it, uint8_t status, const nic_told *tol
 
 uint8_t nic_rx_step(nic *n, nic_told *told)
 {
+    if (IS_CLOSED(n))
+        return NIC_CLOSED;
     if (IS_OFF)
         return nicd_rx_step(n, told);
     struct recording *it = nicd_enter(n);
@@ -473,6 +533,8 @@ uint8_t nic_rx_step(nic *n, nic_told *told)
 
 uint8_t nic_tx_step(nic *n, uint16_t queue, nic_told *told)
 {
+    if (IS_CLOSED(n))
+        return NIC_CLOSED;
     if (IS_OFF)
         return nicd_tx_step(n, queue, told);
     char line[16];
@@ -483,6 +545,8 @@ uint8_t nic_tx_step(nic *n, uint16_t queue, nic_told *told)
 
 uint8_t nic_queue_step(nic *n, bool transmit, uint16_t queue, nic_told *told)
 {
+    if (IS_CLOSED(n))
+        return NIC_CLOSED;
     if (IS_OFF)
         return nicd_queue_step(n, transmit, queue, told);
     char line[24];
@@ -493,6 +557,8 @@ uint8_t nic_queue_step(nic *n, bool transmit, uint16_t queue, nic_told *told)
 
 uint8_t nic_eeprom_step(nic *n, nic_told *told)
 {
+    if (IS_CLOSED(n))
+        return NIC_CLOSED;
     if (IS_OFF)
         return nicd_eeprom_step(n, told);
     struct recording *it = nicd_enter(n);
@@ -509,6 +575,8 @@ static void group_line(uint16_t group, char line[24])
 
 uint8_t nic_int_step(nic *n, uint8_t group, nic_told *told)
 {
+    if (IS_CLOSED(n))
+        return NIC_CLOSED;
     if (IS_OFF)
         return nicd_int_step(n, group, told);
     char line[24];
@@ -550,6 +618,10 @@ COLD uint8_t settle(nic *n, uint16_t queues, nic_told *told, size_t length, size
 
 uint8_t nic_settle(nic *n, uint16_t queues, nic_told *told, size_t length, size_t *count)
 {
+    if (IS_CLOSED(n)) {
+        *count = 0;
+        return NIC_CLOSED;
+    }
     return IS_OFF ? nicd_settle(n, queues, told, length, count) : settle(n, queues, told, length, count);
 }
 
@@ -569,6 +641,8 @@ static void installed(struct recording *it, const char *form, const uint8_t *byt
 
 uint8_t nic_install_image(nic *n, const uint8_t *bytes, size_t length)
 {
+    if (IS_CLOSED(n))
+        return NIC_CLOSED;
     if (IS_OFF)
         return nicd_install_image(n, bytes, length);
     struct recording *it = nicd_enter(n);
@@ -579,6 +653,10 @@ uint8_t nic_install_image(nic *n, const uint8_t *bytes, size_t length)
 
 uint8_t nic_install_text(nic *n, const uint8_t *text, size_t length, uint64_t *line)
 {
+    if (IS_CLOSED(n)) {
+        *line = 0;
+        return NIC_CLOSED;
+    }
     if (IS_OFF)
         return nicd_install_text(n, text, length, line);
     struct recording *it = nicd_enter(n);

@@ -43,6 +43,84 @@ static void bad_sizes(void)
     }
 }
 
+/* --- a handle that isn't open --- */
+
+static void closed_memory(nic *n)
+{
+    uint8_t bytes[4] = {7}, memory[NIC_BLOCK_BYTES];
+    ANSWERS(NIC_CLOSED, nic_lend(n, 0));
+    ANSWERS(NIC_CLOSED, nic_take(n, 0));
+    ANSWERS(NIC_CLOSED, nic_lend_all(n));
+    ANSWERS(NIC_CLOSED, nic_lend_memory(n, 0, memory, sizeof memory));
+    ANSWERS(NIC_CLOSED, nic_unlend_memory(n, 0, sizeof memory));
+    ANSWERS(NIC_CLOSED, nic_dma_read(n, 0, bytes, sizeof bytes));
+    ANSWERS(NIC_CLOSED, nic_dma_write(n, 0, bytes, sizeof bytes));
+    CHECK(bytes[0] == 7);
+}
+
+static void closed_steps(nic *n)
+{
+    nic_told told;
+    uint8_t frame[60] = {2};
+    size_t count = 5;
+    memset(&told, 7, sizeof told);
+    ANSWERS(NIC_CLOSED, nic_arrive(n, frame, sizeof frame, &told));
+    CHECK(nic_next_out(n) == 0);
+    ANSWERS(NIC_CLOSED, nic_collect(n, frame, sizeof frame, &told));
+    ANSWERS(NIC_CLOSED, nic_link(n, true));
+    ANSWERS(NIC_CLOSED, nic_rx_step(n, &told));
+    ANSWERS(NIC_CLOSED, nic_tx_step(n, 0, &told));
+    ANSWERS(NIC_CLOSED, nic_queue_step(n, true, 0, &told));
+    ANSWERS(NIC_CLOSED, nic_eeprom_step(n, &told));
+    ANSWERS(NIC_CLOSED, nic_int_step(n, 0, &told));
+    ANSWERS(NIC_CLOSED, nic_settle(n, 1, &told, 1, &count));
+    CHECK(count == 0 && told.queue == 0x0707 && told.status == 7 && frame[0] == 2);
+}
+
+/* Each call of a handle that was never opened, or that is closed, changes nothing, not even what it points to. */
+static void closed(nic *n)
+{
+    nic_kept none = {NULL};
+    uint32_t word = 7;
+    uint64_t line = 7;
+    uint8_t image[2] = {0};
+    ANSWERS(NIC_CLOSED, nic_snapshot(n, &none));
+    ANSWERS(NIC_CLOSED, nic_restore(n, &none));
+    CHECK(!none.kept);
+    ANSWERS(NIC_CLOSED, nic_read32(n, NIC_STATUS, &word));
+    ANSWERS(NIC_CLOSED, nic_write32(n, NIC_CTRL, 0));
+    ANSWERS(NIC_CLOSED, nic_vf_read32(n, 0, NIC_VTEIMS, &word));
+    ANSWERS(NIC_CLOSED, nic_vf_write32(n, 0, NIC_VTEIMS, 0));
+    ANSWERS(NIC_CLOSED, nic_peek32(n, NIC_STATUS, &word));
+    ANSWERS(NIC_CLOSED, nic_vf_peek32(n, 0, NIC_VTEIMS, &word));
+    CHECK(word == 7 && nic_get(n, NIC_STATUS) == 0);
+    ANSWERS(NIC_CLOSED, nic_install_image(n, image, sizeof image));
+    ANSWERS(NIC_CLOSED, nic_install_text(n, image, sizeof image, &line));
+    CHECK(line == 0);
+    closed_memory(n);
+    closed_steps(n);
+    nic_close(n);
+    nic_free(*n);
+    CHECK(!n->device);
+}
+
+static void closed_handles(void)
+{
+    nic never = {NULL}, n, refused;
+    nic_kept dropped = {NULL};
+    closed(&never);
+    ANSWERS(NIC_DONE, nic_open(&n, 0, 1, 1));
+    ANSWERS(NIC_CLOSED, nic_restore(&n, &dropped));
+    ANSWERS(NIC_DONE, nic_snapshot(&n, &dropped));
+    nic_drop_snapshot(&dropped);
+    ANSWERS(NIC_CLOSED, nic_restore(&n, &dropped));
+    nic_free_snapshot(dropped);
+    nic_close(&n);
+    closed(&n);
+    ANSWERS(NIC_BAD_BLOCKS, nic_open(&refused, 0, 1, 0));
+    closed(&refused);
+}
+
 static void bad_registers(nic *n)
 {
     static const uint32_t at[] = {0xC, 1, 2, 3, 0x1001, 0x1FFFC, 0x20000, 1u << 31, UINT32_MAX, UINT32_MAX - 3};
@@ -309,6 +387,7 @@ int main(void)
 {
     nic n, other;
     bad_sizes();
+    closed_handles();
     ANSWERS(NIC_DONE, nic_open(&n, 4, 8, 16));
     bad_registers(&n);
     bad_memory(&n, 16);

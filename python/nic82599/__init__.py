@@ -257,6 +257,7 @@ _REFUSALS: dict[int, type[NicError]] = {
     statuses.BAD_FIFO: BadFifo,
     statuses.BAD_BLOCKS: BadBlocks,
     statuses.NO_BLOCK: NoBlock,
+    statuses.CLOSED: Closed,
 }
 _IMAGE = {
     statuses.IMAGE_ODD_LENGTH: "OddLength",

@@ -128,7 +128,7 @@ static bool grows(struct nicd_table *it, uint32_t room)
         return false;
     it->by_address = by_address;
     for (uint32_t block = it->room; block < room; block++)
-        blocks[block] = (struct nicd_block){NULL, NULL};
+        blocks[block] = (struct nicd_block){NULL, NULL, NULL};
     it->room = room;
     return true;
 }
@@ -163,6 +163,8 @@ void nicd_table_end(struct nicd_table *it)
     *at = it->next;
     note_borders();
     nicd_table_let_go();
+    for (uint32_t block = 0; block < it->room; block++)
+        free(it->blocks[block].shadow);
     free(it->blocks);
     free(it->by_address);
     free(it);
@@ -196,8 +198,10 @@ static uint32_t remove_run(struct nicd_table *it, uint32_t first, uint32_t end)
         run++;
     it->count -= run;
     memmove(it->by_address + place, it->by_address + place + run, (it->count - place) * sizeof *it->by_address);
-    for (uint32_t block = first; block < first + run; block++)
-        it->blocks[block] = (struct nicd_block){NULL, NULL};
+    for (uint32_t block = first; block < first + run; block++) {
+        free(it->blocks[block].shadow);
+        it->blocks[block] = (struct nicd_block){NULL, NULL, NULL};
+    }
     return first + run;
 }
 

@@ -9,8 +9,9 @@ enum { NICD_BLOCK = NIC_BLOCK_BYTES, NICD_MOST_BLOCKS = 65536 };
 
 /* A block whose memory is the caller's. */
 struct nicd_block {
-    uint8_t *host; /* the caller's memory; null: this block has the controller's own */
-    uint8_t *own;  /* the memory that the controller made for it, which waits here */
+    uint8_t *host;   /* the caller's memory; null: this block has the controller's own */
+    uint8_t *own;    /* the memory that the controller made for it, which waits here */
+    uint8_t *shadow; /* of a recorded one: what a replay has there, or null */
 };
 
 struct nicd_table {

@@ -5,9 +5,11 @@
 #include <string.h>
 
 #include "../memory/lent.h"
+#include "../memory/shadow.h"
+#include "catch_up.h"
 #include "recording.h"
 
-enum { MOST_VFS = 63, MOST_BLOCKS = 65536, UNIT = 16, SHOWN = 4 };
+enum { MOST_VFS = 63, MOST_BLOCKS = 65536, UNIT = NICD_UNIT, SHOWN = 4 };
 
 #define IS_OFF __builtin_expect(!__atomic_load_n(&nicd_is_recording, __ATOMIC_RELAXED), 1)
 /* A handle that was never opened, or that nic_close ended. */
@@ -119,10 +121,11 @@ uint8_t nic_snapshot(nic *n, nic_kept *kept)
 {
     if (IS_CLOSED(n))
         return NIC_CLOSED;
-    uint8_t status = nicd_snapshot(n, kept);
     if (IS_OFF)
-        return status;
+        return nicd_snapshot(n, kept);
     struct recording *it = nicd_enter(n);
+    nicd_before_read(it, n, 0, NICD_ALL);
+    uint8_t status = nicd_snapshot(n, kept);
     if (it && status == NIC_DONE)
         nicd_add(it, "#: snapshot %" PRIu32 "\n", nicd_keep(it, kept));
     nicd_leave(it);
@@ -137,8 +140,10 @@ uint8_t nic_restore(nic *n, const nic_kept *kept)
     if (IS_OFF)
         return status;
     struct recording *it = nicd_enter(n);
-    if (it && status == NIC_DONE) /* 0 is a snapshot of another recording, or of none */
+    if (it && status == NIC_DONE) { /* 0 is a snapshot of another recording, or of none */
         nicd_add(it, "#: restore %" PRIu32 "\n", nicd_kept(it, kept));
+        nicd_shadow_note(n, 0, NICD_ALL);
+    }
     nicd_leave(it);
     return status;
 }
@@ -378,6 +383,7 @@ COLD uint8_t read_memory(nic *n, uint64_t bus, uint8_t *bytes, size_t length)
 {
     uint8_t unit[UNIT];
     struct recording *it = nicd_enter(n);
+    nicd_before_read(it, n, bus, length);
     uint8_t status = nicd_dma_read(n, bus, bytes, length);
     uint64_t first = bus & ~(uint64_t)(UNIT - 1);
     if (it && status != NIC_DONE && (bus > UINT32_MAX || length > UINT32_MAX)) {
@@ -427,6 +433,7 @@ COLD uint8_t write_memory(nic *n, uint64_t bus, const uint8_t *bytes, size_t len
         for (uint64_t at = bus & ~(uint64_t)(UNIT - 1); at < bus + length; at += UNIT) {
             nicd_dma_read(n, at, unit, UNIT);
             poke(it, at, unit, status);
+            nicd_shadow_note(n, at, UNIT);
         }
     }
     nicd_leave(it);
@@ -528,7 +535,10 @@ uint8_t nic_rx_step(nic *n, nic_told *told)
     if (IS_OFF)
         return nicd_rx_step(n, told);
     struct recording *it = nicd_enter(n);
-    return stepped(it, nicd_rx_step(n, told), told, "rx");
+    nicd_before_receive(it, n);
+    uint8_t status = nicd_rx_step(n, told);
+    nicd_behind_step(it, n, told);
+    return stepped(it, status, told, "rx");
 }
 
 uint8_t nic_tx_step(nic *n, uint16_t queue, nic_told *told)
@@ -540,7 +550,11 @@ uint8_t nic_tx_step(nic *n, uint16_t queue, nic_told *told)
     char line[16];
     struct recording *it = nicd_enter(n);
     snprintf(line, sizeof line, "tx %u", queue);
-    return stepped(it, nicd_tx_step(n, queue, told), told, line);
+    nicd_before_transmit(it, n, queue);
+    uint8_t status = nicd_tx_step(n, queue, told);
+    if (status != NIC_NO_QUEUE && status != NIC_OUT_OF_MEMORY)
+        nicd_behind_step(it, n, told);
+    return stepped(it, status, told, line);
 }
 
 uint8_t nic_queue_step(nic *n, bool transmit, uint16_t queue, nic_told *told)
@@ -609,9 +623,12 @@ static void settled(struct recording *it, const nic_told *told)
 COLD uint8_t settle(nic *n, uint16_t queues, nic_told *told, size_t length, size_t *count)
 {
     struct recording *it = nicd_enter(n);
+    nicd_before_settle(it, n, queues);
     uint8_t status = nicd_settle(n, queues, told, length, count);
-    for (size_t k = 0; it && k < *count; k++)
+    for (size_t k = 0; it && k < *count; k++) {
+        nicd_behind_step(it, n, &told[k]);
         settled(it, &told[k]);
+    }
     nicd_leave(it);
     return status;
 }

@@ -56,20 +56,15 @@ static void bring_up(nic *n)
 static void make(struct twins *t, uint8_t *host)
 {
     *t = (struct twins){{NULL}, {NULL}, host, 0, 0, 0, 0};
-    memset(host, 0, OWN * BLOCK);
+    memset(host, 0xA5, OWN * BLOCK);
     ANSWERS(NIC_DONE, nic_open(&t->copies, 0, 16, BLOCKS));
     ANSWERS(NIC_DONE, nic_open(&t->place, 0, 16, BLOCKS));
     for (uint32_t block = AT; block < AT + OWN; block++)
         ANSWERS(NIC_DONE, nic_lend(&t->copies, block));
+    ANSWERS(NIC_DONE, nic_dma_write(&t->copies, AT * BLOCK, host, OWN * BLOCK));
     ANSWERS(NIC_DONE, nic_lend_memory(&t->place, AT * BLOCK, host, OWN * BLOCK));
     bring_up(&t->copies);
     bring_up(&t->place);
-}
-
-static void alike(const nic_told *a, const nic_told *b)
-{
-    CHECK(a->status == b->status && a->desc == b->desc && a->at == b->at && a->len == b->len && a->bus == b->bus);
-    CHECK(a->queue == b->queue && a->slot == b->slot && a->end == b->end && a->back == b->back && a->why == b->why);
 }
 
 /* The driver stores some bytes: by a call to the one, by a plain store to the other. */
@@ -124,40 +119,99 @@ static void collect(struct twins *t, nic_told *a, nic_told *b)
     t->collected += a->status == NIC_FRAME;
 }
 
+static void alike(const nic_told *a, const nic_told *b)
+{
+    CHECK(a->status == b->status && a->desc == b->desc && a->at == b->at && a->len == b->len && a->bus == b->bus);
+    CHECK(a->queue == b->queue && a->slot == b->slot && a->end == b->end && a->back == b->back && a->why == b->why);
+}
+
+static void settle(struct twins *t)
+{
+    static nic_told told[2][100];
+    size_t count[2];
+    CHECK(nic_settle(&t->copies, 1, told[0], 100, &count[0]) == nic_settle(&t->place, 1, told[1], 100, &count[1]));
+    CHECK(count[0] == count[1]);
+    for (size_t k = 0; k < count[0]; k++) {
+        alike(&told[0][k], &told[1][k]);
+        t->wrote += told[0][k].status == NIC_WROTE;
+    }
+}
+
+/* A side of the queue goes off, and is asked to go on again: the next settle makes that step, and reads its slots. */
+static void restart(struct twins *t)
+{
+    nic_told told;
+    bool transmit = below(2);
+    uint32_t address = transmit ? NIC_TXDCTL(0) : NIC_RXDCTL(0);
+    for (unsigned k = 0; k < 2; k++) {
+        nic *n = k ? &t->place : &t->copies;
+        nic_write32(n, address, 0);
+        nic_queue_step(n, transmit, 0, &told);
+        nic_write32(n, address, NIC_RXDCTL_ENABLE);
+    }
+}
+
 static void one_call(struct twins *t)
 {
     nic_told a = {0}, b = {0};
-    switch (below(6)) {
+    switch (below(40) ? below(7) : 7) {
     case 0: post_buffer(t); break;
     case 1: one_arrives(t, &a, &b); break;
     case 2: CHECK(nic_rx_step(&t->copies, &a) == nic_rx_step(&t->place, &b)); break;
     case 3: send_frame(t); break;
     case 4: CHECK(nic_tx_step(&t->copies, 0, &a) == nic_tx_step(&t->place, 0, &b)); break;
-    default: collect(t, &a, &b); break;
+    case 5: collect(t, &a, &b); break;
+    case 6: settle(t); break;
+    default: restart(t); break;
     }
     alike(&a, &b);
     t->wrote += a.status == NIC_WROTE;
 }
 
+/* The memory of both is the caller's. */
+static void same_bytes(struct twins *t, bool reads_in_place)
+{
+    uint8_t seen[OWN * BLOCK];
+    ANSWERS(NIC_DONE, nic_dma_read(reads_in_place ? &t->place : &t->copies, AT * BLOCK, seen, sizeof seen));
+    CHECK(memcmp(seen, t->host, sizeof seen) == 0);
+}
+
 static void same_answers(uint8_t *host)
 {
     struct twins t;
-    uint8_t seen[OWN * BLOCK];
     make(&t, host);
     for (unsigned round = 0; round < ROUNDS; round++) {
         one_call(&t);
-        ANSWERS(NIC_DONE, nic_dma_read(&t.copies, AT * BLOCK, seen, sizeof seen));
-        CHECK(memcmp(seen, host, sizeof seen) == 0);
-        if (round % 8)
-            continue;
-        ANSWERS(NIC_DONE, nic_dma_read(&t.place, AT * BLOCK, seen, sizeof seen));
-        CHECK(memcmp(seen, host, sizeof seen) == 0);
+        same_bytes(&t, false);
+        if (round % 8 == 0)
+            same_bytes(&t, true);
     }
     CHECK(t.collected > 100 && t.wrote > 100);
     printf("alike in %d calls: %u frames in, %u out\n", ROUNDS, t.wrote, t.collected);
-    nic_close(&t.copies);
     nic_close(&t.place);
-    CHECK(memcmp(seen, host, sizeof seen) == 0);
+    same_bytes(&t, false);
+    nic_close(&t.copies);
+}
+
+/* Calls for a recording, which has no more of the memory than the steps read. A snapshot and a read of it come late. */
+static void recorded(uint8_t *host, uint64_t seed)
+{
+    enum { CALLS = 260 };
+    struct twins t;
+    nic_kept kept = {NULL};
+    uint8_t seen[64];
+    chance_state = seed;
+    make(&t, host);
+    for (unsigned round = 0; round < CALLS; round++)
+        one_call(&t);
+    memset(host + 3 * BLOCK, 0x33, 64);
+    ANSWERS(NIC_DONE, nic_snapshot(&t.place, &kept));
+    ANSWERS(NIC_DONE, nic_restore(&t.place, &kept));
+    for (unsigned k = 0; k < OWN * BLOCK / 64; k++)
+        ANSWERS(NIC_DONE, nic_dma_read(&t.place, AT * BLOCK + 64 * k, seen, sizeof seen));
+    nic_drop_snapshot(&kept);
+    nic_close(&t.place);
+    nic_close(&t.copies);
 }
 
 /* --- what is refused changes nothing, and what is taken back keeps its bytes --- */
@@ -428,13 +482,17 @@ static void forks_beside_threads(uint8_t *own)
         CHECK(pthread_join(threads[k], NULL) == 0);
 }
 
-/* With a word, as under valgrind: without the forks, in which the memory of other threads is lost. */
+/* `without-forks`, for valgrind, since the memory of other threads is lost in a child; `record SEED`. */
 int main(int count, char **words)
 {
-    (void)words;
     uint8_t *bytes = malloc(OWN * BLOCK + 1);
     CHECK(bytes);
     alarm(300);
+    if (count == 3) {
+        recorded(bytes + 1, strtoull(words[2], NULL, 10));
+        free(bytes);
+        return 0;
+    }
     same_answers(bytes);
     same_answers(bytes + 1); /* at an odd address too */
     parts(bytes + 1);

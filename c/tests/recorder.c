@@ -95,6 +95,33 @@ static void beyond_scripts(void)
                                "#: restore 0\n"));
 }
 
+/* What the caller stores in its own memory is poked before it is read, once, and what it doesn't store isn't. */
+static void in_place(void)
+{
+    static uint8_t memory[2 * NIC_BLOCK_BYTES];
+    uint8_t bytes[4];
+    nic n;
+    CHECK(nic_record(path_of("place")));
+    ANSWERS(NIC_DONE, nic_open(&n, 0, 4, 2));
+    ANSWERS(NIC_DONE, nic_lend_memory(&n, 0, memory, sizeof memory));
+    memory[17] = 5;
+    memory[40] = 6;
+    for (unsigned k = 0; k < 2; k++)
+        ANSWERS(NIC_DONE, nic_dma_read(&n, 20, bytes, sizeof bytes));
+    ANSWERS(NIC_DONE, nic_unlend_memory(&n, NIC_BLOCK_BYTES, NIC_BLOCK_BYTES));
+    ANSWERS(NIC_BAD_MEMORY, nic_lend_memory(&n, 1, memory, NIC_BLOCK_BYTES));
+    nic_close(&n);
+    CHECK(nic_record(NULL));
+    CHECK(holds("place", HEAD "lend 0                       # done\n"
+                              "lend 1                       # done\n"
+                              "data d0 00050000000000000000000000000000\n"
+                              "poke 0x00010 d0              # done\n"
+                              "peek 0x00010 1               # bytes 00050000000000000000000000000000\n"
+                              "peek 0x00010 1               # bytes 00050000000000000000000000000000\n"
+                              "unlend 1                     # taken 1\n"
+                              "# lend: bad memory\n"));
+}
+
 /* A process that is killed has lost no line; its parent's recording hasn't got its events; %p is its number. */
 static void children(void)
 {
@@ -137,6 +164,7 @@ int main(int words, char **word)
     folder = word[1];
     files();
     beyond_scripts();
+    in_place();
     children();
     bad_path();
     return 0;

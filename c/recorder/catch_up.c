@@ -1,0 +1,131 @@
+/* A step reads a descriptor where its ring's head is, and what a transmit descriptor points at. It is told here what
+   that is: where a step of the device reads more one day, a replay of calls by chance (c/test) differs. */
+#include "catch_up.h"
+
+#include <inttypes.h>
+
+#include "../memory/shadow.h"
+#include "../memory/table.h"
+
+enum { QUEUES = 128, HEAD_BYTES = 4 };
+
+uint8_t nicd_peek32(nic *n, uint32_t address, uint32_t *word);
+uint8_t nicd_dma_read(nic *n, uint64_t bus, uint8_t *bytes, size_t length);
+
+/* Which slots a call may read, from the head on. */
+enum reach { FIRST, TO_TAIL };
+
+struct ring {
+    uint64_t base;
+    uint32_t slots, head, tail;
+};
+
+static void poked(void *recording, uint64_t bus, const uint8_t unit[NICD_UNIT])
+{
+    struct recording *it = recording;
+    uint32_t name = nicd_add_data(it, unit, NICD_UNIT);
+    nicd_add(it, "poke 0x%05" PRIx64 " d%" PRIu32, bus, name);
+    nicd_add_reply(it);
+    nicd_add(it, "done\n");
+}
+
+static bool is_in_place(const struct recording *it, const nic *n)
+{
+    const struct nicd_table *table = it ? nicd_table_of(n) : NULL;
+    return table && table->count;
+}
+
+static uint32_t word_at(nic *n, uint32_t address)
+{
+    uint32_t word = 0;
+    nicd_peek32(n, address, &word);
+    return word;
+}
+
+static struct ring ring_of(nic *n, bool transmit, uint32_t queue)
+{
+    struct ring ring;
+    ring.base = (uint64_t)word_at(n, transmit ? NIC_TDBAH(queue) : NIC_RDBAH(queue)) << 32 |
+                word_at(n, transmit ? NIC_TDBAL(queue) : NIC_RDBAL(queue));
+    ring.slots = word_at(n, transmit ? NIC_TDLEN(queue) : NIC_RDLEN(queue)) / NIC_DESC_BYTES;
+    ring.head = word_at(n, transmit ? NIC_TDH(queue) : NIC_RDH(queue));
+    ring.tail = word_at(n, transmit ? NIC_TDT(queue) : NIC_RDT(queue));
+    return ring;
+}
+
+/* A descriptor, and on the transmit side the bytes that it points at. */
+static void before_slot(struct recording *it, nic *n, bool transmit, uint64_t at)
+{
+    uint8_t bytes[NIC_DESC_BYTES];
+    nicd_shadow_poke(n, at, NIC_DESC_BYTES, poked, it);
+    if (!transmit || nicd_dma_read(n, at, bytes, sizeof bytes) != NIC_DONE)
+        return;
+    nic_desc desc = nic_desc_of_bytes(bytes);
+    nicd_shadow_poke(n, desc.first, desc.second & NIC_TXD_DTALEN, poked, it);
+}
+
+static void before_ring(struct recording *it, nic *n, bool transmit, uint32_t queue, enum reach reach)
+{
+    struct ring ring = ring_of(n, transmit, queue);
+    if (ring.head >= ring.slots || ring.tail >= ring.slots)
+        return;
+    for (uint32_t slot = ring.head; slot != ring.tail; slot = slot + 1 < ring.slots ? slot + 1 : 0) {
+        before_slot(it, n, transmit, ring.base + (uint64_t)NIC_DESC_BYTES * slot);
+        if (reach == FIRST)
+            break;
+    }
+}
+
+void nicd_before_read(struct recording *it, nic *n, uint64_t bus, uint64_t length)
+{
+    if (is_in_place(it, n))
+        nicd_shadow_poke(n, bus, length, poked, it);
+}
+
+/* Which queue the frame goes to isn't known, so it is each that is on. */
+void nicd_before_receive(struct recording *it, nic *n)
+{
+    if (!is_in_place(it, n))
+        return;
+    for (uint32_t queue = 0; queue < QUEUES; queue++)
+        if (word_at(n, NIC_RXDCTL(queue)) & NIC_RXDCTL_ENABLE)
+            before_ring(it, n, false, queue, FIRST);
+}
+
+void nicd_before_transmit(struct recording *it, nic *n, uint32_t queue)
+{
+    if (is_in_place(it, n) && queue < QUEUES)
+        before_ring(it, n, true, queue, FIRST);
+}
+
+/* A queue that is off may be on before its first slot is read. */
+void nicd_before_settle(struct recording *it, nic *n, uint32_t queues)
+{
+    if (!is_in_place(it, n))
+        return;
+    for (uint32_t queue = 0; queue < QUEUES; queue++) {
+        before_ring(it, n, false, queue, TO_TAIL);
+        if (queue < queues)
+            before_ring(it, n, true, queue, TO_TAIL);
+    }
+}
+
+/* Behind a transmit step it was the descriptor, or the head, elsewhere. */
+static void note_write_back(nic *n, const nic_told *told)
+{
+    struct ring ring = ring_of(n, true, told->queue);
+    bool is_slot = told->at - ring.base < (uint64_t)NIC_DESC_BYTES * ring.slots;
+    nicd_shadow_note(n, told->at, is_slot ? NIC_DESC_BYTES : HEAD_BYTES);
+}
+
+void nicd_behind_step(const struct recording *it, nic *n, const nic_told *told)
+{
+    if (!is_in_place(it, n))
+        return;
+    if (told->status == NIC_WROTE) {
+        nicd_shadow_note(n, told->at, told->len);
+        nicd_shadow_note(n, told->desc, NIC_DESC_BYTES);
+    } else if ((told->status == NIC_ADVANCED || told->status == NIC_SENT) && told->back) {
+        note_write_back(n, told);
+    }
+}

@@ -4,14 +4,16 @@ It needs the standard library alone, so pip needs no network. The wheel has the 
 it is built, the program `nicbench`. Its bytes are decided by what goes in and by SOURCE_DATE_EPOCH.
 """
 
-from __future__ import annotations
-
 import base64
 import hashlib
 import os
 import re
 import subprocess
 import sys
+
+if sys.version_info < (3, 11):  # noqa: UP036
+    sys.exit("nic82599_wheel: it needs Python 3.11 or newer, and this is {}.{}".format(*sys.version_info))
+
 import time
 import tomllib
 import zipfile

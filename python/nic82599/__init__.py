@@ -18,6 +18,11 @@ one after the other.
 
 from __future__ import annotations
 
+import sys
+
+if sys.version_info < (3, 11):  # noqa: UP036
+    raise ImportError(f"nic82599 needs Python 3.11 or newer, and this is {sys.version_info[0]}.{sys.version_info[1]}")
+
 import ctypes
 import operator
 import os

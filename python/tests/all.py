@@ -25,6 +25,7 @@ sys.path[:0] = [str(HERE.parent), str(HERE)]
 import calls  # noqa: E402
 import chance  # noqa: E402
 import descriptors_of_device  # noqa: E402
+import ends  # noqa: E402
 import explorer  # noqa: E402
 import nic82599  # noqa: E402
 import nic82599.buffers  # noqa: E402
@@ -75,6 +76,7 @@ def main() -> None:
     print(f"{units(descriptors_of_device)} tests of descriptors")
     print(f"{units(explorer)} tests of the explorer")
     print(f"{units(packing)} tests of the package")
+    print(f"{units(ends)} tests of how tools end")
     made = answers = 0
     with tempfile.TemporaryDirectory() as folder:
         for batch in range(given.batches):

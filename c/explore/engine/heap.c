@@ -167,11 +167,11 @@ static struct taken told(void *piece)
     return taken;
 }
 
-struct taken rattle_alloc(size_t size, size_t align);
-struct taken rattle_realloc(void *piece, size_t old, size_t size, size_t align);
-void rattle_dealloc(void *piece);
+struct taken nic82599_alloc(size_t size, size_t align);
+struct taken nic82599_realloc(void *piece, size_t old, size_t size, size_t align);
+void nic82599_dealloc(void *piece);
 
-struct taken rattle_alloc(size_t size, size_t align)
+struct taken nic82599_alloc(size_t size, size_t align)
 {
     size_t wanted = size ? size : align;
     return told(is_searcher() ? take(wanted) : malloc(wanted));
@@ -179,7 +179,7 @@ struct taken rattle_alloc(size_t size, size_t align)
 
 /* A piece goes back to where it came from. One of the search that another thread gives back is left: it goes with the
    whole. */
-void rattle_dealloc(void *piece)
+void nic82599_dealloc(void *piece)
 {
     if (!is_ours(piece))
         free(piece);
@@ -187,7 +187,7 @@ void rattle_dealloc(void *piece)
         give(piece);
 }
 
-struct taken rattle_realloc(void *piece, size_t old, size_t size, size_t align)
+struct taken nic82599_realloc(void *piece, size_t old, size_t size, size_t align)
 {
     size_t wanted = size ? size : align;
     if (!is_ours(piece))
@@ -195,7 +195,7 @@ struct taken rattle_realloc(void *piece, size_t old, size_t size, size_t align)
     void *moved = is_searcher() ? take(wanted) : malloc(wanted);
     if (moved) {
         memcpy(moved, piece, old < wanted ? old : wanted);
-        rattle_dealloc(piece);
+        nic82599_dealloc(piece);
     }
     return told(moved);
 }

@@ -16,7 +16,7 @@ import sys
 from collections.abc import Iterable, Iterator
 
 from ..pcap import HEADER, record_of
-from .tool import called
+from .tool import add_version, called, ended
 
 FRAME = re.compile(r"(\d+) frame queue (\d+) ((?:[0-9a-f]{2})*)")
 
@@ -36,11 +36,12 @@ def frames_in(lines: Iterable[str]) -> Iterator[tuple[int, int, bytes]]:
             yield int(found[1]), int(found[2]), bytes.fromhex(found[3])
 
 
-def command() -> int:
+def main() -> int:
     how = {"description": called(__doc__ or ""), "formatter_class": argparse.RawDescriptionHelpFormatter}
     parser = argparse.ArgumentParser(prog=called("tools/nic2pcap"), **how)
     parser.add_argument("out", metavar="OUT.pcap")
     parser.add_argument("--queue", type=int, metavar="Q")
+    add_version(parser, "nic2pcap")
     given = parser.parse_args()
     try:
         found = [it for it in frames_in(sys.stdin) if given.queue in (None, it[1])]
@@ -51,3 +52,8 @@ def command() -> int:
         return 1
     print(f"nic2pcap: {len(found)} frames", file=sys.stderr)
     return 0
+
+
+def command() -> int:
+    """The command `nic2pcap`."""
+    return ended(main, "nic2pcap", 1)

@@ -21,7 +21,7 @@ import sys
 from collections.abc import Iterable, Iterator
 
 from ..pcap import NoCapture, frames_of
-from .tool import called
+from .tool import add_version, called, ended
 
 LONGEST, MOST = 16384, 1024
 
@@ -45,10 +45,11 @@ def arguments() -> argparse.Namespace:
     parser.add_argument("--count", type=int, metavar="N")
     parser.add_argument("--name", default="frame", metavar="NAME")
     parser.add_argument("--step", action="store_true")
+    add_version(parser, "pcap2nic")
     return parser.parse_args()
 
 
-def command() -> int:
+def main() -> int:
     given = arguments()
     try:
         source = sys.stdin.buffer if given.file == "-" else open(given.file, "rb")
@@ -64,3 +65,8 @@ def command() -> int:
     for number, _ in frames:
         print(f"arrive {given.name}{number}" + ("\nrx" if given.step else ""))
     return 0
+
+
+def command() -> int:
+    """The command `pcap2nic`."""
+    return ended(main, "pcap2nic", 1)

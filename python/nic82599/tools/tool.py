@@ -7,9 +7,10 @@ import os
 import re
 import sys
 from collections.abc import Callable
-from typing import NoReturn
+from typing import Any, NoReturn
 
 from .. import places
+from ..version import VERSION
 from .script import Fault, Refused
 
 
@@ -18,8 +19,17 @@ def called(text: str) -> str:
     return text if places.clone() else re.sub(r"(?<![\w/.])(?:tools/|\./)(?=nic|pcap2nic)", "", text)
 
 
+def add_version(parser: argparse.ArgumentParser, name: str) -> None:
+    """The option that tells the version of the package."""
+    parser.add_argument("--version", action="version", version=f"{name} {VERSION}", help="print the version")
+
+
 class Parser(argparse.ArgumentParser):
-    """Tells wrong words in one line, with status 3."""
+    """Has --version, and tells wrong words in one line, with status 3."""
+
+    def __init__(self, **how: Any) -> None:
+        super().__init__(**how)
+        add_version(self, self.prog)
 
     def error(self, message: str) -> NoReturn:
         print(f"{self.prog}: {message}; {self.prog} --help lists the words", file=sys.stderr)
@@ -46,10 +56,22 @@ def sizes(parser: argparse.ArgumentParser) -> None:
     )
 
 
-def ended(main: Callable[[], int], name: str) -> int:
-    """The status of a tool: a fault is one line on standard error."""
+def drop_output() -> None:
+    """What is left of the output goes nowhere: else Python would try once more to write it."""
+    os.dup2(os.open(os.devnull, os.O_WRONLY), sys.stdout.fileno())
+
+
+def ended(main: Callable[[], int], name: str, unwritten: int = 2) -> int:
+    """The status of a tool: a fault is one line on standard error; `unwritten` is that of output that can't be
+    written."""
+    if sys.stdout is None:  # (it is closed)
+        sys.stdout = open(os.devnull, "w")  # noqa: SIM115
     try:
-        return main()
+        try:
+            return main()
+        finally:
+            # (--help and --version end behind this too)
+            sys.stdout.flush()
     except Refused as refused:
         print(called(f"{name}: {refused}: tools/niclint SCRIPT says what was expected there"), file=sys.stderr)
         return 2
@@ -57,7 +79,13 @@ def ended(main: Callable[[], int], name: str) -> int:
         print(f"{name}: {fault}", file=sys.stderr)
         return 4 if fault.is_of_program else 2
     except BrokenPipeError:
-        os.dup2(os.open(os.devnull, os.O_WRONLY), sys.stdout.fileno())
+        drop_output()
         return 0
+    except OSError as fault:
+        # (files are told by those that open them)
+        what = "standard output can't be written" if fault.filename is None else fault.filename
+        print(f"{name}: {what} ({fault.strerror})", file=sys.stderr)
+        drop_output()
+        return unwritten
     except KeyboardInterrupt:
         return 130

@@ -2,6 +2,8 @@ pub mod Bits
 pub mod Limits
 pub mod Pools
 pub mod Queues
+pub mod Packets
+pub mod Types
 pub mod Arriving
 pub mod Joining
 pub mod Slots

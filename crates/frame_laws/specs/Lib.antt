@@ -6,3 +6,5 @@ pub mod Transmitting
 pub mod Switching
 pub mod Memory
 pub mod Queues
+pub mod Packets
+pub mod Types

@@ -11,6 +11,7 @@ ghost use Rattle.frame_laws.specs.Queues.{QueuesGoByMrqc};
 ghost use Rattle.frame_laws.specs.Receiving.{ReceivedForAReason, EachReasonIsMet, FramesLeaveAtTheirEnd};
 ghost use Rattle.frame_laws.specs.Receiving.{SlotsAreWrittenAtHead};
 ghost use Rattle.frame_laws.specs.Switching.{SwitchingHasItsReason, SwitchedSideIsAsWanted};
+ghost use Rattle.frame_laws.specs.Types.{FramesHaveTypes};
 ghost use Rattle.frame_laws.specs.Transmitting.{SilenceHasItsReasons, FramesGoOutWhole};
 
 /// An arriving frame is dropped for the first of these reasons that applies: the link is down; RXCTRL bit 0 is 0; it
@@ -34,6 +35,14 @@ pub fn frames_join_last()
 /// while it is 1, it is the frame's own, has queues, and its bit of VFRE is 1, whatever the code.
 pub fn queues_go_by_mrqc()
     ensures { QueuesGoByMrqc }
+{}
+
+/// A frame that is accepted has the RSS type that its bytes and MRQC say, and the hash of what that type hashes where
+/// RXCSUM bit 13 is 1, else hash 0. While MRQC bits 3 to 0 are 1, 0xA or 0xB, TCP over IPv4 has type 1 where bit 16 is
+/// 1, UDP over IPv4 type 7 by bit 22, TCP over IPv6 type 3 by bit 21, UDP over IPv6 type 8 by bit 23; with none of
+/// these IPv4 has type 2 by bit 17 and IPv6 type 5 by bit 20. Any other frame has type 0.
+pub fn frames_have_types()
+    ensures { FramesHaveTypes }
 {}
 
 /// A receive step is idle while CTRL bit 2 is 1 or the receive list is empty. The oldest frame is dropped where its

@@ -18,3 +18,4 @@ pub mod Switching
 pub mod Switched
 pub mod Memory
 pub mod Shown
+pub mod WrittenBack

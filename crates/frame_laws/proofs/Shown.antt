@@ -1,12 +1,12 @@
 -- What one memory call sees of another.
 use Rattle.std.proofs.Common.{◌≡◌, ◌<◌, ◌+◌, ◌*◌, ◌/◌, ◌%◌, ◌==◌, ℕ, Bool, true, false, cond, List, length, Option, Some, None, refl, ap, sym, ◌∙◌, subst, arith}
 use Rattle.std.specs.FinMap as map
-use Rattle.std.proofs.lemmas.Bool.{cond-true, cond_both, eqb-true, eq-eqb}
-use Rattle.nic_device.specs.DmaArena.Block.{Block, IsBlock}
+use Rattle.std.proofs.lemmas.Bool.{cond_both, eqb-true, eq-eqb}
+use Rattle.nic_device.specs.DmaArena.Block.{Block}
 use Rattle.nic_device.specs.DmaArena.Memory.{has_block, is_lent, read_at, write_at, AreApart}
 use Rattle.nic_device.proofs.DmaArena.Bus.{is_lent-same, SameLent-write_at, read_at-write_at_same, read_at-write_at_apart}
 use Rattle.nic_device.proofs.DmaArena.Single.{get-insert_same}
-use Rattle.nic_device.specs.Lending.{lent, taken, peeked, poked}
+use Rattle.nic_device.specs.Lending.{lent, peeked, poked}
 use Rattle.nic_device.specs.Outcome.{Outcome, gives}
 use Rattle.nic_device.specs.Sound.{IsSound}
 use Rattle.nic_device.specs.State.{State}
@@ -18,7 +18,7 @@ use Rattle.frame_laws.specs.Memory.{sixteen, PokedIsPeeked, LentIsPeeked, TakenI
 use Rattle.frame_laws.proofs.Memory.{peek-block, taken_by, numbered}
 
 -- the reply to a look, whatever else the state has
-abbrev answer : (aligned lent : Bool) → List ℕ → Reply Block
+abbrev pub answer : (aligned lent : Bool) → List ℕ → Reply Block
 answer aligned lent bytes = cond aligned (cond lent (Bytes bytes) NotLent) Misaligned
 
 reply-is : (aligned lent : Bool) (bytes : List ℕ) (s : State)
@@ -28,7 +28,7 @@ reply-is true true bytes s = refl
 reply-is true false bytes s = refl
 reply-is false lent bytes s = refl
 
-peek-is : (s : State) (a : ℕ)
+pub peek-is : (s : State) (a : ℕ)
     → (peeked s a).reply ≡ answer (a % 16 == 0) (is_lent s.memory a 16) (read_at s.memory a 16)
 peek-is s a = reply-is (a % 16 == 0) (is_lent s.memory a 16) (read_at s.memory a 16) s
 

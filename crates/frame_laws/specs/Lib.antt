@@ -8,3 +8,4 @@ pub mod Memory
 pub mod Queues
 pub mod Packets
 pub mod Types
+pub mod WrittenBack

@@ -12,6 +12,7 @@ ghost use Rattle.frame_laws.specs.Receiving.{ReceivedForAReason, EachReasonIsMet
 ghost use Rattle.frame_laws.specs.Receiving.{SlotsAreWrittenAtHead};
 ghost use Rattle.frame_laws.specs.Switching.{SwitchingHasItsReason, SwitchedSideIsAsWanted};
 ghost use Rattle.frame_laws.specs.Types.{FramesHaveTypes};
+ghost use Rattle.frame_laws.specs.WrittenBack.{DescriptorsAreWrittenBack};
 ghost use Rattle.frame_laws.specs.Transmitting.{SilenceHasItsReasons, FramesGoOutWhole};
 
 /// An arriving frame is dropped for the first of these reasons that applies: the link is down; RXCTRL bit 0 is 0; it
@@ -72,6 +73,14 @@ pub fn slots_are_written_at_the_head()
 /// descriptor type, the buffer size, the descriptor, the buffer.
 pub fn slots_have_their_faults()
     ensures { SlotsHaveTheirFaults }
+{}
+
+/// A receive step that writes a slot leaves the descriptor with these 16 bytes: RSS type, IPv4 and IPv6 in bits 3 to 0, 4
+/// and 6 of byte 0, TCP and UDP in bits 0 and 1 of byte 1, the hash in bytes 4 to 7, DD and EOP in bits 0 and 1 of byte
+/// 8, the number of bytes in bytes 12 and 13, the lower byte first, and 0 in all others; and the buffer has the next
+/// bytes of the frame.
+pub fn descriptors_are_written_back()
+    ensures { DescriptorsAreWrittenBack }
 {}
 
 /// A transmit step of a queue from 128 on gets the reply `NoQueue`. One below is idle exactly where CTRL bit 2 is 1,

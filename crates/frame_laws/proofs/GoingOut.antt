@@ -16,7 +16,7 @@ use Rattle.nic_device.specs.TxRing.declared.fetched.Fetched.{Fetched}
 use Rattle.nic_device.specs.State.{State}
 use Rattle.nic_device.specs.Transmit.{staged_by, fetched_reply, with_frame}
 use Rattle.frame_laws.specs.Bits.{bit, field}
-use Rattle.frame_laws.specs.Transmitting.{head_descriptor, named_bytes, with_named, GoesOutAs, SendsFrame, StagesBytes}
+use Rattle.frame_laws.specs.Transmitting.{head_descriptor, named_bytes, with_named, GoesOutAs, StagesBytes}
 use Rattle.frame_laws.specs.Transmitting.{StagesNothing, SentAfter}
 use Rattle.frame_laws.proofs.Bits.{has-one, has-zero, one-has, zero-has}
 use Rattle.frame_laws.proofs.Slots.{low-half}
@@ -29,7 +29,7 @@ ring s queue = (transmit_queue_of s.registers queue).ring
 abbrev pub descriptor : State → ℕ → List ℕ
 descriptor s queue = descriptor_of s.memory (ring s queue)
 
-head-is : (s : State) (queue : ℕ) → head_descriptor s queue ≡ descriptor s queue
+pub head-is : (s : State) (queue : ℕ) → head_descriptor s queue ≡ descriptor s queue
 head-is s queue =
     ap (λ h. read_at s.memory
     ((word_of s.registers Tdbah queue * 2 ^ 32 + word_of s.registers Tdbal queue + 16 * h) % 2 ^ 64) 16)

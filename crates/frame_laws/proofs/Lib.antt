@@ -19,3 +19,5 @@ pub mod Switched
 pub mod Memory
 pub mod Shown
 pub mod WrittenBack
+pub mod TransmitBytes
+pub mod TransmitFaults

@@ -4,9 +4,8 @@ use Rattle.std.proofs.lemmas.Bool.{and_parts, and_from, not-true, not-false, ltb
 use Rattle.nic_device.specs.DmaRing.Ring.{slots_of, is_outside}
 use Rattle.nic_device.specs.DmaRing.declared.dir.Dir.TheVariants.{Rx, Tx}
 use Rattle.nic_device.specs.DmaRing.declared.ring.Ring.{Ring}
-use Rattle.nic_device.specs.RegTable.declared.rows.RowId.TheVariants.{Rdh, Rdt, Rdlen, Tdh, Tdt, Tdlen}
 use Rattle.nic_device.specs.RegisterFile.Queue.{ring_of}
-use Rattle.nic_device.specs.RegisterFile.Registers.{Registers, word_of}
+use Rattle.nic_device.specs.RegisterFile.Registers.{Registers}
 use Rattle.nic_device.specs.Receive.{is_empty}
 use Rattle.frame_laws.specs.Bits.{field}
 use Rattle.frame_laws.specs.Receiving as receiving

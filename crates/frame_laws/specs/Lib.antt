@@ -9,3 +9,4 @@ pub mod Queues
 pub mod Packets
 pub mod Types
 pub mod WrittenBack
+pub mod TransmitFaults

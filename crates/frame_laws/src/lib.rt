@@ -13,6 +13,7 @@ ghost use Rattle.frame_laws.specs.Receiving.{SlotsAreWrittenAtHead};
 ghost use Rattle.frame_laws.specs.Switching.{SwitchingHasItsReason, SwitchedSideIsAsWanted};
 ghost use Rattle.frame_laws.specs.Types.{FramesHaveTypes};
 ghost use Rattle.frame_laws.specs.WrittenBack.{DescriptorsAreWrittenBack};
+ghost use Rattle.frame_laws.specs.TransmitFaults.{DescriptorsHaveTheirFaults};
 ghost use Rattle.frame_laws.specs.Transmitting.{SilenceHasItsReasons, FramesGoOutWhole};
 
 /// An arriving frame is dropped for the first of these reasons that applies: the link is down; RXCTRL bit 0 is 0; it
@@ -88,6 +89,14 @@ pub fn descriptors_are_written_back()
 /// ring. Neither changes anything.
 pub fn silence_has_its_reasons()
     ensures { SilenceHasItsReasons }
+{}
+
+/// A transmit descriptor that a step looks at is done where TDLEN, TDH and TDT set up its ring, its 16 bytes and those of
+/// its buffer are lent, no offload is asked for, the frame is no longer than the limit, and, with RS 1 alone, the bytes
+/// of its report are lent; one of type 2 without more. Else it has the first fault that applies: head or tail outside,
+/// the descriptor, the format, the type, offload, length, the buffer, the report. A frame is sent with EOP 1.
+pub fn descriptors_have_their_faults()
+    ensures { DescriptorsHaveTheirFaults }
 {}
 
 /// A frame that is transmitted consists of the bytes that its queue staged and those of the descriptor at the head, and

@@ -1,10 +1,14 @@
 pub mod Accesses
 pub mod Addresses
+pub mod ByKind
 pub mod Choice
 pub mod Filter
+pub mod Hash
 pub mod Holes
 pub mod Mail
-pub mod Mailbox
+pub mod MailOthers
 pub mod MailReset
+pub mod Mailbox
 pub mod Offsets
+pub mod Rings
 pub mod Table

@@ -100,3 +100,17 @@ PoolResetsLeave =
     (around : Surroundings) (r : Registers) → HasShape r → (mode : Mode) (v bit : ℕ) → v < 64 → bit < 32 →
     reads around (pool_reset mode v r) (own v) bit
     ≡ (reads around r (own v) bit && not (bit == 2 || bit == 4 || bit == 5))
+
+-- a write of function v's mailbox changes bit 2 of PVFMAILBOX[v] alone, one of the physical function bits 5 to 2: all
+-- other bits there, and all of each other function's mailbox, read as before
+pub record LeavesOtherBits (around : Surroundings) (r : Registers) (v u w bit : ℕ) : Type 0 where
+  pub function : (v == u && bit == 2) ≡ false →
+      reads around (write_at r (own v) w) (own u) bit ≡ reads around r (own u) bit
+  pub physical : (v == u && (bit == 2 || bit == 3 || bit == 4 || bit == 5)) ≡ false →
+      reads around (write_at r (other v) w) (own u) bit ≡ reads around r (own u) bit
+  pub read : (v == u) ≡ false → reads around (read_at r (own v)) (own u) bit ≡ reads around r (own u) bit
+
+abbrev pub OtherBitsStay : Type 0
+OtherBitsStay =
+    (around : Surroundings) (r : Registers) → HasShape r → (v u w bit : ℕ) → v < 64 → u < 64 → bit < 32 →
+    LeavesOtherBits around r v u w bit

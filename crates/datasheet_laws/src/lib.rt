@@ -7,8 +7,10 @@
 
 ghost use Rattle.datasheet_laws.specs.Choice.{TypesAreChosen, QueuesAreChosen, ResetsAreAsked};
 ghost use Rattle.datasheet_laws.specs.Filter.{FramesAreLetIn, PoolsAreChosen};
+ghost use Rattle.datasheet_laws.specs.Hash.{HashIsOfTheKey};
+ghost use Rattle.datasheet_laws.specs.ByKind.{WordsAreStored, RingsAreHeld, KindsAreRead, SidesAreAsked, EepromIsRead};
 ghost use Rattle.datasheet_laws.specs.Mailbox.{MailboxesShake, OnesAreCleared, FunctionsRaise, PhysicalRaises};
-ghost use Rattle.datasheet_laws.specs.Mailbox.{PoolResetsLeave};
+ghost use Rattle.datasheet_laws.specs.Mailbox.{PoolResetsLeave, OtherBitsStay};
 ghost use Rattle.datasheet_laws.specs.Offsets.{OffsetsAreListed, OtherOffsetsAreHoles};
 ghost use Rattle.datasheet_laws.specs.Table.{RegistersAreListed, HasAliases, HasLowViews, OtherAddressesMeetNone};
 
@@ -45,6 +47,12 @@ pub fn other_offsets_are_holes()
 /// read as bits 4 and 5 of PVFMAILBOX[v], until one read.
 pub fn mailboxes_shake()
     ensures { MailboxesShake }
+{}
+
+/// A write of PVFMAILBOX[v] changes its bit 2 alone, and one of PFMAILBOX[v] bits 5 to 2: every other bit there, and the
+/// mailbox of every other function, reads as before. A read of one leaves the others.
+pub fn mailboxes_keep_other_bits()
+    ensures { OtherBitsStay }
 {}
 
 /// A 1 that is written to 0x00710 + 4k, PFMBICR[k], clears its bit there, and no other.
@@ -100,4 +108,41 @@ pub fn queues_are_chosen()
 /// 26, and no other write asks for one.
 pub fn resets_are_asked()
     ensures { ResetsAreAsked }
+{}
+
+/// A plain read/write register, CTRL and the enable words store what is written to the bits of the mask that is listed:
+/// CTRL all but bits 3 and 26, RXDCTL and TXDCTL all but bit 25. No other bit of the word changes.
+pub fn words_are_stored()
+    ensures { WordsAreStored }
+{}
+
+/// A ring's base, length and head are stored by their masks while bit 25 of RXDCTL[q] or TXDCTL[q] reads 0, and a write
+/// changes nothing while it reads 1.
+pub fn rings_are_held()
+    ensures { RingsAreHeld }
+{}
+
+/// A counter that a read clears reads 0 after it, and no write changes it, nor one VFGPRC, VFGPTC, STATUS, LINKS or EEC.
+/// A read of any other register but EICR, PVTEICR and PVFMAILBOX changes nothing. What sets and clears causes and masks,
+/// and PVFCTRL, reads 0.
+pub fn kinds_are_read()
+    ensures { KindsAreRead }
+{}
+
+/// Bit 25 of what is written to RXDCTL[q] and TXDCTL[q] says whether that side of queue q is wanted on.
+pub fn sides_are_asked()
+    ensures { SidesAreAsked }
+{}
+
+/// A write of EERD, at 0x10014, stores bits 0 and 15 to 2, and clears all others. With bit 0 at 1 it asks for the word
+/// with the index in bits 15 to 2. The answer keeps these, clears bit 0, sets bit 1, and has the word in bits 31 to 16.
+pub fn eeprom_is_read()
+    ensures { EepromIsRead }
+{}
+
+/// Bit 31 - j of a frame's hash is 1 where an odd number of bits k of what is hashed are 1 for which bit k + j of the
+/// key is: bit 7 - k mod 8 of byte k / 8, and bit 8((k / 8) mod 4) + 7 - k mod 8 of RSSRK[k / 32], at 0x0EB80 + 4(k /
+/// 32).
+pub fn hash_is_of_the_key()
+    ensures { HashIsOfTheKey }
 {}

@@ -1,5 +1,5 @@
 -- What a write of CTRL_EXT leaves.
-use Rattle.std.proofs.Common.{◌≡◌, ◌≢◌, ℕ, ◌<◌, true, false, cond, if◌then◌else◌, List, [], ◌∷◌, refl, ap, sym, ◌∙◌, subst, arith, lit<}
+use Rattle.std.proofs.Common.{◌≡◌, ◌≢◌, ℕ, ◌<◌, false, cond, if◌then◌else◌, List, [], ◌∷◌, refl, ap, sym, ◌∙◌, subst, arith, lit<}
 use Rattle.std.specs.Prelude.{bit_and, fold}
 use Rattle.std.specs.List.{range_with_len}
 use Rattle.std.proofs.lemmas.Bool.{cond_both, cond-false}
@@ -30,7 +30,7 @@ use Rattle.nic_device.specs.declared.event.Reply.TheVariants.{Word}
 use Rattle.nic_device.specs.DmaArena.Block.{Block}
 use Rattle.device_laws.specs.Laws.{reply_to_read, after_write}
 use Rattle.device_laws.proofs.Accesses.{state-read, state-written}
-use Rattle.interrupt_laws.specs.Extended.{ExtendedBeginsAtZero, ExtendedKeepsWhatIsWritten, KeepsExtended, extended_address}
+use Rattle.interrupt_laws.specs.Extended.{ExtendedBeginsAtZero, ExtendedKeepsWhatIsWritten}
 use Rattle.interrupt_laws.specs.Names.{IsAddressOf}
 use Rattle.interrupt_laws.specs.Shown.{word_in}
 use Rattle.interrupt_laws.proofs.Addresses.{address_of}

@@ -21,6 +21,7 @@ pub mod OtherBits
 pub mod Owned
 pub mod Plain
 pub mod Pools
+pub mod Raised
 pub mod Raising
 pub mod Reading
 pub mod Resets

@@ -71,7 +71,7 @@ or_false : (x : Bool) → (x || false) ≡ x
 or_false true = refl
 or_false false = refl
 
-only_cause : (one : Bool) (x : Bit) → cause_set false one x ≡ raised_bit one x
+pub only_cause : (one : Bool) (x : Bit) → cause_set false one x ≡ raised_bit one x
 only_cause one x = λ k. record {
   cause = x.cause || one;
   mask = or_false x.mask k;

@@ -8,6 +8,7 @@ pub mod Messages
 pub mod Names
 pub mod Plain
 pub mod Queues
+pub mod Raised
 pub mod Resets
 pub mod Sending
 pub mod Shown

@@ -16,6 +16,7 @@ ghost use Rattle.interrupt_laws.specs.Steps.{MessageStepsTellWhatIsDue};
 ghost use Rattle.interrupt_laws.specs.Holding.{FunctionHoldsOn, PhysicalHoldsOn};
 ghost use Rattle.interrupt_laws.specs.Mailbox.{MailboxesAreShared};
 ghost use Rattle.interrupt_laws.specs.Messages.{MessagesHaveNumbers, MessagesAreShared, MessagesLast};
+ghost use Rattle.interrupt_laws.specs.Raised.{DeviceRaisesByNumber};
 ghost use Rattle.interrupt_laws.specs.Resets.{EndIsToldOnce, EndIsTold};
 ghost use Rattle.interrupt_laws.specs.Sending.{RequestsAreApart};
 ghost use Rattle.interrupt_laws.specs.Accesses.{WriteOfCauseSetSets, WriteOfCausesClears, ReadOfCausesClears, WriteOfMasksSets, WriteOfMaskClearClears, SetAndClearReadZero, WriteOfAutoClearIsKept, WriteOfAutoMaskIsKept, ReadsShowTheView, OtherBitsReadZero};
@@ -115,6 +116,13 @@ pub fn status_and_links_are_told()
 pub fn vectors_name_causes()
     ensures ivar { IvarNamesCauses }
     ensures pvtivar { PvtivarNamesCauses }
+{}
+
+/// A frame that arrives where the list is full raises cause 17 of EICR, at 0x00800; a fault of a step of receiving or
+/// transmitting cause 18; a change of the link cause 20. No other cause or mask changes, and no other arrival or call of
+/// the link raises any.
+pub fn device_raises_by_number()
+    ensures { DeviceRaisesByNumber }
 {}
 
 /// A frame that is written to its end on queue q is counted in the QPRC, and one that is dropped because no descriptor

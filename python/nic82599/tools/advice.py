@@ -8,6 +8,7 @@ from __future__ import annotations
 from collections.abc import Iterator
 from dataclasses import dataclass
 
+from . import reason_table as table
 from . import regs
 from .regs import ENABLE, Register
 from .script import Instruction, Op, Script
@@ -195,7 +196,7 @@ class Advice:
         if steps and not [one for one in self._of("GPIE") if one.word & 0x10]:
             yield self._at(
                 steps[0],
-                "GPIE.Multiple_MSIX isn't set: without MSI-X mode the card has one message for all causes",
+                f"GPIE.Multiple_MSIX isn't set: {table.WHY['no_msix']}",
             )
 
     def _causes(self) -> Iterator[Warning]:
@@ -216,8 +217,7 @@ class Advice:
         for one in masks:
             silent = one.word & 0xFFFF & ~raised
             if silent:
-                names = ", ".join(regs.bits("EIMS", silent))
-                yield self._at(one.pc, f"{names}: no entry of IVAR names these causes, so nothing raises them")
+                yield self._at(one.pc, table.pf_unraised({}, silent).text)
 
     def _without_vector(self, masks: list[Access]) -> Iterator[Warning]:
         """Causes of no queue that are unmasked, and to which IVAR_MISC gives no vector."""
@@ -232,11 +232,11 @@ class Advice:
     def _untold(self, one: Access, byte: int, entry: int, masked: int) -> Iterator[Warning]:
         """An entry of IVAR that doesn't count, that names no cause, or whose cause is masked."""
         queue, side = 2 * one.register.index + byte // 2, "tx" if byte & 1 else "rx"
-        name = f"{one.register.name} INT_Alloc[{byte}] ({side} {queue})"
+        named = one.register.index, byte, side, queue
         if not entry & 0x80:
-            yield self._at(one.pc, f"{name} doesn't count: its bit 7 is 0")
+            yield self._at(one.pc, table.pf_entry_off({}, *named).text)
         elif entry & 63 > 15:
-            yield self._at(one.pc, f"{name}: {entry & 63} is no cause of 0 to 15")
+            yield self._at(one.pc, table.pf_entry_high({}, *named, entry & 63).text)
         elif not masked >> (entry & 63) & 1:
             yield self._at(
                 one.pc,

@@ -2,48 +2,32 @@
 
 Each condition of docs/REGISTERS.md and docs/script.md for the step's kind is told in the order in which the device
 tests it, with the words of the registers before the step, and whether it held. The reply itself is always the
-program's.
+program's. The conditions and what is told of them are those of reason_table.py.
 """
 
 from __future__ import annotations
 
-from dataclasses import dataclass
-
+from . import reason_table as table
 from . import regs
 from .frames import address
 from .memory import Frame, Seen, ring_of
+from .reason_table import Reason, Words
 from .regs import ENABLE, queues_of_pool
 from .script import Op
 from .trace import Step, Trace, number_after, word_of
 
-Words = dict[int, int]
 # The instructions that may set the word that an expect looks at.
 ACC = (Op.READ, Op.VF_READ, Op.PEEK, Op.AND)
 
 
-@dataclass(frozen=True)
-class Reason:
-    """A condition that gives the reply, and whether it held before the step."""
-
-    held: bool
-    text: str
+def _value(words: Words, name: str, field: str, index: int = 0) -> int:
+    """A field's value."""
+    return next(one for one in regs.FIELDS[name] if one.name == field).of(word_of(words, name, index))
 
 
-def _flag(words: Words, name: str, field: str, index: int = 0) -> tuple[int, str]:
-    """A field's value, and how it is told: `RXCTRL.RXEN 0`."""
-    row = regs.FIELDS[name]
-    value = next(one for one in row if one.name == field).of(word_of(words, name, index))
-    shown = regs.name_at(regs.first(name, index))
-    return value, f"{shown}.{field} {value}"
-
-
-def _disabled(words: Words) -> Reason:
-    value, told = _flag(words, "CTRL", "Master_Disable")
-    return Reason(bool(value), f"{told}: the device makes no step" if value else told)
-
-
-def _wait(count: int) -> str:
-    return f"{count} frame{'s' if count > 1 else ''} wait{'' if count > 1 else 's'}"
+def _by_jumbo(words: Words, plain: Reason, jumbo: Reason) -> Reason:
+    """Of two reasons about the frame limit the one that HLREG0 chooses."""
+    return jumbo if _value(words, "HLREG0", "JUMBOEN") else plain
 
 
 class Reasons:
@@ -84,13 +68,13 @@ class Reasons:
         if one.op == Op.RX and reply in ("idle", "dropped queue off", "dropped no slot"):
             return self._receive(step)
         if reply == "no queue":
-            return [Reason(True, f"queue {one.x} isn't below 128")]
+            return [table.no_queue(self.words, one.x)]
         if reply == "no group":
             return self._group(one.x)
         if reply.startswith("stray"):
-            return [Reason(True, self._stray(step))]
+            return self._stray(step)
         if reply in ("not lent", "misaligned", "no block"):
-            return [Reason(True, self._memory(step))]
+            return [self._memory(step)]
         if reply != "idle":
             return []
         if one.op == Op.TX:
@@ -98,14 +82,13 @@ class Reasons:
         if one.op == Op.INT:
             return self._message(one.x if one.sub else None)
         if one.op == Op.QSTEP:
-            value, told = _flag(self.words, "TXDCTL" if one.sub else "RXDCTL", "ENABLE", one.x)
-            return [_disabled(self.words), Reason(True, f"{told}, as its last write asked, or as at the reset")]
+            as_asked = table.tx_as_asked if one.sub else table.rx_as_asked
+            return [table.disabled(self.words), as_asked(self.words, one.x)]
         if one.op == Op.EESTEP:
-            value, told = _flag(self.words, "EERD", "START")
-            return [_disabled(self.words), Reason(not value, f"{told}: no word is asked for" if not value else told)]
+            return [table.disabled(self.words), table.no_word_asked(self.words)]
         if one.op == Op.LINK:
-            return [Reason(True, f"{_flag(self.words, 'LINKS', 'Link_Up')[1]} already")]
-        return [Reason(True, "no frame that went out is left")]
+            return [table.link_already(self.words)]
+        return [table.none_out(self.words)]
 
     def _expected(self, step: Step) -> str:
         """Of an expect that failed: the word that it found, and where that comes from."""
@@ -123,49 +106,41 @@ class Reasons:
 
     def _receive(self, step: Step) -> list[Reason]:
         """Of a receive step that wrote nothing."""
-        frame, words = self._front(), self.words
+        frame, words, disabled = self._front(), self.words, table.disabled(self.words)
         earlier = self.seen.earlier[step.number] if self.seen.earlier else 0
         if earlier:
-            return self._of_earlier(earlier + len(self.waiting))
-        reasons = [
-            _disabled(words),
-            Reason(frame is None, "no frame waits" if frame is None else self._told_waiting(frame)),
-        ]
+            told = table.waiting_since_before(words, earlier + len(self.waiting))
+            return [disabled, Reason(not disabled.held, told.text)]
         if frame is None:
-            return reasons
+            return [disabled, table.none_waits(words)]
         if frame.queue is None:
-            return reasons + [Reason(True, "the frame in front waits for a queue that couldn't be asked for")]
+            told = table.waiting_somewhere(words, len(self.waiting))
+            return [disabled, Reason(False, told.text), table.rx_frame_without_queue(words)]
         queue = frame.queue
-        enable, told = _flag(words, "RXDCTL", "ENABLE", queue)
-        reasons.append(
-            Reason(not enable, told + ("" if enable else f": the queue is off{self._asked(step, 'RXDCTL', queue)}"))
-        )
+        waiting = Reason(False, table.waiting(words, len(self.waiting), queue).text)
+        reasons = [disabled, waiting, self._queue_off(step, "rx", queue)]
         if step.reply == "dropped queue off":
             return reasons
-        ring = ring_of(words, "rx", queue)
-        empty = ring.head == ring.tail
-        why = ": head and tail meet, no slot is the device's until the driver moves the tail" if empty else ""
-        reasons.append(Reason(empty, f"RDH[{queue}] {ring.head}, RDT[{queue}] {ring.tail}{why}"))
-        drop, told = _flag(words, "SRRCTL", "Drop_En", queue)
+        reasons.append(table.rx_no_slot(words, queue))
         if step.reply == "dropped no slot":
-            reasons.append(Reason(True, f"{told}: a frame that finds no slot is dropped"))
-        elif not drop:
-            reasons.append(Reason(empty, f"{told}: a frame that finds no slot waits"))
+            reasons.append(table.rx_drops(words, queue))
+        elif not _value(words, "SRRCTL", "Drop_En", queue):
+            reasons.append(table.rx_waits(words, queue))
         elif frame.slots:
-            reasons.append(Reason(empty, f"{told}, but a part of the frame is written: it waits"))
+            reasons.append(table.rx_part_waits(words, queue))
         return reasons
 
-    def _of_earlier(self, count: int) -> list[Reason]:
-        """Where so many frames wait, and the one in front came before the run, so that its queue isn't asked for."""
-        disabled = _disabled(self.words)
-        return [disabled, Reason(not disabled.held, f"{_wait(count)}, the one in front since before the first step")]
+    def _queue_off(self, step: Step, side: str, queue: int) -> Reason:
+        """That a side of a queue is off, and what was done about it by the steps before."""
+        row = "RXDCTL" if side == "rx" else "TXDCTL"
+        asked = None if _value(self.words, row, "ENABLE", queue) else self._asked(step, row, queue)
+        if asked:
+            not_switched = table.rx_not_switched if side == "rx" else table.tx_not_switched
+            return not_switched(self.words, queue, f" at step {asked.number}")
+        return (table.rx_queue_off if side == "rx" else table.tx_queue_off)(self.words, queue)
 
-    def _told_waiting(self, frame: Frame) -> str:
-        where = f" for queue {frame.queue}" if frame.queue is not None else ""
-        return f"{_wait(len(self.waiting))}, the one in front{where}"
-
-    def _asked(self, step: Step, row: str, queue: int) -> str:
-        """What was done about a queue's enable, by the steps before."""
+    def _asked(self, step: Step, row: str, queue: int) -> Step | None:
+        """The step before that asked for a queue's enable, if it wasn't switched since."""
         control = regs.first(row, queue)
         side, asked = ("rx" if row == "RXDCTL" else "tx"), None
         for before in self.trace.steps[: step.number]:
@@ -174,145 +149,93 @@ class Reasons:
                 asked = before if one.b & ENABLE else None
             elif one.op == Op.QSTEP and one.x == queue and (one.sub == 1) == (side == "tx") and before.reply == "done":
                 asked = None
-        return f"; it was asked for at step {asked.number}, but no `qstep {side} {queue}` followed" if asked else ""
+        return asked
 
     def _transmit(self, queue: int) -> list[Reason]:
         """Of a transmit step that fetched nothing."""
         words = self.words
-        link, told_link = _flag(words, "LINKS", "Link_Up")
-        sends, told_sends = _flag(words, "DMATXCTL", "TE")
-        enable, told_enable = _flag(words, "TXDCTL", "ENABLE", queue)
         at = Step(len(self.trace.steps), 0)
         reasons = [
-            _disabled(words),
-            Reason(not link, told_link + ("" if link else ": the link is down")),
-            Reason(not sends, told_sends + ("" if sends else ": the device doesn't send")),
-            Reason(
-                not enable, told_enable + ("" if enable else f": the queue is off{self._asked(at, 'TXDCTL', queue)}")
-            ),
+            table.disabled(words),
+            table.link_down(words),
+            table.tx_off(words),
+            self._queue_off(at, "tx", queue),
         ]
         k = queues_of_pool(word_of(words, "GCR_EXT"))
-        pools, told = _flag(words, "VT_CTL", "VT_Ena")
-        if pools and k:
-            pool = queue // k
-            bit = word_of(words, "VFTE", pool // 32) >> pool % 32 & 1
-            reasons.append(
-                Reason(
-                    not bit,
-                    f"{told}, VFTE[{pool // 32}] bit {pool % 32} {bit}: pool {pool} sends{'' if bit else ' not'}",
-                )
-            )
-        ring = ring_of(words, "tx", queue)
-        empty = ring.head == ring.tail
-        why = ": the ring is empty" if empty else ""
-        return reasons + [Reason(empty, f"TDH[{queue}] {ring.head}, TDT[{queue}] {ring.tail}{why}")]
+        if _value(words, "VT_CTL", "VT_Ena") and k:
+            reasons.append(table.tx_pool_off(words, queue // k))
+        return [*reasons, table.tx_empty(words, queue)]
 
     def _message(self, function: int | None) -> list[Reason]:
         """Of a group that has no message."""
-        words, reasons = self.words, [_disabled(self.words)]
-        names = ("EICR", "EIMS") if function is None else ("PVTEICR", "PVTEIMS")
-        index = function or 0
+        words, reasons = self.words, [table.disabled(self.words)]
+        pf, index = function is None, function or 0
+        names = ("EICR", "EIMS") if pf else ("PVTEICR", "PVTEIMS")
         causes, masks = (word_of(words, name, index) for name in names)
-        cause, mask = (regs.name_at(regs.first(name, index)) for name in names)
         if not causes:
-            return reasons + [Reason(True, f"{cause} 0x{causes:08x}: no cause is there")]
-        due, hidden = causes & masks, causes & ~masks
-        told = f"{cause} 0x{causes:08x} ({', '.join(regs.bits(names[0], causes))}), {mask} 0x{masks:08x}"
+            return [*reasons, table.pf_no_cause(words) if pf else table.vf_no_cause(words, index)]
+        due = causes & masks
+        reasons.append(table.pf_masked(words) if pf else table.vf_masked(words, index))
         if not due:
-            return reasons + [Reason(True, f"{told}: no cause has its mask 1")]
-        reasons.append(Reason(False, told))
-        if hidden:
-            reasons.append(Reason(True, f"{', '.join(regs.bits(names[0], hidden))}: the mask is 0"))
-        misc = word_of(words, "IVAR_MISC")
-        other = function is None and due & 0x3FFF_0000 and not (misc & 0x8000 and misc >> 8 & 63 < 16)
-        timer = function is None and due & 1 << 30 and not (misc & 0x80 and misc & 63 < 16)
-        if other or timer:
-            reasons.append(Reason(True, f"IVAR_MISC 0x{misc:08x}: causes above 15 have no vector below 16 there"))
-        rest = due & ~(0x3FFF_0000 if other else 0) & ~(1 << 30 if timer else 0)
-        if rest:
-            told = ", ".join(regs.bits(names[0], rest))
-            reasons.append(Reason(True, f"{told}: told already, and neither cause nor mask was 0 since"))
+            return reasons
+        hidden = table.pf_hidden(words) if pf else table.vf_hidden(words, index)
+        lost = table.without_vector(words, due) if pf else 0
+        reasons += [one for one in (hidden, table.no_vector(words, lost)) if one.held]
+        if due & ~lost:
+            reasons.append((table.pf_told if pf else table.vf_told)(words, due & ~lost))
         return reasons
 
     def _group(self, function: int) -> list[Reason]:
-        vfs, mode = self.trace.bench.vfs, word_of(self.words, "GCR_EXT")
-        k = queues_of_pool(mode)
+        k = queues_of_pool(word_of(self.words, "GCR_EXT"))
         return [
-            Reason(function >= vfs, f"the device has {vfs} virtual functions (--vfs)"),
-            Reason(not k or function >= 128 // k, f"GCR_EXT.VT_Mode {mode & 3}: {128 // k if k else 'no'} pools"),
+            table.no_function(self.words, function, self.trace.bench.vfs),
+            table.no_pool_of_function(self.words, function, 128 // k if k else 0),
         ]
 
-    def _stray(self, step: Step) -> str:
+    def _stray(self, step: Step) -> list[Reason]:
         one = self.trace.instruction(step)
         if one.op in (Op.VF_READ, Op.VF_WRITE):
             group = [reason.text for reason in self._group(one.x) if reason.held]
-            return "; ".join(group) if group else f"offset 0x{one.a:04x} of a virtual function names nothing"
-        return f"address 0x{one.a:05x} is no register of docs/REGISTERS.md"
+            return [Reason(True, "; ".join(group)) if group else table.stray_offset(self.words, one.a)]
+        return [table.stray_address(self.words, one.a)]
 
-    def _memory(self, step: Step) -> str:
+    def _memory(self, step: Step) -> Reason:
         one = self.trace.instruction(step)
         if step.reply == "misaligned":
-            return f"0x{one.a:x} is no multiple of 16"
+            return table.misaligned(self.words, one.a)
         if one.op in (Op.LEND, Op.UNLEND):
             state = "is lent already" if one.x in self.lent else "is none of 0 to 255" if one.x > 255 else "isn't lent"
-            return f"block {one.x} {state}"
-        return f"0x{one.a:x} is in block {one.a // 2_048}, which isn't lent"
+            return table.block_is(self.words, one.x, state)
+        return table.block_not_lent(self.words, one.a)
 
     def _fault(self, step: Step, side: str) -> list[Reason]:
         """Of a slot that can't be processed."""
         queue = number_after(step.reply, "queue") or 0
         words, why = self.words, step.reply.split(maxsplit=3)[3]
-        ring, letter = ring_of(words, side, queue), side[0].upper()
+        ring = ring_of(words, side, queue)
+        if why == "outside" and side == "rx":
+            return [table.rx_head_outside(words, queue), table.rx_tail_outside(words, queue)]
         if why == "outside":
-            return [
-                Reason(
-                    ring.head >= ring.slots,
-                    f"{letter}DH[{queue}] {ring.head} of {ring.slots} slots ({letter}DLEN[{queue}] / 16)",
-                ),
-                Reason(
-                    ring.tail >= ring.slots,
-                    f"{letter}DT[{queue}] {ring.tail} of {ring.slots} slots ({letter}DLEN[{queue}] / 16)",
-                ),
-            ]
+            return [table.tx_head_outside(words, queue), table.tx_tail_outside(words, queue)]
         if why.startswith("not lent"):
-            at = int(why.split()[-1], 16)
-            slot = f"slot {ring.head} is at 0x{ring.base + 16 * ring.head:x}"
-            return [
-                Reason(
-                    True, f"0x{at:x} is in block {at // 2_048}, or runs from there into one, that isn't lent; {slot}"
-                )
-            ]
+            bus = int(why.split()[-1], 16)
+            return [table.not_lent(words, bus, ring.head, ring.base + 16 * ring.head)]
         if why in ("type", "no buffer size"):
-            field = "DESCTYPE" if why == "type" else "BSIZEPACKET"
-            wanted = "1 is the form that the bench has" if why == "type" else "a buffer has no room"
-            return [Reason(True, f"{_flag(words, 'SRRCTL', field, queue)[1]}: {wanted}")]
-        told = {
-            "offload": "the descriptor asks for VLE, TSE or POPTS",
-            "legacy": "the descriptor's DEXT, bit 29 of its second half, is 0",
-            "unknown type": "the descriptor's DTYP is neither 2 nor 3",
-            "too long": f"the frame would be longer than {self._limit()[1]}",
-        }
-        return [Reason(True, f"slot {ring.head}: {told.get(why, why)}")]
-
-    def _limit(self) -> tuple[int, str]:
-        """The frame limit, and where it comes from."""
-        jumbo, told = _flag(self.words, "HLREG0", "JUMBOEN")
-        if not jumbo:
-            return 1_514, f"1514 ({told})"
-        largest, more = _flag(self.words, "MAXFRS", "MFS")
-        return max(0, largest - 4), f"{max(0, largest - 4)} ({told}, {more} less 4)"
+            return [(table.rx_type if why == "type" else table.rx_no_size)(words, queue)]
+        told = {"offload": table.tx_offload, "legacy": table.tx_legacy, "unknown type": table.tx_unknown_type}
+        if why in told:
+            return [told[why](words, ring.head)]
+        too_long = table.tx_too_long(words, ring.head), table.tx_too_long_for_jumbo(words, ring.head)
+        return [_by_jumbo(words, *too_long)]
 
     def _arrival(self, step: Step, why: str) -> list[Reason]:
         """Of a frame that isn't let in."""
         words, frame = self.words, self.trace.script.data[self.trace.instruction(step).x]
-        link, told_link = _flag(words, "LINKS", "Link_Up")
-        on, told_on = _flag(words, "RXCTRL", "RXEN")
-        limit, told_limit = self._limit()
         reasons = [
-            Reason(not link, told_link + ("" if link else ": the link is down")),
-            Reason(not on, told_on + ("" if on else ": receiving is off")),
-            Reason(len(frame) < 60, f"the frame has {len(frame)} bytes, of 60 at least"),
-            Reason(len(frame) > limit, f"the frame has {len(frame)} bytes, of at most {told_limit}"),
+            table.link_down(words),
+            table.rx_off(words),
+            table.short(words, len(frame)),
+            _by_jumbo(words, table.long(words, len(frame)), table.long_for_jumbo(words, len(frame))),
         ]
         order = ["link down", "off", "short", "long"]
         if why in order:
@@ -322,7 +245,7 @@ class Reasons:
             return passed + self._filter(frame[:6])
         if why in ("no pool", "pool off"):
             return passed + self._pool(frame[:6], why)
-        return passed + [Reason(True, f"{len(self.waiting)} frames wait, of {self.trace.bench.fifo} at most (--fifo)")]
+        return [*passed, table.full(words, len(self.waiting), self.trace.bench.fifo)]
 
     def _matches(self, to: bytes) -> list[int]:
         """The receive addresses that are a destination."""
@@ -339,19 +262,15 @@ class Reasons:
     def _filter(self, to: bytes) -> list[Reason]:
         """Why the filter has no place for a destination."""
         words, shown = self.words, address(to)
-        flags = {name: _flag(words, "FCTRL", name) for name in ("MPE", "UPE", "BAM")}
         if to == b"\xff" * 6:
-            return [Reason(True, f"{shown} is broadcast: {flags['BAM'][1]}, {flags['MPE'][1]}")]
+            return [table.broadcast(words, shown)]
         count = sum(word_of(words, "RAH", i) >> 31 for i in range(128))
-        none = Reason(True, f"{shown} is none of the {count} receive addresses (RAL, RAH) with AV 1")
+        none = table.no_address(words, shown, count)
         if not to[0] & 1:
-            return [Reason(True, f"{shown} goes to one: {flags['UPE'][1]}"), none]
-        use, told = _flag(words, "MCSTCTRL", "MFE")
+            return [table.unicast(words, shown), none]
         shift = (4, 3, 2, 0)[word_of(words, "MCSTCTRL") & 3]
         vector = (to[4] | to[5] << 8) >> shift & 0xFFF
-        bit = word_of(words, "MTA", vector >> 5) >> (vector & 31) & 1
-        table = Reason(not (use and bit), f"{told}, MTA[{vector >> 5}] bit {vector & 31} {bit}")
-        return [Reason(True, f"{shown} is multicast: {flags['MPE'][1]}"), none, table]
+        return [table.multicast(words, shown), none, table.multicast_table(words, vector)]
 
     def _pool(self, to: bytes, why: str) -> list[Reason]:
         """Why there is no pool for a destination, or why its pool takes no frames."""
@@ -359,24 +278,20 @@ class Reasons:
         pair = 0
         if found:
             pair = word_of(words, "MPSAR", 2 * found[0]) | word_of(words, "MPSAR", 2 * found[0] + 1) << 32
-        default, told = _flag(words, "VT_CTL", "DEF_PL")
         if pair:
-            pool, whence = (
-                pair & -pair
-            ).bit_length() - 1, f"the lowest of MPSAR[{2 * found[0]}] and [{2 * found[0] + 1}]"
+            pool = (pair & -pair).bit_length() - 1
+            whence = f"the lowest of MPSAR[{2 * found[0]}] and [{2 * found[0] + 1}]"
         else:
-            pool, whence = default, told
+            pool = _value(words, "VT_CTL", "DEF_PL")
+            whence = f"VT_CTL.DEF_PL {pool}"
         if why == "pool off":
-            return [Reason(True, f"pool {pool} ({whence}): VFRE[{pool // 32}] bit {pool % 32} 0")]
-        none, told = _flag(words, "VT_CTL", "Dis_Def_Pool")
-        mode, told_mode = _flag(words, "MRQC", "MRQE")
-        few, told_pools = _flag(words, "GCR_EXT", "VT_Mode")
-        sixteen = few == 1 and mode in (8, 10, 11)
+            return [table.frame_pool_off(words, pool, whence)]
+        sixteen = _value(words, "GCR_EXT", "VT_Mode") == 1 and _value(words, "MRQC", "MRQE") in (8, 10, 11)
         where = "an address that MPSAR gives no pool" if found else "no receive address"
         return [
-            Reason(bool(none) and not pair, f"{address(to)} is {where}, {told}"),
-            Reason(sixteen and pool > 15, f"{told_mode}, {told_pools}, pool {pool} ({whence}) of 16"),
-            Reason(not sixteen and mode == 10 and pool > 31, f"{told_mode}, pool {pool} ({whence}) of 32"),
+            table.no_default_pool(words, address(to), where, pair),
+            table.pool_of_16(words, pool, whence, sixteen),
+            table.pool_of_32(words, pool, whence, sixteen),
         ]
 
 

@@ -10,7 +10,8 @@ enum { NICD_UNIT = 16 };
 /* More than all bytes. */
 #define NICD_ALL UINT64_MAX
 
-/* Of these bytes, each sixteen of the caller's memory that a replay has otherwise is handed over, and then it has it. */
+/* Of these bytes, each sixteen of the caller's memory that a replay has otherwise is handed over, and then it has
+   it. */
 typedef void nicd_poke(void *argument, uint64_t bus, const uint8_t unit[NICD_UNIT]);
 void nicd_shadow_poke(const nic *n, uint64_t bus, uint64_t length, nicd_poke *poke, void *argument);
 

@@ -1,5 +1,6 @@
 /* Legacy descriptors, which the bench doesn't model: for drivers that use them, made advanced ones before the device
-   sees them, and legacy ones again where it wrote them. These are the bus' hooks of the same names, or what they call. */
+   sees them, and legacy ones again where it wrote them. These are the bus' hooks of the same names, or what they
+   call. */
 #ifndef DRIVERS_LEGACY_H
 #define DRIVERS_LEGACY_H
 
@@ -17,7 +18,8 @@ uint32_t legacy_to_driver(unsigned int function, uint32_t address, uint32_t word
    a tag stay as they are, and are a fault then. */
 void legacy_giving(bool is_transmit, uint16_t queue, uint32_t tail);
 
-/* A receive descriptor was filled: of a queue whose driver asked for type 0 it gets the legacy form, its address too. */
+/* A receive descriptor was filled: of a queue whose driver asked for type 0 it gets the legacy form, with its
+   address. */
 void legacy_filled(uint16_t queue, uint64_t descriptor, bool ends);
 
 /* How many descriptors were translated. */

@@ -14,8 +14,7 @@ enum { POWER = 0x01, EXPRESS = 0x10, ENDPOINT = 0x0002 };
 #define CLASS_ETHERNET 0x02000001u /* with revision 1 */
 #define BAR_64 0x4u
 
-void pci_config_field(struct pci_config *config, unsigned int at, unsigned int bytes, uint32_t value,
-                      uint32_t writable)
+void pci_config_field(struct pci_config *config, unsigned int at, unsigned int bytes, uint32_t value, uint32_t writable)
 {
     for (unsigned int i = 0; i < bytes && at + i < PCI_CONFIG_BYTES; i++) {
         config->bytes[at + i] = (uint8_t)(value >> 8 * i);

@@ -8,8 +8,8 @@
 
 /* What else a driver may do that only ring 0 may; each may be null, and then it ends the run. */
 struct trap_hooks {
-    void (*halt)(void);        /* HLT: time passes */
-    bool has_ports;            /* IN gives ones, and OUT does nothing, as where no device answers */
+    void (*halt)(void); /* HLT: time passes */
+    bool has_ports;     /* IN gives ones, and OUT does nothing, as where no device answers */
 };
 
 /* Takes the process's SIGSEGV and SIGBUS: false where the system refuses that. A fault elsewhere, and an access that

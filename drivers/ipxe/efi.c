@@ -21,8 +21,8 @@ static struct {
     EFI_STATUS status;
 } running;
 
-static uint8_t path[] = {4, 4, 24, 0, 'i', 0, 'p', 0, 'x', 0, 'e', 0, '.', 0, 'e', 0, 'f', 0, 'i', 0, 0, 0, 0, 0,
-                         0x7F, 0xFF, 4, 0};
+static uint8_t path[] = {4,   4, 24,  0, 'i', 0, 'p', 0, 'x', 0, 'e',  0,    '.', 0,
+                         'e', 0, 'f', 0, 'i', 0, 0,   0, 0,   0, 0x7F, 0xFF, 4,   0};
 
 static CALL unsupported(void)
 {

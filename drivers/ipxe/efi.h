@@ -20,10 +20,10 @@
 /* ---- the whole (efi.c) ---- */
 
 struct efi_setting {
-    const char *image;       /* the application's file */
-    const char *keys;        /* what is typed at its console */
-    void (*on_start)(void);  /* what is done where the application starts an image */
-    bool is_silent;          /* its console isn't shown */
+    const char *image;      /* the application's file */
+    const char *keys;       /* what is typed at its console */
+    void (*on_start)(void); /* what is done where the application starts an image */
+    bool is_silent;         /* its console isn't shown */
 };
 
 /* Runs an application: whether it ended well. False, with a line on standard error, where it can't be loaded. */

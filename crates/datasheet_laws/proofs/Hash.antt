@@ -74,7 +74,8 @@ counted p q both s (suc n) same =
     → count_by p (cond b (s ∷ filter q rest) (filter q rest)) ≡ count_by both (s ∷ rest)) [
       | true ↦ λ e. sum_by-cons (λ k. cond (p k) 1 0) s (filter q rest)
           ∙ (λ t. cond (e t) 1 0 + others t) ∙ sym (sum_by-cons (λ k. cond (both k) 1 0) s rest)
-      | false ↦ λ e. none (count_by p (filter q rest)) ∙ (λ t. cond (e t) 1 0 + others t) ∙ sym (sum_by-cons (λ k. cond (both k) 1 0) s rest)
+      | false ↦ λ e. none (count_by p (filter q rest)) ∙ (λ t. cond (e t) 1 0 + others t)
+          ∙ sym (sum_by-cons (λ k. cond (both k) 1 0) s rest)
     ] here
 
 pub of_the_key : HashIsOfTheKey

@@ -49,8 +49,8 @@ pub fn mailboxes_shake()
     ensures { MailboxesShake }
 {}
 
-/// A write of PVFMAILBOX[v] changes its bit 2 alone, and one of PFMAILBOX[v] bits 5 to 2: every other bit there, and the
-/// mailbox of every other function, reads as before. A read of one leaves the others.
+/// A write of PVFMAILBOX[v] changes its bit 2 alone, and one of PFMAILBOX[v] bits 5 to 2: every other bit there, and
+/// the mailbox of every other function, reads as before. A read of one leaves the others.
 pub fn mailboxes_keep_other_bits()
     ensures { OtherBitsStay }
 {}
@@ -122,9 +122,9 @@ pub fn rings_are_held()
     ensures { RingsAreHeld }
 {}
 
-/// A counter that a read clears reads 0 after it, and no write changes it, nor one VFGPRC, VFGPTC, STATUS, LINKS or EEC.
-/// A read of any other register but EICR, PVTEICR and PVFMAILBOX changes nothing. What sets and clears causes and masks,
-/// and PVFCTRL, reads 0.
+/// A counter that a read clears reads 0 after it, and no write changes it, nor one VFGPRC, VFGPTC, STATUS, LINKS or
+/// EEC. A read of any other register but EICR, PVTEICR and PVFMAILBOX changes nothing. What sets and clears causes and
+/// masks, and PVFCTRL, reads 0.
 pub fn kinds_are_read()
     ensures { KindsAreRead }
 {}

@@ -140,7 +140,8 @@ flow-is frame = rw (ipv4-is frame, ipv6-is frame) refl
 pub flow-reads : (frame : List ℕ) → Reads frame (flow_of frame)
 flow-reads frame =
     subst (Reads frame) (sym (flow-is frame))
-    (cond_both (is_ipv4 frame) (ipv4_flow (packet_of frame)) (cond (is_ipv6 frame) (ipv6_flow (packet_of frame)) no_flow)
+    (cond_both (is_ipv4 frame) (ipv4_flow (packet_of frame))
+    (cond (is_ipv6 frame) (ipv6_flow (packet_of frame)) no_flow)
     (Reads frame) (reads-ipv4 frame)
     (λ lacks. cond_both (is_ipv6 frame) (ipv6_flow (packet_of frame)) no_flow (Reads frame) (reads-ipv6 frame lacks)
     (reads-none frame lacks)))

@@ -34,7 +34,8 @@ module _ (d : List ℕ) (small : (k : ℕ) → slice_index d k < 256) where
   low_half = b 0 + b 1 * 256 + b 2 * 2 ^ 16 + b 3 * 2 ^ 24 + b 4 * 2 ^ 32 + b 5 * 2 ^ 40 + b 6 * 2 ^ 48 + b 7 * 2 ^ 56
 
   abbrev pub high_half : ℕ
-  high_half = b 8 + b 9 * 256 + b 10 * 2 ^ 16 + b 11 * 2 ^ 24 + b 12 * 2 ^ 32 + b 13 * 2 ^ 40 + b 14 * 2 ^ 48 + b 15 * 2 ^ 56
+  high_half = b 8 + b 9 * 256 + b 10 * 2 ^ 16 + b 11 * 2 ^ 24 + b 12 * 2 ^ 32 + b 13 * 2 ^ 40 + b 14 * 2 ^ 48
+      + b 15 * 2 ^ 56
 
   pub first-is : first_half d ≡ low_half
   unfolding first_half
@@ -48,13 +49,15 @@ module _ (d : List ℕ) (small : (k : ℕ) → slice_index d k < 256) where
       let e5 = e 5 (omega arith) in
       let e6 = e 6 (omega arith) in
       let e7 = e 7 (omega arith) in
-      λ k. e0 k + e1 k * 256 + e2 k * 2 ^ 16 + e3 k * 2 ^ 24 + e4 k * 2 ^ 32 + e5 k * 2 ^ 40 + e6 k * 2 ^ 48 + e7 k * 2 ^ 56
+      λ k. e0 k + e1 k * 256 + e2 k * 2 ^ 16 + e3 k * 2 ^ 24 + e4 k * 2 ^ 32 + e5 k * 2 ^ 40 + e6 k * 2 ^ 48
+      + e7 k * 2 ^ 56
 
   second-is : second_half d ≡ high_half
   unfolding second_half
   second-is =
       let e : (k : ℕ) → slice_index (drop 8 d) k ≡ b (8 + k) = λ k. get_or-drop 8 d k 0 in
-      λ k. e 0 k + e 1 k * 256 + e 2 k * 2 ^ 16 + e 3 k * 2 ^ 24 + e 4 k * 2 ^ 32 + e 5 k * 2 ^ 40 + e 6 k * 2 ^ 48 + e 7 k * 2 ^ 56
+      λ k. e 0 k + e 1 k * 256 + e 2 k * 2 ^ 16 + e 3 k * 2 ^ 24 + e 4 k * 2 ^ 32 + e 5 k * 2 ^ 40 + e 6 k * 2 ^ 48
+      + e 7 k * 2 ^ 56
 
   pub len-is : (command_of (second_half d)).len ≡ b 8 + 256 * b 9
   unfolding command_of
@@ -133,7 +136,8 @@ module _ (d : List ℕ) (small : (k : ℕ) → slice_index d k < 256) where
 
   pub done-bytes : to_le_bytes w64 (with_done (second_half d))
       ≡ b 8 ∷ b 9 ∷ b 10 ∷ b 11 ∷ (2 * (b 12 / 2) + 1) ∷ b 13 ∷ b 14 ∷ b 15 ∷ []
-  done-bytes = ap (to_le_bytes w64) done-word ∙ word-bytes (b 8) (b 9) (b 10) (b 11) (2 * (b 12 / 2) + 1) (b 13) (b 14) (b 15)
+  done-bytes = ap (to_le_bytes w64) done-word
+      ∙ word-bytes (b 8) (b 9) (b 10) (b 11) (2 * (b 12 / 2) + 1) (b 13) (b 14) (b 15)
       (small 8) (small 9) (small 10) (small 11) (let b12 = small 12 in omega arith) (small 13) (small 14) (small 15)
 
   pub kept-bytes : to_le_bytes w64 (first_half d) ≡ b 0 ∷ b 1 ∷ b 2 ∷ b 3 ∷ b 4 ∷ b 5 ∷ b 6 ∷ b 7 ∷ []

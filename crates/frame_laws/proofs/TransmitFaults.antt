@@ -168,7 +168,8 @@ module _ (s : State) (h : IsSound s) (queue : ℕ) where
           address = report_address r tx;
           bytes = report_length tx.writeback;
           told = reported-at;
-          lent = elim (or_cases (not c.report) (is_lent s.memory (report_address r tx) (report_length tx.writeback)) can)
+          lent = elim (or_cases (not c.report)
+              (is_lent s.memory (report_address r tx) (report_length tx.writeback)) can)
               as (λ _. (report_bit s queue ≡ 0)
               ⊎ (is_lent s.memory (report_address r tx) (report_length tx.writeback) ≡ true)) [
                 | inl unasked ↦ inl (bit-zero 3 (slice_index d 11) c.report report-is (not-true c.report unasked))
@@ -177,7 +178,8 @@ module _ (s : State) (h : IsSound s) (queue : ℕ) where
         },
       )
   report_so full false cannot =
-      let parts = or_parts (not c.report) (is_lent s.memory (report_address r tx) (report_length tx.writeback)) cannot in
+      let parts = or_parts (not c.report)
+      (is_lent s.memory (report_address r tx) (report_length tx.writeback)) cannot in
       inr (inr (record {
         buffer = full;
         asked = bit-one 3 (slice_index d 11) c.report report-is (not-false c.report parts.0);
@@ -220,7 +222,11 @@ module _ (s : State) (h : IsSound s) (queue : ℕ) where
       (λ two. inl (record { descriptor = here; extended = extended; type = sym kind-is ∙ eqb-true c.kind 2 two }))
       (λ not_two.
       cond_both (is_data c) _ _ FaultSo
-      (λ three. data_so (record { descriptor = here; extended = extended; type = sym kind-is ∙ eqb-true c.kind 3 three }))
+      (λ three. data_so (record {
+        descriptor = here;
+        extended = extended;
+        type = sym kind-is ∙ eqb-true c.kind 3 three;
+      }))
       (λ not_three. (
         here,
         extended,

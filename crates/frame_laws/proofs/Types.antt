@@ -57,7 +57,8 @@ hashing-is mrqc =
 -- the first type that a flow has
 
 abbrev chosen : (a b c d e f : Bool) → RssType
-chosen a b c d e f = cond a TcpIpv4 (cond b UdpIpv4 (cond c TcpIpv6 (cond d UdpIpv6 (cond e Ipv4 (cond f Ipv6 NoHash)))))
+chosen a b c d e f = cond a TcpIpv4 (cond b UdpIpv4 (cond c TcpIpv6
+    (cond d UdpIpv6 (cond e Ipv4 (cond f Ipv6 NoHash)))))
 
 abbrev number : (a b c d e f : Bool) → ℕ
 number a b c d e f = cond a 1 (cond b 7 (cond c 3 (cond d 8 (cond e 2 (cond f 5 0)))))
@@ -90,7 +91,8 @@ module _ (mrqc : ℕ) (frame : List ℕ) where
   first-is =
       let reads = flow-reads frame in
       let flow = flow_of frame in
-      first-of-six ((flow.version == 4 && flow.tcp) && enables mrqc 16) ((flow.version == 4 && flow.udp) && enables mrqc 22)
+      first-of-six ((flow.version == 4 && flow.tcp) && enables mrqc 16)
+      ((flow.version == 4 && flow.udp) && enables mrqc 22)
       ((flow.version == 6 && flow.tcp) && enables mrqc 21) ((flow.version == 6 && flow.udp) && enables mrqc 23)
       (flow.version == 4 && enables mrqc 17) (flow.version == 6 && enables mrqc 20)
       ∙ (λ k. chosen (reads.tcp_4 k && has mrqc 16) (reads.udp_4 k && has mrqc 22) (reads.tcp_6 k && has mrqc 21)
@@ -106,7 +108,8 @@ module _ (mrqc : ℕ) (frame : List ℕ) where
   type-is =
       ap (λ b. code_of (cond b (first_enabled mrqc (flow_of frame)) NoHash)) (hashing-is mrqc)
       ∙ cond_both (hashes mrqc) (first_enabled mrqc (flow_of frame)) NoHash (λ t. code_of t ≡ type_of mrqc frame)
-      (λ on. ap code_of first-is ∙ number-is _ _ _ _ _ _ ∙ sym (cond-false (not (hashes mrqc)) 0 first_number (ap not on)))
+      (λ on. ap code_of first-is ∙ number-is _ _ _ _ _ _
+      ∙ sym (cond-false (not (hashes mrqc)) 0 first_number (ap not on)))
       (λ off. sym (cond-true (not (hashes mrqc)) 0 first_number (ap not off)))
 
 -- what is hashed
@@ -188,7 +191,8 @@ module _ (mrqc : ℕ) (frame : List ℕ) where
       (λ t. hashed_part t (flow_of frame).input ≡ hashed_bytes (type_of mrqc frame) frame)
       (λ on. part-is
       ∙ ap (λ n. hashed_bytes n frame) (sym (cond-false (not (hashes mrqc)) 0 (first_number mrqc frame) (ap not on))))
-      (λ off. ap (λ n. hashed_bytes n frame) (sym (cond-true (not (hashes mrqc)) 0 (first_number mrqc frame) (ap not off))))
+      (λ off. ap (λ n. hashed_bytes n frame) (sym (cond-true (not (hashes mrqc)) 0
+      (first_number mrqc frame) (ap not off))))
 
 -- a frame that is accepted
 

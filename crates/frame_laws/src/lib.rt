@@ -76,10 +76,10 @@ pub fn slots_have_their_faults()
     ensures { SlotsHaveTheirFaults }
 {}
 
-/// A receive step that writes a slot leaves the descriptor with these 16 bytes: RSS type, IPv4 and IPv6 in bits 3 to 0, 4
-/// and 6 of byte 0, TCP and UDP in bits 0 and 1 of byte 1, the hash in bytes 4 to 7, DD and EOP in bits 0 and 1 of byte
-/// 8, the number of bytes in bytes 12 and 13, the lower byte first, and 0 in all others; and the buffer has the next
-/// bytes of the frame.
+/// A receive step that writes a slot leaves the descriptor with these 16 bytes: RSS type, IPv4 and IPv6 in bits 3 to 0,
+/// 4 and 6 of byte 0, TCP and UDP in bits 0 and 1 of byte 1, the hash in bytes 4 to 7, DD and EOP in bits 0 and 1 of
+/// byte 8, the number of bytes in bytes 12 and 13, the lower byte first, and 0 in all others; and the buffer has the
+/// next bytes of the frame.
 pub fn descriptors_are_written_back()
     ensures { DescriptorsAreWrittenBack }
 {}
@@ -91,10 +91,10 @@ pub fn silence_has_its_reasons()
     ensures { SilenceHasItsReasons }
 {}
 
-/// A transmit descriptor that a step looks at is done where TDLEN, TDH and TDT set up its ring, its 16 bytes and those of
-/// its buffer are lent, no offload is asked for, the frame is no longer than the limit, and, with RS 1 alone, the bytes
-/// of its report are lent; one of type 2 without more. Else it has the first fault that applies: head or tail outside,
-/// the descriptor, the format, the type, offload, length, the buffer, the report. A frame is sent with EOP 1.
+/// A transmit descriptor that a step looks at is done where TDLEN, TDH and TDT set up its ring, its 16 bytes and those
+/// of its buffer are lent, no offload is asked for, the frame is no longer than the limit, and, with RS 1 alone, the
+/// bytes of its report are lent; one of type 2 without more. Else it has the first fault that applies: head or tail
+/// outside, the descriptor, the format, the type, offload, length, the buffer, the report. A frame is sent with EOP 1.
 pub fn descriptors_have_their_faults()
     ensures { DescriptorsHaveTheirFaults }
 {}

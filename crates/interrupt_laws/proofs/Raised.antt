@@ -50,7 +50,8 @@ module _ (s : State) (h : IsSound s) (e : Event Block) (of : IsOfTheDevice e) wh
             ∙ set_bit i (2 ^ n) false bit b ∙ only_cause (contains (2 ^ n) bit) (bit_in i bit)
             ∙ (λ k. raised_bit (one_bit n bit k) (sym (bit_of-in s Pf tt bit b) k));
         others = λ other there apart bit b. bit_stands s (after s e) other there (by _ is other
-            ∙ ap (λ b. cond b (raised (interrupts_of s.registers other) (2 ^ n) false) (interrupts_of s.registers other))
+            ∙ ap (λ b. cond b (raised (interrupts_of s.registers other) (2 ^ n) false)
+            (interrupts_of s.registers other))
             (false_from_ne_true (is_group Pf other) (λ t. apart (sym (is_group-same Pf other t))))) bit b;
       }
 

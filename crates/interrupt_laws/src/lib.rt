@@ -119,8 +119,8 @@ pub fn vectors_name_causes()
 {}
 
 /// A frame that arrives where the list is full raises cause 17 of EICR, at 0x00800; a fault of a step of receiving or
-/// transmitting cause 18; a change of the link cause 20. No other cause or mask changes, and no other arrival or call of
-/// the link raises any.
+/// transmitting cause 18; a change of the link cause 20. No other cause or mask changes, and no other arrival or call
+/// of the link raises any.
 pub fn device_raises_by_number()
     ensures { DeviceRaisesByNumber }
 {}

@@ -166,7 +166,8 @@ static void a_host_answers(void)
     static const uint8_t mac[6] = {2, 1, 2, 3, 4, 5};
     CHECK(bus_open(&(struct bus_options){.fifo = 1, .functions = 2}));
     function_host_begin(1, mac);
-    CHECK(asks(1, 0) == 0xA0000001 && bus_read(2, NIC_VFMBMEM(1)) == 0x03020102 && bus_read(2, NIC_VFMBMEM(2)) == 0x0504);
+    CHECK(asks(1, 0) == 0xA0000001 && bus_read(2, NIC_VFMBMEM(1)) == 0x03020102 &&
+          bus_read(2, NIC_VFMBMEM(2)) == 0x0504);
     CHECK(bus_peek(NIC_RAL(2)) == 0x03020102 && bus_peek(NIC_MPSAR(4)) == 2 && bus_peek(NIC_MPSAR(5)) == 0);
     CHECK(asks(8, 2) == 0xA0000008 && asks(8, 3) == 0x60000008 && asks(9, 0) == 0xA0000009);
     CHECK(bus_read(2, NIC_VFMBMEM(1)) == 1 && asks(0x33, 0) == 0x60000033 && asks(2, 0x66778802) == 0xA0000002);

@@ -9,5 +9,5 @@ invariant_of-self c =
     (IsWhole-insert c.self.inside.blocks c.args.block c.args.memory.value c.self.invariant (record {
       size = ap length (sym c.deref.ensures) ∙ c.if-prove.false;
       small = small_of_lent c.self.inside.blocks c.args.block c.self.invariant
-      (sym c.has.ensures ∙ c.if-not-has.false);
+          (sym c.has.ensures ∙ c.if-not-has.false);
     }))

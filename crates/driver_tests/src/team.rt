@@ -22,6 +22,9 @@ pub type Bench = Shared<1, 64>;
 /// How many blocks each worker has: one those from 0 on, the other those from 32 on.
 pub const BLOCKS: u32 = 32;
 
+/// How many entries a history has once the device is set up: 54 writes, each after four steps.
+const SET_UP: usize = 270;
+
 /// How two workers are run: how many entries the history has at most, how often each looks for a packet, and how many
 /// frames arrive.
 #[derive(Clone, Copy)]
@@ -149,6 +152,7 @@ fn run_beside<G: Gate + Sync>(
 ) -> (Ran, Pass, Pass) {
     let mut other = some(rt, passes.pop());
     let mut host = set_up(rt, bench, some(rt, passes.pop()), &setup_of_threads());
+    same(rt, count_calls(host.calls()), SET_UP);
     let mut jobs = Some(jobs(rt, passes, order.rounds));
     let mut ran = None;
     let ended = AtomicU64::new(0);

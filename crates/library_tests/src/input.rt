@@ -85,10 +85,16 @@ fn no_text(rt: HostRuntime) {
     answers(&rt, rt.alloc(), &LOAD, &mut Flood, "refused TooLong\n", 2);
 }
 
-/// A reader that comes to no end.
+/// Each command that reads.
+const READING: [&[&str]; 7] = [&RUN, &DEBUG, &HASH, &ASM, &DIS, &EEPROM, &LOAD];
+
+/// A reader that comes to no end, by single bytes or by whole buffers.
 #[test]
 fn endless_readers(rt: HostRuntime) {
-    answers(&rt, rt.alloc(), &RUN, &mut Drip, "refused Input\n", 2);
+    for words in READING {
+        answers(&rt, rt.alloc(), words, &mut Drip, "refused Input\n", 2);
+        answers(&rt, rt.alloc(), words, &mut Flood, "refused TooLong\n", 2);
+    }
 }
 
 /// A reader of a script that fails at the read of this number.

@@ -155,7 +155,7 @@ fn a_packet_is_in_as_many_bufs_as_its_frame_fills(rt: HostRuntime) {
     let mut rig = rig_for_long_frames(rt);
     come_one_by_one(rt, &mut rig);
     come_by_bursts(rt, &mut rig);
-    ends_empty(rt, rig, (2 * IN_BUFS.len(), 0));
+    ends_empty(rt, rig, (22, 0));
 }
 
 /// Ends a device by which no call was made.

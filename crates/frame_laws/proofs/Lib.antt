@@ -21,3 +21,4 @@ pub mod Shown
 pub mod WrittenBack
 pub mod TransmitBytes
 pub mod TransmitFaults
+pub mod Reports

@@ -54,10 +54,10 @@ module _ (s : State) (h : IsSound s) (queue : ℕ) where
   abbrev d : List ℕ
   d = head_descriptor s queue
 
-  abbrev c : Command
+  abbrev pub c : Command
   c = command_in (descriptor s queue)
 
-  abbrev tx : Tx
+  abbrev pub tx : Tx
   tx = sending_of s.registers (transmit_queue_of s.registers queue)
 
   pub small : (k : ℕ) → slice_index d k < 256
@@ -72,13 +72,13 @@ module _ (s : State) (h : IsSound s) (queue : ℕ) where
   extended-is : c.extended ≡ (bit 5 (slice_index d 11) == 1)
   extended-is = ap (λ (x : Command). x.extended) (sym same) ∙ bytes.extended-is d small
 
-  report-is : c.report ≡ (bit 3 (slice_index d 11) == 1)
+  pub report-is : c.report ≡ (bit 3 (slice_index d 11) == 1)
   report-is = ap (λ (x : Command). x.report) (sym same) ∙ bytes.report-is d small
 
   end-is : c.end ≡ (bit 0 (slice_index d 11) == 1)
   end-is = ap (λ (x : Command). x.end) (sym same) ∙ bytes.end-is d small
 
-  kind-is : c.kind ≡ type_in s queue
+  pub kind-is : c.kind ≡ type_in s queue
   kind-is = ap (λ (x : Command). x.kind) (sym same) ∙ bytes.kind-is d small
 
   length-is : c.len ≡ buffer_length s queue
@@ -130,12 +130,12 @@ module _ (s : State) (h : IsSound s) (queue : ℕ) where
   outside-is : is_outside r ≡ true → ¬ IsInside s.registers queue
   outside-is e i = both_ways (is_outside r) (inside-slots r (omega (arith, i.head)) (omega (arith, i.tail))) e
 
-  address-is : head_address r ≡ descriptor_address s.registers queue
+  pub address-is : head_address r ≡ descriptor_address s.registers queue
   address-is =
       ap (λ n. (word_of s.registers Tdbah queue * 2 ^ 32 + word_of s.registers Tdbal queue + 16 * n) % 2 ^ 64)
       (sym (low-half (word_of s.registers Tdh queue)))
 
-  reported-at : IsReportedAt s.registers queue (report_address r tx) (report_length tx.writeback)
+  pub reported-at : IsReportedAt s.registers queue (report_address r tx) (report_length tx.writeback)
   reported-at =
       let low = word_of s.registers Tdwbal queue in
       let at = word_of s.registers Tdwbah queue * 2 ^ 32 + 4 * (low / 4) in

@@ -10,3 +10,4 @@ pub mod Packets
 pub mod Types
 pub mod WrittenBack
 pub mod TransmitFaults
+pub mod Reports

@@ -14,6 +14,7 @@ ghost use Rattle.frame_laws.specs.Switching.{SwitchingHasItsReason, SwitchedSide
 ghost use Rattle.frame_laws.specs.Types.{FramesHaveTypes};
 ghost use Rattle.frame_laws.specs.WrittenBack.{DescriptorsAreWrittenBack};
 ghost use Rattle.frame_laws.specs.TransmitFaults.{DescriptorsHaveTheirFaults};
+ghost use Rattle.frame_laws.specs.Reports.{ReportsAreWrittenBack};
 ghost use Rattle.frame_laws.specs.Transmitting.{SilenceHasItsReasons, FramesGoOutWhole};
 
 /// An arriving frame is dropped for the first of these reasons that applies: the link is down; RXCTRL bit 0 is 0; it
@@ -97,6 +98,13 @@ pub fn silence_has_its_reasons()
 /// outside, the descriptor, the format, the type, offload, length, the buffer, the report. A frame is sent with EOP 1.
 pub fn descriptors_have_their_faults()
     ensures { DescriptorsHaveTheirFaults }
+{}
+
+/// A transmit step that is done writes nothing back with RS 0 or for a descriptor of type 2. With RS 1 it writes, where
+/// TDWBAL bit 0 is 1, the new head as 4 bytes, the lowest first, at TDWBAH and TDWBAL bits 31 to 2; else the descriptor
+/// with bit 0 of byte 12, DD, set, and its other bits unchanged.
+pub fn reports_are_written_back()
+    ensures { ReportsAreWrittenBack }
 {}
 
 /// A frame that is transmitted consists of the bytes that its queue staged and those of the descriptor at the head, and

@@ -17,6 +17,7 @@ pub mod Fetched
 pub mod Switching
 pub mod Switched
 pub mod Memory
+pub mod Link
 pub mod Shown
 pub mod WrittenBack
 pub mod TransmitBytes

@@ -5,6 +5,7 @@ pub mod Faults
 pub mod Transmitting
 pub mod Switching
 pub mod Memory
+pub mod Link
 pub mod Queues
 pub mod Packets
 pub mod Types

@@ -6,6 +6,7 @@
 
 ghost use Rattle.frame_laws.specs.Arrival.{ArrivingHasAnOrder, FramesJoinLast};
 ghost use Rattle.frame_laws.specs.Faults.{SlotsHaveTheirFaults};
+ghost use Rattle.frame_laws.specs.Link.{LinkChangesRaise, OldestIsCollected};
 ghost use Rattle.frame_laws.specs.Memory.{MemoryCallsAnswer, PokedIsPeeked, LentIsPeeked, TakenIsAsPeeked};
 ghost use Rattle.frame_laws.specs.Queues.{QueuesGoByMrqc};
 ghost use Rattle.frame_laws.specs.Receiving.{ReceivedForAReason, EachReasonIsMet, FramesLeaveAtTheirEnd};
@@ -124,6 +125,17 @@ pub fn switching_has_its_reason()
 /// it wrote in part, a transmit side its staged bytes; one that is enabled loses nothing.
 pub fn switched_side_is_as_wanted()
     ensures { SwitchedSideIsAsWanted }
+{}
+
+/// Setting the link to what it is has the reply `Idle` and changes nothing. A change has the reply `Done` and sets bit
+/// 20 of EICR and no other.
+pub fn link_changes_raise()
+    ensures { LinkChangesRaise }
+{}
+
+/// A `Collect` returns the oldest frame out, which leaves the list, and is idle exactly where there is none.
+pub fn oldest_is_collected()
+    ensures { OldestIsCollected }
 {}
 
 /// A memory call gets the reply `NotLent` exactly where the block isn't lent. A lent block comes back with the bytes

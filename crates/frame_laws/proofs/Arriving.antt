@@ -1,5 +1,5 @@
 -- Why a frame that arrives is answered as it is.
-use Rattle.std.proofs.Common.{◌≡◌, ◌<◌, ◌≤◌, ◌⊎◌, ◌++◌, ◌∷◌, [], ℕ, true, false, cond, List, length, Ok, Err, nat_lt, inl, inr, refl, ap, ◌∙◌, subst, sym}
+use Rattle.std.proofs.Common.{◌≡◌, ◌<◌, ◌≤◌, ◌⊎◌, ◌++◌, ◌∷◌, [], ℕ, cond, List, length, Ok, Err, nat_lt, inl, inr, ap, ◌∙◌, subst}
 use Rattle.std.specs.Prelude.{Result}
 use Rattle.std.proofs.lemmas.Bool.{cond-true, cond-false, cond_both, cases_Bool, both_ways, ltb-true, ltb-false, lt-ltb, le-ltb}
 use Rattle.nic_device.specs.DmaArena.Block.{Block}
@@ -7,7 +7,7 @@ use Rattle.nic_device.specs.RegTable.declared.rows.RowId.TheVariants.{Rxctrl, Gp
 use Rattle.nic_device.specs.RegisterFile.Registers.{word_of}
 use Rattle.nic_device.specs.RegisterFile.Settings.{can_receive, frame_limit}
 use Rattle.nic_device.specs.RxFilter.Address.{passes}
-use Rattle.nic_device.specs.RxFilter.Pools.{uses_pools, checked_pool, chosen_pool, selected_pool}
+use Rattle.nic_device.specs.RxFilter.Pools.{uses_pools, chosen_pool}
 use Rattle.nic_device.specs.RxFilter.Sorting.{sorted, pool_target, target_of}
 use Rattle.nic_device.specs.RxFilter.declared.target.Target.{Target}
 use Rattle.nic_device.specs.RxFilter.declared.unwanted.Unwanted.{Unwanted}
@@ -21,7 +21,7 @@ use Rattle.nic_device.specs.declared.event.Reply.{Reply}
 use Rattle.nic_device.specs.declared.event.Reply.TheVariants.{Done, Dropped}
 use Rattle.nic_device.specs.declared.event.Why.{Why}
 use Rattle.nic_device.specs.declared.event.Why.TheVariants.{LinkDown, Off, Short, Long, Filter, NoPool, PoolOff, Full}
-use Rattle.frame_laws.specs.Arrival.{IsHeard, IsTaken, IsPassed, IsWelcome, IsAboveLimit, IsWithinLimit, HasPoolOn}
+use Rattle.frame_laws.specs.Arrival.{IsHeard, IsTaken, IsPassed, IsWelcome, HasPoolOn}
 use Rattle.frame_laws.specs.Arrival.{IsDroppedFor, IsAnswered, ArrivingHasAnOrder}
 use Rattle.frame_laws.specs.Bits.{bit}
 use Rattle.frame_laws.proofs.Bits.{has-one, has-zero, one-has, zero-has}

@@ -1,11 +1,11 @@
 -- Which slot of a receive ring is written, and which has a fault.
-use Rattle.std.proofs.Common.{cond, ◌≡◌, ◌≢◌, ◌<◌, ◌+◌, ◌-◌, ◌*◌, ◌%◌, ◌^◌, ◌&&◌, ◌==◌, ℕ, Bool, true, false, not, nat_lt, List, ◌∷◌, length, length-drop, Ok, Err, inl, inr, refl, ap, sym, ◌∙◌, subst, arith}
-use Rattle.std.specs.Prelude.{Result, min}
-use Rattle.std.proofs.lemmas.Bool.{cond_both, both_ways, and_parts, and_from, not-false, ltb-true, lt-ltb, eqb-true, eqb-false}
-use Rattle.nic_device.specs.DmaArena.Memory.{Memory, is_lent, read_at}
+use Rattle.std.proofs.Common.{cond, ◌≡◌, ◌+◌, ◌*◌, ◌%◌, ◌^◌, ◌&&◌, ◌==◌, ℕ, Bool, true, false, List, ◌∷◌, length, length-drop, inl, inr, ap, sym, ◌∙◌, subst, arith}
+use Rattle.std.specs.Prelude.{min}
+use Rattle.std.proofs.lemmas.Bool.{cond_both, both_ways, eqb-true, eqb-false}
+use Rattle.nic_device.specs.DmaArena.Memory.{is_lent, read_at}
 use Rattle.nic_device.specs.DmaRing.Descriptor.{first_half}
 use Rattle.nic_device.specs.DmaRing.Receive.{buffer_of}
-use Rattle.nic_device.specs.DmaRing.Ring.{slots_of, is_outside}
+use Rattle.nic_device.specs.DmaRing.Ring.{is_outside}
 use Rattle.nic_device.specs.DmaRing.declared.fault.RingFault.TheVariants.{Outside, DescType, NoBufferSize, NotLent}
 use Rattle.nic_device.specs.DmaRing.declared.ring.Ring.{Ring}
 use Rattle.nic_device.specs.RegTable.declared.rows.RowId.TheVariants.{Srrctl, Rdbal, Rdbah, Rdh}
@@ -15,14 +15,13 @@ use Rattle.nic_device.specs.RegisterLaws.Sides.{receive_queue_of}
 use Rattle.nic_device.specs.RxRing.Control.{descriptor_type_of, buffer_size_of}
 use Rattle.nic_device.specs.RxRing.Fill as fill
 use Rattle.nic_device.specs.Outcome.{Outcome, gives}
-use Rattle.nic_device.specs.Receive.{received, first_received, without_slot, slot_filled, slot_done, is_empty, rest_of, slotless_counted}
+use Rattle.nic_device.specs.Receive.{first_received, without_slot, slot_filled, slot_done, is_empty, rest_of, slotless_counted}
 use Rattle.nic_device.specs.State.{State, Waiting}
 use Rattle.nic_device.specs.Step.{step_of}
 use Rattle.nic_device.specs.declared.event.Reply.TheVariants.{Idle, Dropped}
 use Rattle.nic_device.specs.declared.event.Why.TheVariants.{QueueOff, NoSlot}
 use Rattle.nic_device.proofs.Cases.{either_way}
-use Rattle.frame_laws.specs.Bits.{field}
-use Rattle.frame_laws.specs.Faults.{IsInside, IsSetUp, descriptor_address, buffer_address, buffer_size, descriptor_type}
+use Rattle.frame_laws.specs.Faults.{IsInside, IsSetUp, descriptor_address, buffer_address, buffer_size}
 use Rattle.frame_laws.specs.Faults.{piece_length, SlotIsSo, SlotsHaveTheirFaults}
 use Rattle.frame_laws.proofs.AtHead.{size-is}
 use Rattle.frame_laws.proofs.Slots.{low-half, slots-inside, inside-slots}

@@ -1,13 +1,11 @@
 -- What a fetched slot leaves, and what a step of transmitting leaves of a frame.
-use Rattle.std.proofs.Common.{◌≡◌, ◌<◌, ◌++◌, ℕ, Bool, true, false, cond, List, [], Option, Some, None, Ok, Err, nat_lt, inl, inr, refl, ap, sym, ◌∙◌, subst}
+use Rattle.std.proofs.Common.{◌≡◌, ◌<◌, ℕ, Bool, cond, List, [], Some, None, Ok, nat_lt, inl, inr, refl, ap, sym, ◌∙◌, subst}
 use Rattle.std.specs.Prelude.{slice_set}
 use Rattle.std.proofs.lemmas.Bool.{cond-true, cond-false, cases_Bool, ltb-true}
 use Rattle.std.proofs.lemmas.List.{get_or-set_same}
-use Rattle.nic_device.specs.DmaRing.Descriptor.{second_half}
-use Rattle.nic_device.specs.DmaRing.declared.fault.RingFault.{RingFault}
 use Rattle.nic_device.specs.RegisterFile.Settings.{pads}
 use Rattle.nic_device.specs.RegisterLaws.Sides.{transmit_queue_of}
-use Rattle.nic_device.specs.TxRing.Fetch.{Outcome as Fetching, command_in, buffer_bytes, context_outcome, data_outcome}
+use Rattle.nic_device.specs.TxRing.Fetch.{Outcome as Fetching, command_in, context_outcome, data_outcome}
 use Rattle.nic_device.specs.TxRing.Frame.{frame_of}
 use Rattle.nic_device.specs.TxRing.Laws.{HasContext, HasData}
 use Rattle.nic_device.specs.TxRing.declared.fetched.Fetched.{Fetched}

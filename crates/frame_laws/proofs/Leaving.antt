@@ -1,8 +1,7 @@
 -- Which frames wait after a step of receiving.
-use Rattle.std.proofs.Common.{◌≡◌, ◌<◌, ◌≤◌, ◌+◌, ℕ, Bool, true, false, cond, List, ◌∷◌, length, length-drop, Ok, refl, sym, subst, arith}
+use Rattle.std.proofs.Common.{◌≡◌, ◌<◌, ◌+◌, Bool, true, false, cond, List, ◌∷◌, length, length-drop, Ok, refl, subst, arith}
 use Rattle.std.specs.Prelude.{drop}
 use Rattle.std.proofs.lemmas.Bool.{both_ways}
-use Rattle.nic_device.specs.RxRing.Fill.{piece_length}
 use Rattle.nic_device.specs.RxRing.declared.filled.Filled.{Filled}
 use Rattle.nic_device.proofs.RxRing.Fills.{takes_piece}
 use Rattle.nic_device.specs.Outcome.{Outcome}

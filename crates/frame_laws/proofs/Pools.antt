@@ -11,7 +11,6 @@ use Rattle.nic_device.specs.VfMap.Pools.{mode_of}
 use Rattle.nic_device.specs.VfMap.declared.mode.Mode.{Mode}
 use Rattle.nic_device.specs.VfMap.declared.mode.Mode.TheVariants.{Off, Pools16, Pools32}
 use Rattle.nic_device.specs.VfMap.declared.mode.Mode.TheVariants as pools
-use Rattle.nic_device.specs.RegisterFile.Pools.{mode_in}
 use Rattle.nic_device.specs.RxFilter.Address.{passes}
 use Rattle.nic_device.specs.RxFilter.Pools.{uses_pools, takes_frames, parting_in, has_queues, checked_pool, chosen_pool, selected_pool}
 use Rattle.nic_device.specs.RxFilter.Sorting.{sorted, pool_target}
@@ -20,7 +19,7 @@ use Rattle.nic_device.proofs.RxFilter.Queues.{beyond, lacks_beyond}
 use Rattle.nic_device.proofs.RxFilter.Small.{selected_pool-small}
 use Rattle.nic_device.specs.RxFilter.declared.unwanted.Unwanted.{Unwanted}
 use Rattle.nic_device.specs.RxFilter.declared.unwanted.Unwanted.TheVariants as unwanted
-use Rattle.frame_laws.specs.Arrival.{PartsByMrqc, LacksQueues, HasPool, HasNoPool, HasPoolOn, HasPoolOff, receive_bit}
+use Rattle.frame_laws.specs.Arrival.{PartsByMrqc, LacksQueues, HasPool, HasNoPool, HasPoolOn, HasPoolOff}
 use Rattle.frame_laws.specs.Arrival.{PartsAmongPools}
 use Rattle.frame_laws.specs.Bits.{bit, field}
 use Rattle.frame_laws.proofs.Bits.{has-one, has-zero, one-has, zero-has}

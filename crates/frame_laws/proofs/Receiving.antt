@@ -1,5 +1,5 @@
 -- Why a step of receiving is answered as it is.
-use Rattle.std.proofs.Common.{◌≡◌, ◌≢◌, ◌⊎◌, ◌&&◌, ◌==◌, ℕ, true, false, cond, List, [], ◌∷◌, Ok, Err, inl, inr, refl, ap, ◌∙◌}
+use Rattle.std.proofs.Common.{◌≡◌, ◌≢◌, ◌⊎◌, ◌&&◌, ◌==◌, false, cond, List, [], ◌∷◌, Ok, Err, inl, inr, refl, ap, ◌∙◌}
 use Rattle.std.specs.Prelude.{Result}
 use Rattle.std.proofs.lemmas.Bool.{cond-true, cond-false, cond_both, both_ways, and_parts, and_cases, and_from, and_left, and_right, eqb-true, eqb-false, eq-eqb, ne_eqb}
 use Rattle.nic_device.specs.DmaArena.Memory.{Memory}

@@ -1,6 +1,5 @@
 -- What a step of a side's enable leaves.
 use Rattle.std.proofs.Common.{◌≡◌, ◌≢◌, ◌⊎◌, ◌<◌, ◌-◌, ◌+◌, ◌^◌, ◌&&◌, ◌==◌, ℕ, Bool, true, false, cond, not, List, [], ◌∷◌, refl, ap, sym, ◌∙◌, subst, inl, inr, arith}
-use Rattle.std.specs.Prelude.{slice_set}
 use Rattle.std.proofs.lemmas.Bool.{cond-true, cond-false, cond_both, and_from, and_left, and_right, eq-eqb, ne_eqb}
 use Rattle.std.proofs.lemmas.List.{get_or-set_same}
 use Rattle.nic_device.specs.DmaRing.declared.dir.Dir.{Dir}
@@ -12,14 +11,13 @@ use Rattle.nic_device.specs.RegisterFile.Registers.{Registers, word_of, with_wor
 use Rattle.nic_device.specs.RegisterLaws.Laws.{HasShape}
 use Rattle.nic_device.proofs.RegisterLaws.Fields.{is_wanted-put}
 use Rattle.nic_device.proofs.RegisterLaws.Shape.{put_stands}
-use Rattle.nic_device.specs.Outcome.{Outcome, gives}
+use Rattle.nic_device.specs.Outcome.{Outcome}
 use Rattle.nic_device.specs.Sound.{IsSound}
 use Rattle.nic_device.specs.State.{State, Waiting}
 use Rattle.nic_device.specs.Step.{step_of}
-use Rattle.nic_device.specs.Switching.{queue_switched, side_switched, emptied, without_part}
-use Rattle.nic_device.specs.Transmit.{staged_by}
+use Rattle.nic_device.specs.Switching.{side_switched, emptied, without_part}
 use Rattle.frame_laws.specs.Bits.{bit}
-use Rattle.frame_laws.specs.Switching.{enable_word, enable_bit, wanted_bit, IsToSwitch, LosesPart, FramesAfter}
+use Rattle.frame_laws.specs.Switching.{enable_word, IsToSwitch, LosesPart, FramesAfter}
 use Rattle.frame_laws.specs.Switching.{WordAfter, BecomesAsWanted, SwitchedSideIsAsWanted}
 use Rattle.frame_laws.proofs.Bits.{has-one, has-zero}
 use Rattle.frame_laws.proofs.Switching.{enable-is, done-comes, told}

@@ -45,7 +45,7 @@ set_bit i raise acts bit b =
       mask = contains i.enabled bit || (acts && contains raise bit && contains i.auto_mask bit);
     })
 
-registers_set : (s : State) (g : Group) (view word : ℕ)
+pub registers_set : (s : State) (g : Group) (view word : ℕ)
     → (state_written s (cause_set_register g) view word).registers
     ≡ with_interrupts s.registers
     (raised (interrupts_of s.registers g) (bit_and word view) (auto_masks s.registers g))
@@ -81,7 +81,7 @@ cause_set_sets s h g there a word is =
 
 -- writes of the causes
 
-registers_cleared : (s : State) (g : Group) (view word : ℕ)
+pub registers_cleared : (s : State) (g : Group) (view word : ℕ)
     → (state_written s (cause_register g) view word).registers
     ≡ with_interrupts s.registers
     (after_write_one (interrupts_of s.registers g) (bit_and word view) (auto_masks s.registers g))
@@ -124,7 +124,7 @@ keeps s Pf bit =
     ap (λ x. x && not (nat_le 16 bit && nat_le bit 29)) (sym (general_bit s 5 (omega arith)))
 keeps s (Vf v) bit = refl
 
-registers_read : (s : State) (g : Group)
+pub registers_read : (s : State) (g : Group)
     → (state_read s (cause_register g)).registers
     ≡ with_interrupts s.registers
     (after_read (interrupts_of s.registers g) (clears_others s.registers) (auto_masks s.registers g))

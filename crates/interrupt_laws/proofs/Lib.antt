@@ -14,6 +14,9 @@ pub mod Lasting
 pub mod LastingAccesses
 pub mod MailEvents
 pub mod Mailbox
+pub mod Marks
+pub mod MarksKept
+pub mod MarksMade
 pub mod Masks
 pub mod Messages
 pub mod Muting

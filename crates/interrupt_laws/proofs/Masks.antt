@@ -36,7 +36,7 @@ mask_cleared one b = record b { mask = b.mask && not one }
 
 -- writes of the masks
 
-registers_set : (s : State) (g : Group) (view word : ℕ)
+pub registers_set : (s : State) (g : Group) (view word : ℕ)
     → (state_written s (mask_register g) view word).registers
     ≡ with_interrupts s.registers (after_mask_set (interrupts_of s.registers g) (bit_and word view))
 registers_set s Pf view word = refl
@@ -67,7 +67,7 @@ masks_set s h g there a word is =
 
 -- writes of the register that clears masks
 
-registers_cleared : (s : State) (g : Group) (view word : ℕ)
+pub registers_cleared : (s : State) (g : Group) (view word : ℕ)
     → (state_written s (mask_clear_register g) view word).registers
     ≡ with_interrupts s.registers (after_mask_clear (interrupts_of s.registers g) (bit_and word view))
 registers_cleared s Pf view word = refl

@@ -61,7 +61,7 @@ abbrev pub misc : State → ℕ
 misc s = word_of s.registers IvarMisc 0
 
 module _ (s : State) (g : Group) (h : IsSound s) (there : IsGroup g) where
-  told_inner : (bit : ℕ) → bit < bits_in g
+  pub told_inner : (bit : ℕ) → bit < bits_in g
       → contains (inner s g).told bit
       ≡ (contains (told_by s.registers g) bit && (contains (inner s g).causes bit && contains (inner s g).enabled bit))
   told_inner bit b =

@@ -37,7 +37,7 @@ absent : (s : State) (g : Group) → has_group s g ≡ false → step_of s (even
 unfolding step_of
 absent s g none = ap (λ b. cond b (messaged s g) (gives NoGroup s)) none
 
-there : (s : State) (g : Group) → has_group s g ≡ true → step_of s (event.IntStep g) ≡ messaged s g
+pub there : (s : State) (g : Group) → has_group s g ≡ true → step_of s (event.IntStep g) ≡ messaged s g
 unfolding step_of
 there s g is = ap (λ b. cond b (messaged s g) (gives NoGroup s)) is
 
@@ -90,7 +90,7 @@ due_vector : (o : Option ℕ) → is_some o ≡ true → (v : ℕ) × (o ≡ Som
 due_vector None is = cc
 due_vector (Some v) is = (v, refl)
 
-message_is : (s : State) (g : Group) (h : IsSound s) (small_g : IsGroup g) (bit vector : ℕ) → IsDue s g bit vector
+pub message_is : (s : State) (g : Group) (h : IsSound s) (small_g : IsGroup g) (bit vector : ℕ) → IsDue s g bit vector
     → NoneIsDueBelow s g bit → IsMessageOf (interrupts_of s.registers g) (word_of s.registers IvarMisc 0) vector bit
 message_is s g h small_g bit vector due none = record {
   within = small g bit due.within;

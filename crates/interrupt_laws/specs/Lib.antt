@@ -4,6 +4,7 @@ pub mod Extended
 pub mod Holding
 pub mod Lasting
 pub mod Mailbox
+pub mod Marks
 pub mod Messages
 pub mod Names
 pub mod Plain

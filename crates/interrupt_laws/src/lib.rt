@@ -15,6 +15,7 @@ ghost use Rattle.interrupt_laws.specs.Status.{StatusTellsOfSteps, LinksTellsTheL
 ghost use Rattle.interrupt_laws.specs.Steps.{MessageStepsTellWhatIsDue};
 ghost use Rattle.interrupt_laws.specs.Holding.{FunctionHoldsOn, PhysicalHoldsOn};
 ghost use Rattle.interrupt_laws.specs.Mailbox.{MailboxesAreShared};
+ghost use Rattle.interrupt_laws.specs.Marks.{MarksLast, MessagesMark};
 ghost use Rattle.interrupt_laws.specs.Messages.{MessagesHaveNumbers, MessagesAreShared, MessagesLast};
 ghost use Rattle.interrupt_laws.specs.Raised.{DeviceRaisesByNumber};
 ghost use Rattle.interrupt_laws.specs.Resets.{EndIsToldOnce, EndIsTold};
@@ -142,6 +143,14 @@ pub fn vfte_mutes_pools()
 /// of the device or of the function's pool.
 pub fn masks_last()
     ensures { MasksLast }
+{}
+
+/// A bit that a message reported is marked as told, and not reported again, until its cause or its mask reads 0, or the
+/// device or the function's pool is reset: every other event, a write of EIMS among them, leaves each mark whose cause
+/// and mask read 1. A message step marks the bit that it reports, and no other event marks any.
+pub fn marks_last()
+    ensures last { MarksLast }
+    ensures made { MessagesMark }
 {}
 
 /// A write of a plain read/write register changes what no other register reads, and nothing else of the device. EIAC,

@@ -150,6 +150,7 @@ read_kinds around r h x i w bit inside low =
       setting = λ is. reads_kind around r h x i w inside kind.Set is r bit low ∙ has_bit-zero bit;
       clearing = λ is. reads_kind around r h x i w inside kind.Clear is r bit low ∙ has_bit-zero bit;
       resetting = λ is. reads_kind around r h x i w inside kind.Vreset is r bit low ∙ has_bit-zero bit;
+      idle = λ is. wrote_kind around r h x i w inside kind.Vreset is;
     }
 
 -- ---- enable words and EERD

@@ -62,7 +62,7 @@ is_silent kind.Vfmail = false
 is_silent other = true
 
 -- a counter that a read clears reads 0 after it, and is not written; what is read-only or calculated isn't either. What
--- sets and clears causes and masks, and PVFCTRL, reads 0
+-- sets and clears causes and masks, and PVFCTRL, reads 0; where it asks for no reset, a write of that changes nothing
 pub record ReadsByKind (around : Surroundings) (r : Registers) (row : RowId) (i w bit : ℕ) : Type 0 where
   pub silent : is_silent (line_of row).kind ≡ true → read_at r (at row i) ≡ r
   pub counter : (line_of row).kind ≡ kind.Rc → reads around (read_at r (at row i)) (at row i) bit ≡ false
@@ -72,6 +72,7 @@ pub record ReadsByKind (around : Surroundings) (r : Registers) (row : RowId) (i 
   pub setting : (line_of row).kind ≡ kind.Set → reads around r (at row i) bit ≡ false
   pub clearing : (line_of row).kind ≡ kind.Clear → reads around r (at row i) bit ≡ false
   pub resetting : (line_of row).kind ≡ kind.Vreset → reads around r (at row i) bit ≡ false
+  pub idle : (line_of row).kind ≡ kind.Vreset → write_at r (at row i) w ≡ r
 
 abbrev pub KindsAreRead : Type 0
 KindsAreRead =

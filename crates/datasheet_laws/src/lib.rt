@@ -124,7 +124,7 @@ pub fn rings_are_held()
 
 /// A counter that a read clears reads 0 after it, and no write changes it, nor one VFGPRC, VFGPTC, STATUS, LINKS or
 /// EEC. A read of any other register but EICR, PVTEICR and PVFMAILBOX changes nothing. What sets and clears causes and
-/// masks, and PVFCTRL, reads 0.
+/// masks, and PVFCTRL, reads 0. A write of PVFCTRL that asks for no reset changes nothing.
 pub fn kinds_are_read()
     ensures { KindsAreRead }
 {}

@@ -35,7 +35,8 @@ with_cause old = union (intersection old (group_bits Pf)) (intersection (2 ^ 20)
 eicr-is : (r : Registers) → HasShape r → word_of (device_raised r link_cause) Eicr 0 ≡ with_cause (word_of r Eicr 0)
 eicr-is r h =
     word_at-put_other (put r.words (place Eicr 0) (with_cause (word_of r Eicr 0))) (place Eims 0) (place Eicr 0)
-    (raised (interrupts_of r Pf) link_cause false).enabled (λ e. let rows = ap (λ (p : Place). number_of p.row) e in omega arith)
+    (raised (interrupts_of r Pf) link_cause false).enabled
+    (λ e. let rows = ap (λ (p : Place). number_of p.row) e in omega arith)
     ∙ put_stands r (place Eicr 0) (with_cause (word_of r Eicr 0)) h (omega arith)
 
 has-power : (n : ℕ) → contains (2 ^ 20) n ≡ (n == 20)

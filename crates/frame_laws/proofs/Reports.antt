@@ -45,7 +45,8 @@ module _ (s : State) (h : IsSound s) (queue : ℕ) where
   next-is : next_of (slots_of (ring s queue)) (ring s queue).head ≡ next_head s.registers queue
   next-is =
       let low = sym (low-half (word_of s.registers Tdh queue)) in
-      let long : word_of s.registers Tdlen queue % 2 ^ 20 ≡ field 19 0 (word_of s.registers Tdlen queue) = omega arith in
+      let long : word_of s.registers Tdlen queue % 2 ^ 20 ≡ field 19 0 (word_of s.registers Tdlen queue) =
+      omega arith in
       λ k. next_of (long k / 16) (low k)
 
   -- the descriptor with DD
@@ -123,7 +124,8 @@ module _ (s : State) (h : IsSound s) (queue : ℕ) where
               );
           descriptor = λ address three one off at.
               let told = (driver_reads _ _ _ _ f h.blocks.whole is (asked three one)).descriptor (writeback-none off) in
-              let here : head_address (ring s queue) ≡ address = address-is s h queue ∙ sym (own-address address off at) in (
+              let here : head_address (ring s queue) ≡ address =
+              address-is s h queue ∙ sym (own-address address off at) in (
                 told.0 ∙ ap (λ (n : ℕ). Some n) here,
                 ap (λ m. read_at m address 16) left
                     ∙ ap (λ n. read_at (fetched_by s queue).memory n 16) (sym here) ∙ told.1

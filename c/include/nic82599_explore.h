@@ -141,7 +141,9 @@ static inline void nicx_check(bool holds, const char *words)
 
 /* --- in `bring_up` and `end` --- */
 
-/* The controller, for calls that the explorer needn't know of: without effects, or in `end`. */
+/* The controller, for calls that the explorer needn't know of: without effects, or in `end`. nic_lend_memory is misuse
+   anywhere in a scenario, for its controller and for others that the scenario opens: what the driver stores in its own
+   memory is no point, so a search would miss races at it. */
 nic *nicx_device(void);
 
 uint8_t nicx_lend_all(void); /* never in a task or a handler */

@@ -20,6 +20,9 @@ uint8_t nicd_take(nic *n, uint32_t block);
 uint8_t nicd_restore(nic *n, const nic_kept *kept);
 uint8_t nicd_dma_read(nic *n, uint64_t bus, uint8_t *bytes, size_t length);
 
+/* Of the explorer, where it is linked (c/explore/engine/device.c): whether a search goes over this controller. */
+__attribute__((weak)) bool nicxi_refuses_memory(const nic *n);
+
 /* The memory of a lent block is another from now on; its former one. */
 static uint8_t *exchange(nic *n, uint32_t block, uint8_t *bytes)
 {
@@ -65,7 +68,7 @@ static uint8_t lend_each(nic *n, struct range range)
 uint8_t nicd_lend_memory(nic *n, uint64_t bus, void *memory, size_t bytes)
 {
     struct range range;
-    if (!is_whole(bus, bytes))
+    if (!is_whole(bus, bytes) || (nicxi_refuses_memory && nicxi_refuses_memory(n)))
         return NIC_BAD_MEMORY;
     if (!blocks_of(bus, bytes, &range))
         return NIC_NO_BLOCK;

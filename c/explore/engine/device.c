@@ -12,6 +12,19 @@ const char *nicxi_keep(void)
     return nic_snapshot(&nicxi.device, &nicxi.kept) == NIC_DONE ? NULL : "there is no memory to keep the device in";
 }
 
+/* The library asks this before it lends memory of the caller's. A search sees no store into that, so it would miss
+   races at it, and the device goes back to what it was without it. Asked in a task it doesn't return. */
+bool nicxi_refuses_memory(const nic *n);
+bool nicxi_refuses_memory(const nic *n)
+{
+    if (nicxi.phase == CLOSED || (n->device != nicxi.device.device && !nicxi_heap_has(n->device)))
+        return false;
+    nicxi_failed(NICX_MISUSE, "%s calls nic_lend_memory, whose stores no search sees: it lends blocks by nicx_lend",
+                 nicxi.self ? nicxi.self->name : "the scenario");
+    nicxi_leave();
+    return true;
+}
+
 /* A schedule that changed nothing needs nothing. */
 void nicxi_back(void)
 {

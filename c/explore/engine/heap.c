@@ -145,7 +145,7 @@ static bool is_searcher(void)
     return __atomic_load_n(&searcher, __ATOMIC_RELAXED) == &mark;
 }
 
-static bool is_ours(const void *piece)
+bool nicxi_heap_has(const void *piece)
 {
     const char *room = __atomic_load_n(&memory, __ATOMIC_RELAXED);
     return room && (const char *)piece >= room && (const char *)piece < room + ROOM;
@@ -181,7 +181,7 @@ struct taken nic82599_alloc(size_t size, size_t align)
    whole. */
 void nic82599_dealloc(void *piece)
 {
-    if (!is_ours(piece))
+    if (!nicxi_heap_has(piece))
         free(piece);
     else if (is_searcher())
         give(piece);
@@ -190,7 +190,7 @@ void nic82599_dealloc(void *piece)
 struct taken nic82599_realloc(void *piece, size_t old, size_t size, size_t align)
 {
     size_t wanted = size ? size : align;
-    if (!is_ours(piece))
+    if (!nicxi_heap_has(piece))
         return told(realloc(piece, wanted));
     void *moved = is_searcher() ? take(wanted) : malloc(wanted);
     if (moved) {

@@ -17,6 +17,8 @@ void nicxi_heap_close(void);
 
 /* Whether the library took memory of it: then it may be kept and brought back. */
 bool nicxi_heap_is_used(void);
+/* Whether something lies in it. */
+bool nicxi_heap_has(const void *piece);
 
 /* Keeps the piece as it is: false where there is no memory for it. What was kept before is dropped. */
 bool nicxi_heap_keep(void);

@@ -19,6 +19,23 @@ static bool is(const char *name)
     return !strcmp(mode, name);
 }
 
+/* Memory of the driver's own, which no search takes. */
+static void lend_own(nic *n)
+{
+    static uint8_t own[NIC_BLOCK_BYTES];
+    if (nic_lend_memory(n, 15 * NIC_BLOCK_BYTES, own, sizeof own) != NIC_BAD_MEMORY)
+        abort();
+}
+
+static void lend_own_elsewhere(void)
+{
+    nic other;
+    if (nic_open(&other, 0, 4, 16) != NIC_DONE)
+        abort();
+    lend_own(&other);
+    nic_close(&other);
+}
+
 /* As a driver brings a queue up itself. */
 static void start_queue(unsigned queue, bool waits)
 {
@@ -33,6 +50,8 @@ static const char *bring_up(void)
     if (is("refused"))
         return "there is no cable";
     nicx_check(!is("checked"), "a check of the bring-up");
+    if (is("memory_early"))
+        lend_own(nicx_device());
     lend_blocks(1);
     bring_up_receive(1);
     bring_up_interrupt();
@@ -111,6 +130,10 @@ static void misuse(void)
         nicx_settle();
     if (is("lend_all"))
         nicx_lend_all();
+    if (is("memory_in_place"))
+        lend_own(nicx_device());
+    if (is("memory_elsewhere"))
+        lend_own_elsewhere();
     if (is("held")) {
         nicx_lock(&locks[0]);
         nicx_lock(&locks[1]);

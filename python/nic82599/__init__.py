@@ -40,15 +40,17 @@ from .registers import FIELDS, OFFSETS, REGISTERS
 from .version import VERSION as __version__
 
 if TYPE_CHECKING:
+    from _typeshed import WriteableBuffer
+
     from .buffers import HasBytes
     from .rings import Ring
 
 __all__ = [
-    "Advanced", "BadBlocks", "BadFifo", "Closed", "Done", "Dropped", "Event", "Fault", "Frame", "Function",
-    "ImageRefused", "LibraryMissing", "Memory", "Message", "Nic", "NicError", "NoBlock", "NoCapture", "NoGroup",
-    "NoQueue", "NoSuchRegister", "NotLent", "OutOfMemory", "Sent", "Snapshot", "Stray", "TextRefused", "TooLong",
-    "TooManyVfs", "Word", "Wrote", "address_of", "fields_of", "library_version", "offset_of", "proved", "read_pcap",
-    "record", "rss_hash", "write_pcap",
+    "Advanced", "BadBlocks", "BadFifo", "BadMemory", "Closed", "Done", "Dropped", "Event", "Fault", "Frame",
+    "Function", "ImageRefused", "LibraryMissing", "Memory", "Message", "Nic", "NicError", "NoBlock", "NoCapture",
+    "NoGroup", "NoQueue", "NoSuchRegister", "NotLent", "OutOfMemory", "Sent", "Snapshot", "Stray", "TextRefused",
+    "TooLong", "TooManyVfs", "Word", "Wrote", "address_of", "fields_of", "library_version", "offset_of", "proved",
+    "read_pcap", "record", "rss_hash", "write_pcap",
 ]  # fmt: skip
 
 BLOCK_BYTES = 2048
@@ -91,6 +93,10 @@ class BadBlocks(NicError, ValueError):
 
 class NoBlock(NicError, IndexError):
     """No block of this number can be lent: it is lent already, or there is none."""
+
+
+class BadMemory(NicError, ValueError):
+    """Memory in place begins and ends at multiples of 2,048 bytes, and none of it is lent to the controller already."""
 
 
 class NotLent(NicError, IndexError):
@@ -262,6 +268,7 @@ _REFUSALS: dict[int, type[NicError]] = {
     statuses.BAD_FIFO: BadFifo,
     statuses.BAD_BLOCKS: BadBlocks,
     statuses.NO_BLOCK: NoBlock,
+    statuses.BAD_MEMORY: BadMemory,
     statuses.CLOSED: Closed,
 }
 _IMAGE = {
@@ -296,6 +303,8 @@ _CALLS: dict[str, list[object]] = {
     "nic_lend": [_NIC, _U32],
     "nic_take": [_NIC, _U32],
     "nic_lend_all": [_NIC],
+    "nic_lend_memory": [_NIC, _U64, _BYTES, _SIZE],
+    "nic_unlend_memory": [_NIC, _U64, _SIZE],
     "nic_dma_read": [_NIC, _U64, _BYTES, _SIZE],
     "nic_dma_write": [_NIC, _U64, _BYTES, _SIZE],
     "nic_arrive": [_NIC, _BYTES, _SIZE, _AT],
@@ -565,13 +574,45 @@ class Function(_Registers):
 class Memory:
     """Lent packet memory by bus address: `memory[a]` is a byte, `memory[a:b]` those from a up to b, which may be
     written by as many bytes. NotLent if one of them isn't lent; then nothing is read or written. `a in memory` tells
-    whether it is lent."""
+    whether it is lent. `lend` has the device use a buffer's own bytes, without copies."""
 
     # Else a loop over it would read it byte by byte.
     __iter__ = None
 
     def __init__(self, nic: Nic) -> None:
         self._nic = nic
+        # What is lent in place, by block: it is kept, and its object can't be resized or closed meanwhile.
+        self._kept: dict[int, object] = {}
+        # The explorer's refusal.
+        self._before_lending: Callable[[], None] | None = None
+
+    def lend(self, bus: int, buffer: WriteableBuffer) -> None:
+        """Lends the bytes of a buffer that can be written (a bytearray, an mmap, an array), in place: the device reads
+        and writes them where they are, from a bus address on, and so may the program between two calls. Both the bus
+        address and the number of bytes are multiples of 2,048. The buffer is kept, and can't be resized or closed,
+        until `unlend`, `Nic.take` or `Nic.close`. BadMemory, NoBlock, OutOfMemory, and TypeError of a buffer that can't
+        be written; then none of it is lent."""
+        if self._before_lending:
+            self._before_lending()
+        length = memoryview(buffer).nbytes
+        held = (ctypes.c_ubyte * length).from_buffer(buffer)
+        self._nic._ask("nic_lend_memory", _whole(bus, 64, "bus address"), ctypes.addressof(held), length)
+        self._kept.update(dict.fromkeys(self._blocks(bus, length), held))
+
+    def unlend(self, bus: int, length: int) -> None:
+        """Takes such memory back, also a part of what was lent at once; its bytes stay. BadMemory, and NotLent if not
+        all of it is lent in place: then none is taken back."""
+        self._nic._ask("nic_unlend_memory", _whole(bus, 64, "bus address"), _whole(length, 64, "length"))
+        self._forget(*self._blocks(bus, length))
+
+    @staticmethod
+    def _blocks(bus: int, length: int) -> range:
+        return range(bus // BLOCK_BYTES, (bus + length) // BLOCK_BYTES)
+
+    def _forget(self, *blocks: int) -> None:
+        """These blocks have no memory in place any more; without arguments none has."""
+        for block in blocks or list(self._kept):
+            self._kept.pop(block, None)
 
     def read(self, bus: int, length: int) -> bytes:
         """`length` bytes from a bus address on."""
@@ -686,16 +727,17 @@ class Nic(_Registers, _OneOwner):
         status = self._library.nic_new(vfs, fifo, blocks, ctypes.byref(handle))
         if status != statuses.DONE:
             raise _refused(status, f"{vfs} virtual functions, {fifo} frames, {blocks} blocks")
-        self._handle = handle
         self._told = _Told()
         self._room = ctypes.create_string_buffer(_LONGEST)
         self.memory = Memory(self)
+        self._handle = handle
 
     def close(self) -> None:
         """Ends the controller with its memory and its frames; a second time it does nothing."""
         handle, self._handle = self._handle, None
         if handle is not None:
             self._library.nic_free(handle)
+            self.memory._forget()
 
     def __enter__(self) -> Nic:
         return self
@@ -781,6 +823,7 @@ class Nic(_Registers, _OneOwner):
         """Takes these blocks back, and what they held is gone. NotLent at the first that isn't lent."""
         for block in blocks:
             self._ask("nic_take", _whole(block, 32, "block"))
+            self.memory._forget(block)
 
     def ring(self, side: str, queue: int) -> Ring:
         """What a ring holds now, `rx` or `tx` of a queue: printed it is lines of text, and a notebook shows a table.

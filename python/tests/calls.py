@@ -5,6 +5,7 @@ from __future__ import annotations
 import array
 import copy
 import gc
+import mmap
 import os
 import pickle
 import re
@@ -319,6 +320,83 @@ class MemoryOfPackets(unittest.TestCase):
                 nic.memory[0:4] = bytes(5)
             with self.assertRaises(ValueError):
                 nic.memory[-1]
+
+    def test_in_place(self) -> None:
+        """The device works in a bytearray, an mmap, an array: no copy is made."""
+        given: list[bytearray | mmap.mmap | array.array[int]] = [
+            bytearray(4096), mmap.mmap(-1, 4096), array.array("Q", bytes(4096))
+        ]  # fmt: skip
+        with Nic(blocks=8) as nic:
+            for first, buffer in enumerate(given):
+                bus, view = 4096 * first + 2048, memoryview(buffer).cast("B")
+                nic.memory.lend(bus, buffer)
+                view[1:4] = b"own"
+                self.assertEqual(nic.memory[bus : bus + 5], b"\0own\0")
+                nic.memory[bus + 2046 : bus + 2050] = b"card"
+                self.assertEqual(bytes(view[2046:2050]), b"card")
+                view.release()
+            self.assertRaises(BufferError, given[0].extend, b"more")
+            self.assertRaises(BufferError, given[1].close)
+            nic.memory.unlend(2048 + 4096, 4096)
+            given[1].close()
+            nic.memory.unlend(2048, 2048)
+            self.assertRaises(BufferError, given[0].extend, b"more")
+            nic.take(2)
+            given[0].extend(b"more")
+            self.assertEqual(given[0][2046:2050], b"card")
+        self.assertEqual(given[2].tobytes()[2046:2050], b"card")
+        given[2].append(7)
+
+    def test_in_place_refused(self) -> None:
+        with Nic(blocks=8) as nic:
+            memory, own = nic.memory, bytearray(4096)
+            for bus, buffer in ((1, own), (0, bytearray(2047)), (1 << 63, memoryview(own)[1:])):
+                with self.assertRaises(nic82599.BadMemory):
+                    memory.lend(bus, buffer)
+            for bus in (7 * 2048, 1 << 60):
+                with self.assertRaises(nic82599.NoBlock):
+                    memory.lend(bus, own)
+            for buffer in (bytes(2048), memoryview(bytes(2048)), memoryview(own)[::2], 2048):
+                with self.assertRaises(TypeError):
+                    memory.lend(0, buffer)
+            memory.lend(0, own)
+            with self.assertRaises(nic82599.BadMemory):
+                memory.lend(4096, own)
+            for bus, length, refusal in ((4096, 2048, nic82599.NotLent), (0, 1, nic82599.BadMemory)):
+                with self.assertRaises(refusal):
+                    memory.unlend(bus, length)
+            for bus, length in ((-2048, 2048), (0, -2048), (1 << 64, 2048)):
+                with self.assertRaises(ValueError):
+                    memory.unlend(bus, length)
+            self.assertEqual(memory[4095], 0)
+        own.extend(b"not lent any more")
+        with self.assertRaises(nic82599.Closed):
+            memory.lend(0, bytearray(2048))
+
+    def test_in_place_and_snapshots(self) -> None:
+        own = bytearray(b"1" * 2048)
+        with Nic(blocks=2) as nic:
+            nic.memory.lend(2048, own)
+            with nic.snapshot() as kept:
+                own[:] = b"2" * 2048
+                nic.restore(kept)
+                self.assertEqual(own, b"1" * 2048)
+            own[7] = 0
+            self.assertEqual(nic.memory[2048 + 6 : 2048 + 9], b"1\x001")
+
+    def test_in_place_by_numpy(self) -> None:
+        try:
+            import numpy as np
+        except ImportError:
+            self.skipTest("numpy isn't installed")
+        with Nic(blocks=2) as nic:
+            ring = np.zeros((128, 2), "<u8")
+            nic.memory.lend(0, ring)
+            ring[1] = (0x0123456789ABCDEF, 3)
+            self.assertEqual(nic.memory[16:32], ring[1].tobytes())
+            ring.flags.writeable = False
+            with self.assertRaises(TypeError):
+                nic.memory.lend(2048, ring)
 
     def test_lengths_are_bytes(self) -> None:
         """Of whatever items an object has: 16 bytes are 16 bytes, and one number is none."""

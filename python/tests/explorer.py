@@ -14,7 +14,7 @@ from pathlib import Path
 
 HERE = Path(__file__).resolve().parent
 sys.path[:0] = [str(HERE.parent), str(HERE.parent / "examples")]
-from nic82599 import places  # noqa: E402
+from nic82599 import BadMemory, places  # noqa: E402
 from nic82599.explore import (  # noqa: E402
     BESIDE,
     BadSchedule,
@@ -63,6 +63,9 @@ class Faulty(Scenario):
     def do_loop(self) -> None:
         while True:
             self.point()
+
+    def do_lend_memory(self) -> None:
+        self.nic.memory.lend(0x800, bytearray(2048))
 
     def do_wait(self) -> None:
         self.wait_until(lambda: False)
@@ -183,12 +186,21 @@ class Found(unittest.TestCase):
             ("raise",): "crash: t0: KeyError: 'here'",
             ("read",): "memory: t0 reads 0x800, which isn't lent",
             ("unlock",): "misuse: t0 unlocks first, which it doesn't hold",
+            ("lend_memory",): "misuse: t0 lends memory in place, whose stores no search sees",
         }.items():
             self.assertIn(wanted, self.failure(Faulty(*steps), 200), steps)
         self.assertIn("always: it was counted", self.failure(Looking("count", "pause")))
         self.assertIn("hang: t0 runs and makes no point", self.failure(Faulty("hang"), hang=0.2))
         for strategy in ("random", "priorities", "exhaustive"):
             self.assertIn("end: 1 and not 2", self.failure(Twice("add", "add"), 500, strategy=strategy), strategy)
+
+    def test_no_memory_in_place(self) -> None:
+        class Early(Faulty):
+            def bring_up(self) -> None:
+                self.do_lend_memory()
+
+        with self.assertRaisesRegex(BadMemory, "faulty lends memory in place, whose stores no search sees"):
+            search(Early("pause"), 10)
 
     def test_fine(self) -> None:
         search(Faulty("up", "up"), None, strategy="exhaustive", preemptions=2)

@@ -18,7 +18,7 @@ from contextlib import contextmanager
 from dataclasses import dataclass
 from pathlib import Path
 
-from .. import Nic, NotLent, address_of, offset_of
+from .. import BadMemory, Nic, NotLent, address_of, offset_of
 from .engine import POLLS, Choose, Result, Run, Thread
 from .jobs import Found, Over, searched
 from .script import Script, name_of, number_of, offset_name_of
@@ -211,6 +211,15 @@ class Scenario:
             run.failed("memory", f"{run.self.name} {what} 0x{bus:x}, which isn't lent")
             run.stand()
 
+    def _refuse_memory(self) -> None:
+        """Memory in place is misuse in a schedule; outside of one it raises."""
+        words = "lends memory in place, whose stores no search sees: a scenario lends blocks"
+        run = self._run
+        if run is None or run.self is None:
+            raise BadMemory(f"{self.name} {words}")
+        run.failed("misuse", f"{run.self.name} {words}")
+        run.stand()
+
     def dma_read(self, bus: int, length: int) -> bytes:
         """Bytes of lent memory; zeros where one of them isn't lent, which is a failure unless that is allowed."""
         run, data, note = self._point(), None, ""
@@ -399,6 +408,7 @@ class Search:
         if not 1 <= scenario.queues <= 128:
             raise ValueError("a scenario's queues are 1 to 128")
         scenario._nic = Nic(scenario.vfs, scenario.fifo, scenario.blocks)
+        scenario._nic.memory._before_lending = scenario._refuse_memory
         scenario.bring_up()
         self.kept = scenario._nic.snapshot()
 

@@ -27,6 +27,8 @@ pub enum Error {
     NotLent(u64),
     /// The block is lent already, or doesn't exist.
     NoBlock,
+    /// Memory in place begins and ends at multiples of 2,048 bytes, and none of it is lent to the controller already.
+    BadMemory,
     /// There are 128 queues.
     NoQueue,
     /// There is no such virtual function, or the mode (GCR_EXT) has no pool for it.
@@ -100,6 +102,7 @@ impl Error {
             status::BAD_FIFO => Error::BadFifo,
             status::BAD_BLOCKS => Error::BadBlocks,
             status::NO_BLOCK => Error::NoBlock,
+            status::BAD_MEMORY => Error::BadMemory,
             status::IMAGE_ODD_LENGTH => Error::Image(ImageFault::OddLength),
             status::IMAGE_BAD_SIZE => Error::Image(ImageFault::BadSize),
             status::IMAGE_SECTION_OUTSIDE => Error::Image(ImageFault::SectionOutside),
@@ -155,6 +158,7 @@ impl fmt::Display for Error {
                 );
             }
             Error::NoBlock => "the block is lent already, or doesn't exist",
+            Error::BadMemory => "memory in place has multiples of 2,048 bytes, and none of it is lent already",
             Error::NoQueue => "there are 128 queues",
             Error::NoGroup => "there is no such virtual function, or the mode has no pool for it",
             Error::Stray { at, word: None } => return write!(f, "no register is at 0x{at:05x}"),

@@ -1,5 +1,6 @@
-//! The calls of `nic82599.h`, and all `unsafe` code of the crate but that of the explorer: a controller and a snapshot
-//! as owned handles, whose methods take slices and references and give what a call answers.
+//! The calls of `nic82599.h`, and all `unsafe` code of the crate but that of the explorer and of memory that is lent in
+//! place: a controller and a snapshot as owned handles, whose methods take slices and references and give what a call
+//! answers.
 //!
 //! What the header asks of a caller is kept here once. A handle has a device from `open` to its drop, so the controller
 //! that a call is given is open. Pointers come from references and slices: they aren't null, point to as many bytes as
@@ -65,6 +66,8 @@ extern "C" {
     fn nic_lend(n: *mut RawNic, block: u32) -> u8;
     fn nic_take(n: *mut RawNic, block: u32) -> u8;
     fn nic_lend_all(n: *mut RawNic) -> u8;
+    fn nic_lend_memory(n: *mut RawNic, bus: u64, memory: *mut c_void, bytes: usize) -> u8;
+    fn nic_unlend_memory(n: *mut RawNic, bus: u64, bytes: usize) -> u8;
     fn nic_dma_read(n: *mut RawNic, bus: u64, bytes: *mut u8, length: usize) -> u8;
     fn nic_dma_write(n: *mut RawNic, bus: u64, bytes: *const u8, length: usize) -> u8;
     fn nic_arrive(n: *mut RawNic, frame: *const u8, length: usize, told: *mut Told) -> u8;
@@ -238,6 +241,19 @@ impl Handle {
     pub(crate) fn lend_all(&self) -> u8 {
         // SAFETY: the controller is open.
         unsafe { nic_lend_all(self.n()) }
+    }
+
+    /// # Safety
+    ///
+    /// As [`Memory::lend`](crate::Memory::lend) says.
+    pub(crate) unsafe fn lend_memory(&self, bus: u64, memory: *mut u8, bytes: usize) -> u8 {
+        // SAFETY: the controller is open; the caller sees to the memory as long as it is lent.
+        unsafe { nic_lend_memory(self.n(), bus, memory.cast(), bytes) }
+    }
+
+    pub(crate) fn unlend_memory(&self, bus: u64, bytes: usize) -> u8 {
+        // SAFETY: the controller is open.
+        unsafe { nic_unlend_memory(self.n(), bus, bytes) }
     }
 
     pub(crate) fn dma_read(&self, bus: u64, bytes: &mut [u8]) -> u8 {

@@ -59,6 +59,7 @@ mod event;
 #[cfg(feature = "explore")]
 pub mod explore;
 mod ffi;
+mod in_place;
 mod memory;
 mod nic;
 pub mod pcap;
@@ -74,6 +75,7 @@ use std::path::Path;
 pub use device::Device;
 pub use error::{Error, ImageFault, TextFault};
 pub use event::{Event, Fault, Side, Step, Why};
+pub use in_place::InPlace;
 pub use memory::Memory;
 pub use nic::{Arrival, Frame, Function, Nic, Sizes, Snapshot};
 pub use register::{Field, HalfField, Register, Registers, VfRegister, VfRegisters};

@@ -6,6 +6,7 @@ use std::fmt;
 use crate::error::Error;
 use crate::event::{Event, Side, Why};
 use crate::ffi::{Handle, Kept};
+use crate::in_place::InPlace;
 use crate::memory::Memory;
 use crate::register::{Register, VfRegister};
 use crate::settle::{Settled, Steps};
@@ -231,6 +232,11 @@ impl Nic {
         Memory::new(self)
     }
 
+    /// The controller, to which memory of the program's own may be lent from now on.
+    pub fn in_place<'a>(self) -> InPlace<'a> {
+        InPlace::new(self)
+    }
+
     /// Lends a block to the device. Its bytes are 0.
     ///
     /// # Errors
@@ -249,7 +255,7 @@ impl Nic {
         Error::unless_done(self.handle.lend_all())
     }
 
-    /// Takes a block back, and its bytes are gone.
+    /// Takes a block back, and its bytes are gone, but those of memory in place.
     ///
     /// # Errors
     ///

@@ -52,7 +52,8 @@ fn registers(nic: &Nic, chance: &mut Chance) {
 fn memory(nic: &Nic, chance: &mut Chance) {
     let (bus, end, block) = (some64(chance), some64(chance), some32(chance));
     let mut bytes = vec![chance.next() as u8; chance.below(5000) as usize];
-    match chance.below(9) {
+    match chance.below(10) {
+        9 => may(nic.memory().unlend(bus, end as usize), &[Error::NotLent(0), Error::BadMemory]),
         0 => may(nic.lend(block % 40), &[Error::NoBlock]),
         1 => may(nic.lend(block), &[Error::NoBlock]),
         2 => may(nic.take(block), &[Error::NotLent(0)]),

@@ -280,6 +280,38 @@ uint8_t nic_int_step(nic *n, uint8_t group, nic_told *told);
    above 128. */
 uint8_t nic_settle(nic *n, uint16_t queues, nic_told *told, size_t length, size_t *count);
 
+/* Where nic_next_step is in its rounds. `nic_settling where = {4};` begins one of the queues below 4. */
+typedef struct nic_settling {
+    uint16_t queues;
+    uint16_t at; /* the place of the round that comes next: 0 at first */
+} nic_settling;
+
+/* Makes the next step of nic_settle that has something to do, so that a driver acts on it before the device goes on:
+
+       nic_settling where = {4};
+       while (nic_next_step(&n, &where, &told) == NIC_MORE)
+           if (told.status == NIC_MESSAGE)
+               handle(told.vector);
+
+   MORE: *told is what happened, with its `status`, `step` and `of`. DONE: none of a whole round had anything to do; the
+   next call begins anew. OUT_OF_MEMORY: a transmit step found none, and the next call tries it again. NO_QUEUE if
+   `queues` is above 128. If nothing else is called in between, the steps and their order are those of nic_settle. */
+uint8_t nic_next_step(nic *n, nic_settling *where, nic_told *told);
+
+/* --- why nothing happens --- */
+
+/* What is in the way of what waits, in lines of text that end with '\n': of each frame that waits, each queue that isn't
+   at rest, each cause that has no message, and a read of the EEPROM. A line names registers and bits with their values,
+   as tools/niclint --trace does: "rx 3: RDH[3] 0, RDT[3] 0: head and tail meet, no slot is the device's until the driver
+   moves the tail". No text: nothing waits. What was dropped or sent waits no more; a queue that a fault switched off has
+   its reason as long as the slot is there.
+   As snprintf it writes at most `size` bytes with the 0 behind them, and returns how long the whole text is without it;
+   a line that has no room as a whole isn't written, and none after it. `size` may be 0.
+   Nothing changes. Registers don't show which frames wait, what was asked of a queue, and what was told: this is found
+   out on a copy of the controller, which takes memory as a snapshot and a restored one do, 4,096 bytes for each lent
+   block, for the time of the call. Without that memory the last line says so, and those that need it are missing. */
+size_t nic_why(nic *n, char *text, size_t size);
+
 /* --- the EEPROM --- */
 
 /* Installs an image, from an image's bytes or from a text as docs/script.md describes it ("An EEPROM image"): DONE, a

@@ -9,7 +9,7 @@
 #include "catch_up.h"
 #include "recording.h"
 
-enum { MOST_VFS = 63, MOST_BLOCKS = 65536, UNIT = NICD_UNIT, SHOWN = 4 };
+enum { MOST_VFS = 63, MOST_BLOCKS = 65536, UNIT = NICD_UNIT, SHOWN = 4, QUEUES = 128 };
 
 #define IS_OFF __builtin_expect(!__atomic_load_n(&nicd_is_recording, __ATOMIC_RELAXED), 1)
 /* A handle that was never opened, or that nic_close ended. */
@@ -640,6 +640,87 @@ uint8_t nic_settle(nic *n, uint16_t queues, nic_told *told, size_t length, size_
         return NIC_CLOSED;
     }
     return IS_OFF ? nicd_settle(n, queues, told, length, count) : settle(n, queues, told, length, count);
+}
+
+/* --- the steps of a settling, one by one --- */
+
+enum { GROUPS = 64 };
+
+/* Makes the step at a place of the round. Behind the first group that isn't there are no further ones. */
+static uint8_t step_at(nic *n, uint16_t queues, uint16_t at, nic_told *told)
+{
+    uint16_t enables = (uint16_t)(2 * queues), place = (uint16_t)(at - enables);
+    if (at < enables)
+        return nicd_queue_step(n, at % 2, at / 2, told);
+    if (place == 0)
+        return nicd_eeprom_step(n, told);
+    if (place <= queues)
+        return nicd_tx_step(n, (uint16_t)(place - 1), told);
+    if (place == queues + 1)
+        return nicd_rx_step(n, told);
+    return nicd_int_step(n, (uint8_t)(place - queues - 2), told);
+}
+
+/* Which step that is. */
+static void name_step(uint16_t queues, uint16_t at, nic_told *told)
+{
+    uint16_t enables = (uint16_t)(2 * queues), place = (uint16_t)(at - enables);
+    if (at < enables) {
+        told->step = at % 2 ? NIC_TX_ENABLE : NIC_RX_ENABLE;
+        told->of = at / 2;
+    } else if (place == 0) {
+        told->step = NIC_EEPROM;
+    } else if (place <= queues) {
+        told->step = NIC_TRANSMIT;
+        told->of = (uint16_t)(place - 1);
+    } else if (place == queues + 1) {
+        told->step = NIC_RECEIVE;
+    } else {
+        told->step = NIC_INTERRUPT;
+        told->of = (uint16_t)(place - queues - 2);
+    }
+}
+
+/* Goes from place to place until a step did something, or none of a whole round did. */
+static uint8_t next_step(nic *n, nic_settling *where, nic_told *told)
+{
+    uint16_t places = (uint16_t)(3 * where->queues + 2 + GROUPS);
+    for (uint16_t idle = 0; idle < places; idle++) {
+        uint16_t at = where->at < places ? where->at : 0;
+        uint8_t status = step_at(n, where->queues, at, told);
+        if (status == NIC_OUT_OF_MEMORY)
+            return status;
+        if (status == NIC_NO_GROUP) {
+            idle = (uint16_t)(idle + places - at - 1);
+            at = (uint16_t)(places - 1);
+        }
+        where->at = (uint16_t)(at + 1);
+        if (status != NIC_IDLE && status != NIC_NO_GROUP) {
+            name_step(where->queues, at, told);
+            return NIC_MORE;
+        }
+    }
+    where->at = 0;
+    return NIC_DONE;
+}
+
+uint8_t nic_next_step(nic *n, nic_settling *where, nic_told *told)
+{
+    if (IS_CLOSED(n))
+        return NIC_CLOSED;
+    if (where->queues > QUEUES)
+        return NIC_NO_QUEUE;
+    if (IS_OFF)
+        return next_step(n, where, told);
+    struct recording *it = nicd_enter(n);
+    nicd_before_settle(it, n, where->queues);
+    uint8_t status = next_step(n, where, told);
+    if (status == NIC_MORE)
+        nicd_behind_step(it, n, told);
+    if (it && status == NIC_MORE)
+        settled(it, told);
+    nicd_leave(it);
+    return status;
 }
 
 /* --- the EEPROM: a script can't install an image, so these too are comments to it --- */

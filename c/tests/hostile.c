@@ -348,6 +348,25 @@ static void memory_in_place(nic *n)
         MAY(nic_unlend_memory(n, bus, below(8) ? bytes : SIZE_MAX - 2047), NIC_DONE, NIC_BAD_MEMORY, NIC_NOT_LENT);
 }
 
+/* The text ends inside the room, however short that is. */
+static void ask_why(nic *n, uint8_t *bytes, size_t length)
+{
+    if (below(64)) /* (it copies all memory that is lent) */
+        return;
+    memset(bytes, 1, length);
+    size_t whole = nic_why(n, (char *)bytes, length);
+    CHECK(length == 0 || strlen((char *)bytes) <= whole);
+    CHECK(length <= whole || strlen((char *)bytes) == whole);
+}
+
+static void next_steps(nic *n)
+{
+    nic_told told;
+    nic_settling where = {(uint16_t)(below(8) ? below(130) : chance()), (uint16_t)chance()};
+    for (int k = 0; k < 4; k++)
+        MAY(nic_next_step(n, &where, &told), NIC_MORE, NIC_DONE, NIC_NO_QUEUE);
+}
+
 static void one_call(nic *n)
 {
     static uint8_t bytes[5000 + GUARD];
@@ -359,7 +378,7 @@ static void one_call(nic *n)
         bytes[k] = (uint8_t)chance();
     memset(bytes + length, 0x5A, GUARD);
     memset(key, (int)below(256), sizeof key);
-    unsigned which = below(27);
+    unsigned which = below(29);
     if (which < 6)
         call_of_registers(n, which);
     else if (which < 11)
@@ -376,9 +395,13 @@ static void one_call(nic *n)
     else if (which < 25)
         keep_or_restore(n, which == 23);
     else if (which == 25)
-        memory_in_place(n);
-    else
         MAY(nic_hash(key, bytes, below(2) ? length : below(37), &word), NIC_DONE, NIC_NO_ROOM);
+    else if (which == 26)
+        memory_in_place(n);
+    else if (which == 27)
+        ask_why(n, bytes, length);
+    else
+        next_steps(n);
     for (size_t k = length; k < length + GUARD; k++)
         CHECK(bytes[k] == 0x5A);
 }

@@ -498,6 +498,16 @@ bool nicd_why_rx_not_made(struct nicd_why *it, uint64_t count, uint64_t queue)
     return true;
 }
 
+bool nicd_why_tx_waits(struct nicd_why *it, uint64_t queue)
+{
+    nicd_why_say(it, "TDH[%llu] %llu, TDT[%llu] %llu: what the slots between hold waits",
+                 U(queue),
+                 U(WORD(NIC_TDH(queue))),
+                 U(queue),
+                 U(WORD(NIC_TDT(queue))));
+    return true;
+}
+
 bool nicd_why_tx_not_made(struct nicd_why *it, uint64_t queue)
 {
     nicd_why_say(it, "TDH[%llu] %llu, TDT[%llu] %llu: nothing is in the way, but no `tx %llu` followed",

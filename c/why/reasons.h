@@ -56,6 +56,7 @@ bool nicd_why_rx_asked_off(struct nicd_why *it, uint64_t queue);
 bool nicd_why_tx_asked_off(struct nicd_why *it, uint64_t queue);
 bool nicd_why_rx_pool_off(struct nicd_why *it, uint64_t pool);
 bool nicd_why_rx_not_made(struct nicd_why *it, uint64_t count, uint64_t queue);
+bool nicd_why_tx_waits(struct nicd_why *it, uint64_t queue);
 bool nicd_why_tx_not_made(struct nicd_why *it, uint64_t queue);
 bool nicd_why_pf_not_made(struct nicd_why *it, uint64_t causes, const char *group);
 bool nicd_why_vf_not_made(struct nicd_why *it, uint64_t causes, const char *group);

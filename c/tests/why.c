@@ -1,0 +1,244 @@
+/* What nic_why tells of the set-ups in why.cases: `why CASES`. That the text is cut at whole lines, and that nothing
+   changes, is tried for each. `why CASES TOLD` writes what is told into a file, in the form of the cases. */
+#include <string.h>
+
+#include "check.h"
+
+enum { MOST_LINES = 64, WIDE = 256, ROOM = 4096, QUEUES = 8 };
+
+/* Lines of a set-up; `label` is empty but in the base. */
+struct line {
+    char label[16], text[WIDE];
+};
+
+static struct line base[MOST_LINES], setup[MOST_LINES];
+static unsigned of_base, lines, cases;
+static char name[WIDE], want[ROOM];
+static bool is_alone;
+
+/* --- a set-up --- */
+
+static void arrive(nic *n, unsigned last)
+{
+    nic_told told;
+    uint8_t frame[60] = {2, 0, 0, 0, 0, (uint8_t)last, 2, 0, 0, 0, 0, 9, 8, 0, 0x45};
+    nic_arrive(n, frame, sizeof frame, &told);
+}
+
+static void settle(nic *n, uint16_t queues)
+{
+    nic_told told[64];
+    size_t count;
+    while (nic_settle(n, queues, told, 64, &count) == NIC_MORE)
+        ;
+}
+
+static void make(nic *n, const char *text)
+{
+    unsigned long long a = 0, b = 0, c = 0;
+    char word[16];
+    nic_told told;
+    CHECK(sscanf(text, "%15s %lli %lli %lli", word, (long long *)&a, (long long *)&b, (long long *)&c) >= 1);
+    if (!strcmp(word, "w"))
+        ANSWERS(NIC_DONE, nic_write32(n, (uint32_t)a, (uint32_t)b));
+    else if (!strcmp(word, "vw"))
+        ANSWERS(NIC_DONE, nic_vf_write32(n, (uint8_t)a, (uint32_t)b, (uint32_t)c));
+    else if (!strcmp(word, "lend"))
+        for (; a < b; a++)
+            ANSWERS(NIC_DONE, nic_lend(n, (uint32_t)a));
+    else if (!strcmp(word, "take"))
+        ANSWERS(NIC_DONE, nic_take(n, (uint32_t)a));
+    else if (!strcmp(word, "put"))
+        nic_put_desc(n, a, 0, (nic_desc){b, c});
+    else if (!strcmp(word, "arrive"))
+        arrive(n, (unsigned)a);
+    else if (!strcmp(word, "settle"))
+        settle(n, (uint16_t)a);
+    else if (!strcmp(word, "rx"))
+        nic_rx_step(n, &told);
+    else if (!strcmp(word, "int"))
+        ANSWERS(NIC_MESSAGE, nic_int_step(n, (uint8_t)a, &told));
+    else if (!strcmp(word, "link"))
+        ANSWERS(NIC_DONE, nic_link(n, a != 0));
+    else
+        CHECK(!"a line of a set-up");
+}
+
+/* --- what is told --- */
+
+/* The text that fits is the whole lines of it that do. */
+static void is_cut(nic *n, const char *whole)
+{
+    char text[ROOM];
+    size_t length = strlen(whole);
+    for (size_t size = 0; size <= length + 1; size++) {
+        size_t fits = size ? size - 1 : 0;
+        memset(text, '#', sizeof text);
+        CHECK(nic_why(n, text, size) == length);
+        while (fits && whole[fits - 1] != '\n')
+            fits--;
+        CHECK(size == 0 || text[fits] == 0);
+        CHECK(!memcmp(text, whole, fits) && text[size] == '#');
+    }
+}
+
+/* A number that any change of the registers, the memory or the frames that wait changes. */
+static uint64_t look(nic *n)
+{
+    static const uint32_t addresses[] = {
+#define ADDRESS(address) address,
+#include "addresses.inc"
+#undef ADDRESS
+    };
+    uint64_t sum = 0;
+    uint8_t bytes[NIC_BLOCK_BYTES];
+    for (size_t k = 0; k < sizeof addresses / sizeof *addresses; k++) {
+        uint32_t word = 0;
+        nic_peek32(n, addresses[k], &word);
+        sum = sum * 31 + word;
+    }
+    for (uint64_t block = 0; block < 8; block++) {
+        memset(bytes, 1, sizeof bytes);
+        nic_dma_read(n, block * NIC_BLOCK_BYTES, bytes, sizeof bytes);
+        for (size_t k = 0; k < sizeof bytes; k++)
+            sum = sum * 31 + bytes[k];
+    }
+    return sum * 31 + nic_next_out(n);
+}
+
+/* Two controllers of the same set-up, of which one was asked, do the same from here on. */
+static void is_unchanged(nic *asked)
+{
+    nic other;
+    nic_told left, right;
+    uint64_t before = look(asked);
+    char text[ROOM];
+    ANSWERS(NIC_DONE, nic_open(&other, 2, 8, 8));
+    for (unsigned k = 0; k < lines; k++)
+        make(&other, setup[k].text);
+    nic_why(asked, text, sizeof text);
+    CHECK(look(asked) == before && look(&other) == before);
+    for (int k = 0; k < 12; k++) {
+        memset(&left, 0, sizeof left);
+        memset(&right, 0, sizeof right);
+        CHECK(nic_rx_step(asked, &left) == nic_rx_step(&other, &right) && left.why == right.why);
+        CHECK(nic_tx_step(asked, 0, &left) == nic_tx_step(&other, 0, &right));
+        CHECK(nic_int_step(asked, (uint8_t)(k % 3), &left) == nic_int_step(&other, (uint8_t)(k % 3), &right));
+        CHECK(nic_queue_step(asked, k & 1, 0, &left) == nic_queue_step(&other, k & 1, 0, &right));
+    }
+    CHECK(look(asked) == look(&other));
+    nic_close(&other);
+}
+
+static void try_case(FILE *told)
+{
+    char text[ROOM];
+    nic n;
+    ANSWERS(NIC_DONE, nic_open(&n, 2, 8, 8));
+    for (unsigned k = 0; k < lines; k++)
+        make(&n, setup[k].text);
+    nic_why(&n, text, sizeof text);
+    if (told)
+        fprintf(told, "case %s\n%s\n", name, text);
+    else if (strcmp(text, want)) {
+        fprintf(stderr, "case %s:\n%sand not:\n%s", name, text, want);
+        exit(1);
+    }
+    is_cut(&n, text);
+    is_unchanged(&n);
+    nic_close(&n);
+    cases++;
+}
+
+/* --- the file --- */
+
+static struct line *labelled(const char *label)
+{
+    for (unsigned k = 0; k < of_base; k++)
+        if (!strcmp(setup[k].label, label))
+            return &setup[k];
+    return NULL;
+}
+
+/* Takes a label, `LABEL: `, off a line. */
+static char *take_label(char *text, char label[16])
+{
+    char *end = strstr(text, ": ");
+    if (!end || end - text > 15)
+        return text;
+    memcpy(label, text, (size_t)(end - text));
+    label[end - text] = 0;
+    return end + 2;
+}
+
+static void take_line(char *text)
+{
+    char label[16] = "", *rest = take_label(text, label);
+    struct line *line = NULL;
+    if (sscanf(text, "without %15s", label) == 1)
+        rest = "rx";
+    if (*label && of_base && !is_alone) {
+        line = labelled(label);
+        CHECK(line);
+    } else {
+        CHECK(lines < MOST_LINES);
+        line = &setup[lines++];
+    }
+    strcpy(line->label, label);
+    strcpy(line->text, rest);
+}
+
+static void begin_case(void)
+{
+    memcpy(setup, base, sizeof base);
+    lines = of_base;
+    is_alone = false;
+    want[0] = 0;
+}
+
+static void take(char *text)
+{
+    char *comment = *text == '>' ? NULL : strchr(text, '#');
+    if (comment)
+        *comment = 0;
+    for (size_t end = strlen(text); end && (text[end - 1] == ' ' || text[end - 1] == '\n'); end--)
+        text[end - 1] = 0;
+    if (*text == '>') {
+        strcat(want, text + 2);
+        strcat(want, "\n");
+    } else if (!strcmp(text, "alone")) {
+        is_alone = true;
+        lines = 0;
+    } else if (*text && strcmp(text, "base")) {
+        take_line(text);
+    }
+}
+
+int main(int count, char **words)
+{
+    char text[WIDE];
+    FILE *file = fopen(words[1], "r"), *told = count > 2 ? fopen(words[2], "w") : NULL;
+    bool is_base = true;
+    CHECK(file);
+    while (fgets(text, sizeof text, file)) {
+        if (strncmp(text, "case ", 5)) {
+            take(text);
+            continue;
+        }
+        if (is_base) {
+            memcpy(base, setup, sizeof base);
+            of_base = lines;
+        } else {
+            try_case(told);
+        }
+        is_base = false;
+        begin_case();
+        sscanf(text, "case %255[^\n]", name);
+    }
+    try_case(told);
+    fclose(file);
+    if (told)
+        fclose(told);
+    printf("%u set-ups\n", cases);
+    return 0;
+}

@@ -1,0 +1,108 @@
+/* What registers don't show of a controller: which frames wait and for which queues, which sides of queues were asked to
+   be on, and which causes no message has told. All of it is seen by what a copy of the controller does. */
+#include <string.h>
+
+#include "why.h"
+
+uint8_t nicd_new(uint8_t vfs, uint16_t fifo, uint32_t blocks, void **device);
+void nicd_free(nic n);
+uint8_t nicd_snapshot(nic *n, nic_kept *kept);
+uint8_t nicd_restore(nic *n, const nic_kept *kept);
+void nicd_free_snapshot(nic_kept kept);
+uint8_t nicd_write32(nic *n, uint32_t address, uint32_t word);
+uint8_t nicd_rx_step(nic *n, nic_told *told);
+uint8_t nicd_queue_step(nic *n, bool transmit, uint16_t queue, nic_told *told);
+uint8_t nicd_int_step(nic *n, uint8_t group, nic_told *told);
+
+static uint32_t word_of(nic *n, uint32_t address)
+{
+    uint32_t word = 0;
+    nic_peek32(n, address, &word);
+    return word;
+}
+
+/* The causes that the next messages of a group tell: with all of them in its auto-clear, these are gone then. */
+static uint32_t due(nic *copy, uint8_t group)
+{
+    uint32_t causes = group ? (uint32_t)NIC_PVTEICR(group - 1) : (uint32_t)NIC_EICR;
+    uint32_t before = word_of(copy, causes);
+    nic_told told;
+    if (!before)
+        return 0;
+    nicd_write32(copy, group ? (uint32_t)NIC_PVTEIAC(group - 1) : (uint32_t)NIC_EIAC, UINT32_MAX);
+    while (nicd_int_step(copy, group, &told) == NIC_MESSAGE)
+        ;
+    return before & ~word_of(copy, causes);
+}
+
+/* What was asked of each side of a queue. Answers whether a receive side went off, and with it maybe a frame. */
+static bool look_at_sides(nic *copy, struct nicd_inside *inside)
+{
+    bool went_off = false;
+    nic_told told;
+    for (uint16_t queue = 0; queue < NICD_QUEUES; queue++) {
+        for (int side = NICD_RX; side <= NICD_TX; side++) {
+            uint32_t control = side == NICD_TX ? (uint32_t)NIC_TXDCTL(queue) : (uint32_t)NIC_RXDCTL(queue);
+            bool is_on = word_of(copy, control) & NIC_RXDCTL_ENABLE;
+            bool is_switched = nicd_queue_step(copy, side == NICD_TX, queue, &told) == NIC_DONE;
+            inside->is_wanted[side][queue] = is_on != is_switched;
+            went_off |= side == NICD_RX && is_on && is_switched;
+        }
+    }
+    return went_off;
+}
+
+static void arm(nic *copy, uint16_t queue)
+{
+    nic_told told;
+    nicd_write32(copy, NIC_RXDCTL(queue), NIC_RXDCTL_ENABLE);
+    nicd_queue_step(copy, false, queue, &told);
+    nicd_write32(copy, NIC_RDT(queue), UINT16_MAX);
+}
+
+/* For which queues frames wait: with a tail that is no slot of its ring each receive step ends in a fault that names the
+   queue, which goes off then, and the frame is gone. */
+static void look_at_frames(nic *copy, struct nicd_inside *inside)
+{
+    nic_told told;
+    for (uint16_t queue = 0; queue < NICD_QUEUES; queue++)
+        arm(copy, queue);
+    while (nicd_rx_step(copy, &told) == NIC_FAULT) {
+        if (!inside->all_waiting++)
+            inside->front = told.queue;
+        inside->waiting[told.queue]++;
+        arm(copy, told.queue);
+    }
+}
+
+static bool look(nic *copy, const nic_kept *kept, struct nicd_inside *inside)
+{
+    if (nicd_restore(copy, kept) != NIC_DONE)
+        return false;
+    nicd_write32(copy, NIC_CTRL, 0); /* else it makes no step */
+    for (uint8_t group = 0; group < NICD_GROUPS; group++)
+        inside->due[group] = due(copy, group);
+    if (look_at_sides(copy, inside)) {
+        if (nicd_restore(copy, kept) != NIC_DONE)
+            return false;
+        nicd_write32(copy, NIC_CTRL, 0);
+    }
+    look_at_frames(copy, inside);
+    return true;
+}
+
+void nicd_look_inside(nic *of, struct nicd_inside *inside)
+{
+    nic copy = {NULL};
+    nic_kept kept = {NULL};
+    memset(inside, 0, sizeof *inside);
+    if (nicd_new(0, 1, 1, &copy.device) != NIC_DONE)
+        return;
+    if (nicd_snapshot(of, &kept) == NIC_DONE) {
+        inside->is_known = look(&copy, &kept, inside);
+        nicd_free_snapshot(kept);
+    }
+    nicd_free(copy);
+    if (!inside->is_known)
+        memset(inside, 0, sizeof *inside);
+}

@@ -1,0 +1,54 @@
+/* The text of nic_why: a line for each reason. */
+#include <stdarg.h>
+#include <stdio.h>
+#include <string.h>
+
+#include "why.h"
+
+uint64_t nicd_why_word(const struct nicd_why *it, uint32_t address)
+{
+    uint32_t word = 0;
+    nic_peek32(it->of, address, &word);
+    return word;
+}
+
+uint64_t nicd_why_field(const struct nicd_why *it, uint32_t address, uint32_t field)
+{
+    return nic_field((uint32_t)nicd_why_word(it, address), field);
+}
+
+const char *nicd_why_bits(struct nicd_why *it, const char *const names[32], uint64_t word)
+{
+    size_t used = 0;
+    it->names[0] = 0;
+    for (int bit = 0; bit < 32; bit++)
+        if (word >> bit & 1)
+            used += (size_t)snprintf(it->names + used, sizeof it->names - used, "%s%s", used ? ", " : "", names[bit]);
+    return it->names;
+}
+
+/* A line that has no room isn't begun, and none follows it. */
+static void append(struct nicd_why *it, const char *line, size_t length)
+{
+    it->is_cut |= it->used + length >= it->room;
+    if (!it->is_cut) {
+        memcpy(it->text + it->used, line, length);
+        it->used += length;
+    }
+    it->length += length;
+}
+
+void nicd_why_say(struct nicd_why *it, const char *format, ...)
+{
+    char line[1024];
+    va_list list;
+    it->lines++;
+    if (it->is_silent)
+        return;
+    int used = snprintf(line, sizeof line, "%s%s", it->subject, *it->subject ? ": " : "");
+    va_start(list, format);
+    used += vsnprintf(line + used, sizeof line - (size_t)used - 1, format, list);
+    va_end(list);
+    line[used] = '\n';
+    append(it, line, (size_t)used + 1);
+}

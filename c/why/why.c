@@ -1,0 +1,458 @@
+/* Why nothing happens: which reasons are asked of which queue, frame and cause. The reasons themselves are those of
+   reasons.txt. */
+#include <stdio.h>
+#include <string.h>
+
+#include "reasons.h"
+
+enum { SHORTEST = 60, KILOBYTE = 1024, ENTRY_VALID = 0x80, CAUSE_OF_ENTRY = 0x3f };
+
+uint8_t nicd_dma_read(nic *n, uint64_t bus, uint8_t *bytes, size_t length);
+
+#define WORD(address) nicd_why_word(it, address)
+#define FIELD(address, field) nicd_why_field(it, address, field)
+
+/* What the lines from here on are about. */
+static void about(struct nicd_why *it, const char *what, int number)
+{
+    snprintf(it->subject, sizeof it->subject, number < 0 ? "%s" : "%s %d", what, number);
+}
+
+/* --- memory --- */
+
+static bool is_lent(struct nicd_why *it, uint64_t bus, uint64_t length)
+{
+    uint8_t byte;
+    uint64_t last = length ? bus + length - 1 : bus;
+    for (uint64_t at = bus; length && at / NIC_BLOCK_BYTES < last / NIC_BLOCK_BYTES; at += NIC_BLOCK_BYTES)
+        if (nicd_dma_read(it->of, at, &byte, 1) != NIC_DONE)
+            return false;
+    return !length || (last >= bus && nicd_dma_read(it->of, last, &byte, 1) == NIC_DONE);
+}
+
+/* A ring with its head and its tail inside. */
+struct ring {
+    uint64_t base;
+    uint32_t slots, head, tail;
+};
+
+static struct ring ring_of(struct nicd_why *it, int side, uint16_t queue)
+{
+    bool tx = side == NICD_TX;
+    struct ring ring;
+    ring.base = WORD(tx ? NIC_TDBAH(queue) : NIC_RDBAH(queue)) << 32 | WORD(tx ? NIC_TDBAL(queue) : NIC_RDBAL(queue));
+    ring.slots = (uint32_t)WORD(tx ? NIC_TDLEN(queue) : NIC_RDLEN(queue)) / NIC_DESC_BYTES;
+    ring.head = (uint32_t)WORD(tx ? NIC_TDH(queue) : NIC_RDH(queue));
+    ring.tail = (uint32_t)WORD(tx ? NIC_TDT(queue) : NIC_RDT(queue));
+    return ring;
+}
+
+static uint64_t address_of(const struct ring *ring, uint32_t slot)
+{
+    return ring->base + (uint64_t)NIC_DESC_BYTES * slot;
+}
+
+static bool read_slot(struct nicd_why *it, const struct ring *ring, uint32_t slot, nic_desc *d)
+{
+    uint8_t bytes[NIC_DESC_BYTES];
+    if (nicd_dma_read(it->of, address_of(ring, slot), bytes, sizeof bytes) != NIC_DONE)
+        return false;
+    *d = nic_desc_of_bytes(bytes);
+    return true;
+}
+
+/* --- a receive queue --- */
+
+static bool is_on(struct nicd_why *it, int side, uint16_t queue)
+{
+    return WORD(side == NICD_TX ? NIC_TXDCTL(queue) : NIC_RXDCTL(queue)) & NIC_RXDCTL_ENABLE;
+}
+
+/* Whether a driver set up a ring, or its head moved. */
+static bool has_ring(const struct ring *ring)
+{
+    return ring->slots || ring->head || ring->tail;
+}
+
+static bool is_in_use(struct nicd_why *it, int side, uint16_t queue)
+{
+    struct ring ring = ring_of(it, side, queue);
+    bool has_frames = side == NICD_RX && it->inside.waiting[queue];
+    return has_ring(&ring) || has_frames || is_on(it, side, queue) || it->inside.is_wanted[side][queue];
+}
+
+/* The first slot of the device's that no frame can be written to, whichever it is. */
+static void rx_slots(struct nicd_why *it, const struct ring *ring, uint16_t queue)
+{
+    uint64_t size = FIELD(NIC_SRRCTL(queue), NIC_SRRCTL_BSIZEPACKET) * KILOBYTE;
+    for (uint32_t slot = ring->head; slot != ring->tail; slot = slot + 1 == ring->slots ? 0 : slot + 1) {
+        uint64_t at = address_of(ring, slot), buffer;
+        nic_desc d;
+        if (!read_slot(it, ring, slot, &d)) {
+            nicd_why_not_lent(it, at, slot, at);
+            return;
+        }
+        buffer = d.first & NIC_RXD_BUFFER;
+        if (!is_lent(it, buffer, size < SHORTEST ? size : SHORTEST)) {
+            nicd_why_not_lent(it, buffer, slot, at);
+            return;
+        }
+    }
+}
+
+static void rx_switch(struct nicd_why *it, uint16_t queue)
+{
+    bool is_wanted = it->inside.is_wanted[NICD_RX][queue];
+    if (is_on(it, NICD_RX, queue) && !is_wanted)
+        nicd_why_rx_asked_off(it, queue);
+    else if (is_wanted)
+        nicd_why_rx_not_switched(it, queue, "");
+    else
+        nicd_why_rx_queue_off(it, queue);
+}
+
+/* No slot is the device's: a queue that is off gets its first ones when it is on. */
+static void rx_empty(struct nicd_why *it, uint16_t queue)
+{
+    bool has_frames = it->inside.waiting[queue];
+    if (has_frames || is_on(it, NICD_RX, queue))
+        nicd_why_rx_no_slot(it, queue);
+    if (has_frames && FIELD(NIC_SRRCTL(queue), NIC_SRRCTL_DROP_EN))
+        nicd_why_rx_drops(it, queue);
+    else if (has_frames)
+        nicd_why_rx_waits(it, queue);
+}
+
+/* What is in the way of a receive queue. */
+static void rx_queue(struct nicd_why *it, uint16_t queue)
+{
+    struct ring ring = ring_of(it, NICD_RX, queue);
+    bool is_off = !is_on(it, NICD_RX, queue) && !it->inside.is_wanted[NICD_RX][queue];
+    bool is_outside = false;
+    about(it, "rx", queue);
+    rx_switch(it, queue);
+    if (is_off && !has_ring(&ring))
+        return;
+    is_outside |= nicd_why_rx_head_outside(it, queue);
+    is_outside |= nicd_why_rx_tail_outside(it, queue);
+    nicd_why_rx_type(it, queue);
+    nicd_why_rx_no_size(it, queue);
+    if (!is_outside && ring.head == ring.tail)
+        rx_empty(it, queue);
+    else if (!is_outside)
+        rx_slots(it, &ring, queue);
+}
+
+/* --- a transmit queue --- */
+
+/* What a data descriptor is a fault for, with so many bytes of its frame in front of it. */
+static bool tx_data(struct nicd_why *it, const struct ring *ring, uint32_t slot, nic_desc d, uint64_t frame)
+{
+    uint64_t length = nic_desc_field(d.second, NIC_TXD_DTALEN);
+    if (d.second & (NIC_TXD_VLE | NIC_TXD_TSE | NIC_TXD_POPTS))
+        return nicd_why_tx_offload(it, slot);
+    if (frame + length > nicd_why_frame_limit(it))
+        return nicd_why_tx_too_long(it, slot) || nicd_why_tx_too_long_for_jumbo(it, slot);
+    if (!is_lent(it, d.first, length))
+        return nicd_why_not_lent(it, d.first, slot, address_of(ring, slot));
+    return false;
+}
+
+/* Where the head is written back, if it is, and that isn't lent. */
+static bool tx_back(struct nicd_why *it, const struct ring *ring, uint32_t slot, nic_desc d, uint16_t queue)
+{
+    uint64_t low = WORD(NIC_TDWBAL(queue)), at = WORD(NIC_TDWBAH(queue)) << 32 | (low & ~UINT64_C(3));
+    if (!(d.second & NIC_TXD_RS) || !(low & NIC_TDWBAL_HEAD_WB_EN) || is_lent(it, at, 4))
+        return false;
+    return nicd_why_not_lent(it, at, slot, address_of(ring, slot));
+}
+
+static bool tx_slot(struct nicd_why *it, const struct ring *ring, uint32_t slot, uint64_t *frame, uint16_t queue)
+{
+    nic_desc d;
+    uint64_t kind;
+    if (!read_slot(it, ring, slot, &d))
+        return nicd_why_not_lent(it, address_of(ring, slot), slot, address_of(ring, slot));
+    kind = nic_desc_field(d.second, NIC_TXD_DTYP);
+    if (!(d.second & NIC_TXD_DEXT))
+        return nicd_why_tx_legacy(it, slot);
+    if (kind == 2) /* a context descriptor */
+        return false;
+    if (kind != 3)
+        return nicd_why_tx_unknown_type(it, slot);
+    if (tx_data(it, ring, slot, d, *frame) || tx_back(it, ring, slot, d, queue))
+        return true;
+    *frame = d.second & NIC_TXD_EOP ? 0 : *frame + nic_desc_field(d.second, NIC_TXD_DTALEN);
+    return false;
+}
+
+/* The first slot of the device's that is a fault. */
+static void tx_slots(struct nicd_why *it, const struct ring *ring, uint16_t queue)
+{
+    uint64_t frame = 0;
+    for (uint32_t slot = ring->head; slot != ring->tail; slot = slot + 1 == ring->slots ? 0 : slot + 1)
+        if (tx_slot(it, ring, slot, &frame, queue))
+            return;
+}
+
+static void tx_switch(struct nicd_why *it, uint16_t queue)
+{
+    bool is_wanted = it->inside.is_wanted[NICD_TX][queue];
+    if (is_on(it, NICD_TX, queue) && !is_wanted)
+        nicd_why_tx_asked_off(it, queue);
+    else if (is_wanted)
+        nicd_why_tx_not_switched(it, queue, "");
+    else
+        nicd_why_tx_queue_off(it, queue);
+}
+
+/* How many queues the pool of a queue has by GCR_EXT, 0 where there are no pools. */
+static unsigned queues_of_pool(struct nicd_why *it)
+{
+    static const uint8_t counts[4] = {0, 8, 4, 2};
+    return counts[FIELD(NIC_GCR_EXT, NIC_GCR_EXT_VT_MODE)];
+}
+
+/* What is in the way of a transmit queue. Whether it has slots to send is no reason by itself. */
+static void tx_queue(struct nicd_why *it, uint16_t queue, bool is_stopped)
+{
+    struct ring ring = ring_of(it, NICD_TX, queue);
+    unsigned before = it->lines, pool = queues_of_pool(it);
+    bool is_outside = false;
+    about(it, "tx", queue);
+    tx_switch(it, queue);
+    if (!is_on(it, NICD_TX, queue) && !has_ring(&ring))
+        return;
+    is_outside |= nicd_why_tx_head_outside(it, queue);
+    is_outside |= nicd_why_tx_tail_outside(it, queue);
+    if (is_outside || ring.head == ring.tail)
+        return;
+    if (pool && FIELD(NIC_VT_CTL, NIC_VT_CTL_VT_ENA))
+        nicd_why_tx_pool_off(it, queue / pool);
+    tx_slots(it, &ring, queue);
+    if (it->lines == before)
+        (is_stopped ? nicd_why_tx_waits : nicd_why_tx_not_made)(it, queue);
+}
+
+/* --- the causes of a group --- */
+
+static bool has_group(struct nicd_why *it, unsigned group)
+{
+    uint32_t word;
+    return !group || nic_vf_peek32(it->of, (uint8_t)(group - 1), NIC_VTEIMS, &word) == NIC_DONE;
+}
+
+/* The group in which a queue raises its causes. */
+static unsigned group_of(struct nicd_why *it, uint16_t queue)
+{
+    unsigned pool = queues_of_pool(it), group = pool ? queue / pool + 1u : 0;
+    return group && has_group(it, group) ? group : 0;
+}
+
+/* The byte of IVAR or PVTIVAR that says which cause a side of a queue raises. */
+static uint32_t entry_of(struct nicd_why *it, uint16_t queue, int side)
+{
+    uint64_t word = WORD(group_of(it, queue) ? NIC_PVTIVAR(queue / 2) : NIC_IVAR(queue / 2));
+    return (uint32_t)(word >> (16 * (queue % 2) + 8 * side)) & 0xff;
+}
+
+/* The causes of queues that a group has, and those of them that entries name. */
+static uint32_t causes_of_queues(unsigned group)
+{
+    return group ? 7 : 0xffff;
+}
+
+static uint32_t cause_of(uint64_t entry)
+{
+    uint64_t cause = entry & CAUSE_OF_ENTRY;
+    return entry & ENTRY_VALID && cause < 32 ? UINT32_C(1) << cause : 0;
+}
+
+static uint32_t causes_of(uint64_t entries)
+{
+    return cause_of(entries) | cause_of(entries >> 8) | cause_of(entries >> 16) | cause_of(entries >> 24);
+}
+
+static uint32_t named_causes(struct nicd_why *it, unsigned group)
+{
+    unsigned vectors = group ? queues_of_pool(it) / 2 : NIC_IVAR_COUNT, first = group ? (group - 1) * vectors : 0;
+    uint32_t named = group ? cause_of(WORD(NIC_PVTIVAR_MISC(group - 1))) : 0;
+    for (unsigned k = first; k < first + vectors; k++)
+        named |= causes_of(WORD(group ? NIC_PVTIVAR(k) : NIC_IVAR(k)));
+    return named;
+}
+
+/* A receive queue that raises no cause, though causes of queues are unmasked in its group. */
+static void entry_of_queue(struct nicd_why *it, uint16_t queue, unsigned group)
+{
+    uint32_t entry = entry_of(it, queue, NICD_RX), cause = entry & CAUSE_OF_ENTRY, index = queue / 2,
+             byte = queue % 2 * 2;
+    if (!(entry & ENTRY_VALID))
+        (group ? nicd_why_vf_entry_off : nicd_why_pf_entry_off)(it, index, byte, "rx", queue);
+    else if (!(causes_of_queues(group) & cause_of(entry)))
+        (group ? nicd_why_vf_entry_high : nicd_why_pf_entry_high)(it, index, byte, "rx", queue, cause);
+}
+
+/* Causes that are unmasked and that nothing raises. */
+static void unraised(struct nicd_why *it, unsigned group, uint32_t causes, uint32_t masks)
+{
+    uint32_t unmasked = masks & causes_of_queues(group);
+    if (!unmasked)
+        return;
+    for (uint16_t queue = 0; queue < NICD_QUEUES; queue++)
+        if (group_of(it, queue) == group && is_on(it, NICD_RX, queue))
+            entry_of_queue(it, queue, group);
+    if (!(unmasked & (named_causes(it, group) | causes)))
+        (group ? nicd_why_vf_unraised : nicd_why_pf_unraised)(it, unmasked);
+}
+
+/* Causes that are there and have no message. */
+static void untold(struct nicd_why *it, unsigned group, uint32_t causes, uint32_t masks, bool is_stopped)
+{
+    uint32_t both = causes & masks, lost = group ? 0 : (uint32_t)nicd_why_without_vector(it, both);
+    uint32_t due = it->inside.due[group] & both;
+    char name[8] = "pf";
+    if (group)
+        snprintf(name, sizeof name, "%u", group - 1);
+    if (group ? nicd_why_vf_masked(it, group - 1) : nicd_why_pf_masked(it))
+        return;
+    if (group)
+        nicd_why_vf_hidden(it, group - 1);
+    else
+        nicd_why_pf_hidden(it);
+    nicd_why_no_vector(it, lost);
+    if (it->inside.is_known && both & ~lost & ~due)
+        (group ? nicd_why_vf_told : nicd_why_pf_told)(it, both & ~lost & ~due);
+    if (due && !is_stopped)
+        (group ? nicd_why_vf_not_made : nicd_why_pf_not_made)(it, due, name);
+}
+
+static void group_of_causes(struct nicd_why *it, unsigned group, bool is_stopped)
+{
+    uint32_t causes = (uint32_t)WORD(group ? NIC_PVTEICR(group - 1) : NIC_EICR);
+    uint32_t masks = (uint32_t)WORD(group ? NIC_PVTEIMS(group - 1) : NIC_EIMS);
+    unsigned before = it->lines;
+    about(it, group ? "int" : "int pf", group ? (int)group - 1 : -1);
+    unraised(it, group, causes, masks);
+    if (causes)
+        untold(it, group, causes, masks, is_stopped);
+    if (!group && it->lines > before)
+        nicd_why_no_msix(it);
+}
+
+/* --- the whole --- */
+
+/* What stops all queues of a side, where one of them would do something. Answers whether it does. */
+static bool rx_side(struct nicd_why *it)
+{
+    bool is_used = false;
+    for (uint16_t queue = 0; queue < NICD_QUEUES; queue++)
+        is_used |= is_in_use(it, NICD_RX, queue);
+    return is_used && nicd_why_rx_off(it);
+}
+
+static bool has_work(struct nicd_why *it, uint16_t queue)
+{
+    struct ring ring = ring_of(it, NICD_TX, queue);
+    return ring.head != ring.tail;
+}
+
+static bool tx_side(struct nicd_why *it)
+{
+    bool is_used = false;
+    for (uint16_t queue = 0; queue < NICD_QUEUES; queue++)
+        is_used |= has_work(it, queue);
+    return is_used && nicd_why_tx_off(it);
+}
+
+static bool link_is_down(struct nicd_why *it)
+{
+    bool is_used = false;
+    for (uint16_t queue = 0; queue < NICD_QUEUES; queue++)
+        is_used |= is_in_use(it, NICD_RX, queue) || has_work(it, queue);
+    return is_used && nicd_why_link_down(it);
+}
+
+/* How many queues a pool has for frames that arrive, by MRQC; 0 where it has no pools. */
+static unsigned rx_queues_of_pool(struct nicd_why *it)
+{
+    uint64_t code = FIELD(NIC_MRQC, NIC_MRQC_MRQE);
+    if (code != 8 && code != 10 && code != 11)
+        return 0;
+    return FIELD(NIC_GCR_EXT, NIC_GCR_EXT_VT_MODE) == 1 ? 8 : code == 10 ? 4 : 2;
+}
+
+/* Pools that take no frames, though a queue of theirs is set up. */
+static void rx_pools(struct nicd_why *it)
+{
+    unsigned queues = rx_queues_of_pool(it);
+    for (uint16_t queue = 0, told = UINT16_MAX; queues && queue < NICD_QUEUES; queue++)
+        if (queue / queues != told && is_in_use(it, NICD_RX, queue)) {
+            told = (uint16_t)(queue / queues);
+            nicd_why_rx_pool_off(it, told);
+        }
+}
+
+/* The frames that wait, and whether something is in the way of the one in front. */
+static void frames(struct nicd_why *it, bool is_stopped)
+{
+    unsigned before = it->lines;
+    bool is_in_the_way;
+    if (!it->inside.all_waiting)
+        return;
+    it->is_silent = true;
+    rx_queue(it, it->inside.front);
+    it->is_silent = false;
+    is_in_the_way = is_stopped || it->lines > before;
+    about(it, "rx", -1);
+    (is_in_the_way ? nicd_why_waiting : nicd_why_rx_not_made)(it, it->inside.all_waiting, it->inside.front);
+}
+
+static void tell(struct nicd_why *it)
+{
+    bool is_stopped = nicd_why_disabled(it), is_silent = is_stopped;
+    is_silent |= link_is_down(it);
+    rx_side(it);
+    is_silent |= tx_side(it);
+    rx_pools(it);
+    frames(it, is_stopped);
+    for (uint16_t queue = 0; queue < NICD_QUEUES; queue++)
+        if (is_in_use(it, NICD_RX, queue))
+            rx_queue(it, queue);
+    for (uint16_t queue = 0; queue < NICD_QUEUES; queue++)
+        if (is_in_use(it, NICD_TX, queue))
+            tx_queue(it, queue, is_silent);
+    for (unsigned group = 0; group < NICD_GROUPS && has_group(it, group); group++)
+        group_of_causes(it, group, is_stopped);
+    about(it, "eestep", -1);
+    nicd_why_word_asked(it);
+    about(it, "", -1);
+    if (!it->inside.is_known)
+        nicd_why_no_copy(it);
+}
+
+/* Without a copy, what was asked of a side is taken to be what it is. */
+static void look(struct nicd_why *it)
+{
+    nicd_look_inside(it->of, &it->inside);
+    for (uint16_t queue = 0; !it->inside.is_known && queue < NICD_QUEUES; queue++)
+        for (int side = NICD_RX; side <= NICD_TX; side++)
+            it->inside.is_wanted[side][queue] = is_on(it, side, queue);
+}
+
+size_t nic_why(nic *n, char *text, size_t size)
+{
+    struct nicd_why it;
+    uint32_t word;
+    memset(&it, 0, sizeof it);
+    it.of = n;
+    it.text = text;
+    it.room = size;
+    if (nic_peek32(n, NIC_STATUS, &word) == NIC_DONE) {
+        look(&it);
+        tell(&it);
+    }
+    if (size)
+        text[it.used] = 0;
+    return it.length;
+}

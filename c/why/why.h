@@ -1,0 +1,47 @@
+/* What nic_why looks at, and the text that it makes. */
+#ifndef NICD_WHY_H
+#define NICD_WHY_H
+
+#include <stdbool.h>
+#include <stddef.h>
+#include <stdint.h>
+
+#include "nic82599.h"
+
+enum { NICD_QUEUES = 128, NICD_GROUPS = 64, NICD_RX = 0, NICD_TX = 1 };
+
+/* What registers don't show of a controller. Without `is_known` there was no memory to find it out. */
+struct nicd_inside {
+    bool is_known;
+    bool is_wanted[2][NICD_QUEUES]; /* what was asked of a side of a queue: by NICD_RX or NICD_TX */
+    uint16_t waiting[NICD_QUEUES];  /* how many frames wait for a queue */
+    uint16_t all_waiting, front;    /* how many there are, and the queue of the one in front */
+    uint32_t due[NICD_GROUPS];      /* the causes that the next messages of a group tell: 0 the physical function */
+};
+
+struct nicd_why {
+    nic *of;
+    struct nicd_inside inside;
+    bool is_silent; /* nothing is told */
+    unsigned lines; /* how many were told */
+    /* The text: as many whole lines of it as there was room for, and how long it is as a whole. */
+    char *text;
+    size_t room, used, length;
+    bool is_cut;
+    char subject[16]; /* what a line begins with */
+    char names[512];
+};
+
+/* Finds out what registers don't show, on a copy of the controller, which itself isn't changed. */
+void nicd_look_inside(nic *of, struct nicd_inside *inside);
+
+/* --- what the generated reasons use --- */
+
+uint64_t nicd_why_word(const struct nicd_why *it, uint32_t address);
+uint64_t nicd_why_field(const struct nicd_why *it, uint32_t address, uint32_t field);
+/* The names of the bits that are 1, until the next call. */
+const char *nicd_why_bits(struct nicd_why *it, const char *const names[32], uint64_t word);
+/* One more line. */
+void nicd_why_say(struct nicd_why *it, const char *format, ...) __attribute__((format(printf, 2, 3)));
+
+#endif

@@ -8,8 +8,8 @@
 
 A `Nic` is a controller as after power-up. Registers go by the names of docs/REGISTERS.md or by address, packet memory
 by bus address (`nic.memory[0x800:0x83c]`). Frames come in by `arrive` and out by `collect`. The device acts in steps:
-`settle` makes all that have something to do. A refused call raises an exception with the refusal's name, and leaves the
-device unchanged. What the device reports is a small dataclass.
+`settle` makes all that have something to do, and `why` says why nothing happens. A refused call raises an exception with
+the refusal's name, and leaves the device unchanged. What the device reports is a small dataclass.
 
 The library is looked for in this order: where the variable NIC82599_LIBRARY says; beside this file; in c/out of the
 clone, where `make -C c` puts it; in the system. Calls hold the interpreter's lock, so the calls of several threads come
@@ -27,7 +27,7 @@ import ctypes
 import operator
 import os
 import re
-from collections.abc import Callable, Iterable
+from collections.abc import Callable, Iterable, Iterator
 from dataclasses import dataclass
 from difflib import get_close_matches
 from functools import cache
@@ -239,6 +239,10 @@ class _Kept(ctypes.Structure):
     _fields_ = [("kept", ctypes.c_void_p)]
 
 
+class _Settling(ctypes.Structure):
+    _fields_ = [("queues", ctypes.c_uint16), ("at", ctypes.c_uint16)]
+
+
 class _Told(ctypes.Structure):
     _fields_ = [
         ("desc", ctypes.c_uint64),
@@ -316,6 +320,7 @@ _CALLS: dict[str, list[object]] = {
     "nic_eeprom_step": [_NIC, _AT],
     "nic_int_step": [_NIC, _U8, _AT],
     "nic_settle": [_NIC, _U16, _AT, _SIZE, _AT],
+    "nic_next_step": [_NIC, _AT, _AT],
     "nic_install_image": [_NIC, _BYTES, _SIZE],
     "nic_install_text": [_NIC, _BYTES, _SIZE, _AT],
     "nic_hash": [_BYTES, _BYTES, _SIZE, _AT],
@@ -343,6 +348,7 @@ def _library(path: str | os.PathLike[str] | None = None) -> ctypes.PyDLL:
                 call = getattr(library, name)
                 call.argtypes, call.restype = takes, ctypes.c_uint8
             library.nic_next_out.argtypes, library.nic_next_out.restype = [_NIC], ctypes.c_size_t
+            library.nic_why.argtypes, library.nic_why.restype = [_NIC, _BYTES, _SIZE], ctypes.c_size_t
             library.nic_free.argtypes, library.nic_free.restype = [_Handle], None
             library.nic_free_snapshot.argtypes, library.nic_free_snapshot.restype = [_Kept], None
             library.nic_record.argtypes, library.nic_record.restype = [ctypes.c_char_p], ctypes.c_bool
@@ -703,6 +709,10 @@ class Snapshot(_OneOwner):
         return f"<Snapshot of {self.vfs} virtual functions and {self.blocks} blocks{ended}>"
 
 
+# Who is told of each controller that is made, and before it is closed: the plugin of pytest.
+_watcher: Callable[[Nic], None] | None = None
+
+
 class Nic(_Registers, _OneOwner):
     """A controller as after power-up, with `vfs` virtual functions (63 at most), room for `fifo` frames that wait to be
     received (1 to 4,096), and `blocks` blocks of packet memory (1 to 65,536), none of them lent. It ends by `close`, or
@@ -731,9 +741,13 @@ class Nic(_Registers, _OneOwner):
         self._room = ctypes.create_string_buffer(_LONGEST)
         self.memory = Memory(self)
         self._handle = handle
+        if _watcher:
+            _watcher(self)
 
     def close(self) -> None:
         """Ends the controller with its memory and its frames; a second time it does nothing."""
+        if _watcher and self._handle is not None:
+            _watcher(self)
         handle, self._handle = self._handle, None
         if handle is not None:
             self._library.nic_free(handle)
@@ -914,6 +928,42 @@ class Nic(_Registers, _OneOwner):
                 return events
             if status != statuses.MORE:
                 raise _refused(status, f"settle {given}")
+
+    def steps(self, queues: int = QUEUES) -> Iterator[Event]:
+        """The same steps in the same order, each made when the iterator is asked for the next event: so a driver acts
+        on one before the device goes on, as a handler does on a message. NoQueue above 128, OutOfMemory.
+
+        >>> with Nic() as nic:
+        ...     nic["EIMS"] = nic["EICS"] = 3
+        ...     for event in nic.steps(1):
+        ...         nic["EIMC"] = 3         # the handler masks both, so the second has no message
+        ...         event
+        Message(function=None, vector=0)
+        """
+        where, told = _Settling(_whole(queues, 16, "number of queues"), 0), _Told()
+        while (status := self._call("nic_next_step", ctypes.byref(where), ctypes.byref(told))) == statuses.MORE:
+            yield _TELLERS[told.status](told)
+        if status != statuses.DONE:
+            raise _refused(status, f"steps {queues}")
+
+    # --- why nothing happens ---
+
+    def why(self) -> str:
+        """What is in the way of what waits, a reason on each line: of each frame that waits, each queue that isn't at
+        rest, each cause that has no message. Empty where nothing waits. Nothing changes; lent memory is copied for the
+        time of the call.
+
+        >>> with Nic() as nic:
+        ...     nic.lend()
+        ...     nic["RDLEN"], nic["SRRCTL"], nic["RXDCTL"], nic["RXCTRL"] = 128, 0x0200_0002, 0x0200_0000, 1
+        ...     print(nic.why())
+        rx 0: RXDCTL[0].ENABLE 0: the queue is off; it was asked for, but no `qstep rx 0` followed
+        """
+        text = ctypes.create_string_buffer(4096)
+        if (length := self._call("nic_why", text, len(text))) >= len(text):
+            text = ctypes.create_string_buffer(length + 1)
+            self._call("nic_why", text, len(text))
+        return text.value.decode().rstrip("\n")
 
     # --- the EEPROM ---
 

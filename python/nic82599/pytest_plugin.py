@@ -1,4 +1,8 @@
-"""The plugin of pytest: a test that gives a scenario is searched.
+"""The plugin of pytest: a failed test says why nothing happens, and a test that gives a scenario is searched.
+
+The report of a test that failed has a section for each controller that it made, or has by a fixture, in which something
+waits: what `nic.why()` tells. A controller that was closed before has one if the failure itself closed it, as at the end
+of a `with`. pytest's own option `-p no:nic82599` leaves the plugin out.
 
     @pytest.mark.nic_schedules(1000)
     def test_poll():
@@ -13,10 +17,15 @@ marker that can't be taken fails its test; one of the options ends pytest, with 
 
 from __future__ import annotations
 
-from collections.abc import Generator
+import contextlib
+import sys
+import weakref
+from collections.abc import Generator, Iterator
 from typing import TYPE_CHECKING
 
 import pytest
+
+import nic82599
 
 from .explore import BadSchedule, BadWord, Failure, Scenario, check_number, check_out, replay, search
 
@@ -99,12 +108,72 @@ def pytest_pyfunc_call(pyfuncitem: pytest.Function) -> bool | None:
     return True
 
 
+class Watch:
+    """The controllers that a test makes, and what was in the way of those that its failure closed."""
+
+    def __init__(self) -> None:
+        self.made: list[weakref.ref[nic82599.Nic]] = []
+        self.told: dict[weakref.ref[nic82599.Nic], tuple[str, str]] = {}
+
+    def see(self, nic: nic82599.Nic) -> None:
+        """Takes in a controller that is made, or that is closed."""
+        one = weakref.ref(nic)
+        if one not in self.made:
+            self.made.append(one)
+        if sys.exc_info()[0] is not None:
+            self.told[one] = repr(nic), why_of(nic)
+
+    def texts(self, more: list[nic82599.Nic]) -> Iterator[tuple[str, str]]:
+        """Each controller, and what is in the way there."""
+        for one in self.made:
+            nic = one()
+            yield self.told.get(one) or ((repr(nic), why_of(nic)) if nic else ("", ""))
+        for nic in more:
+            if weakref.ref(nic) not in self.made:
+                yield repr(nic), why_of(nic)
+
+    def sections(self, more: list[nic82599.Nic]) -> list[tuple[str, str]]:
+        """The sections of a report."""
+        every = list(self.texts(more))
+        number = (lambda k: f" (number {k} of {len(every)})") if len(every) > 1 else (lambda k: "")
+        return [
+            (f"why nothing happens in {name}{number(k)}", text) for k, (name, text) in enumerate(every, 1) if text
+        ]
+
+
+def why_of(nic: nic82599.Nic) -> str:
+    """What is in the way in a controller; nothing in one that is closed."""
+    with contextlib.suppress(nic82599.NicError):
+        return nic.why()
+    return ""
+
+
+WATCH = pytest.StashKey[Watch]()
+
+
+@pytest.hookimpl(hookwrapper=True)
+def pytest_runtest_protocol(item: pytest.Item) -> Generator[None, None, None]:
+    item.stash[WATCH] = Watch()
+    nic82599._watcher = item.stash[WATCH].see
+    yield
+    nic82599._watcher = None
+
+
+def tell_why(item: pytest.Item, report: pytest.TestReport) -> None:
+    """Adds to the report of a test that failed why nothing happens."""
+    given = getattr(item, "funcargs", {}).values()
+    report.sections += item.stash[WATCH].sections([it for it in given if isinstance(it, nic82599.Nic)])
+
+
 @pytest.hookimpl(hookwrapper=True)
 def pytest_runtest_makereport(
     item: pytest.Item, call: pytest.CallInfo[None]
 ) -> Generator[None, Result[pytest.TestReport], None]:
-    """A failure of a schedule is told by itself: where the search raised it says nothing."""
+    """A failure of a schedule is told by itself, since where the search raised it says nothing; any other failure with
+    why nothing happens."""
     outcome = yield
+    if call.when != "teardown" and outcome.get_result().failed:
+        tell_why(item, outcome.get_result())
     if call.excinfo is not None and isinstance(call.excinfo.value, (Failure, BadSchedule)):
         report = outcome.get_result()
         if report.failed:

@@ -48,6 +48,14 @@ pub(crate) struct Told {
     pub(crate) vector: u8,
 }
 
+/// `struct nic_settling`.
+#[repr(C)]
+#[derive(Clone, Copy, Debug)]
+pub(crate) struct Settling {
+    pub(crate) queues: u16,
+    pub(crate) at: u16,
+}
+
 extern "C" {
     fn nic_version() -> *const c_char;
     fn nic_is_proved() -> bool;
@@ -80,6 +88,8 @@ extern "C" {
     fn nic_eeprom_step(n: *mut RawNic, told: *mut Told) -> u8;
     fn nic_int_step(n: *mut RawNic, group: u8, told: *mut Told) -> u8;
     fn nic_settle(n: *mut RawNic, queues: u16, told: *mut Told, length: usize, count: *mut usize) -> u8;
+    fn nic_next_step(n: *mut RawNic, place: *mut Settling, told: *mut Told) -> u8;
+    fn nic_why(n: *mut RawNic, text: *mut u8, size: usize) -> usize;
     fn nic_install_image(n: *mut RawNic, bytes: *const u8, length: usize) -> u8;
     fn nic_install_text(n: *mut RawNic, text: *const u8, length: usize, line: *mut u64) -> u8;
     fn nic_hash(key: *const u8, input: *const u8, length: usize, hash: *mut u32) -> u8;
@@ -324,6 +334,19 @@ impl Handle {
         // SAFETY: the controller is open; the room has as many events as its length; `count` is a place for a number.
         let status = unsafe { nic_settle(self.n(), queues, room.as_mut_ptr(), room.len(), &mut count) };
         (status, count)
+    }
+
+    /// The next step that has something to do, from a place of the round on.
+    pub(crate) fn next_step(&self, place: &mut Settling) -> (u8, Told) {
+        let mut told = Told::default();
+        // SAFETY: the controller is open; `place` and `told` are places for what their types say.
+        (unsafe { nic_next_step(self.n(), place, &mut told) }, told)
+    }
+
+    /// What is in the way of what waits, and how long the whole of it is.
+    pub(crate) fn why(&self, room: &mut [u8]) -> usize {
+        // SAFETY: the controller is open; the room has as many bytes as its length.
+        unsafe { nic_why(self.n(), room.as_mut_ptr(), room.len()) }
     }
 
     pub(crate) fn install_image(&self, bytes: &[u8]) -> u8 {

@@ -414,6 +414,33 @@ impl Nic {
         Steps::of(self, queues)
     }
 
+    // --- why nothing happens ---
+
+    /// What is in the way of what waits, a reason on each line: of each frame that waits, each queue that isn't at
+    /// rest, each cause that has no message. Empty where nothing waits. Nothing changes; lent memory is copied for the
+    /// time of the call. A test that failed tells it: `assert_eq!(nic.read(RDH.at(3)), 1, "{}", nic.why())`.
+    ///
+    /// ```
+    /// use nic82599::{regs, Nic, Sizes};
+    ///
+    /// let nic = Nic::open(Sizes::default())?;
+    /// nic.write(regs::EICS, 1 << 5);
+    /// let masked = "int pf: EICR 0x00000020 (RTxQ[5]), EIMS 0x00000000: no cause has its mask 1";
+    /// assert_eq!(nic.why().lines().next(), Some(masked));
+    /// # Ok::<(), nic82599::Error>(())
+    /// ```
+    pub fn why(&self) -> String {
+        let mut room = vec![0; 4096];
+        let length = self.handle.why(&mut room);
+        if length >= room.len() {
+            room.resize(length + 1, 0);
+            self.handle.why(&mut room);
+        }
+        room.truncate(length);
+        let text = String::from_utf8_lossy(&room);
+        text.trim_end().to_owned()
+    }
+
     // --- the EEPROM ---
 
     /// Installs an EEPROM image, as `nicbench eeprom` makes it.

@@ -4,8 +4,8 @@ use std::iter::FusedIterator;
 use std::vec::IntoIter;
 
 use crate::error::Error;
-use crate::event::{Event, Side};
-use crate::ffi::Told;
+use crate::event::Event;
+use crate::ffi::{Settling, Told};
 use crate::nic::Nic;
 use crate::status;
 
@@ -85,10 +85,7 @@ impl FusedIterator for Settled {}
 #[must_use = "no step is made that isn't asked for"]
 pub struct Steps<'a> {
     nic: &'a Nic,
-    queues: u16,
-    /// The place in the round of what comes next, and whether the round did anything up to there.
-    at: u16,
-    did_something: bool,
+    place: Settling,
     is_over: bool,
 }
 
@@ -97,32 +94,7 @@ impl<'a> Steps<'a> {
         if queues > QUEUES {
             return Err(Error::NoQueue);
         }
-        Ok(Steps { nic, queues, at: 0, did_something: false, is_over: false })
-    }
-
-    /// How many places a round has: two enables and a transmit step of each queue, the EEPROM, the receive step, and
-    /// the groups.
-    fn places(&self) -> u16 {
-        3 * self.queues + 3 + u16::from(self.nic.sizes().vfs)
-    }
-
-    /// Makes the step at a place of the round.
-    fn make(&self, place: u16) -> Result<Option<Event>, Error> {
-        let (enables, queues) = (2 * self.queues, self.queues);
-        if place < enables {
-            let (side, queue) = (if place % 2 == 0 { Side::Rx } else { Side::Tx }, place / 2);
-            let is_done = self.nic.queue_step(side, queue)?;
-            return Ok(if is_done { Some(Event::Switched { side, queue }) } else { None });
-        }
-        match place - enables {
-            0 => Ok(if self.nic.eeprom_step() { Some(Event::EepromAnswered) } else { None }),
-            it if it <= queues => self.nic.tx_step(it - 1),
-            it if it == queues + 1 => Ok(self.nic.rx_step()),
-            it => match self.nic.message((it - queues - 2) as u8) {
-                Err(Error::NoGroup) => Ok(None),
-                told => told,
-            },
-        }
+        Ok(Steps { nic, place: Settling { queues, at: 0 }, is_over: false })
     }
 }
 
@@ -130,28 +102,16 @@ impl Iterator for Steps<'_> {
     type Item = Result<Event, Error>;
 
     fn next(&mut self) -> Option<Result<Event, Error>> {
-        while !self.is_over {
-            if self.at >= self.places() {
-                self.is_over = !self.did_something;
-                self.at = 0;
-                self.did_something = false;
-                continue;
-            }
-            let told = self.make(self.at);
-            self.at += 1;
-            match told {
-                Ok(None) => {}
-                Ok(Some(event)) => {
-                    self.did_something = true;
-                    return Some(Ok(event));
-                }
-                Err(error) => {
-                    self.is_over = true;
-                    return Some(Err(error));
-                }
-            }
+        if self.is_over {
+            return None;
         }
-        None
+        let (status, told) = self.nic.handle().next_step(&mut self.place);
+        self.is_over = status != status::MORE;
+        match status {
+            status::MORE => Some(Ok(Event::of_settle(&told))),
+            status::DONE => None,
+            refused => Some(Err(Error::of(refused))),
+        }
     }
 }
 

@@ -224,7 +224,8 @@ fn memory_and_numbers() {
     let end = |_: &State, device: &Look<'_>| {
         let lent = device.read(0..2048)?;
         let is_right = lent[16] == 7 && lent[32] == 7 && device.read(2048..2049).is_err() && device.next_out() == 0;
-        if is_right && device.descriptor(0, 2).is_ok() && device.vf_peek(0, vf::VTEIMS).is_err() {
+        let nothing_waits = device.why().is_empty();
+        if is_right && nothing_waits && device.descriptor(0, 2).is_ok() && device.vf_peek(0, vf::VTEIMS).is_err() {
             Ok(())
         } else {
             Err("another memory".to_owned())

@@ -88,11 +88,12 @@ fn the_rest(nic: &Nic, chance: &mut Chance, kept: &mut Option<Snapshot>) {
     bytes.iter_mut().for_each(|it| *it = chance.next() as u8);
     match chance.below(8) {
         0 => may(nic.arrive(&bytes), &[Error::OutOfMemory]),
-        1 => drop(nic.collect()),
         2 => drop(nic.link(chance.below(8) > 0)),
         3 => assert!(nic.install_image(&bytes).is_err()),
         4 => assert!(nic.install_text(&String::from_utf8_lossy(&bytes)).is_err()),
         5 => assert_eq!(rss_hash(&[3; 40], &bytes).is_err(), bytes.len() > 36),
+        1 if chance.below(20) == 0 => assert!(nic.why().lines().all(|it| it.len() > 10)),
+        1 => drop(nic.collect()),
         6 if chance.below(20) == 0 => *kept = Some(nic.snapshot().unwrap()),
         7 if chance.below(20) == 0 => {
             if let Some(kept) = kept {

@@ -583,4 +583,9 @@ impl Look<'_> {
     pub fn next_out(&self) -> usize {
         self.nic.next_out()
     }
+
+    /// What is in the way of what waits, as by [`Nic::why`].
+    pub fn why(&self) -> String {
+        self.nic.why()
+    }
 }

@@ -1,0 +1,93 @@
+//! What `Nic::why` tells of the set-ups of c/tests/why.cases, which says how they are written.
+
+use nic82599::desc::Descriptor;
+use nic82599::{Nic, Sizes};
+
+const CASES: &str = concat!(env!("CARGO_MANIFEST_DIR"), "/../../c/tests/why.cases");
+
+fn number(word: &str) -> u64 {
+    let parsed = match word.strip_prefix("0x") {
+        Some(digits) => u64::from_str_radix(digits, 16),
+        None => word.parse(),
+    };
+    parsed.unwrap_or_else(|_| panic!("{word} is no number"))
+}
+
+/// Makes a line of a set-up.
+fn make(nic: &Nic, line: &str) {
+    let words: Vec<&str> = line.split_whitespace().collect();
+    let given: Vec<u64> = words[1..].iter().map(|it| number(it)).collect();
+    match (words[0], given.as_slice()) {
+        ("w", &[address, word]) => nic.write32(address as u32, word as u32).unwrap(),
+        ("vw", &[vf, offset, word]) => nic.vf(vf as u8).write32(offset as u32, word as u32).unwrap(),
+        ("lend", &[from, to]) => (from..to).for_each(|block| nic.lend(block as u32).unwrap()),
+        ("put", &[at, first, second]) => {
+            let _ = nic.memory().put_descriptor(at, 0, Descriptor { first, second });
+        }
+        ("arrive", &[last]) => {
+            let mut frame = [0; 60];
+            frame[..15].copy_from_slice(&[2, 0, 0, 0, 0, last as u8, 2, 0, 0, 0, 0, 9, 8, 0, 0x45]);
+            let _ = nic.arrive(&frame).unwrap();
+        }
+        ("link", &[up]) => assert!(nic.link(up == 1)),
+        ("settle", &[queues]) => drop(nic.settle(queues as u16).unwrap()),
+        ("rx", []) => drop(nic.rx_step()),
+        ("int", &[0]) => assert!(nic.int_step().is_some()),
+        ("int", &[group]) => assert!(nic.vf(group as u8 - 1).int_step().unwrap().is_some()),
+        _ => panic!("what is this: {line}"),
+    }
+}
+
+/// A line without its comment, and its label if it has one.
+fn bare(line: &str) -> &str {
+    line.split('#').next().unwrap_or("").trim()
+}
+
+/// The lines of a case: those of the base with its changes, and its own ones.
+fn set_up<'a>(base: &[(&'a str, &'a str)], lines: &[&'a str]) -> Vec<&'a str> {
+    let mut made = if lines.contains(&"alone") { Vec::new() } else { base.to_vec() };
+    let mut more = Vec::new();
+    for line in lines.iter().filter(|it| **it != "alone") {
+        let (label, instead) = match line.strip_prefix("without ") {
+            Some(label) => (label, "rx"),
+            None => line.split_once(": ").unwrap_or(("", line)),
+        };
+        match made.iter_mut().find(|it| it.0 == label) {
+            Some(it) => it.1 = instead,
+            None => more.push(*line),
+        }
+    }
+    made.iter().map(|it| it.1).chain(more).collect()
+}
+
+#[test]
+fn cases() {
+    let text = std::fs::read_to_string(CASES).unwrap();
+    let mut parts = text.split("\ncase ");
+    let base: Vec<(&str, &str)> =
+        parts.next().unwrap().lines().map(bare).filter_map(|line| line.split_once(": ")).collect();
+    let mut count = 0;
+    for part in parts {
+        let (name, rest) = part.split_once('\n').unwrap();
+        let told: Vec<&str> = rest.lines().filter_map(|line| line.strip_prefix("> ")).collect();
+        let lines: Vec<&str> =
+            rest.lines().filter(|it| !it.starts_with('>')).map(bare).filter(|it| !it.is_empty()).collect();
+        let nic = Nic::open(Sizes { vfs: 2, fifo: 8, blocks: 8 }).unwrap();
+        set_up(&base, &lines).into_iter().for_each(|line| make(&nic, line));
+        assert_eq!(nic.why(), told.join("\n"), "{name}");
+        count += 1;
+    }
+    assert!(count > 45);
+}
+
+/// A text that is longer than the first room for it is whole.
+#[test]
+fn a_long_text() {
+    let nic = Nic::open(Sizes { vfs: 0, fifo: 1, blocks: 1 }).unwrap();
+    for queue in 0..128 {
+        nic.write(nic82599::regs::RDLEN.at(queue), 128);
+    }
+    let told = nic.why();
+    assert_eq!(told.lines().filter(|line| line.ends_with("the queue is off")).count(), 128);
+    assert!(told.ends_with("rx 127: SRRCTL[127].DESCTYPE 0: 1 is the form that the bench has"));
+}

@@ -1,6 +1,8 @@
 //! Finds the library of `make -C c` or of an installation, and links it: where NIC82599_DIR says (a folder with the
 //! archive, or a prefix of which `lib` has it); in `c/out` of the clone that this crate lies in, or `lib` of the
 //! prefix; where pkg-config says. The archive is taken where there is one, so that a program needs no other file.
+//!
+//! Without a library the crate's own compilation says why, and its pages are made all the same.
 
 use std::env;
 use std::fs;
@@ -12,19 +14,20 @@ const HELP: &str = "`make -C c` in a clone makes it, and a release has it; the v
 fn main() {
     println!("cargo:rerun-if-env-changed=NIC82599_DIR");
     println!("cargo:rerun-if-env-changed=PKG_CONFIG_PATH");
-    match library() {
-        Ok((folder, version)) => {
-            check_version(&folder, version);
-            link(&folder);
+    let found = library().and_then(|(folder, version)| {
+        check_version(&folder, version)?;
+        link(&folder)
+    });
+    let text = match found {
+        Ok(()) => String::new(),
+        Err(why) => {
+            // (a file that is never there: so this is asked anew at each build)
+            println!("cargo:rerun-if-changed=no-library");
+            format!("compile_error!({:?});\n", format!("nic82599: {why}"))
         }
-        Err(why) => stop(&why),
-    }
-}
-
-/// Ends the build with one line that says why.
-fn stop(why: &str) -> ! {
-    eprintln!("nic82599: {why}");
-    std::process::exit(1)
+    };
+    let out = PathBuf::from(env::var_os("OUT_DIR").unwrap_or_default());
+    fs::write(out.join("library.rs"), text).expect("the folder of the build can be written to");
 }
 
 /// The folder of the library, and the version of its headers where it is known.
@@ -75,22 +78,26 @@ fn by_pkg_config() -> Option<(PathBuf, Option<String>)> {
 }
 
 /// A library of another version may have other calls and structs.
-fn check_version(folder: &Path, found: Option<String>) {
+fn check_version(folder: &Path, found: Option<String>) -> Result<(), String> {
     let own = env::var("CARGO_PKG_VERSION").unwrap_or_default();
-    if let Some(other) = found.filter(|it| *it != own) {
-        stop(&format!("the library in {} has the version {other}, and this crate {own}", folder.display()));
+    match found.filter(|it| *it != own) {
+        Some(other) => {
+            Err(format!("the library in {} has the version {other}, and this crate {own}", folder.display()))
+        }
+        None => Ok(()),
     }
 }
 
 /// Of an archive what is asked for is linked: the explorer's has the calls of memory of the library's once more. (Rust
 /// 1.63 would take the whole of it for tests.)
-fn link(folder: &Path) {
+fn link(folder: &Path) -> Result<(), String> {
     println!("cargo:rustc-link-search=native={}", folder.display());
     let archive = folder.join("libnic82599.a");
     if env::var_os("CARGO_FEATURE_EXPLORE").is_some() {
         let explorer = folder.join("libnic82599_explore.a");
         if !explorer.exists() || !archive.exists() {
-            stop(&format!("no libnic82599_explore.a in {}, which the feature explore needs: {HELP}", folder.display()));
+            let place = folder.display();
+            return Err(format!("no libnic82599_explore.a in {place}, which the feature explore needs: {HELP}"));
         }
         println!("cargo:rerun-if-changed={}", explorer.display());
         println!("cargo:rustc-link-lib=static:-whole-archive=nic82599_explore");
@@ -101,4 +108,5 @@ fn link(folder: &Path) {
     } else {
         println!("cargo:rustc-link-lib=dylib=nic82599");
     }
+    Ok(())
 }

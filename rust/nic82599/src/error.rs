@@ -16,14 +16,14 @@ use crate::status;
 /// assert_eq!(refused, Error::NotLent(0x800));
 /// assert_eq!(
 ///     format!("{refused:?}"),
-///     "bus address 0x00800: block 1 isn't lent, or a later one that the access runs into"
+///     "bus address 0x00800: block 1 isn't lent"
 /// );
 /// # Ok::<(), Error>(())
 /// ```
 #[derive(Clone, Copy, PartialEq, Eq, Hash)]
 #[non_exhaustive]
 pub enum Error {
-    /// The memory that was asked for, from this bus address on, isn't lent, or not all of it.
+    /// The memory that was asked for isn't lent, or not all of it: this is the first bus address that isn't.
     NotLent(u64),
     /// The block is lent already, or doesn't exist.
     NoBlock,
@@ -39,6 +39,8 @@ pub enum Error {
         at: u32,
         /// What a driver sees there; `None` of a write and of a peek.
         word: Option<u32>,
+        /// Why there is none.
+        why: Absent,
     },
     /// A range of memory ends before it begins.
     BadRange,
@@ -58,6 +60,35 @@ pub enum Error {
     NoRecording,
     /// There was no memory.
     OutOfMemory,
+}
+
+/// Why no register is at an address, or at an offset of a virtual function.
+#[derive(Clone, Copy, Debug, PartialEq, Eq, Hash)]
+#[non_exhaustive]
+pub enum Absent {
+    /// The controller, or the virtual function, has no register there.
+    Register,
+    /// The controller has no virtual function of this number.
+    Function {
+        /// The number.
+        number: u8,
+        /// How many virtual functions there are.
+        vfs: u8,
+    },
+    /// The mode (GCR_EXT bits 1:0) has no pool for the virtual function.
+    Pool {
+        /// The function's number.
+        number: u8,
+        /// How many pools the mode has.
+        pools: u8,
+    },
+    /// The virtual function's pool has no queue of this register.
+    Queue {
+        /// The function's number.
+        number: u8,
+        /// How many queues the pool has.
+        queues: u8,
+    },
 }
 
 /// Why bytes are no valid EEPROM image: the first of these that holds.
@@ -131,14 +162,6 @@ impl Error {
             refused => Err(Error::of(refused)),
         }
     }
-
-    /// The same of a call that asked for the memory from a bus address on.
-    pub(crate) fn unless_lent(status: u8, bus: u64) -> Result<(), Error> {
-        match status {
-            status::NOT_LENT => Err(Error::NotLent(bus)),
-            other => Error::unless_done(other),
-        }
-    }
 }
 
 impl fmt::Debug for Error {
@@ -151,20 +174,13 @@ impl fmt::Display for Error {
     fn fmt(&self, f: &mut fmt::Formatter<'_>) -> fmt::Result {
         let text = match self {
             Error::NotLent(bus) => {
-                let block = bus / BLOCK_BYTES;
-                return write!(
-                    f,
-                    "bus address 0x{bus:05x}: block {block} isn't lent, or a later one that the access runs into"
-                );
+                return write!(f, "bus address 0x{bus:05x}: block {} isn't lent", bus / BLOCK_BYTES);
             }
             Error::NoBlock => "the block is lent already, or doesn't exist",
             Error::BadMemory => "memory in place has multiples of 2,048 bytes, and none of it is lent already",
             Error::NoQueue => "there are 128 queues",
             Error::NoGroup => "there is no such virtual function, or the mode has no pool for it",
-            Error::Stray { at, word: None } => return write!(f, "no register is at 0x{at:05x}"),
-            Error::Stray { at, word: Some(word) } => {
-                return write!(f, "no register is at 0x{at:05x}, which reads as 0x{word:08x}");
-            }
+            Error::Stray { at, word, why } => return write_stray(f, *at, *word, *why),
             Error::BadRange => "a range of memory ends before it begins",
             Error::TooManyVfs => "a controller has 63 virtual functions at most",
             Error::BadFifo => "from 1 to 4,096 frames may wait",
@@ -176,6 +192,41 @@ impl fmt::Display for Error {
             Error::OutOfMemory => "there was no memory",
         };
         f.write_str(text)
+    }
+}
+
+/// That no register is there, what it reads as, and of a virtual function why.
+fn write_stray(f: &mut fmt::Formatter<'_>, at: u32, word: Option<u32>, why: Absent) -> fmt::Result {
+    write!(f, "no register is at 0x{at:05x}")?;
+    if let Some(word) = word {
+        write!(f, ", which reads as 0x{word:08x}")?;
+    }
+    match why {
+        Absent::Register => Ok(()),
+        why => write!(f, ": {why}"),
+    }
+}
+
+impl fmt::Display for Absent {
+    fn fmt(&self, f: &mut fmt::Formatter<'_>) -> fmt::Result {
+        match *self {
+            Absent::Register => f.write_str("there is no such register"),
+            Absent::Function { number, vfs: 0 } => {
+                write!(f, "there is no virtual function {number}: the controller has none")
+            }
+            Absent::Function { number, vfs } => {
+                write!(f, "there is no virtual function {number}: the controller has {vfs}, numbered from 0")
+            }
+            Absent::Pool { number, pools: 0 } => {
+                write!(f, "virtual function {number} has no pool: GCR_EXT bits 1:0 give no pools")
+            }
+            Absent::Pool { number, pools } => {
+                write!(f, "virtual function {number} has no pool: GCR_EXT bits 1:0 give {pools} pools")
+            }
+            Absent::Queue { number, queues } => {
+                write!(f, "the pool of virtual function {number} has {queues} queues")
+            }
+        }
     }
 }
 

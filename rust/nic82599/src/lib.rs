@@ -52,6 +52,10 @@
 #![deny(clippy::undocumented_unsafe_blocks)]
 #![warn(rust_2018_idioms, missing_debug_implementations, unreachable_pub)]
 
+// Nothing, or why there is no library to link; pages need none.
+#[cfg(not(doc))]
+include!(concat!(env!("OUT_DIR"), "/library.rs"));
+
 pub mod desc;
 mod device;
 mod error;
@@ -73,7 +77,7 @@ use std::os::unix::ffi::OsStrExt;
 use std::path::Path;
 
 pub use device::Device;
-pub use error::{Error, ImageFault, TextFault};
+pub use error::{Absent, Error, ImageFault, TextFault};
 pub use event::{Event, Fault, Side, Step, Why};
 pub use in_place::InPlace;
 pub use memory::Memory;

@@ -5,7 +5,9 @@ use std::ptr::NonNull;
 
 use crate::desc::Descriptor;
 use crate::error::Error;
+use crate::ffi::Handle;
 use crate::nic::Nic;
+use crate::status;
 
 /// How many bytes a block has.
 pub(crate) const BLOCK_BYTES: u64 = 2048;
@@ -69,7 +71,8 @@ impl<'a> Memory<'a> {
     ///
     /// [`Error::NotLent`] where one of them isn't lent, and the buffer is as it was.
     pub fn read_into(&self, bus: u64, bytes: &mut [u8]) -> Result<(), Error> {
-        Error::unless_lent(self.nic.handle().dma_read(bus, bytes), bus)
+        let (handle, length) = (self.nic.handle(), bytes.len() as u64);
+        unless_lent(handle.dma_read(bus, bytes), || first_not_lent(handle, bus, length))
     }
 
     /// Writes bytes from a bus address on.
@@ -78,7 +81,8 @@ impl<'a> Memory<'a> {
     ///
     /// [`Error::NotLent`] where one of them isn't lent, and nothing is written.
     pub fn write(&self, bus: u64, bytes: &[u8]) -> Result<(), Error> {
-        Error::unless_lent(self.nic.handle().dma_write(bus, bytes), bus)
+        let handle = self.nic.handle();
+        unless_lent(handle.dma_write(bus, bytes), || first_not_lent(handle, bus, bytes.len() as u64))
     }
 
     /// Writes a byte to all of a range.
@@ -188,13 +192,35 @@ impl<'a> Memory<'a> {
             Bound::Unbounded => None,
         };
         let first = first.ok_or(Error::NotLent(u64::MAX))?;
-        let end = end.ok_or(Error::NotLent(first))?;
+        let end = end.ok_or_else(|| Error::NotLent(first_not_lent(self.nic.handle(), first, u64::MAX - first)))?;
         match end.checked_sub(first) {
             None => Err(Error::BadRange),
-            Some(length) if length > 0 && end > self.size() => Err(Error::NotLent(first)),
+            Some(length) if length > 0 && end > self.size() => {
+                Err(Error::NotLent(first_not_lent(self.nic.handle(), first, length)))
+            }
             Some(length) => Ok((first, length as usize)),
         }
     }
+}
+
+/// Whether an access of memory was made; else it is refused for the address that a closure tells.
+pub(crate) fn unless_lent(status: u8, bus: impl FnOnce() -> u64) -> Result<(), Error> {
+    match status {
+        status::NOT_LENT => Err(Error::NotLent(bus())),
+        other => Error::unless_done(other),
+    }
+}
+
+/// The first bus address of an access that was refused which isn't lent: each block is asked for one byte.
+pub(crate) fn first_not_lent(handle: &Handle, bus: u64, length: u64) -> u64 {
+    let (mut at, end) = (bus, bus.saturating_add(length));
+    while at < end {
+        if handle.dma_read(at, &mut [0]) == status::NOT_LENT {
+            return at;
+        }
+        at = (at / BLOCK_BYTES + 1) * BLOCK_BYTES; // (a block that is lent ends below 2^27)
+    }
+    bus
 }
 
 /// The bus address of a slot. Past the last address it goes on at 0, which a ring that is lent never does.

@@ -3,12 +3,13 @@
 use std::cell::Cell;
 use std::fmt;
 
-use crate::error::Error;
+use crate::error::{Absent, Error};
 use crate::event::{Event, Side, Why};
 use crate::ffi::{Handle, Kept};
 use crate::in_place::InPlace;
-use crate::memory::Memory;
+use crate::memory::{unless_lent, Memory};
 use crate::register::{Register, VfRegister};
+use crate::regs;
 use crate::settle::{Settled, Steps};
 use crate::status;
 
@@ -186,15 +187,15 @@ impl Nic {
     /// [`Error::Stray`] with what a driver sees: no register is there (also where the address is no multiple of 4).
     ///
     /// ```
-    /// use nic82599::{Error, Nic, Sizes};
+    /// use nic82599::{Absent, Error, Nic, Sizes};
     ///
     /// let nic = Nic::open(Sizes::default())?;
     /// assert_eq!(nic.read32(0x01014), Ok(0x402));
-    /// assert_eq!(nic.read32(0x01015), Err(Error::Stray { at: 0x01015, word: Some(0) }));
+    /// assert_eq!(nic.read32(0x01015), Err(Error::Stray { at: 0x01015, word: Some(0), why: Absent::Register }));
     /// # Ok::<(), nic82599::Error>(())
     /// ```
     pub fn read32(&self, address: u32) -> Result<u32, Error> {
-        word_or_stray(self.handle.read32(address), address, true)
+        word_or_stray(self.handle.read32(address), address, true, || Absent::Register)
     }
 
     /// Writes by address.
@@ -203,7 +204,7 @@ impl Nic {
     ///
     /// [`Error::Stray`]: no register is there, and nothing changed.
     pub fn write32(&self, address: u32, word: u32) -> Result<(), Error> {
-        done_or_stray(self.handle.write32(address, word), address)
+        done_or_stray(self.handle.write32(address, word), address, || Absent::Register)
     }
 
     /// [`Nic::peek`] by address.
@@ -212,7 +213,7 @@ impl Nic {
     ///
     /// [`Error::Stray`]: no register is there.
     pub fn peek32(&self, address: u32) -> Result<u32, Error> {
-        word_or_stray(self.handle.peek32(address), address, false)
+        word_or_stray(self.handle.peek32(address), address, false, || Absent::Register)
     }
 
     /// Reads by address: the word that a driver sees, also where no register is.
@@ -261,7 +262,7 @@ impl Nic {
     ///
     /// [`Error::NotLent`] with the block's first bus address.
     pub fn take(&self, block: u32) -> Result<(), Error> {
-        Error::unless_lent(self.handle.take(block), Memory::block(block).start)
+        unless_lent(self.handle.take(block), || Memory::block(block).start)
     }
 
     // --- the link ---
@@ -486,11 +487,12 @@ impl fmt::Debug for Nic {
 /// A virtual function of a controller, with its own registers: [`regs::vf`](crate::regs::vf).
 ///
 /// ```
-/// use nic82599::{regs::vf, Error, Nic, Sizes};
+/// use nic82599::{regs::vf, Absent, Error, Nic, Sizes};
 ///
 /// let nic = Nic::open(Sizes { vfs: 2, ..Sizes::default() })?;
 /// let stray = nic.vf(0).read(vf::VTEIMS); // no pools are on, so it has no registers
-/// assert_eq!(stray, Err(Error::Stray { at: 0x108, word: Some(0xFFFF_FFFF) }));
+/// let why = Absent::Pool { number: 0, pools: 0 };
+/// assert_eq!(stray, Err(Error::Stray { at: 0x108, word: Some(0xFFFF_FFFF), why }));
 /// nic.write(nic82599::regs::GCR_EXT, 3);
 /// assert_eq!(nic.vf(0).read(vf::VTEIMS), Ok(0));
 /// # Ok::<(), nic82599::Error>(())
@@ -502,6 +504,11 @@ pub struct Function<'a> {
 }
 
 impl Function<'_> {
+    /// Why it has no register there, by its own registers where the register is one that some function has.
+    fn why_absent(&self, is_some: bool) -> Absent {
+        why_absent(self.number, self.nic.sizes().vfs, self.nic.peek(regs::GCR_EXT), is_some)
+    }
+
     /// Its number.
     pub const fn number(&self) -> u8 {
         self.number
@@ -514,7 +521,8 @@ impl Function<'_> {
     /// [`Error::Stray`] with what a driver sees: the device has no such function, or the mode (GCR_EXT) no pool for it,
     /// or no such queue.
     pub fn read(&self, register: VfRegister) -> Result<u32, Error> {
-        self.read32(register.offset())
+        let offset = register.offset();
+        word_or_stray(self.nic.handle.vf_read32(self.number, offset), offset, true, || self.why_absent(true))
     }
 
     /// Writes a register, with all effects of the access.
@@ -523,7 +531,8 @@ impl Function<'_> {
     ///
     /// [`Error::Stray`], as by [`Function::read`].
     pub fn write(&self, register: VfRegister, word: u32) -> Result<(), Error> {
-        self.write32(register.offset(), word)
+        let offset = register.offset();
+        done_or_stray(self.nic.handle.vf_write32(self.number, offset, word), offset, || self.why_absent(true))
     }
 
     /// What a read would give, without its effects.
@@ -532,7 +541,8 @@ impl Function<'_> {
     ///
     /// [`Error::Stray`], as by [`Function::read`].
     pub fn peek(&self, register: VfRegister) -> Result<u32, Error> {
-        self.peek32(register.offset())
+        let offset = register.offset();
+        word_or_stray(self.nic.handle.vf_peek32(self.number, offset), offset, false, || self.why_absent(true))
     }
 
     /// Reads by offset.
@@ -541,7 +551,7 @@ impl Function<'_> {
     ///
     /// [`Error::Stray`] with what a driver sees.
     pub fn read32(&self, offset: u32) -> Result<u32, Error> {
-        word_or_stray(self.nic.handle.vf_read32(self.number, offset), offset, true)
+        word_or_stray(self.nic.handle.vf_read32(self.number, offset), offset, true, || self.why_absent(false))
     }
 
     /// Writes by offset.
@@ -550,7 +560,7 @@ impl Function<'_> {
     ///
     /// [`Error::Stray`], and nothing changed.
     pub fn write32(&self, offset: u32, word: u32) -> Result<(), Error> {
-        done_or_stray(self.nic.handle.vf_write32(self.number, offset, word), offset)
+        done_or_stray(self.nic.handle.vf_write32(self.number, offset, word), offset, || self.why_absent(false))
     }
 
     /// What a read by offset would give, without its effects.
@@ -559,7 +569,7 @@ impl Function<'_> {
     ///
     /// [`Error::Stray`].
     pub fn peek32(&self, offset: u32) -> Result<u32, Error> {
-        word_or_stray(self.nic.handle.vf_peek32(self.number, offset), offset, false)
+        word_or_stray(self.nic.handle.vf_peek32(self.number, offset), offset, false, || self.why_absent(false))
     }
 
     /// Reads by offset: the word that a driver sees, also where no register is.
@@ -580,16 +590,39 @@ impl Function<'_> {
     }
 }
 
-fn word_or_stray((status, word): (u8, u32), at: u32, is_read: bool) -> Result<u32, Error> {
-    match status {
-        status::DONE => Ok(word),
-        _ => Err(Error::Stray { at, word: if is_read { Some(word) } else { None } }),
+/// How many pools there are, and how many queues each has, by GCR_EXT bits 1:0.
+const POOLS: [(u8, u8); 4] = [(0, 0), (16, 8), (32, 4), (64, 2)];
+
+/// Why a virtual function has no register there: the controller has `vfs` of them, and GCR_EXT this word. A register
+/// that some function has is missing where its queue is.
+pub(crate) fn why_absent(number: u8, vfs: u8, gcr_ext: u32, is_some: bool) -> Absent {
+    let (pools, queues) = POOLS[gcr_ext as usize & 3];
+    if number >= vfs {
+        Absent::Function { number, vfs }
+    } else if number >= pools {
+        Absent::Pool { number, pools }
+    } else if is_some {
+        Absent::Queue { number, queues }
+    } else {
+        Absent::Register
     }
 }
 
-fn done_or_stray(status: u8, at: u32) -> Result<(), Error> {
+fn word_or_stray(
+    (status, word): (u8, u32),
+    at: u32,
+    is_read: bool,
+    why: impl FnOnce() -> Absent,
+) -> Result<u32, Error> {
+    match status {
+        status::DONE => Ok(word),
+        _ => Err(Error::Stray { at, word: if is_read { Some(word) } else { None }, why: why() }),
+    }
+}
+
+pub(crate) fn done_or_stray(status: u8, at: u32, why: impl FnOnce() -> Absent) -> Result<(), Error> {
     match status {
         status::DONE => Ok(()),
-        _ => Err(Error::Stray { at, word: None }),
+        _ => Err(Error::Stray { at, word: None, why: why() }),
     }
 }

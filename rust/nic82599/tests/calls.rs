@@ -9,7 +9,7 @@ use device::{start, take};
 use nic82599::desc::{txd, Descriptor, RssType};
 use nic82599::regs::{self, vf, *};
 use nic82599::{
-    rss_hash, Arrival, Device, Error, Event, Fault, Frame, ImageFault, Memory, Nic, Side, Sizes, TextFault, Why,
+    rss_hash, Absent, Arrival, Device, Error, Event, Fault, Frame, ImageFault, Memory, Nic, Side, Sizes, TextFault, Why,
 };
 
 const TYPE: u32 = 0x0200_0002;
@@ -134,16 +134,18 @@ fn registers() {
 fn strays() {
     let nic = nic(1);
     for at in [0xC, 1, 2, 3, 0x1001, 0x1FFFC, 0x20000, 1 << 31, u32::MAX, u32::MAX - 3] {
-        assert_eq!(nic.read32(at), Err(Error::Stray { at, word: Some(0) }));
-        assert_eq!(nic.write32(at, u32::MAX), Err(Error::Stray { at, word: None }));
-        assert_eq!(nic.peek32(at), Err(Error::Stray { at, word: None }));
+        assert_eq!(nic.read32(at), Err(Error::Stray { at, word: Some(0), why: Absent::Register }));
+        assert_eq!(nic.write32(at, u32::MAX), Err(Error::Stray { at, word: None, why: Absent::Register }));
+        assert_eq!(nic.peek32(at), Err(Error::Stray { at, word: None, why: Absent::Register }));
         assert_eq!(nic.see32(at), 0);
     }
     for number in 0..=u8::MAX {
         let function = nic.vf(number);
-        assert_eq!(function.read(vf::VTEIMS), Err(Error::Stray { at: 0x108, word: Some(u32::MAX) }));
-        assert_eq!(function.write(vf::VTEIMS, 1), Err(Error::Stray { at: 0x108, word: None }));
-        assert_eq!(function.peek(vf::VTEIMS), Err(Error::Stray { at: 0x108, word: None }));
+        let vfs = nic.sizes().vfs;
+        let why = if number < vfs { Absent::Pool { number, pools: 0 } } else { Absent::Function { number, vfs } };
+        assert_eq!(function.read(vf::VTEIMS), Err(Error::Stray { at: 0x108, word: Some(u32::MAX), why }));
+        assert_eq!(function.write(vf::VTEIMS, 1), Err(Error::Stray { at: 0x108, word: None, why }));
+        assert_eq!(function.peek(vf::VTEIMS), Err(Error::Stray { at: 0x108, word: None, why }));
         assert_eq!((function.see32(0x108), function.number()), (u32::MAX, number));
         assert_eq!(function.int_step(), Err(Error::NoGroup));
     }
@@ -197,13 +199,19 @@ fn ranges() {
     assert_eq!(memory.read(1000..=3559).unwrap(), data);
     assert_eq!(memory.read(..1002).unwrap()[999..], [0, 0, 1]);
     assert_eq!((memory.read(5..5), memory.read(1 << 60..1 << 60)), (Ok(vec![]), Ok(vec![])));
-    assert_eq!(memory.write(4090, &[1; 10]), Err(Error::NotLent(4090)));
+    assert_eq!(memory.write(4090, &[1; 10]), Err(Error::NotLent(4096)));
     assert_eq!(memory.read(4090..4096).unwrap(), [0; 6]);
     let (begin, end) = (4, 0);
     assert_eq!(memory.read(begin..end), Err(Error::BadRange));
-    assert_eq!((memory.read(..), memory.read(0..u64::MAX)), (Err(Error::NotLent(0)), Err(Error::NotLent(0))));
-    assert_eq!((memory.read(4095..4097), memory.read(7000..)), (Err(Error::NotLent(4095)), Err(Error::NotLent(7000))));
-    assert_eq!(memory.read(0..=u64::MAX), Err(Error::NotLent(0)));
+    assert_eq!((memory.read(..), memory.read(0..u64::MAX)), (Err(Error::NotLent(4096)), Err(Error::NotLent(4096))));
+    assert_eq!((memory.read(4095..4097), memory.read(7000..)), (Err(Error::NotLent(4096)), Err(Error::NotLent(7000))));
+    assert_eq!(
+        (memory.read(0..=u64::MAX), memory.read(0..200_000)),
+        (Err(Error::NotLent(4096)), Err(Error::NotLent(4096)))
+    );
+    nic.take(0).unwrap();
+    assert_eq!((memory.read(0..200_000), memory.fill(7.., 0)), (Err(Error::NotLent(0)), Err(Error::NotLent(7))));
+    nic.lend(0).unwrap();
     let beyond = (Bound::Excluded(u64::MAX), Bound::Unbounded);
     assert_eq!(memory.read(beyond), Err(Error::NotLent(u64::MAX)));
     nic.lend(2).unwrap();
@@ -231,7 +239,7 @@ fn addresses_of_any_size() {
     let refused = Err(Error::NotLent(0xF_FFE0));
     assert_eq!(memory.put_descriptor(u64::MAX - 15, u16::MAX, Descriptor::default()), refused);
     assert_eq!(memory.write(6144 - 32, &[1; 32]), Ok(()));
-    assert_eq!(memory.write(6144 - 31, &[1; 32]), Err(Error::NotLent(6144 - 31)));
+    assert_eq!(memory.write(6144 - 31, &[1; 32]), Err(Error::NotLent(6144)));
     assert_eq!(Memory::block(u32::MAX).end, 1 << 43);
 }
 
@@ -481,18 +489,57 @@ fn images() {
 fn errors_are_told() {
     let told: Vec<String> = [
         Error::NotLent(0xC840),
-        Error::Stray { at: 0xC, word: None },
-        Error::Stray { at: 0x108, word: Some(u32::MAX) },
+        Error::Stray { at: 0xC, word: None, why: Absent::Register },
+        Error::Stray { at: 0x108, word: Some(u32::MAX), why: Absent::Pool { number: 0, pools: 0 } },
         Error::Text(TextFault::Syntax(3)),
         Error::Image(ImageFault::BadChecksum),
     ]
     .map(|it| Box::<dyn std::error::Error + Send + Sync>::from(it).to_string())
     .to_vec();
-    assert_eq!(told[0], "bus address 0x0c840: block 25 isn't lent, or a later one that the access runs into");
+    assert_eq!(told[0], "bus address 0x0c840: block 25 isn't lent");
     assert_eq!(told[1], "no register is at 0x0000c");
-    assert_eq!(told[2], "no register is at 0x00108, which reads as 0xffffffff");
+    let pool = "virtual function 0 has no pool: GCR_EXT bits 1:0 give no pools";
+    assert_eq!(told[2], format!("no register is at 0x00108, which reads as 0xffffffff: {pool}"));
     assert_eq!(told[3], "no text of an EEPROM image: line 3 isn't one of the language");
     assert_eq!(told[4], "no EEPROM image: the checksum is wrong");
+}
+
+/// Which it is that isn't there, in Python's words: the register, the function, its pool, or the queue of that.
+#[test]
+fn why_a_register_is_absent() {
+    let nic = Nic::open(Sizes { vfs: 40, ..Sizes::default() }).unwrap();
+    for (mode, pools, queues) in [(0, 0, 0), (1, 16, 8), (2, 32, 4), (3, 64, 2)] {
+        nic.write(GCR_EXT, mode);
+        for number in 0..64 {
+            let function = nic.vf(number);
+            let word = if number < pools.min(40) { 0 } else { u32::MAX };
+            let why = if number >= 40 {
+                Absent::Function { number, vfs: 40 }
+            } else if number >= pools {
+                Absent::Pool { number, pools }
+            } else {
+                let why = Absent::Queue { number, queues };
+                let told = function.write(vf::VFTDT.at(7), 1);
+                assert_eq!(told, if queues == 8 { Ok(()) } else { Err(Error::Stray { at: 0x21D8, word: None, why }) });
+                Absent::Register
+            };
+            assert_eq!(function.read32(4), Err(Error::Stray { at: 4, word: Some(word), why }));
+            assert_eq!(function.write32(4, 1), Err(Error::Stray { at: 4, word: None, why }));
+            assert_eq!(function.peek32(4), Err(Error::Stray { at: 4, word: None, why }));
+        }
+    }
+    for (why, told) in [
+        (Absent::Register, "there is no such register"),
+        (Absent::Function { number: 0, vfs: 0 }, "there is no virtual function 0: the controller has none"),
+        (
+            Absent::Function { number: 1, vfs: 1 },
+            "there is no virtual function 1: the controller has 1, numbered from 0",
+        ),
+        (Absent::Pool { number: 16, pools: 16 }, "virtual function 16 has no pool: GCR_EXT bits 1:0 give 16 pools"),
+        (Absent::Queue { number: 3, queues: 2 }, "the pool of virtual function 3 has 2 queues"),
+    ] {
+        assert_eq!(why.to_string(), told);
+    }
 }
 
 /// By `{:#}` each drop and each fault is shown with more words, which begin with those of `{}`.

@@ -7,7 +7,7 @@ use std::fs;
 use std::path::Path;
 
 use nic82599::regs::{self, vf, *};
-use nic82599::{Error, Nic, Sizes};
+use nic82599::{Absent, Error, Nic, Sizes};
 
 const MODULE: &str = include_str!("../src/regs.rs");
 const DESCRIPTORS: &str = include_str!("../src/desc/fields.rs");
@@ -163,7 +163,12 @@ fn a_function_has_as_many_as_its_mode_gives() {
         nic.write(GCR_EXT, mode);
         for queue in 0..vf::VFRDT.count() {
             let told = nic.vf(1).peek(vf::VFRDT.at(queue));
-            assert_eq!(told.is_ok(), queue < queues, "mode {mode}, queue {queue}");
+            let refused = Error::Stray {
+                at: vf::VFRDT.at(queue).offset(),
+                word: None,
+                why: Absent::Queue { number: 1, queues: queues as u8 },
+            };
+            assert_eq!(told, if queue < queues { Ok(0) } else { Err(refused) }, "mode {mode}, queue {queue}");
         }
         for vector in 0..vf::VTIVAR.count() {
             assert_eq!(nic.vf(1).peek(vf::VTIVAR.at(vector)).is_ok(), vector < queues / 2, "mode {mode}");
@@ -171,7 +176,8 @@ fn a_function_has_as_many_as_its_mode_gives() {
         assert!((0..vf::VFMBMEM.count()).all(|it| nic.vf(1).peek(vf::VFMBMEM.at(it)).is_ok()));
     }
     nic.write(GCR_EXT, 0);
-    assert_eq!(nic.vf(1).peek(vf::VTEIMS), Err(Error::Stray { at: 0x108, word: None }));
+    let why = Absent::Pool { number: 1, pools: 0 };
+    assert_eq!(nic.vf(1).peek(vf::VTEIMS), Err(Error::Stray { at: 0x108, word: None, why }));
 }
 
 #[test]

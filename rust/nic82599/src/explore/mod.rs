@@ -65,10 +65,11 @@ use std::sync::Once;
 
 use crate::desc::Descriptor;
 use crate::device::Device;
-use crate::error::Error;
-use crate::memory::{slot_of, Memory};
-use crate::nic::{Nic, Sizes};
+use crate::error::{Absent, Error};
+use crate::memory::{first_not_lent, slot_of, unless_lent, Memory};
+use crate::nic::{done_or_stray, why_absent, Nic, Sizes};
 use crate::register::{Register, VfRegister};
+use crate::regs::GCR_EXT;
 use crate::status;
 
 /// A driver's code as tasks and interrupt handlers over one controller.
@@ -395,7 +396,7 @@ impl Bus {
     ///
     /// As by [`Nic::take`], which is a failure unless the scenario allows it.
     pub fn take(&self, block: u32) -> Result<(), Error> {
-        Error::unless_lent(raw::take(block), Memory::block(block).start)
+        unless_lent(raw::take(block), || Memory::block(block).start)
     }
 
     /// A point and nothing else: between two accesses of the driver's own memory.
@@ -477,7 +478,7 @@ impl Device for Bus {
     }
 
     fn write32(&self, address: u32, word: u32) -> Result<(), Error> {
-        done_or(self.write32(address, word), Error::Stray { at: address, word: None })
+        done_or_stray(raw::write32(address, word), address, || Absent::Register)
     }
 
     fn vf_read(&self, number: u8, register: VfRegister) -> u32 {
@@ -485,23 +486,20 @@ impl Device for Bus {
     }
 
     fn vf_write(&self, number: u8, register: VfRegister, word: u32) -> Result<(), Error> {
-        done_or(self.vf_write(number, register, word), Error::Stray { at: register.offset(), word: None })
+        let offset = register.offset();
+        done_or_stray(raw::vf_write32(number, offset, word), offset, || {
+            raw::looked(|nic| why_absent(number, nic.sizes().vfs, nic.peek(GCR_EXT), true))
+        })
     }
 
     fn read_into(&self, bus: u64, bytes: &mut [u8]) -> Result<(), Error> {
-        done_or(self.read_into(bus, bytes), Error::NotLent(bus))
+        let length = bytes.len() as u64;
+        unless_lent(raw::dma_read(bus, bytes), || raw::looked(|nic| first_not_lent(nic.handle(), bus, length)))
     }
 
     fn write_bytes(&self, bus: u64, bytes: &[u8]) -> Result<(), Error> {
-        done_or(self.write_bytes(bus, bytes), Error::NotLent(bus))
-    }
-}
-
-fn done_or(is_done: bool, refused: Error) -> Result<(), Error> {
-    if is_done {
-        Ok(())
-    } else {
-        Err(refused)
+        let length = bytes.len() as u64;
+        unless_lent(raw::dma_write(bus, bytes), || raw::looked(|nic| first_not_lent(nic.handle(), bus, length)))
     }
 }
 

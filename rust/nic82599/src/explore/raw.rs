@@ -236,6 +236,16 @@ fn with_device(action: impl FnOnce(&dyn Driven, &Nic) -> Option<String>) -> *con
     })
 }
 
+/// The device as a task looks at it, to say why a call of it was refused.
+pub(super) fn looked<T>(action: impl FnOnce(&Nic) -> T) -> T {
+    // SAFETY: the explorer's controller is open while tasks run. A copy of the struct is the same controller, and this
+    // one isn't dropped.
+    let device = ManuallyDrop::new(unsafe { Handle::another(nicx_device()) });
+    // SAFETY: `run` has the scenario by reference as long as the search runs.
+    let sizes = running(|it| unsafe { &*it.driven }.sizes());
+    action(&ManuallyDrop::new(Nic::of(ManuallyDrop::into_inner(device), sizes)))
+}
+
 extern "C" fn go(argument: *mut c_void) {
     // SAFETY: it is the address of a thread of this schedule, which is kept until the next one begins.
     let thread = unsafe { &*argument.cast::<Thread>() };

@@ -2,7 +2,7 @@
 
 use nic82599::desc::Descriptor;
 use nic82599::regs::{vf, *};
-use nic82599::{Device, Error};
+use nic82599::{Absent, Device, Error};
 
 /// Takes the frame of a slot, if it has one, and gives the slot back.
 pub fn take(device: &impl Device, slot: u16) -> Result<bool, Error> {
@@ -28,7 +28,9 @@ pub fn start(device: &impl Device) -> Result<(), Error> {
     device.write(GCR_EXT, gcr_ext::VT_MODE.is(3));
     device.vf_write(0, vf::VTEIMS, 1)?;
     let strays = (device.see32(0xC), device.write32(0xC, 1), device.vf_write(9, vf::VTEIMS, 1));
-    assert_eq!(strays, (0, Err(Error::Stray { at: 0xC, word: None }), Err(Error::Stray { at: 0x108, word: None })));
+    assert_eq!((strays.0, strays.1), (0, Err(Error::Stray { at: 0xC, word: None, why: Absent::Register })));
+    let why = strays.2.unwrap_err();
+    assert!(matches!(why, Error::Stray { at: 0x108, word: None, why: Absent::Function { number: 9, .. } }), "{why}");
     assert_eq!((device.vf_read(0, vf::VTEIMS), device.vf_read(9, vf::VTEIMS)), (1, u32::MAX));
     assert_eq!((device.read_into(0, &mut [0; 4]), device.see32(RDT.at(0).address())), (Ok(()), 7));
     Ok(())

@@ -226,16 +226,20 @@ impl Run {
     /// Reads a range, and compares it with what the sixteens that it touches hold.
     fn read_range(&mut self, bus: u64, length: usize) {
         let (first, end) = (bus & !15, bus + length as u64);
-        let (mut whole, mut lent) = (Vec::new(), true);
+        let (mut whole, mut lent, mut first_missing) = (Vec::new(), true, None::<u64>);
         for at in (first..end).step_by(16) {
             match self.peek(at) {
                 Some(bytes) => whole.extend(bytes),
-                None => lent = false,
+                None => {
+                    lent = false;
+                    first_missing = first_missing.or(Some(at));
+                }
             }
         }
         let mut got = vec![0xA5; length];
         let told = self.nic.memory().read_into(bus, &mut got);
-        assert_eq!(told, if lent || length == 0 { Ok(()) } else { Err(Error::NotLent(bus)) });
+        let refused = first_missing.map_or(Ok(()), |at| Err(Error::NotLent(at.max(bus))));
+        assert_eq!(told, if length == 0 { Ok(()) } else { refused });
         let begin = (bus - first) as usize;
         let want = if lent { whole[begin.min(whole.len())..][..length].to_vec() } else { vec![0xA5; length] };
         assert_eq!(got, want);

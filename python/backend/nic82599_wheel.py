@@ -47,7 +47,8 @@ def modules() -> dict[str, bytes]:
 def metadata(version: str) -> str:
     """The file METADATA."""
     told = project()
-    lines = ["Metadata-Version: 2.1", f"Name: {told['name']}", f"Version: {version}", f"Summary: {told['description']}"]
+    lines = ["Metadata-Version: 2.4", f"Name: {told['name']}", f"Version: {version}", f"Summary: {told['description']}"]
+    lines += [f"License-Expression: {told['license']}", "License-File: LICENSE"]
     lines += [f"Keywords: {','.join(told['keywords'])}"] + [f"Classifier: {it}" for it in told["classifiers"]]
     lines += [f"Requires-Python: {told['requires-python']}", "Description-Content-Type: text/markdown"]
     return "\n".join(lines) + "\n\n" + (HERE / told["readme"]).read_text()
@@ -91,6 +92,7 @@ def write_wheel(
     info = f"nic82599-{version}.dist-info"
     told = f"Wheel-Version: 1.0\nGenerator: nic82599_wheel\nRoot-Is-Purelib: {str(not binaries).lower()}\nTag: {tag}\n"
     texts = {"METADATA": metadata(version), "WHEEL": told, "entry_points.txt": entry_points()}
+    texts["licenses/LICENSE"] = (ROOT / "LICENSE").read_text()
     if provenance is not None:
         texts["PROVENANCE"] = provenance
     every = files | binaries | {f"{info}/{name}": text.encode() for name, text in texts.items()}

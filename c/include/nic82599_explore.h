@@ -146,7 +146,8 @@ static inline void nicx_check(bool holds, const char *words)
    memory is no point, so a search would miss races at it. */
 nic *nicx_device(void);
 
-uint8_t nicx_lend_all(void); /* never in a task or a handler */
+/* Lends all blocks that aren't lent: NIC_DONE, NIC_OUT_OF_MEMORY. Never in a task or a handler. */
+uint8_t nicx_lend_all(void);
 /* Makes steps of the device's own until none has anything to do. Only in `bring_up`: elsewhere it is misuse. */
 void nicx_settle(void);
 
@@ -194,6 +195,7 @@ void nicx_run(const nicx_chooser *chooser, nicx_result *result);
 /* The actors of the last schedule, point by point, and what actor a number is, as the files call it. */
 const uint16_t *nicx_schedule(uint32_t *points);
 const char *nicx_actor_name(uint16_t actor, char room[96]);
+/* Ends the scenario that nicx_open opened. */
 void nicx_close(void);
 
 #ifdef __cplusplus

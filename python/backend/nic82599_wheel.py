@@ -85,10 +85,16 @@ def zipped(path: Path, files: dict[str, bytes], programs: set[str]) -> None:
 
 
 def write_wheel(
-    folder: Path, version: str, files: dict[str, bytes], binaries: dict[str, bytes], provenance: str | None = None
+    folder: Path,
+    version: str,
+    files: dict[str, bytes],
+    binaries: dict[str, bytes],
+    provenance: str | None = None,
+    platform: str = f"linux_{os.uname().machine}",
 ) -> str:
-    """Writes the wheel of these files into a folder, and tells its name. Binaries make it one for this machine."""
-    tag = f"py3-none-linux_{os.uname().machine}" if binaries else "py3-none-any"
+    """Writes the wheel of these files into a folder, and tells its name. Binaries make it one for a platform: this
+    machine, where nothing else is known of them."""
+    tag = f"py3-none-{platform if binaries else 'any'}"
     info = f"nic82599-{version}.dist-info"
     told = f"Wheel-Version: 1.0\nGenerator: nic82599_wheel\nRoot-Is-Purelib: {str(not binaries).lower()}\nTag: {tag}\n"
     texts = {"METADATA": metadata(version), "WHEEL": told, "entry_points.txt": entry_points()}
@@ -117,6 +123,18 @@ def make_library() -> None:
         sys.exit("nic82599_wheel: the library can't be made, see above: `make -C c` is to work first")
 
 
+def unproved_script(program: str) -> bytes:
+    """The script that starts an unproved program, which lies there from it."""
+    return (ROOT / "packaging/unproved.in").read_text().replace("@PROGRAM@", program).encode()
+
+
+def program_files(program: bytes, is_proved: bool) -> dict[str, bytes]:
+    """The program as a wheel has it; an unproved one behind a script that says so."""
+    if is_proved:
+        return {"nic82599/nicbench": program}
+    return {"nic82599/nicbench": unproved_script("unproved/nicbench"), "nic82599/unproved/nicbench": program}
+
+
 def built_program() -> Path | None:
     """The program that ./nicbench would start, where one was made: the proved one, or else the unproved one."""
     out = ROOT / "crates/nicbench/out"
@@ -137,7 +155,7 @@ def build_wheel(
     binaries = {f"nic82599/{SONAME}": (ROOT / "c/out/libnic82599.so").read_bytes()}
     program = built_program()
     if program:
-        binaries["nic82599/nicbench"] = program.read_bytes()
+        binaries |= program_files(program.read_bytes(), "/unproved/" not in str(program))
     return write_wheel(Path(wheel_directory), version(), modules(), binaries)
 
 

@@ -15,6 +15,8 @@ from pathlib import Path
 
 HERE = Path(__file__).resolve().parent
 SONAME = "libnic82599.so.0"
+# Where Debian has the libraries of a machine below a prefix.
+MULTIARCH = f"lib/{os.uname().machine}-linux-gnu"
 BUILDS_LIBRARY = "`make -C c` in a clone builds it, a release package has it"
 BUILDS_PROGRAM = "a release package has it; `./nicbench --version` in a clone makes it, and then `pip install` packs it"
 
@@ -35,9 +37,9 @@ def prefix() -> Path | None:
     return root if (root / "include/nic82599.h").is_file() else None
 
 
-def _places(beside: str, in_clone: str, in_prefix: str) -> list[Path]:
+def _places(beside: str, in_clone: str, *in_prefix: str) -> list[Path]:
     """Where something is looked for: beside the package, and in what that lies in."""
-    around = [(clone(), in_clone), (prefix(), in_prefix)]
+    around = [(clone(), in_clone), *((prefix(), it) for it in in_prefix)]
     return [HERE / beside, *(root / name for root, name in around if root)]
 
 
@@ -53,7 +55,7 @@ def _is_loaded_by_name(name: str) -> bool:
 def library() -> str:
     """The file of the C library, or its soname where the system has it; Missing."""
     told = os.environ.get("NIC82599_LIBRARY")
-    places = [Path(told)] if told else _places(SONAME, "c/out/libnic82599.so", f"lib/{SONAME}")
+    places = [Path(told)] if told else _places(SONAME, "c/out/libnic82599.so", f"lib/{SONAME}", f"{MULTIARCH}/{SONAME}")
     for place in places:
         if place.exists():
             return str(place)

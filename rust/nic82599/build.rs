@@ -1,6 +1,7 @@
 //! Finds the library of `make -C c` or of an installation, and links it: where NIC82599_DIR says (a folder with the
-//! archive, or a prefix of which `lib` has it); in `c/out` of the clone that this crate lies in, or `lib` of the
-//! prefix; where pkg-config says. The archive is taken where there is one, so that a program needs no other file.
+//! archive, or a prefix of which `lib` or Debian's folder of the machine has it); in `c/out` of the clone that this
+//! crate lies in, or so in the prefix; where pkg-config says. The archive is taken where there is one, so that a
+//! program needs no other file.
 //!
 //! Without a library the crate's own compilation says why, and its pages are made all the same.
 
@@ -34,26 +35,35 @@ fn main() {
 fn library() -> Result<(PathBuf, Option<String>), String> {
     if let Some(given) = env::var_os("NIC82599_DIR") {
         let given = PathBuf::from(given);
-        return match [given.clone(), given.join("lib"), given.join("c/out")].into_iter().find(|it| has_library(it)) {
+        let places = [given.clone(), given.join("lib"), given.join(multiarch()), given.join("c/out")];
+        return match places.into_iter().find(|it| has_library(it)) {
             Some(folder) => Ok((folder.clone(), version_beside(&folder))),
             None => Err(format!("no library in {}, which NIC82599_DIR names: {HELP}", given.display())),
         };
     }
     let here = PathBuf::from(env::var_os("CARGO_MANIFEST_DIR").unwrap_or_default());
-    let around = here.ancestors().skip(1).take(5).flat_map(|it| [it.join("c/out"), it.join("lib")]);
+    let around =
+        here.ancestors().skip(1).take(5).flat_map(|it| [it.join("c/out"), it.join("lib"), it.join(multiarch())]);
     if let Some(folder) = around.into_iter().find(|it| has_library(it) && version_beside(it).is_some()) {
         return Ok((folder.clone(), version_beside(&folder)));
     }
     by_pkg_config().ok_or_else(|| format!("no library of the controller: {HELP}"))
 }
 
+/// Where Debian has the libraries of a machine below a prefix.
+fn multiarch() -> String {
+    format!("lib/{}-linux-gnu", env::var("CARGO_CFG_TARGET_ARCH").unwrap_or_default())
+}
+
 fn has_library(folder: &Path) -> bool {
     folder.join("libnic82599.a").exists() || folder.join("libnic82599.so").exists()
 }
 
-/// The version that the headers of a library tell: beside `out` in a clone, and beside `lib` in a prefix.
+/// The version that the headers of a library tell: beside `out` in a clone, and beside `lib` in a prefix, of which the
+/// library's folder may be one of a machine.
 fn version_beside(folder: &Path) -> Option<String> {
-    let header = folder.parent()?.join("include/nic82599_version.h");
+    let mut around = folder.ancestors().skip(1).take(2).map(|it| it.join("include/nic82599_version.h"));
+    let header = around.find(|it| it.exists())?;
     let text = fs::read_to_string(&header).ok()?;
     println!("cargo:rerun-if-changed={}", header.display());
     Some(text.split('"').nth(1)?.to_owned())

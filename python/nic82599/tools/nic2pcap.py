@@ -40,7 +40,7 @@ def main() -> int:
     how = {"description": called(__doc__ or ""), "formatter_class": argparse.RawDescriptionHelpFormatter}
     parser = argparse.ArgumentParser(prog=called("tools/nic2pcap"), **how)
     parser.add_argument("out", metavar="OUT.pcap")
-    parser.add_argument("--queue", type=int, metavar="Q")
+    parser.add_argument("--queue", type=int, metavar="Q", help="take the frames of this queue alone")
     add_version(parser, "nic2pcap")
     given = parser.parse_args()
     try:

@@ -41,10 +41,11 @@ def arguments() -> argparse.Namespace:
     how = {"description": called(__doc__ or ""), "formatter_class": argparse.RawDescriptionHelpFormatter}
     parser = argparse.ArgumentParser(prog=called("tools/pcap2nic"), **how)
     parser.add_argument("file", metavar="FILE")
-    parser.add_argument("--first", type=int, default=1, metavar="N")
-    parser.add_argument("--count", type=int, metavar="N")
-    parser.add_argument("--name", default="frame", metavar="NAME")
-    parser.add_argument("--step", action="store_true")
+    first = "the number of the first frame that is taken (1)"
+    parser.add_argument("--first", type=int, default=1, metavar="N", help=first)
+    parser.add_argument("--count", type=int, metavar="N", help="how many frames are taken at most")
+    parser.add_argument("--name", default="frame", metavar="NAME", help="what frames are called (frame)")
+    parser.add_argument("--step", action="store_true", help="make a receive step behind each frame")
     add_version(parser, "pcap2nic")
     return parser.parse_args()
 

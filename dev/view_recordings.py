@@ -9,7 +9,8 @@ from pathlib import Path
 
 import nic82599
 from nic82599 import places
-from nic82599.tools.recording import of_recording, played
+from nic82599.tools.library import Place, played
+from nic82599.tools.recording import of_recording
 from nic82599.tools.regs import REGISTERS
 from nic82599.tools.run import Run, of_script
 from nic82599.tools.script import Bench, Op, load
@@ -63,12 +64,27 @@ def events(run: Run) -> list[Step]:
     return [step for step in run.steps if step.reply]
 
 
+def in_rows(run: Run, count: Callable[[Step], int]) -> list[Step]:
+    """The events of a run, where those that lend blocks in a row are one, as in a recording: so many for each of its
+    steps."""
+    steps, made = iter(events(run)), []
+    while (step := next(steps, None)) is not None:
+        for _ in range(count(step) - 1):
+            more = next(steps)
+            step = Step(more.number, more.pc, more.reply, memory=step.memory + more.memory, lent=step.lent + more.lent)
+        if len(step.lent) > 1:
+            step.lent = [("+", step.lent[0][1], step.lent[-1][2])]
+        made.append(step)
+    return made
+
+
 def compare(script: Path, vfs: int | None, recording: Path, expect: Expect) -> None:
     """A whole recording shows what the script shows."""
     want, got = of_script(Bench(vfs), str(script)), of_recording(str(recording))
     name = script.name
     expect(not got.notes, f"{name}, recorded: {got.notes}")
-    pairs = list(zip(events(want), events(got), strict=True))
+    sizes = iter([end - begin + 1 for step in events(got) for _, begin, end in step.lent[:1] or [("", 0, 0)]])
+    pairs = list(zip(in_rows(want, lambda _: next(sizes)), events(got), strict=True))
     for left, right in pairs:
         same = facts(left) == facts(right)
         expect(same, f"{name}, recorded: step {right.number}: {facts(right)} and not {facts(left)}")
@@ -176,6 +192,145 @@ def check_restored(folder: Path, expect: Expect) -> None:
     expect(last(run)[0].get(0x3000) == 1, "a restored snapshot: RXCTRL isn't as it was kept")
 
 
+def told(words: list[object], text: str = "") -> tuple[int, str, str]:
+    """A tool's status, output and errors."""
+    called = [str(ROOT / "tools" / str(words[0])), *map(str, words[1:])]
+    ran = subprocess.run(called, input=text, capture_output=True, text=True, check=False)
+    return ran.returncode, ran.stdout, ran.stderr
+
+
+def check_tool(words: list[object], text: str, status: int, parts: list[str], expect: Expect) -> None:
+    """A tool ends with a status, and prints these parts."""
+    ended, out, errors = told(words, text)
+    for part in parts:
+        is_told = ended == status and part in out + errors
+        expect(is_told, f"{words}: status {ended}, no {part!r} in {(out + errors)[-400:]}")
+
+
+def check_long(folder: Path, expect: Expect) -> None:
+    """All tools take a recording that is longer than a script may be, and show its last events."""
+    file = folder / "long.recording"
+    nic82599.record(file)
+    with nic82599.Nic() as nic:
+        nic["RXCTRL"], nic["FCTRL"] = 1, 1 << 9
+        for _ in range(6_000):
+            nic.read32(0x04074)
+        nic.write32(0x10140, 1)
+        nic.arrive(bytes([2]) + bytes(59))
+        nic.rx_step()
+    nic82599.record(None)
+    lines = len(file.read_text().splitlines())
+    check_tool(["niclint", file], "", 1, [f"{file}:{lines - 3}: warning: 0x10140 is SWSM"], expect)
+    dropped = f"{file}:{lines}: step 3: rx -> dropped queue off: RXDCTL[0].ENABLE 0: the queue is off"
+    check_tool(["niclint", file, "--trace", "--limit", 3], "", 1, [dropped, "6,002 events came before", "ok 4"], expect)
+    check_tool(["niclint", file, "--vfs", "1"], "", 2, ["leave --vfs and --fifo out"], expect)
+    lint = told(["niclint", "-", "--trace"], file.read_text())[1]
+    expect("6,004" not in lint and "1,909 events came before" in lint, f"niclint of standard input: {lint[-300:]}")
+    for limit, count in ((None, "6005"), (5, "6")):
+        words = ["nicdebug", file, *(["--limit", limit] if limit else [])]
+        shown = [f"at {count} pc {count} acc 0x00000000 ended: ok {count}", "GPRC  0x04074 0x00000001"]
+        shown += ["RXDCTL[0].ENABLE 0", f"{lines - 2}  data d0 02"]
+        check_tool(words, "c\nshow GPRC\nwhy\nb 3\nlist\nrings\nq\n", 0, shown, expect)
+    check_tool(["nicview", file, "--text", "--limit", 2], "", 0, [f"line {lines - 1}: arrive d0"], expect)
+    check_tool(["nicview", "-", "--text", "--limit", 2], file.read_text(), 0, [f"line {lines - 1}: arrive d0"], expect)
+    check_tool(["nicview", ROOT / "examples/first.nic", "--limit", 100_001], "", 3, ["100000 steps"], expect)
+
+
+def check_lent(folder: Path, expect: Expect) -> None:
+    """Blocks that are lent in a row are a line and a step, and a script has a line for each that it can name."""
+    file, made = folder / "lent.recording", folder / "lent.nic"
+    nic82599.record(file)
+    with nic82599.Nic(0, 64, 600) as nic:
+        for block in range(8):
+            nic.lend(block)
+        nic.lend()
+        nic.memory.write(0x8000, b"x" * 16)
+        nic.take(3)
+        nic.memory.read(600 * 2_048 - 16, 16)
+    nic82599.record(None)
+    text = file.read_text()
+    expect("#: lend 0 to 599             # done\n" in text, f"600 blocks are lent as {text[:400]}")
+    run = of_recording(str(file))
+    expect([step.lent for step in run.steps[:3]] == [[("+", 0, 599)], [], [("-", 3, 3)]], "600 blocks: steps")
+    expect(run.shown(0) == "lend 0 to 599", f"600 blocks are shown as {run.shown(0)}")
+    part = of_recording(str(file), 1)
+    expect(part.steps[0].lent == [("+", 0, 2), ("+", 4, 599)], f"600 blocks, the end: {part.steps[0].lent}")
+    ended = "the script ends at line 7 of the recording: nicbench answers `not lent`"
+    check_tool(["nicview", file, "--script", "-o", made], "", 1, [ended], expect)
+    text = made.read_text()
+    expect("# left out: lend 256 to 599" in text and "# CUT: line 7" in text, "600 blocks: what a script can't say")
+    answers = Bench().run(text, 4_096)
+    expect([line.split(" ", 1)[1] for line in answers[-4:]] == ["done", "done", "taken 3", "258"], f"{answers[-4:]}")
+    check_tool(["niclint", made], "", 0, ["258 instructions, nothing to say"], expect)
+    for line in ("#: lend 5 to 4", "#: lend 0 to 65536", "#: lend 0 to 4000000000", "#: lend 1 to", "#: lend x"):
+        file.write_text(HEAD + line + " # done\n")
+        check_tool(["nicview", file, "--text"], "", 2, [":2: this is no line of a recording"], expect)
+
+
+def check_no_bytes(folder: Path, expect: Expect) -> None:
+    """A frame without bytes is one that a script takes, and to the tools it has none."""
+    file = folder / "empty.recording"
+    nic82599.record(file)
+    with nic82599.Nic() as nic:
+        nic.link(True)
+        nic["RXCTRL"] = 1
+        nic.arrive(b"")
+        nic.arrive(bytes([2]) + bytes(59))
+    nic82599.record(None)
+    text = file.read_text()
+    answers = [line.split(" ", 1)[1] for line in Bench().run(text, 100)]
+    expect(answers[-3:] == ["dropped short", "dropped filter", "4"], f"a frame without bytes is answered {answers}")
+    run = of_recording(str(file))
+    is_told = not run.notes and "the frame has 0 bytes, of 60 at least" in str(run.reasons)
+    expect(is_told, f"a frame without bytes: {run.notes}, {run.reasons}")
+    check_tool(["nicview", file, "--script"], "", 0, ["data d0 00  #: no bytes\n"], expect)
+    check_tool(["nicdebug", file], "s 3\nwhy\n", 0, ["the frame has 0 bytes"], expect)
+
+
+def check_history(folder: Path, expect: Expect) -> None:
+    """A script of a recording with snapshots has what led to its end, and ends before an installed image."""
+    file = folder / "history.recording"
+    nic82599.record(file)
+    with nic82599.Nic() as nic:
+        nic["RXCTRL"] = 1
+        with nic.snapshot() as first_one:
+            nic["FCTRL"] = 1 << 9
+            with nic.snapshot() as second:
+                nic["RXCTRL"] = 0
+                nic.restore(first_one)
+                nic["FCTRL"] = 1 << 8
+                nic.restore(second)
+                nic.arrive(bytes([2]) + bytes(59))
+    nic82599.record(None)
+    status, out, _ = told(["nicview", file, "--script"])
+    kept = [line.split("#")[0].split()[0:3:2] for line in out.splitlines() if line.startswith(("w", "arrive"))]
+    is_it = status == 0 and kept == [["w", "0x00000001"], ["w", "0x00000200"], ["arrive"]]
+    expect(is_it, f"a script of snapshots: status {status}, {out}")
+    file.write_text(file.read_text() + "#: text 73697a652036340a\nr 0x10010 # word 0x00000300\n")
+    check_tool(["nicview", file, "--script"], "", 1, ["can't install an EEPROM image"], expect)
+    check_tool(["nicview", ROOT / "examples/first.nic", "--script"], "", 2, ["is no recording"], expect)
+
+
+def check_place(script: Path, vfs: int | None, chance: random.Random, expect: Expect) -> None:
+    """What the debugger says of a recording's steps is what nicbench's says of a script."""
+    bench = Bench(vfs)
+    read = load(bench, str(script))
+    count, commands = len(read.instructions), []
+    addresses = [one.a for one in read.instructions if one.op in (Op.READ, Op.WRITE)] or [0]
+    for _ in range(120):
+        word = chance.choice(["step", "back", "continue", "break", "clear", "show", "show", "showvf"])
+        number = chance.choice(addresses) if word == "show" else chance.randint(0, count // 2)
+        offset = f"showvf {chance.randint(0, 2)} {4 * chance.randint(0, 80)}"
+        commands.append(offset if word == "showvf" else f"{word} {number}")
+    want = bench.debug(read.text(), commands)
+    with nic82599.Nic(vfs or 0) as nic:
+        kept = nic.snapshot()
+        replies = [played(nic, one, read.data) for one in read.instructions]
+        got = Place(nic, kept, read, replies).answers(commands)
+    odd = [one for one in zip(commands, want, got, strict=True) if one[1] != one[2]]
+    expect(not odd, f"{script.name}, debugged: {odd[:3]}")
+
+
 def check_recordings(scripts: dict[Path, int | None], folder: Path, seed: int, expect: Expect) -> None:
     """Recordings of scripts without jumps, where the library is made."""
     try:
@@ -189,6 +344,8 @@ def check_recordings(scripts: dict[Path, int | None], folder: Path, seed: int, e
         if load(Bench(vfs), str(script)).has_jumps:
             continue
         script = of_library(script, vfs, folder)
+        if not any(one.is_local for one in load(Bench(vfs), str(script)).instructions):
+            check_place(script, vfs, chance, expect)
         record(script, vfs, recording)
         compare(script, vfs, recording, expect)
         whole = of_recording(str(recording))
@@ -198,4 +355,6 @@ def check_recordings(scripts: dict[Path, int | None], folder: Path, seed: int, e
     check_ends(folder, expect)
     check_refused(folder, expect)
     check_restored(folder, expect)
+    for check in (check_long, check_lent, check_no_bytes, check_history):
+        check(folder, expect)
     print(f"{len(scripts)} scripts, recorded, with seed {seed}")

@@ -269,6 +269,10 @@ static void moved(struct recording *it, const char *call, uint32_t block, uint8_
         refused(it, call, status);
         return;
     }
+    if (*call == 'l' && status == NIC_DONE) {
+        nicd_add_lent(it, block);
+        return;
+    }
     nicd_add(it, "%s %" PRIu32, call, block);
     if (*call == 'u' && status == NIC_DONE) {
         nicd_add_reply(it);
@@ -306,7 +310,7 @@ uint8_t nic_take(nic *n, uint32_t block)
     return status;
 }
 
-/* Each block has its line, as if it were lent or taken alone. */
+/* As if each block were lent or taken alone. */
 static void moved_range(struct recording *it, const char *call, uint64_t bus, size_t bytes, uint8_t status)
 {
     uint64_t first = bus / NIC_BLOCK_BYTES, end = first + bytes / NIC_BLOCK_BYTES;
@@ -344,7 +348,7 @@ uint8_t nic_unlend_memory(nic *n, uint64_t bus, size_t bytes)
     return status;
 }
 
-/* Block by block, as the call itself does: so each block that it lends has its line. */
+/* Block by block, as the call itself does: so those blocks that it lends are told. */
 COLD uint8_t lend_all(nic *n)
 {
     struct recording *it = nicd_enter(n);

@@ -12,7 +12,8 @@
 #include <string.h>
 #include <unistd.h>
 
-enum { REPLIES = 28, FIRST_ROOM = 4096 };
+/* LENT is the length of each line of blocks that were lent. */
+enum { REPLIES = 28, FIRST_ROOM = 4096, LENT = REPLIES + sizeof " # done\n" - 1 };
 
 struct kept {
     struct kept *next;
@@ -29,6 +30,8 @@ struct recording {
     struct kept *kept;
     char *text;
     size_t used, room, line; /* bytes of `text`, and where its last line begins */
+    uint32_t lent, lent_end; /* the last line is of these blocks; 0 and 0 where it is another */
+    bool is_again;           /* `text` stands in place of the file's last line, which has LENT bytes */
 };
 
 int nicd_is_recording;
@@ -94,6 +97,8 @@ static void put_out(struct recording *it)
 {
     const char *text = it->text;
     size_t left = it->is_whole ? it->used : 0;
+    if (left && it->is_again)
+        lseek(it->file, -(off_t)LENT, SEEK_CUR);
     while (left) {
         ssize_t written = write(it->file, text, left);
         if (written < 0 && errno == EINTR)
@@ -107,6 +112,7 @@ static void put_out(struct recording *it)
         left -= (size_t)written;
     }
     it->used = it->line = 0;
+    it->is_again = false;
 }
 
 static void finish(struct recording *it)
@@ -313,6 +319,7 @@ static void note_line(struct recording *it)
 void nicd_add(struct recording *it, const char *format, ...)
 {
     va_list list;
+    it->lent = it->lent_end = 0;
     if (!has_room(it, 512))
         return;
     va_start(list, format);
@@ -335,9 +342,10 @@ void nicd_add_hex(struct recording *it, const uint8_t *bytes, size_t length)
 
 uint32_t nicd_add_data(struct recording *it, const uint8_t *bytes, size_t length)
 {
+    static const uint8_t zero[1];
     nicd_add(it, "data d%lu ", (unsigned long)it->strings);
-    nicd_add_hex(it, bytes, length);
-    nicd_add(it, "\n");
+    nicd_add_hex(it, length ? bytes : zero, length ? length : 1);
+    nicd_add(it, length ? "\n" : "  #: no bytes\n");
     return it->strings++;
 }
 
@@ -345,4 +353,32 @@ void nicd_add_reply(struct recording *it)
 {
     size_t wide = it->used - it->line;
     nicd_add(it, "%*s # ", wide < REPLIES ? (int)(REPLIES - wide) : 0, "");
+}
+
+/* Takes back the last line, of blocks that were lent; where it is in the file already, the text takes its place. A file
+   that can't be written anew, as a pipe, keeps it. */
+static bool is_taken_back(struct recording *it)
+{
+    if (it->used >= LENT)
+        it->used -= LENT;
+    else if (!it->used && lseek(it->file, 0, SEEK_CUR) >= (off_t)LENT)
+        it->is_again = true;
+    else
+        return false;
+    it->line = it->used;
+    return true;
+}
+
+void nicd_add_lent(struct recording *it, uint32_t block)
+{
+    bool goes_on = it->lent_end && it->lent_end == block && is_taken_back(it);
+    uint32_t first = goes_on ? it->lent : block;
+    if (goes_on)
+        nicd_add(it, "#: lend %lu to %lu", (unsigned long)first, (unsigned long)block);
+    else
+        nicd_add(it, "lend %lu", (unsigned long)block);
+    nicd_add_reply(it);
+    nicd_add(it, "done\n");
+    it->lent = first;
+    it->lent_end = block + 1;
 }

@@ -32,9 +32,13 @@ struct recording *nicd_enter_dropped(nic_kept kept, uint32_t *number);
 
 void nicd_add(struct recording *it, const char *format, ...) __attribute__((format(printf, 2, 3)));
 void nicd_add_hex(struct recording *it, const uint8_t *bytes, size_t length);
-/* A line that names bytes, in front of the one that uses them: the number of the name. */
+/* A line that names bytes, in front of the one that uses them: the number of the name. A script's data has one byte at
+   least: where there is none, it has one, and the comment tells. As a frame both are dropped for the same reason. */
 uint32_t nicd_add_data(struct recording *it, const uint8_t *bytes, size_t length);
 /* Blanks up to the column of replies, counted from the last line's beginning, and what begins one. */
 void nicd_add_reply(struct recording *it);
+/* A block that was lent: a line `lend 3`. Where the line before is of the block before it, both become one line,
+   `#: lend 2 to 3`, and so on. */
+void nicd_add_lent(struct recording *it, uint32_t block);
 
 #endif

@@ -38,6 +38,9 @@ static bool is_there(const char *name)
 #define HEAD                                                                                                           \
     "#: nic vfs 0 fifo 4 blocks 2\n# recorded by the library " NIC82599_VERSION "; nicbench run --vfs 0 --fifo 4\n"
 
+#define LENT_HEAD                                                                                                      \
+    "#: nic vfs 0 fifo 4 blocks 8\n# recorded by the library " NIC82599_VERSION "; nicbench run --vfs 0 --fifo 4\n"
+
 /* Two controllers at once have a file each, one that is open already has none, and null ends all. */
 static void files(void)
 {
@@ -84,8 +87,7 @@ static void beyond_scripts(void)
     nic_drop_snapshot(&unknown);
     nic_close(&n);
     CHECK(nic_record(NULL));
-    CHECK(holds("beyond", HEAD "lend 0                       # done\n"
-                               "lend 1                       # done\n"
+    CHECK(holds("beyond", HEAD "#: lend 0 to 1               # done\n"
                                "#: snapshot 1\n"
                                "#: restore 1\n"
                                "#: drop 1\n"
@@ -112,14 +114,81 @@ static void in_place(void)
     ANSWERS(NIC_BAD_MEMORY, nic_lend_memory(&n, 1, memory, NIC_BLOCK_BYTES));
     nic_close(&n);
     CHECK(nic_record(NULL));
-    CHECK(holds("place", HEAD "lend 0                       # done\n"
-                              "lend 1                       # done\n"
+    CHECK(holds("place", HEAD "#: lend 0 to 1               # done\n"
                               "data d0 00050000000000000000000000000000\n"
                               "poke 0x00010 d0              # done\n"
                               "peek 0x00010 1               # bytes 00050000000000000000000000000000\n"
                               "peek 0x00010 1               # bytes 00050000000000000000000000000000\n"
                               "unlend 1                     # taken 1\n"
                               "# lend: bad memory\n"));
+}
+
+/* A frame without bytes has a line that a script takes. */
+static void no_bytes(void)
+{
+    nic n;
+    nic_told told;
+    CHECK(nic_record(path_of("empty")));
+    ANSWERS(NIC_DONE, nic_open(&n, 0, 4, 8));
+    ANSWERS(NIC_DROPPED, nic_arrive(&n, NULL, 0, &told));
+    ANSWERS(NIC_DROPPED, nic_arrive(&n, (const uint8_t *)"", 1, &told));
+    nic_close(&n);
+    CHECK(nic_record(NULL));
+    CHECK(holds("empty", LENT_HEAD "data d0 00  #: no bytes\n"
+                                   "arrive d0                    # dropped off\n"
+                                   "data d1 00\n"
+                                   "arrive d1                    # dropped off\n"));
+}
+
+/* What a pipe gets of two blocks that are lent: lines can't be taken back there. */
+static void lent_to_pipe(void)
+{
+    nic n;
+    char text[512];
+    int ends[2], kept = dup(STDOUT_FILENO);
+    CHECK(kept >= 0 && pipe(ends) == 0 && dup2(ends[1], STDOUT_FILENO) >= 0 && close(ends[1]) == 0);
+    CHECK(nic_record("/dev/stdout"));
+    CHECK(dup2(kept, STDOUT_FILENO) >= 0 && close(kept) == 0);
+    ANSWERS(NIC_DONE, nic_open(&n, 0, 4, 2));
+    ANSWERS(NIC_DONE, nic_lend(&n, 0));
+    ANSWERS(NIC_DONE, nic_lend(&n, 1));
+    nic_close(&n);
+    CHECK(nic_record(NULL));
+    ssize_t length = read(ends[0], text, sizeof text - 1);
+    CHECK(length > 0 && close(ends[0]) == 0);
+    text[length] = 0;
+    CHECK(strcmp(text, HEAD "lend 0                       # done\nlend 1                       # done\n") == 0);
+}
+
+/* Blocks that are lent in a row are one line, by whichever calls; the file has it after each of them. */
+static void lent_ranges(void)
+{
+    nic n;
+    CHECK(nic_record(path_of("lent")));
+    ANSWERS(NIC_DONE, nic_open(&n, 0, 4, 8));
+    ANSWERS(NIC_DONE, nic_lend(&n, 0));
+    CHECK(holds("lent", LENT_HEAD "lend 0                       # done\n"));
+    ANSWERS(NIC_DONE, nic_lend(&n, 1));
+    ANSWERS(NIC_DONE, nic_lend(&n, 2));
+    CHECK(holds("lent", LENT_HEAD "#: lend 0 to 2               # done\n"));
+    ANSWERS(NIC_DONE, nic_lend(&n, 5)); /* not the next */
+    ANSWERS(NIC_NO_BLOCK, nic_lend(&n, 5));
+    ANSWERS(NIC_DONE, nic_lend(&n, 6)); /* something came between */
+    ANSWERS(NIC_DONE, nic_lend_all(&n));
+    ANSWERS(NIC_DONE, nic_lend_all(&n)); /* nothing is left */
+    ANSWERS(NIC_DONE, nic_take(&n, 7));
+    ANSWERS(NIC_DONE, nic_lend(&n, 7));
+    nic_close(&n);
+    CHECK(nic_record(NULL));
+    CHECK(holds("lent", LENT_HEAD "#: lend 0 to 2               # done\n"
+                                  "lend 5                       # done\n"
+                                  "lend 5                       # no block\n"
+                                  "lend 6                       # done\n"
+                                  "#: lend 3 to 4               # done\n"
+                                  "lend 7                       # done\n"
+                                  "unlend 7                     # taken 7\n"
+                                  "lend 7                       # done\n"));
+    lent_to_pipe();
 }
 
 /* A process that is killed has lost no line; its parent's recording hasn't got its events; %p is its number. */
@@ -165,6 +234,8 @@ int main(int words, char **word)
     files();
     beyond_scripts();
     in_place();
+    lent_ranges();
+    no_bytes();
     children();
     bad_path();
     return 0;

@@ -64,8 +64,8 @@ class State(Slots):
         for address, _, new in step.changes:
             self.words[address] = new
         self.memory.update(step.memory)
-        for sign, block in step.lent:
-            self.lent = self.lent | {block} if sign == "+" else self.lent - {block}
+        for sign, first, last in step.lent:
+            (self.lent.update if sign == "+" else self.lent.difference_update)(range(first, last + 1))
         for sign, frames in step.waiting:
             self.waiting = self.waiting + frames if sign == "+" else [one for one in self.waiting if one not in frames]
         for sign, frames in step.out:
@@ -133,7 +133,7 @@ def text(run: Run) -> Iterator[str]:
         state.make(step)
         comment = run.comment(step.pc)
         yield ""
-        yield f"{step.number:4}  line {run.line_of[step.pc]}: {run.shown(step.pc)}" + (
+        yield f"{step.number:4}  line {run.line(step.pc)}: {run.shown(step.pc)}" + (
             f"    # {comment}" if comment else ""
         )
         yield f"      {step.reply}" if step.reply else f"      acc 0x{step.acc:08x}, {step.status}"

@@ -191,7 +191,7 @@ class Watch:
         self.touched: set[int] = set()
         self.known: set[int] = set()
         self.poked: dict[int, bytes] = {}
-        self.before = dict(trace.lent)
+        self.kept = set(trace.lent)  # of these the bytes before the first step are known
 
     def steps(self) -> list[tuple[int, list[int]]]:
         """For each step with something to ask, its number and the addresses. Notes at each step what it wrote."""
@@ -238,12 +238,12 @@ class Watch:
         """The units that a step may have written, or lost."""
         one = self.trace.instruction(step)
         if one.op == Op.LEND and step.reply == "done":
-            self.lent.add(one.x)
-            step.lent.append(("+", one.x))
+            self.lent.update(one.blocks)
+            step.lent.append(("+", one.blocks[0], one.blocks[-1]))
         elif one.op == Op.UNLEND and step.reply.startswith("taken"):
             self.lent.discard(one.x)
-            self.before.pop(one.x, None)
-            step.lent.append(("-", one.x))
+            self.kept.discard(one.x)
+            step.lent.append(("-", one.x, one.x))
             self.known = {unit for unit in self.known if unit >> 11 != one.x}
         elif one.op == Op.POKE and step.reply == "done":
             self.poked[one.a] = self.trace.script.data[one.x]
@@ -259,7 +259,9 @@ class Watch:
         """The descriptor that was written back, and the units of its buffer that lie in a ring."""
         queue, slot = number_after(step.reply, "queue") or 0, number_after(step.reply, "slot") or 0
         unit = ring_of(before, "rx", queue).base + 16 * slot
-        poked = self.poked.get(unit) or self.before.get(unit >> 11, b"")[unit % 2_048 :][:16]
+        poked = self.poked.get(unit)
+        if poked is None and unit >> 11 in self.kept:
+            poked = self.poked[unit] = self.trace.memory_before(unit)
         if not poked:
             return {unit}
         buffer = int.from_bytes(poked[:8], "little") & ~1
@@ -333,7 +335,7 @@ def _lost(trace: Trace) -> None:
     """Forgets the units of a block that was taken back, and answers that say the same as before."""
     held: dict[int, bytes | None] = {}
     for step in trace.steps:
-        for block in [block for sign, block in step.lent if sign == "-"]:
+        for block in [block for sign, block, _ in step.lent if sign == "-"]:
             step.memory += [(unit, None) for unit in held if unit >> 11 == block]
         step.memory = [(unit, content) for unit, content in step.memory if held.get(unit, b"") != content]
         step.written &= {unit for unit, _ in step.memory}

@@ -2,8 +2,9 @@
 
     tools/nicdebug SCRIPT [--vfs N] [--fifo N]
 
-SCRIPT is a register script, or a session of the debugger (what stands in front of its line `%`). `help` lists the
-commands; a wrong one ends nothing. Where standard input isn't a terminal each command is printed behind its prompt.
+SCRIPT is a register script, or a session of the debugger (what stands in front of its line `%`). Or it is a recording
+of the C library (NIC82599_RECORD), of any length: then its last --limit events are there. `help` lists the commands; a
+wrong one ends nothing. Where standard input isn't a terminal each command is printed behind its prompt.
 Exit status: 0 the session was ended; 2 the script is refused or can't be read; 3 the words are wrong; 4 ./nicbench gave
 no answer.
 """
@@ -12,17 +13,17 @@ from __future__ import annotations
 
 import argparse
 
-from .prompt import Session, prompt
-from .script import Bench, Fault, of_text, read_text
-from .tool import Parser, called, ended, number, sizes
+from .prompt import of_bench, of_made, prompt
+from .recording import is_recording, read, refuse_sizes, traced
+from .script import Bench, Fault, read_bytes, text_of
+from .tool import Parser, called, ended, limit, limit_of_script, sizes
 
 
 def words() -> argparse.Namespace:
     parser = Parser(description=called(__doc__ or ""), formatter_class=argparse.RawDescriptionHelpFormatter)
     parser.add_argument("script", metavar="SCRIPT")
     sizes(parser)
-    limit = "how many steps can be made at most (10000)"
-    parser.add_argument("--limit", metavar="N", type=number(1, 100_000), default=10_000, help=limit)
+    limit(parser, 10_000, "how many steps can be made")
     return parser.parse_args()
 
 
@@ -30,8 +31,14 @@ def main() -> int:
     asked = words()
     if asked.script == "-":
         raise Fault("the prompt reads standard input, so the script has to be a file")
-    bench, text = Bench(asked.vfs, asked.fifo), read_text(asked.script)
-    prompt(Session(bench, of_text(bench, asked.script, text), text, asked.limit))
+    raw = read_bytes(asked.script)
+    if not is_recording(raw):
+        bench, most = Bench(asked.vfs, asked.fifo), limit_of_script(asked.limit)
+        prompt(of_bench(bench, asked.script, text_of(asked.script, raw), most))
+        return 0
+    refuse_sizes(asked.script, asked.vfs, asked.fifo)
+    with traced(read(asked.script, raw), asked.limit) as made:
+        prompt(of_made(made))
     return 0
 
 

@@ -1,10 +1,11 @@
 """Says what is wrong with a script: why the bench refuses it, or what its author may have forgotten.
 
-    tools/niclint SCRIPT            the refusal with its word and what comes near, or warnings
+    tools/niclint SCRIPT            the refusals with their words and what comes near, or warnings
     tools/niclint SCRIPT --trace    also runs it, and says why steps were idle, dropped frames, met faults or failed
 
-SCRIPT is a register script, a recording, a session of the debugger (what stands in front of its line `%`), or - for
-standard input. A recording has the sizes of its device in its first line.
+SCRIPT is a register script, a session of the debugger (what stands in front of its line `%`), or - for standard input.
+Or it is a recording of the C library (NIC82599_RECORD), of any length: its warnings are of all its lines, and --trace
+explains its last --limit events, made again over the library.
 Exit status: 0 nothing is wrong; 1 there are warnings, or with --trace a failed expect, a fault, a dropped frame or a
 refused access; 2 the script is refused or can't be read; 3 the words are wrong;
 4 ./nicbench gave no answer.
@@ -14,12 +15,15 @@ from __future__ import annotations
 
 import argparse
 from collections import Counter
+from collections.abc import Callable
 
 from .advice import Advice
-from .forms import explained
-from .run import of_trace
-from .script import Bench, Refused, of_text, read_text
-from .tool import Parser, called, ended, number, sizes
+from .forms import Place, explained
+from .recording import is_recording, of_recording, read, refuse_sizes, whole
+from .refusals import MOST, refusals
+from .run import Run, of_trace
+from .script import Bench, Refused, Script, of_text, read_bytes, text_of
+from .tool import Parser, called, ended, limit, limit_of_script, sizes
 from .trace import trace_of
 
 # So many lines are told of one warning.
@@ -31,14 +35,12 @@ def words() -> argparse.Namespace:
     parser.add_argument("script", metavar="SCRIPT")
     parser.add_argument("--trace", action="store_true", help="run the script, and say why steps did nothing or failed")
     sizes(parser)
-    limit = "how many steps are run at most (4096)"
-    parser.add_argument("--limit", metavar="N", type=number(1, 100_000), default=4_096, help=limit)
+    limit(parser, 4_096, "how many steps are run")
     return parser.parse_args()
 
 
-def refusal(path: str, text: str, refused: Refused) -> None:
+def refusal(path: str, text: str, refused: Refused, place: Place) -> None:
     """Prints a refusal, with the line and its word."""
-    place = explained(text, refused)
     where = f"{path}:{place.line}:{place.column + 1}" if place.line else path
     close = f"; near: {', '.join(place.near)}" if place.near else ""
     print(f"{where}: refused {refused.name}: {place.text}{close}")
@@ -49,37 +51,67 @@ def refusal(path: str, text: str, refused: Refused) -> None:
         print("    " + " " * (place.column - begin) + "^" * max(1, min(place.length, 100)))
 
 
-def main() -> int:
-    asked = words()
-    text = read_text(asked.script)
-    bench = Bench.of(text, asked.vfs, asked.fifo)
-    try:
-        script = of_text(bench, asked.script, text)
-    except Refused as refused:
-        refusal(asked.script, text, refused)
-        return 2
+def lint(path: str, script: Script, run: Callable[[], Run] | None) -> int:
+    """Prints the warnings for a script, and what its run tells; the status."""
     warnings = Advice(script).all()
     told: Counter[str] = Counter()
     for one in warnings:
         told[one.text] += 1
         if told[one.text] <= SHOWN:
-            print(f"{asked.script}:{one.line}: warning: {one.text}")
+            print(f"{path}:{one.line}: warning: {one.text}")
     for warning, count in told.items():
         if count > SHOWN:
-            print(f"{asked.script}: warning: at {count - SHOWN} lines more: {warning}")
-    is_trouble = False
-    if asked.trace:
-        run = of_trace(trace_of(bench, script, text, asked.limit))
-        for step, reasons in zip(run.steps, run.reasons):
-            held = [reason.text for reason in reasons if reason.held]
-            if held:
-                where = f"{asked.script}:{run.line_of[step.pc]}: step {step.number}"
-                print(f"{where}: {run.shown(step.pc)} -> {step.answer}: {'; '.join(held)}")
-        is_trouble = any(step.is_trouble for step in run.steps)
-        print(f"{asked.script}: {run.last}")
-    if not warnings and not asked.trace:
-        print(f"{asked.script}: {len(script.instructions)} instructions, nothing to say")
+            print(f"{path}: warning: at {count - SHOWN} lines more: {warning}")
+    is_trouble = run is not None and explain(path, run())
+    if not warnings and run is None:
+        print(f"{path}: {len(script.instructions)} instructions, nothing to say")
     return 1 if warnings or is_trouble else 0
+
+
+def explain(path: str, run: Run) -> bool:
+    """Prints why steps did nothing or failed, and says whether one of them was trouble."""
+    for step, reasons in zip(run.steps, run.reasons):
+        held = [reason.text for reason in reasons if reason.held]
+        if held:
+            where = f"{path}:{run.line(step.pc)}: step {step.number}"
+            print(f"{where}: {run.shown(step.pc)} -> {step.answer}: {'; '.join(held)}")
+    for note in run.notes:
+        print(f"{path}: note: {note}")
+    print(f"{path}: {run.last}")
+    return any(step.is_trouble for step in run.steps)
+
+
+def of_script(asked: argparse.Namespace, raw: bytes) -> int:
+    """Looks at a script."""
+    text, most = text_of(asked.script, raw), limit_of_script(asked.limit)
+    bench = Bench(asked.vfs, asked.fifo)
+    try:
+        script = of_text(bench, asked.script, text)
+    except Refused as first:
+        found = [(refused, explained(shown, refused)) for refused, shown in refusals(bench, text, first)]
+        for refused, place in sorted(found, key=lambda one: one[1].line or len(text)):
+            refusal(asked.script, text, refused, place)
+        if len(found) == MOST:
+            print(f"{asked.script}: further lines may be refused; {MOST} are told")
+        return 2
+    return lint(asked.script, script, (lambda: of_trace(trace_of(bench, script, text, most))) if asked.trace else None)
+
+
+def of_recorded(asked: argparse.Namespace, raw: bytes) -> int:
+    """Looks at a recording."""
+    refuse_sizes(asked.script, asked.vfs, asked.fifo)
+    script, bad = whole(read(asked.script, raw))
+    for fault in bad:
+        print(fault)
+    if bad:
+        return 2
+    return lint(asked.script, script, (lambda: of_recording(asked.script, asked.limit, raw)) if asked.trace else None)
+
+
+def main() -> int:
+    asked = words()
+    raw = read_bytes(asked.script)
+    return of_recorded(asked, raw) if is_recording(raw) else of_script(asked, raw)
 
 
 def command() -> int:

@@ -35,10 +35,18 @@ function some(parts, most, what) {
   return [...parts.slice(0, most), rest];
 }
 
+// Lent blocks, as the first and the last of each row of them.
+function lentAfter(rows, [sign, first, last]) {
+  const end = rows.at(-1);
+  if (sign === "+") return end?.[1] === first - 1 ? [...rows.slice(0, -1), [end[0], last]] : [...rows, [first, last]];
+  const parts = rows.flatMap(([a, b]) => (b < first || a > last ? [[a, b]] : [[a, first - 1], [last + 1, b]]));
+  return parts.filter(([a, b]) => a <= b);
+}
+const isLent = (rows, block) => rows.some(([first, last]) => first <= block && block <= last);
 // The machine after n steps.
 function machine(n) {
   const state = {
-    words: new Map(start), memory: new Map(), lent: new Set(), waiting: [], out: [], routes: [], vectors: [null, null],
+    words: new Map(start), memory: new Map(), lent: [], waiting: [], out: [], routes: [], vectors: [null, null],
   };
   const moved = (list, [sign, frames]) =>
     sign === "+" ? list.concat(frames) : list.filter((one) => !frames.includes(one));
@@ -46,7 +54,7 @@ function machine(n) {
     const [, , , changes, more] = run.steps[k];
     for (const [address, word] of changes) state.words.set(address, word);
     for (const [unit, content] of more.m || []) state.memory.set(unit, content);
-    for (const [sign, block] of more.l || []) sign === "+" ? state.lent.add(block) : state.lent.delete(block);
+    for (const one of more.l || []) state.lent = lentAfter(state.lent, one);
     for (const one of more.w || []) state.waiting = moved(state.waiting, one);
     for (const one of more.o || []) state.out = moved(state.out, one);
     if (more.r) [state.routes, state.vectors] = [more.r[0].map((text) => run.texts[text]), more.r[1]];
@@ -63,7 +71,7 @@ function contentAfter(unit, n) {
   return null;
 }
 const blockOf = (address) => Math.floor(address / 2048);
-const unknown = (state, address) => (state.lent.has(blockOf(address)) ? "not read" : "not lent");
+const unknown = (state, address) => (isLent(state.lent, blockOf(address)) ? "not read" : "not lent");
 
 // What changed: the digits, fields and bits that differ are lit, and those that are gone are struck out.
 
@@ -112,9 +120,10 @@ function memoryChange(n, state, [unit, content]) {
 function showChanges(n, state, changes, more) {
   const rows = changes.map((one) => registerChange(n, one));
   for (const one of more.m || []) if (one[2] && one[1] !== null) rows.push(memoryChange(n, state, one));
-  for (const [sign, block] of more.l || []) {
-    const way = sign === "+" ? "is lent to the device" : "came back from the device";
-    rows.push(change(make("b", { className: "mono" }, `block ${block}`), span("", way)));
+  for (const [sign, first, last] of more.l || []) {
+    const [name, is] = first < last ? [`blocks ${first} to ${last}`, "are"] : [`block ${first}`, "is"];
+    const way = sign === "+" ? `${is} lent to the device` : "came back from the device";
+    rows.push(change(make("b", { className: "mono" }, name), span("", way)));
   }
   const none = faint("No register changed, nor a slot.");
   element("changes").replaceChildren(...(rows.length ? some(rows, 5, "changes") : [none]));
@@ -125,7 +134,7 @@ function showChanges(n, state, changes, more) {
 function showNow(n, state) {
   const now = element("now");
   const pcOf = n ? run.steps[n - 1][0] : -1, said = n ? run.comments[pcOf] : "";
-  const title = n ? `Step ${n - 1}, line ${run.line_of[pcOf]}` : "At the start";
+  const title = n ? `Step ${n - 1}, line ${run.before + run.line_of[pcOf]}` : "At the start";
   element("now-title").replaceChildren(title, ...(said ? [" \u00b7 ", span("who", said)] : []));
   if (!n) {
     element("answer").replaceChildren(`${count} steps; the last line is `, make("code", {}, run.last));
@@ -219,7 +228,7 @@ function buildLines() {
     const rest = comment.length ? span("comment", "#" + comment.join("#")) : "";
     const isData = code.trimStart().startsWith("data ");
     const said = span("said", span(isData ? "code data" : "code", cut(code.trimEnd(), 400)), rest);
-    const line = make("li", { title: isData ? cut(text, 400) : "" }, span("number", `${n + 1}`), said);
+    const line = make("li", { title: isData ? cut(text, 400) : "" }, span("number", `${run.before + n + 1}`), said);
     if (pc === undefined) {
       if (!code.trim() && comment.length) line.classList.add("remark");
       return line;

@@ -3,6 +3,7 @@
     tools/nicview SCRIPT -o run.html            a page, which needs no network
     tools/nicview SCRIPT --text                 the same as lines, with the rings drawn in characters
     tools/nicview SCRIPT --svg STEP -o it.svg   a picture of the machine after a step
+    tools/nicview RECORDING --script            a script of a recording, as far as nicbench can read one
 
 SCRIPT is a register script, a session of the debugger (what stands in front of its line `%`), or - for standard input.
 Or it is a recording of the C library (NIC82599_RECORD): then its last --limit events are shown, made again over the
@@ -22,22 +23,24 @@ from pathlib import Path
 
 from . import draw
 from . import page
-from .recording import is_recording, of_recording
-from .run import Run, of_script
-from .script import Bench, Fault
-from .tool import Parser, called, ended, number, sizes
+from .as_script import script
+from .recording import is_recording, read, refuse_sizes, run_of
+from .script import Fault, read_bytes
+from .tool import MOST_STEPS, Parser, called, ended, limit, number, sizes
 
 
 def words() -> argparse.Namespace:
     parser = Parser(description=called(__doc__ or ""), formatter_class=argparse.RawDescriptionHelpFormatter)
     parser.add_argument("script", metavar="SCRIPT")
     sizes(parser)
-    limit = "how many steps are shown at most (4096)"
-    parser.add_argument("--limit", metavar="N", type=number(1, 100_000), default=4_096, help=limit)
+    limit(parser, 4_096, "how many steps are shown")
     parser.add_argument("-o", metavar="FILE", help="where to write; without it, to standard output")
     form = parser.add_mutually_exclusive_group()
+    made = "what nicbench can read of a recording, as a script"
+    form.add_argument("--script", action="store_true", dest="script_of", help=made)
     form.add_argument("--text", action="store_true", help="lines of text in place of a page")
-    form.add_argument("--svg", type=number(0, 99_999), metavar="STEP", help="a picture of the machine after this step")
+    step = number(0, MOST_STEPS)
+    form.add_argument("--svg", type=step, metavar="STEP", help="a picture of the machine after this step")
     return parser.parse_args()
 
 
@@ -53,20 +56,26 @@ def write(path: str | None, text: str) -> None:
     print(f"{path}: {len(text.encode()):,} bytes", file=sys.stderr)
 
 
-def shown(asked: argparse.Namespace) -> Run:
-    """The run of what was named."""
-    if not is_recording(asked.script):
-        return of_script(Bench(asked.vfs, asked.fifo), asked.script, asked.limit)
-    if asked.vfs is not None or asked.fifo is not None:
-        raise Fault(f"{asked.script} is a recording, which has its sizes in its first line: leave --vfs and --fifo out")
-    return of_recording(asked.script, asked.limit)
+def as_script(asked: argparse.Namespace) -> int:
+    """Writes a recording as a script."""
+    raw = read_bytes(asked.script)
+    if not is_recording(raw):
+        raise Fault(f"{asked.script} is no recording, so there is nothing to make a script of")
+    refuse_sizes(asked.script, asked.vfs, asked.fifo)
+    text, ended = script(read(asked.script, raw))
+    write(asked.o, text)
+    if ended:
+        print(f"{asked.script}: the script ends at {ended}", file=sys.stderr)
+    return 1 if ended else 0
 
 
 def main() -> int:
     asked = words()
+    if asked.script_of:
+        return as_script(asked)
     if asked.o is None and asked.svg is None and not asked.text and sys.stdout.isatty():
         raise Fault("a page isn't for the terminal: give a file with -o run.html, or --text")
-    run = shown(asked)
+    run = run_of(asked.script, asked.vfs, asked.fifo, asked.limit)
     if asked.text:
         write(asked.o, "".join(line + "\n" for line in draw.text(run)))
     elif asked.svg is not None:

@@ -141,8 +141,8 @@ function slots(state, ring, written) {
   const all = [...numbers].map((slot) => slotOf(state, ring, slot)).filter(says);
   all.sort((a, b) => ((behind(a.slot) + 8) % ring.slots) - ((behind(b.slot) + 8) % ring.slots));
   const some = all.slice(0, most).sort((a, b) => a.slot - b.slot);
-  const ends = [ring.base, ring.base + 16 * (ring.slots - 1)], isLent = ends.every((at) => state.lent.has(blockOf(at)));
-  const none = isLent ? "No slot is the device's, and none holds a descriptor." : "Its memory isn't lent.";
+  const ends = [ring.base, ring.base + 16 * (ring.slots - 1)], areLent = ends.every((at) => isLent(state.lent, blockOf(at)));
+  const none = areLent ? "No slot is the device's, and none holds a descriptor." : "Its memory isn't lent.";
   if (!some.length) return faint(none);
   const rows = some.map((one) => {
     const told = one.said ? one.said[2].map(([name, value]) => `${name} ${value}`).join(", ") : "";

@@ -168,6 +168,7 @@ class Data:
             "options": run.options,
             "lines": run.lines,
             "line_of": run.line_of,
+            "before": run.before,
             "shown": [run.shown(pc) for pc in range(len(run.line_of))],
             "steps": steps,
             "opening": run.opening,

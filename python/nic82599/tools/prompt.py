@@ -15,8 +15,8 @@ from .draw import State, ring_lines
 from .forms import number_of
 from .memory import Replay
 from .run import Run, of_trace
-from .script import Bench, Fault, Refused, Script
-from .trace import Trace, made, trace_of
+from .script import Bench, Fault, Refused, Script, of_text
+from .trace import Step, Trace, made, trace_of
 
 HELP = """\
 step [N], s        N steps on (1)                       back [N], b        N steps back (1)
@@ -52,13 +52,31 @@ class Wrong(Exception):
     """A command that can't be done: one line that says why."""
 
 
-class Session:
-    """The commands taken so far, and the place to which they lead."""
+def of_bench(bench: Bench, path: str, text: str, limit: int) -> Session:
+    """A session of a script."""
+    script = of_text(bench, path, text)
+    steps, last = made(bench, script, bench.run(text, limit), limit)
+    return Session(bench, script, steps, last, limit, lambda: of_trace(trace_of(bench, script, text, limit)))
 
-    def __init__(self, bench: Bench, script: Script, text: str, limit: int) -> None:
-        self.bench, self.script, self.text, self.limit = bench, script, text, limit
-        self.steps, self.last = made(bench, script, bench.run(text, limit), limit)
-        self.numbers = script.text()
+
+def of_made(trace: Trace) -> Session:
+    """A session of a run that is made already."""
+    steps = trace.steps
+    return Session(trace.bench, trace.script, steps, trace.last, len(steps), lambda: of_trace(trace), trace)
+
+
+class Session:
+    """The commands taken so far, and the place to which they lead. `whole` looks at the run with its rings and reasons,
+    and `trace` is it where it is there already."""
+
+    def __init__(
+        self, bench: Bench, script: Script, steps: list[Step], last: str, limit: int, whole: Callable[[], Run],
+        trace: Trace | None = None,
+    ) -> None:  # fmt: skip
+        self.bench, self.script, self.steps, self.last, self.limit = bench, script, steps, last, limit
+        self.trace = trace or Trace(bench, script, steps, {}, last)
+        self.look = whole
+        self.numbers = "" if trace else script.text()
         self.commands: list[str] = []
         self.breaks: set[int] = set()
         self.watched: dict[int, int] = {}
@@ -86,7 +104,7 @@ class Session:
     def run(self) -> Run:
         """The whole run with its rings and reasons, looked at once."""
         if self.whole is None:
-            self.whole = of_trace(trace_of(self.bench, self.script, self.text, self.limit))
+            self.whole = self.look()
         return self.whole
 
 
@@ -95,7 +113,7 @@ def line_at(session: Session, pc: int) -> str:
     if pc >= len(session.script.line_of):
         return "the end of the script"
     number = session.script.line_of[pc]
-    return f"{number:5}  {session.script.lines[number - 1].strip()[:100]}"
+    return f"{session.script.before + number:5}  {session.script.lines[number - 1].strip()[:100]}"
 
 
 def told_view(session: Session) -> str:
@@ -110,7 +128,7 @@ def place(session: Session, words: list[str]) -> int:
     """The instruction that the words name: a label, `line N`, or a number."""
     script = session.script
     if len(words) == 2 and words[0] == "line" and (number := number_of(words[1])) is not None:
-        found = [pc for pc, line in enumerate(script.line_of) if line >= number]
+        found = [pc for pc, line in enumerate(script.line_of) if script.before + line >= number]
         if not found or number < 1:
             raise Wrong(f"no instruction stands at line {number} or behind it")
         return found[0]
@@ -248,10 +266,10 @@ def do_breaks(session: Session, words: list[str]) -> list[str]:
 def do_list(session: Session, words: list[str]) -> list[str]:
     script = session.script
     here = script.line_of[session.pc] if session.pc < len(script.line_of) else len(script.lines)
-    middle = count_of(words, here)
+    middle = count_of(words, script.before + here) - script.before
     begin = max(0, min(middle - 6, len(script.lines) - 11))
     lines = enumerate(script.lines[begin : begin + 11], begin + 1)
-    return [f"{'>' if number == here else ' '}{number:4}  {line[:110]}" for number, line in lines]
+    return [f"{'>' if at == here else ' '}{script.before + at:4}  {line[:110]}" for at, line in lines]
 
 
 def do_show(session: Session, words: list[str]) -> list[str]:
@@ -316,7 +334,7 @@ def do_peek(session: Session, words: list[str]) -> list[str]:
         raise Wrong("peek needs an address, and may have a count")
     begin, count = int(numbers[0] or 0) & ~15, min(int(numbers[1] or 1) if len(numbers) == 2 else 1, 128)
     addresses = [begin + 16 * k for k in range(count)]
-    replay = Replay(Trace(session.bench, session.script, session.steps, {}, session.last))
+    replay = Replay(session.trace)
     steps = replay.up_to(session.at, count)
     if steps is None:
         raise Wrong("there is no room for a peek behind so many steps: a script has 4096 instructions at most")
@@ -403,6 +421,8 @@ def prompt(session: Session) -> None:
     readline.parse_and_bind("tab: complete")
     is_terminal = sys.stdin.isatty()
     print(f"{session.script.path}: {len(session.script.instructions)} instructions; help lists the commands")
+    for note in session.trace.notes:
+        print(f"note: {note}")
     print(told_view(session))
     again = ""
     while True:

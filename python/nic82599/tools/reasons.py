@@ -52,7 +52,7 @@ class Reasons:
                 )
             instruction = self.trace.instruction(step)
             if instruction.op == Op.LEND and step.reply == "done":
-                self.lent.add(instruction.x)
+                self.lent.update(instruction.blocks)
             elif instruction.op == Op.UNLEND:
                 self.lent.discard(instruction.x)
         return found

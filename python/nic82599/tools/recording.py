@@ -1,170 +1,36 @@
 """A recording of the library (NIC82599_RECORD, nic_record) as a run: it is made again over the library.
 
 A recording is what a program asked of a controller, as lines of a script with their replies as comments, without a
-script's limits. Lines that begin with `#:` are what no script can tell: the sizes, snapshots, EEPROM images. All of it
-is made again, and its last steps are shown, from behind the last restored snapshot or installed image on. Where
-something came before, the first step is a read of STATUS, which changes nothing, and has what was there then.
+script's limits. Lines that begin with `#:` are what no script can tell: the sizes, blocks that are lent in a row,
+snapshots, EEPROM images. All of it is made again, and its last steps are shown, from behind the last restored snapshot
+or installed image on. Where something came before, the first step is a read of STATUS, which changes nothing, and has
+what was there then.
 """
 
 from __future__ import annotations
 
 import contextlib
+from collections.abc import Iterator
 from dataclasses import dataclass, field
-from pathlib import Path
 
 import nic82599
 from nic82599 import Nic, NicError, Snapshot
-from nic82599.printed import printed
 
+from .library import MOST_BLOCKS, Library, instruction, played
 from .regs import ENABLE, REGISTERS, first
-from .run import Run, of_trace
-from .script import HEAD, Bench, Fault, Instruction, Op, Script
+from .run import Run, of_script, of_trace
+from .script import HEAD, Bench, Fault, Script, read_bytes
+from .tool import limit_of_script
 from .trace import Plan, Step, Trace
 
-OPS = {
-    "w": Op.WRITE, "r": Op.READ, "vw": Op.VF_WRITE, "vr": Op.VF_READ, "lend": Op.LEND, "unlend": Op.UNLEND,
-    "poke": Op.POKE, "peek": Op.PEEK, "arrive": Op.ARRIVE, "rx": Op.RX, "tx": Op.TX, "int": Op.INT, "qstep": Op.QSTEP,
-    "eestep": Op.EESTEP, "link": Op.LINK, "collect": Op.COLLECT, "jmp": Op.JMP,
-}  # fmt: skip
+# What a line of a recording can be wrong by.
+BAD = (ValueError, KeyError, IndexError, OverflowError, TypeError, NicError)
+EMPTY = ": no bytes"
 
 
-def is_recording(path: str) -> bool:
-    """Whether a file is a recording, by its first line."""
-    try:
-        with open(path, "rb") as file:
-            return file.read(7) == b"#: nic "
-    except OSError:
-        return False
-
-
-# --- one instruction over the library ---
-
-
-def instruction(words: list[str], names: dict[str, int]) -> Instruction:
-    """An instruction by the words of its line; data and labels by their numbers. ValueError, KeyError, IndexError."""
-    op = OPS[words[0]]
-    if op in (Op.WRITE, Op.READ):
-        return Instruction(op, 0, 0, int(words[1], 0), int(words[2], 0) if op == Op.WRITE else 0)
-    if op in (Op.VF_WRITE, Op.VF_READ):
-        word = int(words[3], 0) if op == Op.VF_WRITE else 0
-        return Instruction(op, 0, int(words[1]), int(words[2], 0), word)
-    if op == Op.POKE:
-        return Instruction(op, 0, names[words[2]], int(words[1], 0), 0)
-    if op == Op.PEEK:
-        return Instruction(op, int(words[2]), 0, int(words[1], 0), 0)
-    if op in (Op.ARRIVE, Op.JMP):
-        return Instruction(op, 0, names[words[1]], 0, 0)
-    if op == Op.INT:
-        return Instruction(op, 0, 0, 0, 0) if words[1] == "pf" else Instruction(op, 1, int(words[1]), 0, 0)
-    if op == Op.QSTEP:
-        return Instruction(op, int(words[1] == "tx"), int(words[2]), 0, 0)
-    if op == Op.LINK:
-        return Instruction(op, int(words[1] == "up"), 0, 0, 0)
-    return Instruction(op, 0, int(words[1]) if op in (Op.LEND, Op.UNLEND, Op.TX) else 0, 0, 0)
-
-
-def _word(word: nic82599.Word) -> str:
-    return f"{'stray' if word.stray else 'word'} 0x{word.word:08x}"
-
-
-def _written(is_there: bool) -> str:
-    return "done" if is_there else "stray 0x00000000"
-
-
-def _access(nic: Nic, one: Instruction) -> str:
-    if one.op == Op.WRITE:
-        return _written(nic.write32(one.a, one.b))
-    if one.op == Op.READ:
-        return _word(nic.read32(one.a))
-    if one.op == Op.VF_WRITE:
-        return _written(nic.vf(one.x).write32(one.a, one.b))
-    return _word(nic.vf(one.x).read32(one.a))
-
-
-def _of_memory(nic: Nic, one: Instruction, data: list[bytes]) -> str:
-    if one.op in (Op.PEEK, Op.POKE) and one.a % 16:
-        return "misaligned"  # (the library takes every address)
-    if one.op == Op.LEND:
-        nic.lend(one.x)
-    elif one.op == Op.UNLEND:
-        nic.take(one.x)
-        return f"taken {one.x}"
-    elif one.op == Op.POKE:
-        nic.memory.write(one.a, data[one.x])
-    else:
-        return f"bytes {nic.memory.read(one.a, 16).hex()}"
-    return "done"
-
-
-def _step(nic: Nic, one: Instruction) -> str:
-    if one.op == Op.RX:
-        return printed(nic.rx_step())
-    if one.op == Op.TX:
-        return printed(nic.tx_step(one.x))
-    if one.op == Op.INT:
-        return printed(nic.int_step(one.x if one.sub else None))
-    if one.op == Op.COLLECT:
-        return printed(nic.collect())
-    if one.op == Op.QSTEP:
-        done = nic.queue_step("tx" if one.sub else "rx", one.x)
-    elif one.op == Op.EESTEP:
-        done = nic.eeprom_step()
-    else:
-        done = nic.link(bool(one.sub))
-    return "done" if done else "idle"
-
-
-REFUSALS = {
-    nic82599.NotLent: "not lent", nic82599.NoBlock: "no block", nic82599.NoQueue: "no queue",
-    nic82599.NoGroup: "no group",
-}  # fmt: skip
-
-
-def played(nic: Nic, one: Instruction, data: list[bytes]) -> str:
-    """The reply to an instruction, as `nicbench run` prints it."""
-    try:
-        if one.op in (Op.WRITE, Op.READ, Op.VF_WRITE, Op.VF_READ):
-            return _access(nic, one)
-        if one.op in (Op.LEND, Op.UNLEND, Op.POKE, Op.PEEK):
-            return _of_memory(nic, one, data)
-        if one.op == Op.ARRIVE:
-            dropped = nic.arrive(data[one.x])
-            return printed(dropped or True)
-        return _step(nic, one)
-    except tuple(REFUSALS) as refused:
-        return REFUSALS[type(refused)]
-
-
-class Library(Bench):
-    """What a trace asks of the program, over the library: a script is run from a snapshot on, at any length."""
-
-    most = 1 << 40
-
-    def __init__(self, nic: Nic, kept: Snapshot) -> None:
-        super().__init__(nic.vfs, nic.fifo)
-        self.nic, self.kept = nic, kept
-
-    def run(self, script: str, limit: int) -> list[str]:
-        self.nic.restore(self.kept)
-        lines, names, data = [], {}, []
-        for line in script.splitlines():
-            words = line.split()
-            if words[0] == "data":
-                names[words[1]] = len(data)
-                data.append(bytes.fromhex(words[2]))
-            elif words[0].endswith(":"):
-                names[words[0][:-1]] = len(lines)
-            else:
-                lines.append(words)
-        instructions, printed, at = [instruction(words, names) for words in lines], [], 0
-        for _ in range(limit):
-            if at == len(instructions):
-                return [*printed, f"ok {len(printed)}"]
-            one = instructions[at]
-            if one.op != Op.JMP:
-                printed.append(f"{at} {played(self.nic, one, data)}")
-            at = one.x if one.op == Op.JMP else at + 1
-        return [*printed, f"ok {len(printed)}" if at == len(instructions) else f"limit {at}"]
+def is_recording(raw: bytes) -> bool:
+    """Whether this is a recording, by its first line."""
+    return raw.startswith(b"#: nic ")
 
 
 # --- the file ---
@@ -184,23 +50,38 @@ class Recording:
     notes: list[str] = field(default_factory=list)
 
 
+def parts(line: str) -> tuple[list[str], str]:
+    """The words of a line and its reply. Blocks that are lent in a row have a line that is a comment to a script."""
+    text, _, reply = (line[3:] if line.startswith("#: lend ") else line).partition("#")
+    return text.split(), reply.strip()
+
+
+def bytes_of(words: list[str], comment: str) -> bytes:
+    """What a line `data` names. One of no bytes has one for a script, which can't say that."""
+    return b"" if comment == EMPTY else bytes.fromhex("".join(words[2:]))
+
+
 def _is_event(line: str) -> bool:
-    return not line.startswith(("#", "data ")) and bool(line.strip())
+    is_other = line.startswith(("#", "data ")) and not line.startswith("#: lend ")
+    return not is_other and bool(line.strip())
 
 
-def read(path: str, limit: int) -> Recording:
-    """A recording, of which so many events are shown; Fault."""
+def read(path: str, raw: bytes) -> Recording:
+    """A recording, all of which is shown; Fault."""
     try:
-        text = Path(path).read_bytes().decode("ascii")
-    except OSError as error:
-        raise Fault(f"{path} can't be read ({error.strerror}): give the file of a recording") from None
+        text = raw.decode("ascii")
     except UnicodeDecodeError as error:
         raise Fault(f"{path} isn't ASCII from byte {error.start} on: a recording is text") from None
     lines = text.split("\n")[:-1]
     head = HEAD.fullmatch(lines[0]) if lines else None
     if not head:
         raise Fault(f"{path} has no whole first line: a recording begins with `#: nic vfs 0 fifo 64 blocks 256`")
-    made = Recording(path, lines, *(int(one) for one in head.groups()))
+    return Recording(path, lines, *(int(one) for one in head.groups()))
+
+
+def cut(made: Recording, limit: int) -> None:
+    """Shows the last events of a recording, so many of them."""
+    lines = made.lines
     events = [number for number, line in enumerate(lines) if _is_event(line)]
     cuts = [k for k, line in enumerate(lines) if line.startswith(("#: restore ", "#: image ", "#: text "))]
     made.begin = max(events[-limit] if len(events) > limit else 0, cuts[-1] + 1 if cuts else 0)
@@ -209,7 +90,6 @@ def read(path: str, limit: int) -> Recording:
         made.begin -= 1
     if made.before:
         made.notes.append(f"{made.before:,} events came before the first step that is shown")
-    return made
 
 
 class Player:
@@ -218,34 +98,37 @@ class Player:
     def __init__(self, recording: Recording) -> None:
         self.recording = recording
         nic82599.record(None)  # (else the environment may name the very file)
-        self.nic = Nic(recording.vfs, recording.fifo, recording.blocks)
+        try:
+            self.nic = Nic(recording.vfs, recording.fifo, recording.blocks)
+        except BAD as fault:
+            raise Fault(f"{recording.path} can't be made again: {fault}") from None
         self.snapshots: dict[str, Snapshot] = {}
-        self.strings: dict[str, bytes] = {}
+        self.strings: dict[str, int] = {}
+        self.data: list[bytes] = []
         self.others = 0
 
-    def fault(self, number: int, why: str) -> Fault:
-        return Fault(f"{self.recording.path}:{number + 1}: {why}")
+    def fault(self, number: int, fault: Exception) -> Fault:
+        return Fault(f"{self.recording.path}:{number + 1}: {_why(fault)}")
 
     def play(self, begin: int, end: int) -> None:
         """Makes the lines of a range."""
         for number in range(begin, end):
-            line = self.recording.lines[number]
             try:
-                self._line(line)
-            except (ValueError, KeyError, IndexError, NicError) as fault:
-                what = f"{type(fault).__name__} {fault}".strip()
-                raise self.fault(number, f"this is no line of a recording that can be made again ({what})") from None
+                self._line(self.recording.lines[number])
+            except BAD as fault:
+                raise self.fault(number, fault) from None
 
     def _line(self, line: str) -> None:
-        text, _, reply = line.partition("#")
-        words = text.split()
-        if line.startswith("#: "):
-            self._directive(line[3:].split())
-        elif words and words[0] == "data":
-            self.strings = {words[1]: bytes.fromhex(words[2] if len(words) > 2 else "")}
-        elif words:
-            one = instruction(words, dict.fromkeys(self.strings, 0))
-            self.others += played(self.nic, one, list(self.strings.values())) != reply.strip()
+        words, reply = parts(line)
+        if not words:
+            if line.startswith("#: "):
+                self._directive(line[3:].split())
+        elif words[0] == "data":
+            self.strings[words[1]] = len(self.data)
+            self.data.append(bytes_of(words, reply))
+        else:
+            one = instruction(words, self.strings)
+            self.others += played(self.nic, one, self.data) != reply
 
     def _directive(self, words: list[str]) -> None:
         match words:
@@ -266,28 +149,65 @@ class Player:
 # --- the steps that are shown ---
 
 
+class Lines:
+    """Lines of a recording as a script, with the reply that each instruction had. `fault` makes that of a bad line."""
+
+    def __init__(self, recording: Recording, strings: dict[str, bytes]) -> None:
+        self.recording, self.earlier = recording, strings
+        self.names: dict[str, int] = {}
+        self.script = Script(recording.path, [], [], [], [], {}, [], 0)
+        self.replies: list[str] = []
+
+    def add(self, line: str) -> None:
+        """A further line; BAD."""
+        script = self.script
+        script.lines.append(line[3:] if line.startswith("#: lend ") else line)
+        words, reply = parts(line)
+        if words and words[0] == "data":
+            self._name(words[1], bytes_of(words, reply))
+        elif words:
+            if words[0] in ("poke", "arrive") and words[-1] not in self.names and words[-1] in self.earlier:
+                self._name(words[-1], self.earlier[words[-1]])
+            script.instructions.append(instruction(words, self.names))
+            script.line_of.append(len(script.lines))
+            self.replies.append(reply)
+
+    def _name(self, name: str, data: bytes) -> None:
+        self.names[name] = len(self.script.data)
+        self.script.data.append(data)
+        self.script.data_names.append(name)
+
+
+def whole(recording: Recording) -> tuple[Script, list[Fault]]:
+    """All lines of a recording as a script, and the bad ones."""
+    made, bad = Lines(recording, {}), []
+    for number, line in enumerate(recording.lines, 1):
+        try:
+            made.add(line)
+        except BAD as fault:
+            bad.append(Fault(f"{recording.path}:{number}: {_why(fault)}"))
+    return made.script, bad
+
+
+def _why(fault: Exception) -> str:
+    what = f"{type(fault).__name__} {fault}".strip()
+    return f"this is no line of a recording that can be made again ({what})"
+
+
 def _shown(player: Player) -> tuple[Script, list[str]]:
     """What is shown as a script, and the reply that each instruction had."""
-    recording, names = player.recording, {name: k for k, name in enumerate(player.strings)}
-    data, lines, line_of, instructions, replies = list(player.strings.values()), [], [], [], []
-    given = recording.lines[recording.begin :]
+    recording = player.recording
+    made = Lines(recording, {name: player.data[number] for name, number in player.strings.items()})
+    made.script.before = recording.begin
     if recording.before:
-        given = [f"r 0x{first('STATUS'):05x}                    # after the {recording.before:,} events before", *given]
-    for number, line in enumerate(given, recording.begin):
-        lines.append(line)
-        text, _, reply = line.partition("#")
-        words = text.split()
+        made.script.before -= 1
+        made.add(f"r 0x{first('STATUS'):05x}                    # after the {recording.before:,} events before")
+    for number in range(recording.begin, len(recording.lines)):
         try:
-            if words and words[0] == "data":
-                names[words[1]] = len(data)
-                data.append(bytes.fromhex(words[2] if len(words) > 2 else ""))
-            elif words:
-                instructions.append(instruction(words, names))
-                line_of.append(len(lines))
-                replies.append(reply.strip())
-        except (ValueError, KeyError, IndexError):
-            raise player.fault(number, "this is no line of a recording") from None
-    return Script(recording.path, lines, instructions, data, line_of, {}, list(names)), replies
+            made.add(recording.lines[number])
+        except BAD as fault:
+            raise player.fault(number, fault) from None
+    return made.script, made.replies
 
 
 def _waiting(nic: Nic) -> int:
@@ -308,21 +228,39 @@ def _waiting(nic: Nic) -> int:
         count += taken
 
 
-def _lent(nic: Nic) -> dict[int, bytes]:
-    """The bytes of each block that is lent."""
-    found = {}
-    for block in range(nic.blocks):
+def _lent(nic: Nic) -> set[int]:
+    """The blocks that are lent."""
+    found = set()
+    for block in range(min(nic.blocks, MOST_BLOCKS)):
         with contextlib.suppress(nic82599.NotLent):
-            found[block] = nic.memory.read(block * nic82599.BLOCK_BYTES, nic82599.BLOCK_BYTES)
+            nic.memory.read(block * nic82599.BLOCK_BYTES, 1)
+            found.add(block)
     return found
 
 
-def _steps(nic: Nic, script: Script, bench: Library, start: dict[int, int], always: set[int]) -> list[Step]:
+def in_rows(numbers: set[int]) -> Iterator[tuple[int, int]]:
+    """The first and the last of those that follow each other."""
+    row: list[int] = []
+    for number in sorted(numbers):
+        if row and number == row[1] + 1:
+            row[1] = number
+        else:
+            if row:
+                yield row[0], row[1]
+            row = [number, number]
+    if row:
+        yield row[0], row[1]
+
+
+def _steps(player: Player, script: Script, bench: Library, start: dict[int, int], always: set[int]) -> list[Step]:
     """The steps with the registers that each of them changed, as far as its kind can, and of these further ones."""
-    plan, words, steps = Plan(bench, script, start), dict(start), []
+    nic, plan, words, steps = player.nic, Plan(bench, script, start), dict(start), []
     nic.restore(bench.kept)
     for number, one in enumerate(script.instructions):
-        step = Step(number, number, played(nic, one, script.data))
+        try:
+            step = Step(number, number, played(nic, one, script.data))
+        except BAD as fault:
+            raise player.fault(script.before + script.line_of[number] - 1, fault) from None
         for address in sorted(set(plan.after(one, step.reply)) | always):
             word = nic.peek32(address) or 0
             if word != words[address]:
@@ -344,32 +282,52 @@ def trace(player: Player) -> Trace:
     waiting = _waiting(nic)
     always: set[int] = set()
     while True:
-        steps = _steps(nic, script, bench, every, always)
+        steps = _steps(player, script, bench, every, always)
         left = dict(every)
         left.update({address: word for step in steps for address, _, word in step.changes})
         missed = {address for address, word in left.items() if (nic.peek32(address) or 0) != word}
         if not missed - always:
             break
         always |= missed
+    bench.begin_debug(script, [step.reply for step in steps])
     player.others += sum(step.reply != reply for step, reply in zip(steps, replies) if not reply.startswith("after "))
     if recording.before:
-        steps[0].lent = [("+", block) for block in sorted(lent)]
+        steps[0].lent = [("+", *row) for row in in_rows(lent)]
     if player.others:
         recording.notes.append(f"{player.others:,} events are answered otherwise than they were recorded")
     start = {a: word for a, word in every.items() if word != REGISTERS[a].row.reset}
     start |= {address: every[address] for step in steps for address, _, _ in step.changes}
     made = Trace(bench, script, steps, start, f"ok {len(steps)}", recording.notes)
-    made.lent, made.waiting, made.out = lent, waiting, out
+    made.lent, made.memory_before, made.waiting, made.out = lent, bench.before, waiting, out
     return made
 
 
-def of_recording(path: str, limit: int = 4_096) -> Run:
-    """The run of a recording's last events, of at most so many."""
-    recording = read(path, limit)
-    try:
-        player = Player(recording)
-    except NicError as fault:
-        raise Fault(f"{path} can't be made again: {fault}") from None
+@contextlib.contextmanager
+def traced(recording: Recording, limit: int) -> Iterator[Trace]:
+    """The trace of a recording's last events, of at most so many, while its controller is there."""
+    cut(recording, limit)
+    player = Player(recording)
     with player.nic:
         player.play(1, recording.begin)
-        return of_trace(trace(player))
+        yield trace(player)
+
+
+def of_recording(path: str, limit: int = 4_096, raw: bytes | None = None) -> Run:
+    """The run of a recording's last events, of at most so many."""
+    with traced(read(path, read_bytes(path) if raw is None else raw), limit) as made:
+        return of_trace(made)
+
+
+def refuse_sizes(path: str, vfs: int | None, fifo: int | None) -> None:
+    """A recording brings its sizes."""
+    if vfs is not None or fifo is not None:
+        raise Fault(f"{path} is a recording, which has its sizes in its first line: leave --vfs and --fifo out")
+
+
+def run_of(path: str, vfs: int | None, fifo: int | None, limit: int) -> Run:
+    """The run of a script or of a recording, or of its last events."""
+    raw = read_bytes(path)
+    if not is_recording(raw):
+        return of_script(Bench(vfs, fifo), path, limit_of_script(limit), raw)
+    refuse_sizes(path, vfs, fifo)
+    return of_recording(path, limit, raw)

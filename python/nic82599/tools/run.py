@@ -17,7 +17,7 @@ from pathlib import Path
 from .about import give_rings
 from .memory import Seen, look
 from .reasons import Reason, Reasons
-from .script import Bench, comment_of, instruction_of, read_text
+from .script import Bench, comment_of, instruction_of, read_bytes, text_of
 from .trace import Step, Trace, trace
 
 
@@ -35,8 +35,9 @@ class Finding:
 @dataclass
 class Run:
     """What is shown. `lines` stand at the left, and `line_of` has for each `pc` of a step the number of its line, from
-    1 on. `start` has the registers before the first step, as far as a step could change them, `seen` the rings and
-    frames, and `reasons` for each step why it did nothing. `last` is the line that the run ended with."""
+    1 on; so many lines of the file come `before` them. `start` has the registers before the first step, as far as a
+    step could change them, `seen` the rings and frames, and `reasons` for each step why it did nothing. `last` is the
+    line that the run ended with."""
 
     name: str
     lines: list[str]
@@ -51,6 +52,11 @@ class Run:
     fifo: int
     options: list[str]
     finding: Finding | None = None
+    before: int = 0
+
+    def line(self, pc: int) -> int:
+        """The number of a step's line in its file."""
+        return self.before + self.line_of[pc]
 
     def shown(self, pc: int) -> str:
         """What a step does, without its comment."""
@@ -111,12 +117,12 @@ def of_trace(run: Trace) -> Run:
     name = Path(script.path).name if script.path != "-" else "standard input"
     return Run(
         name, script.lines, script.line_of, run.steps, run.start, seen, reasons, run.last, run.notes,
-        bench.vfs, bench.fifo, bench.options, finding_of(run),
+        bench.vfs, bench.fifo, bench.options, finding_of(run), script.before,
     )  # fmt: skip
 
 
-def of_script(bench: Bench, path: str, limit: int = 4_096) -> Run:
+def of_script(bench: Bench, path: str, limit: int = 4_096, raw: bytes | None = None) -> Run:
     """The run of the script in a file, of at most so many steps. An explorer's script brings its device's sizes."""
-    text = read_text(path)
+    text = text_of(path, read_bytes(path) if raw is None else raw)
     sizes = None if bench.options else sizes_of(text.split("\n", 2))
     return of_trace(trace(Bench(*sizes) if sizes else bench, path, text, limit))

@@ -83,7 +83,7 @@ class Instruction:
             Op.READ: f"r {a}",
             Op.VF_WRITE: f"vw {x} {a} {b}",
             Op.VF_READ: f"vr {x} {a}",
-            Op.LEND: f"lend {x}",
+            Op.LEND: f"lend {x}" + (f" to {self.a}" if self.a else ""),
             Op.UNLEND: f"unlend {x}",
             Op.POKE: f"poke {a} d{x}",
             Op.PEEK: f"peek {a} {self.sub}",
@@ -102,6 +102,11 @@ class Instruction:
             Op.JMP: f"jmp L{x}",
             Op.HALT: "halt",
         }[self.op]
+
+    @property
+    def blocks(self) -> range:
+        """The blocks that it lends or takes back. Of a recording one lends several: then `a` is the last of them."""
+        return range(self.x, max(self.x, self.a) + 1)
 
     @property
     def is_local(self) -> bool:
@@ -127,14 +132,6 @@ class Bench:
         self.options: list[str] = []
         for name, value in (("--vfs", vfs), ("--fifo", fifo)):
             self.options += [name, str(value)] if value is not None else []
-
-    @classmethod
-    def of(cls, text: str, vfs: int | None, fifo: int | None) -> Bench:
-        """The bench for a text: with the sizes that are given, else those of the first line, if it is a recording."""
-        head = HEAD.match(text)
-        if head is None:
-            return cls(vfs, fifo)
-        return cls(int(head[1]) if vfs is None else vfs, int(head[2]) if fifo is None else fifo)
 
     def call(self, words: list[str], text: bytes) -> tuple[int, bytes]:
         """Its status and output; Refused where it refuses the input, Fault where it gives no answer."""
@@ -207,7 +204,8 @@ def _hear(stream: object) -> str:
 
 @dataclass
 class Script:
-    """A script with its object: `lines` as they stand, and for each instruction the number of its line, from 1 on."""
+    """A script with its object: `lines` as they stand, and for each instruction the number of its line, from 1 on. Of a
+    recording it may be a part: so many lines of the file come before it."""
 
     path: str
     lines: list[str]
@@ -216,6 +214,7 @@ class Script:
     line_of: list[int]
     labels: dict[str, int]
     data_names: list[str]
+    before: int = 0
 
     @property
     def has_jumps(self) -> bool:
@@ -255,12 +254,21 @@ def script_part(text: str) -> str:
     return text
 
 
+def read_bytes(path: str) -> bytes:
+    """What is in a file, or in standard input where its name is `-`."""
+    try:
+        return sys.stdin.buffer.read() if path == "-" else Path(path).read_bytes()
+    except OSError as error:
+        raise Fault(f"{path} can't be read ({error.strerror}): give the file of a script or a recording") from None
+
+
 def read_text(path: str) -> str:
     """The script in a file, or from standard input where its name is `-`."""
-    try:
-        raw = sys.stdin.buffer.read() if path == "-" else Path(path).read_bytes()
-    except OSError as error:
-        raise Fault(f"{path} can't be read ({error.strerror}): give the file of a script") from None
+    return text_of(path, read_bytes(path))
+
+
+def text_of(path: str, raw: bytes) -> str:
+    """The script that these bytes are."""
     if len(raw) > LIMIT:
         raise Fault(f"{path} is too long: the bench reads {LIMIT:,} bytes, and this has {len(raw):,}; cut the script")
     try:

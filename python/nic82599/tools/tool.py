@@ -14,6 +14,10 @@ from ..version import VERSION
 from .script import Fault, Refused
 
 
+# The largest --limit: of a script, which may run on and on, and of a recording.
+MOST_OF_SCRIPT, MOST_STEPS = 100_000, 100_000_000
+
+
 def called(text: str) -> str:
     """A text with commands as they are called here: in a clone `tools/nicview`, and where it is installed `nicview`."""
     return text if places.clone() else re.sub(r"(?<![\w/.])(?:tools/|\./)(?=nic|pcap2nic)", "", text)
@@ -46,6 +50,20 @@ def number(low: int, high: int) -> Callable[[str], int]:
         return value
 
     return read
+
+
+def limit(parser: argparse.ArgumentParser, default: int, what: str) -> None:
+    """The option for the number of steps."""
+    which = number(1, MOST_STEPS)
+    parser.add_argument("--limit", metavar="N", type=which, default=default, help=f"{what} at most ({default})")
+
+
+def limit_of_script(asked: int) -> int:
+    """The steps that a script may make, which ends with status 3 where they are more than it may have."""
+    if asked > MOST_OF_SCRIPT:
+        print(f"{asked} is more than the {MOST_OF_SCRIPT} steps that --limit takes of a script", file=sys.stderr)
+        sys.exit(3)
+    return asked
 
 
 def sizes(parser: argparse.ArgumentParser) -> None:

@@ -9,6 +9,7 @@ every step in a second run.
 from __future__ import annotations
 
 import re
+from collections.abc import Callable
 from concurrent.futures import ThreadPoolExecutor
 from dataclasses import dataclass, field
 
@@ -28,9 +29,10 @@ TROUBLE = ("failed", "fault", "dropped", "refused")
 class Step:
     """One step: the instruction at `pc`, the reply to it, and what it changed. `changes` are (address, old, new) of
     registers, `memory` (bus address, 16 bytes or None where they aren't read any more) what is known of lent memory
-    from here on, and `written` the addresses among these that the step itself wrote. `lent` has (+ or -, block),
-    `waiting` and `out` (+ or -, frames), and `ring` is the ring that the step is about, if it is about one. `acc` and
-    `status` are those of a step that asks nothing of the device; of another one the reply tells them."""
+    from here on, and `written` the addresses among these that the step itself wrote. `lent` has (+ or -, the first
+    block, the last one), `waiting` and `out` (+ or -, frames), and `ring` is the ring that the step is about, if it is
+    about one. `acc` and `status` are those of a step that asks nothing of the device; of another one the reply tells
+    them."""
 
     number: int
     pc: int
@@ -40,7 +42,7 @@ class Step:
     changes: list[tuple[int, int, int]] = field(default_factory=list)
     memory: list[tuple[int, bytes | None]] = field(default_factory=list)
     written: set[int] = field(default_factory=set)
-    lent: list[tuple[str, int]] = field(default_factory=list)
+    lent: list[tuple[str, int, int]] = field(default_factory=list)
     waiting: list[tuple[str, list[int]]] = field(default_factory=list)
     out: list[tuple[str, list[int]]] = field(default_factory=list)
     ring: tuple[str, int] | None = None
@@ -67,11 +69,15 @@ class Step:
         return "failed" if self.status == "failed" else self.reply
 
 
+def _nothing(_unit: int) -> bytes:
+    return b""
+
+
 @dataclass
 class Trace:
     """A whole run. `start` has the registers before the first step, as far as any step could change them, and those
-    that aren't as at a reset; `lent` the bytes of the blocks that are lent then, `waiting` and `out` how many frames
-    wait and went out: none where it begins anew."""
+    that aren't as at a reset; `lent` the blocks that are lent then, and `memory_before` what 16 bytes of them hold;
+    `waiting` and `out` how many frames wait and went out: none where it begins anew."""
 
     bench: Bench
     script: Script
@@ -79,7 +85,8 @@ class Trace:
     start: dict[int, int]
     last: str
     notes: list[str] = field(default_factory=list)
-    lent: dict[int, bytes] = field(default_factory=dict)
+    lent: set[int] = field(default_factory=set)
+    memory_before: Callable[[int], bytes] = _nothing
     waiting: int = 0
     out: int = 0
 

@@ -1,0 +1,144 @@
+"""A recording as a script that `nicbench` reads, from its beginning on, as far as a script can say what was asked.
+
+Blocks that were lent in a row are a line each, strings of the same bytes are one, and a restored snapshot takes back
+what came since it was made. The program runs the script, and it ends before the first answer that isn't the recorded
+one. So each line that is left is answered as its comment says.
+"""
+
+from __future__ import annotations
+
+from dataclasses import dataclass, field
+from pathlib import Path
+
+from .recording import BAD, Recording, bytes_of, parts
+from .script import Bench, Fault
+
+INSTRUCTIONS, STRINGS, LONGEST, BLOCKS = 4_096, 1_024, 16_384, 256
+COLUMN = 28
+
+
+class End(Exception):
+    """No script can say a line: why."""
+
+
+@dataclass
+class Line:
+    """A line that counts, with its number in the file, and the one before it."""
+
+    number: int
+    words: list[str]
+    reply: str
+    before: Line | None
+
+
+@dataclass
+class Made:
+    """The script so far: its lines, and for each instruction its index there, its reply, and its line in the file."""
+
+    lines: list[str] = field(default_factory=list)
+    instructions: list[tuple[int, str, int]] = field(default_factory=list)
+    names: dict[bytes, str] = field(default_factory=dict)
+    ended: str = ""
+
+    def end(self, number: int, why: str) -> None:
+        self.ended = self.ended or f"line {number} of the recording: {why}"
+
+    def add(self, text: str, reply: str, number: int) -> None:
+        if len(self.instructions) == INSTRUCTIONS:
+            raise End(f"a script has {INSTRUCTIONS:,} instructions at most")
+        self.instructions.append((len(self.lines), reply, number))
+        self.lines.append(f"{text:{COLUMN}} # {reply}")
+
+    def name(self, data: bytes) -> str:
+        """The name of a string, which gets its line where it is the first with these bytes."""
+        if data not in self.names:
+            if len(self.names) == STRINGS:
+                raise End(f"a script has {STRINGS:,} data strings at most")
+            if len(data) > LONGEST:
+                raise End(f"a data string has {LONGEST:,} bytes at most")
+            name = self.names[data] = f"d{len(self.names)}"
+            self.lines.append(f"data {name} {data.hex()}" if data else f"data {name} 00  #: no bytes")
+        return self.names[data]
+
+    def cut(self, count: int) -> None:
+        """Leaves so many instructions."""
+        if count < len(self.instructions):
+            del self.lines[self.instructions[count][0] :]
+            del self.instructions[count:]
+
+
+def _history(recording: Recording, made: Made) -> list[Line]:
+    """The lines that lead to the end: what a restored snapshot took back is left out."""
+    here: Line | None = None
+    kept: dict[str, Line | None] = {}
+    for number, line in enumerate(recording.lines[1:], 2):
+        words, reply = parts(line)
+        if words:
+            here = Line(number, words, reply, here)
+            continue
+        match line[3:].split() if line.startswith("#: ") else []:
+            case ["snapshot", name]:
+                kept[name] = here
+            case ["restore", name] if name in kept:
+                here = kept[name]
+            case ["restore", _]:
+                made.end(number, "it restores a snapshot that isn't in this recording")
+                break
+            case [("image" | "text"), *_]:
+                made.end(number, "a script can't install an EEPROM image")
+                break
+    lines = []
+    while here is not None:
+        lines.append(here)
+        here = here.before
+    return lines[::-1]
+
+
+def _add(made: Made, line: Line, strings: dict[str, bytes]) -> None:
+    """Adds a line; End."""
+    words = line.words
+    if words[0] == "data":
+        strings[words[1]] = bytes_of(words, line.reply)
+    elif words[0] == "lend" and line.reply == "done":
+        first, last = int(words[1]), int(words[-1])
+        for block in range(first, min(last, BLOCKS - 1) + 1):
+            made.add(f"lend {block}", line.reply, line.number)
+        if last >= BLOCKS:
+            made.lines.append(f"# left out: lend {max(first, BLOCKS)} to {last}, since nicbench has {BLOCKS} blocks")
+    elif words[0] in ("poke", "arrive"):
+        made.add(" ".join([*words[:-1], made.name(strings[words[-1]])]), line.reply, line.number)
+    else:
+        made.add(" ".join(words), line.reply, line.number)
+
+
+def _compared(made: Made, bench: Bench) -> None:
+    """Ends the script before the first line that the program answers otherwise."""
+    printed = bench.run("\n".join(made.lines) + "\n", INSTRUCTIONS)[:-1] if made.instructions else []
+    for count, (line, (_, reply, number)) in enumerate(zip(printed, made.instructions)):
+        answer = line.partition(" ")[2]
+        if answer.rstrip() != reply.rstrip():
+            made.cut(count)
+            made.ended = ""
+            made.end(number, f"nicbench answers `{answer}`, and not `{reply}`")
+            return
+
+
+def script(recording: Recording) -> tuple[str, str]:
+    """The script, and why it ends before the recording does, if that is so."""
+    made, strings = Made(), {}
+    for line in _history(recording, made):
+        try:
+            _add(made, line, strings)
+        except End as end:
+            made.ended = ""
+            made.end(line.number, str(end))
+            break
+        except BAD as fault:
+            raise Fault(f"{recording.path}:{line.number}: this is no line of a recording ({fault})") from None
+    _compared(made, Bench(recording.vfs, recording.fifo))
+    name = Path(recording.path).name if recording.path != "-" else "standard input"
+    head = f"# a recording as a script: {name}\n"
+    words = f"nicbench run --vfs {recording.vfs} --fifo {recording.fifo}"
+    sizes = f"# Its device has the sizes of the recording, by: {words}\n"
+    cut = f"# CUT: {made.ended}\n" if made.ended else ""
+    return head + sizes + "".join(f"{line}\n" for line in made.lines) + cut, made.ended

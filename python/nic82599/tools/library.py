@@ -1,0 +1,270 @@
+"""Instructions over the library, with the replies that `nicbench run` prints: what a recording is made again by.
+
+A recording's instructions stand in a row, without jumps. So what the debugger of `nicbench` says of a place follows
+from the replies, and a register is asked for where the controller was brought to that place.
+"""
+
+from __future__ import annotations
+
+import nic82599
+from nic82599 import Nic, Snapshot
+from nic82599.printed import printed
+
+from .script import Bench, Instruction, Op, Script
+
+OPS = {
+    "w": Op.WRITE, "r": Op.READ, "vw": Op.VF_WRITE, "vr": Op.VF_READ, "lend": Op.LEND, "unlend": Op.UNLEND,
+    "poke": Op.POKE, "peek": Op.PEEK, "arrive": Op.ARRIVE, "rx": Op.RX, "tx": Op.TX, "int": Op.INT, "qstep": Op.QSTEP,
+    "eestep": Op.EESTEP, "link": Op.LINK, "collect": Op.COLLECT, "jmp": Op.JMP,
+}  # fmt: skip
+# A snapshot is kept each so many steps, or further apart where they would be more than so many bytes.
+APART, ROOM = 1_024, 128 << 20
+MOST_BLOCKS = 65_536
+
+
+def instruction(words: list[str], names: dict[str, int]) -> Instruction:
+    """An instruction by the words of its line; data and labels by their numbers. ValueError, KeyError, IndexError."""
+    op = OPS[words[0]]
+    if op in (Op.WRITE, Op.READ):
+        return Instruction(op, 0, 0, int(words[1], 0), int(words[2], 0) if op == Op.WRITE else 0)
+    if op in (Op.VF_WRITE, Op.VF_READ):
+        word = int(words[3], 0) if op == Op.VF_WRITE else 0
+        return Instruction(op, 0, int(words[1]), int(words[2], 0), word)
+    if op == Op.POKE:
+        return Instruction(op, 0, names[words[2]], int(words[1], 0), 0)
+    if op == Op.PEEK:
+        return Instruction(op, int(words[2]), 0, int(words[1], 0), 0)
+    if op in (Op.ARRIVE, Op.JMP):
+        return Instruction(op, 0, names[words[1]], 0, 0)
+    if op == Op.INT:
+        return Instruction(op, 0, 0, 0, 0) if words[1] == "pf" else Instruction(op, 1, int(words[1]), 0, 0)
+    if op == Op.QSTEP:
+        return Instruction(op, int(words[1] == "tx"), int(words[2]), 0, 0)
+    if op == Op.LINK:
+        return Instruction(op, int(words[1] == "up"), 0, 0, 0)
+    if op == Op.LEND:
+        return _lent(words)
+    return Instruction(op, 0, int(words[1]) if op in (Op.UNLEND, Op.TX) else 0, 0, 0)
+
+
+def _lent(words: list[str]) -> Instruction:
+    """`lend 3`, or `lend 0 to 255` of a recording."""
+    first, last = int(words[1]), 0
+    if len(words) > 2:
+        last = int(words[3])
+        if words[2] != "to" or len(words) > 4 or not first < last < MOST_BLOCKS:
+            raise ValueError(f"a range of blocks is as in `lend 0 to 255`, below {MOST_BLOCKS}")
+    return Instruction(Op.LEND, 0, first, last, 0)
+
+
+def _word(word: nic82599.Word) -> str:
+    return f"{'stray' if word.stray else 'word'} 0x{word.word:08x}"
+
+
+def _written(is_there: bool) -> str:
+    return "done" if is_there else "stray 0x00000000"
+
+
+def _access(nic: Nic, one: Instruction) -> str:
+    if one.op == Op.WRITE:
+        return _written(nic.write32(one.a, one.b))
+    if one.op == Op.READ:
+        return _word(nic.read32(one.a))
+    if one.op == Op.VF_WRITE:
+        return _written(nic.vf(one.x).write32(one.a, one.b))
+    return _word(nic.vf(one.x).read32(one.a))
+
+
+def _of_memory(nic: Nic, one: Instruction, data: list[bytes]) -> str:
+    if one.op in (Op.PEEK, Op.POKE) and one.a % 16:
+        return "misaligned"  # (the library takes every address)
+    if one.op == Op.LEND:
+        nic.lend(*one.blocks)
+    elif one.op == Op.UNLEND:
+        nic.take(one.x)
+        return f"taken {one.x}"
+    elif one.op == Op.POKE:
+        nic.memory.write(one.a, data[one.x])
+    else:
+        return f"bytes {nic.memory.read(one.a, 16).hex()}"
+    return "done"
+
+
+def _step(nic: Nic, one: Instruction) -> str:
+    if one.op == Op.RX:
+        return printed(nic.rx_step())
+    if one.op == Op.TX:
+        return printed(nic.tx_step(one.x))
+    if one.op == Op.INT:
+        return printed(nic.int_step(one.x if one.sub else None))
+    if one.op == Op.COLLECT:
+        return printed(nic.collect())
+    if one.op == Op.QSTEP:
+        done = nic.queue_step("tx" if one.sub else "rx", one.x)
+    elif one.op == Op.EESTEP:
+        done = nic.eeprom_step()
+    else:
+        done = nic.link(bool(one.sub))
+    return "done" if done else "idle"
+
+
+REFUSALS = {
+    nic82599.NotLent: "not lent", nic82599.NoBlock: "no block", nic82599.NoQueue: "no queue",
+    nic82599.NoGroup: "no group",
+}  # fmt: skip
+_REFUSED = tuple(REFUSALS)
+_ACCESSES = (Op.WRITE, Op.READ, Op.VF_WRITE, Op.VF_READ)
+_MEMORY = (Op.LEND, Op.UNLEND, Op.POKE, Op.PEEK)
+
+
+def played(nic: Nic, one: Instruction, data: list[bytes]) -> str:
+    """The reply to an instruction, as `nicbench run` prints it."""
+    try:
+        if one.op in _ACCESSES:
+            return _access(nic, one)
+        if one.op in _MEMORY:
+            return _of_memory(nic, one, data)
+        if one.op == Op.ARRIVE:
+            dropped = nic.arrive(data[one.x])
+            return printed(dropped or True)
+        return _step(nic, one)
+    except _REFUSED as refused:
+        return REFUSALS[type(refused)]
+
+
+def accumulated(one: Instruction, reply: str, acc: int) -> int:
+    """The accumulator behind an instruction with this reply."""
+    first, _, rest = reply.partition(" ")
+    if one.op in (Op.READ, Op.VF_READ) and first in ("word", "stray"):
+        return int(rest, 16)
+    if one.op == Op.PEEK and first == "bytes":
+        return int.from_bytes(bytes.fromhex(rest)[4 * one.sub : 4 * one.sub + 4], "little")
+    return acc
+
+
+class Library(Bench):
+    """What a trace asks of the program, over the library: scripts are run from a snapshot on, at any length, and the
+    debugger is asked about one of them."""
+
+    most = 1 << 40
+
+    def __init__(self, nic: Nic, kept: Snapshot) -> None:
+        super().__init__(nic.vfs, nic.fifo)
+        self.nic, self.kept = nic, kept
+        self.place: Place | None = None
+        self.earlier: dict[int, bytes] = {}
+
+    def before(self, unit: int) -> bytes:
+        """16 bytes of lent memory as they were in front of the first step."""
+        block, at = divmod(unit, nic82599.BLOCK_BYTES)
+        if block not in self.earlier:
+            self.nic.restore(self.kept)
+            self._moved()
+            self.earlier[block] = self.nic.memory.read(unit - at, nic82599.BLOCK_BYTES)
+        return self.earlier[block][at : at + 16]
+
+    def _moved(self) -> None:
+        if self.place is not None:
+            self.place.at = None
+
+    def run(self, script: str, limit: int) -> list[str]:
+        self.nic.restore(self.kept)
+        self._moved()
+        lines, names, data = [], {}, []
+        for line in script.splitlines():
+            words = line.split()
+            if words[0] == "data":
+                names[words[1]] = len(data)
+                data.append(bytes.fromhex("".join(words[2:])))
+            elif words[0].endswith(":"):
+                names[words[0][:-1]] = len(lines)
+            else:
+                lines.append(words)
+        instructions, printed, at = [instruction(words, names) for words in lines], [], 0
+        for _ in range(limit):
+            if at == len(instructions):
+                return [*printed, f"ok {len(printed)}"]
+            one = instructions[at]
+            if one.op != Op.JMP:
+                printed.append(f"{at} {played(self.nic, one, data)}")
+            at = one.x if one.op == Op.JMP else at + 1
+        return [*printed, f"ok {len(printed)}" if at == len(instructions) else f"limit {at}"]
+
+    def begin_debug(self, script: Script, replies: list[str]) -> None:
+        """From now on `debug` is of this script, whose instructions answer so from the snapshot on."""
+        self.place = Place(self.nic, self.kept, script, replies)
+
+    def debug(self, script: str, commands: list[str]) -> list[str]:
+        assert self.place is not None
+        return self.place.answers(commands)
+
+
+class Place:
+    """What `nicbench debug` says of instructions in a row. Where a register is shown the controller is brought to its
+    place, from where it is or from the nearest snapshot before that."""
+
+    def __init__(self, nic: Nic, kept: Snapshot, script: Script, replies: list[str]) -> None:
+        self.nic, self.script = nic, script
+        self.at: int | None = None  # where the controller is, if that is known
+        self.count = len(replies)
+        snapshots = max(1, ROOM // (nic.blocks * nic82599.BLOCK_BYTES + 1))
+        self.apart = max(APART, -(-self.count // snapshots))
+        self.kept = {0: kept}
+        self.accs = [0]
+        for one, reply in zip(script.instructions, replies):
+            self.accs.append(accumulated(one, reply, self.accs[-1]))
+
+    def _bring(self, count: int) -> None:
+        """Brings the controller behind so many steps."""
+        nearest = max(mark for mark in self.kept if mark <= count)
+        if self.at is None or not nearest <= self.at <= count:
+            self.nic.restore(self.kept[nearest])
+            self.at = nearest
+        while self.at < count:
+            played(self.nic, self.script.instructions[self.at], self.script.data)
+            self.at += 1
+            if self.at % self.apart == 0 and self.at not in self.kept:
+                self.kept[self.at] = self.nic.snapshot()
+
+    def answers(self, commands: list[str]) -> list[str]:
+        """What these commands print, from the first step on."""
+        at, breaks, lines = 0, set(), []
+        for command in commands:
+            name, *words = command.split()
+            numbers = [int(word, 0) for word in words]
+            if name in ("show", "showvf"):
+                lines.append(self._shown(at, numbers))
+                continue
+            refused = self._refused(name, numbers[0], at, breaks)
+            if refused:
+                lines.append(f"refused {refused}")
+                continue
+            if name == "break":
+                breaks.add(numbers[0])
+            elif name == "clear":
+                breaks.discard(numbers[0])
+            else:
+                at = self._led(name, numbers[0], at, breaks)
+            lines.append(f"at {at} pc {at} acc 0x{self.accs[at]:08x} {'ended' if at == self.count else 'running'}")
+        return lines
+
+    def _refused(self, name: str, number: int, at: int, breaks: set[int]) -> str:
+        if name == "back":
+            return "AtStart" if number > at else ""
+        if name == "break":
+            is_there = number < self.count
+            return "NoSuchPc" if not is_there else "TooManyBreaks" if len(breaks | {number}) > 32 else ""
+        return "NoSuchPc" if name == "clear" and number not in breaks else ""
+
+    def _led(self, name: str, number: int, at: int, breaks: set[int]) -> int:
+        """Where a command leads."""
+        if name == "back":
+            return at - number
+        end = min(at + number, self.count)
+        return end if name == "step" else min([one for one in breaks if at < one < end], default=end)
+
+    def _shown(self, at: int, numbers: list[int]) -> str:
+        """What a read of a register, or of an offset of a function, would give."""
+        self._bring(at)
+        word = self.nic.peek32(numbers[0]) if len(numbers) == 1 else self.nic.vf(numbers[0]).peek32(numbers[1])
+        return f"0x{numbers[-1]:05x} " + ("stray" if word is None else f"0x{word:08x}")

@@ -1,0 +1,158 @@
+#define _POSIX_C_SOURCE 200809L
+#include "capture.h"
+
+#include <string.h>
+#include <time.h>
+
+#include "nic82599_pcap.h"
+
+/* pcapng: the types of blocks that matter here */
+#define SECTION 0x0A0D0D0Au
+#define INTERFACE 1u
+#define SIMPLE 3u
+#define ENHANCED 6u
+#define BYTE_ORDER 0x1A2B3C4Du
+#define ETHERNET 1u
+#define BLOCK_MOST (1u << 20)
+
+/* ---- written ---- */
+
+static void put16(uint8_t *to, unsigned int value)
+{
+    to[0] = (uint8_t)value;
+    to[1] = (uint8_t)(value >> 8);
+}
+
+static bool put_block(FILE *file, uint32_t type, const uint8_t *body, size_t length)
+{
+    uint8_t head[8], end[4];
+    pcap_put_word(head, type);
+    pcap_put_word(head + 4, (uint32_t)(length + 12));
+    pcap_put_word(end, (uint32_t)(length + 12));
+    return fwrite(head, 1, sizeof head, file) == sizeof head && fwrite(body, 1, length, file) == length &&
+           fwrite(end, 1, sizeof end, file) == sizeof end;
+}
+
+bool capture_begin(FILE *file)
+{
+    uint8_t section[16] = {0}, interface[20] = {0};
+    pcap_put_word(section, BYTE_ORDER);
+    put16(section + 4, 1); /* version 1.0; the section's length isn't known */
+    memset(section + 8, 0xFF, 8);
+    put16(interface, ETHERNET);
+    put16(interface + 8, 9); /* option: resolution of times, 1 byte, 10^-9 */
+    put16(interface + 10, 1);
+    interface[12] = 9;
+    return put_block(file, SECTION, section, sizeof section) &&
+           put_block(file, INTERFACE, interface, sizeof interface) && fflush(file) == 0;
+}
+
+bool capture_write(FILE *file, enum capture_direction direction, const uint8_t *frame, size_t length)
+{
+    static const uint8_t zeros[4];
+    struct timespec now;
+    uint8_t head[28], end[16] = {0};
+    size_t pad = (4 - length % 4) % 4, all = sizeof head + length + pad + sizeof end;
+    clock_gettime(CLOCK_REALTIME, &now);
+    uint64_t at = (uint64_t)now.tv_sec * UINT64_C(1000000000) + (uint64_t)now.tv_nsec;
+    pcap_put_word(head, ENHANCED);
+    pcap_put_word(head + 4, (uint32_t)all);
+    pcap_put_word(head + 8, 0); /* the interface */
+    pcap_put_word(head + 12, (uint32_t)(at >> 32));
+    pcap_put_word(head + 16, (uint32_t)at);
+    pcap_put_word(head + 20, (uint32_t)length);
+    pcap_put_word(head + 24, (uint32_t)length);
+    put16(end, 2); /* option: flags, 4 bytes: the direction */
+    put16(end + 2, 4);
+    end[4] = (uint8_t)direction;
+    pcap_put_word(end + 12, (uint32_t)all);
+    return fwrite(head, 1, sizeof head, file) == sizeof head && fwrite(frame, 1, length, file) == length &&
+           fwrite(zeros, 1, pad, file) == pad && fwrite(end, 1, sizeof end, file) == sizeof end && fflush(file) == 0;
+}
+
+/* ---- read ---- */
+
+static bool begin_section(struct capture_reader *it, const uint8_t *order)
+{
+    it->is_big = pcap_word(order, true) == BYTE_ORDER;
+    it->interfaces = it->ethernet = 0;
+    return it->is_big || pcap_word(order, false) == BYTE_ORDER;
+}
+
+bool capture_open(struct capture_reader *it, FILE *file)
+{
+    uint8_t head[12];
+    *it = (struct capture_reader){.file = file};
+    if (fread(head, 1, sizeof head, file) == sizeof head && pcap_word(head, true) == SECTION) {
+        it->is_ng = true;
+        return begin_section(it, head + 8) && fseek(file, -(long)sizeof head, SEEK_CUR) == 0;
+    }
+    pcap_reader reader;
+    rewind(file);
+    if (!pcap_begin_reading(&reader, file))
+        return false;
+    it->is_big = reader.big;
+    return true;
+}
+
+static uint32_t half(const struct capture_reader *it, const uint8_t *at)
+{
+    return it->is_big ? (uint32_t)at[0] << 8 | at[1] : (uint32_t)at[1] << 8 | at[0];
+}
+
+/* The frame of an enhanced (or simple) block: how long its head is, and whether it is all there and Ethernet's. */
+static bool is_frame(const struct capture_reader *it, uint32_t type, const uint8_t *head, size_t body, size_t room,
+                     size_t *length)
+{
+    uint32_t interface = type == ENHANCED ? pcap_word(head, it->is_big) : 0;
+    uint32_t all = pcap_word(head + (type == ENHANCED ? 16 : 0), it->is_big);
+    *length = type == ENHANCED ? pcap_word(head + 12, it->is_big) : all;
+    return *length == all && *length <= room && *length <= body && interface < 32 && it->ethernet >> interface & 1;
+}
+
+static bool skip(FILE *file, size_t length)
+{
+    return fseek(file, (long)length, SEEK_CUR) == 0;
+}
+
+/* One block: CAPTURE_FRAME where it had one, CAPTURE_END where it hadn't. */
+static enum capture_next read_block(struct capture_reader *it, uint8_t *frame, size_t room, size_t *length)
+{
+    uint8_t head[8], body[20];
+    if (fread(head, 1, sizeof head, it->file) != sizeof head)
+        return CAPTURE_BROKEN;
+    bool is_section = pcap_word(head, true) == SECTION;
+    if (is_section && (fread(body, 1, 4, it->file) != 4 || !begin_section(it, body)))
+        return CAPTURE_BROKEN;
+    uint32_t type = pcap_word(head, it->is_big), all = pcap_word(head + 4, it->is_big);
+    size_t taken = is_section ? 12 : 8, own = type == ENHANCED ? 20 : type == SIMPLE || type == INTERFACE ? 4 : 0;
+    if (all % 4 || all < 12 + own + (is_section ? 4 : 0) || all > BLOCK_MOST || fread(body, 1, own, it->file) != own)
+        return CAPTURE_BROKEN;
+    taken += own;
+    if (type == INTERFACE && it->interfaces++ < 32 && half(it, body) == ETHERNET)
+        it->ethernet |= 1u << (it->interfaces - 1);
+    if (type != ENHANCED && type != SIMPLE)
+        return skip(it->file, all - taken) ? CAPTURE_END : CAPTURE_BROKEN;
+    if (!is_frame(it, type, body, all - taken - 4, room, length) || fread(frame, 1, *length, it->file) != *length ||
+        !skip(it->file, all - taken - *length))
+        return CAPTURE_BROKEN;
+    return CAPTURE_FRAME;
+}
+
+enum capture_next capture_next(struct capture_reader *it, uint8_t *frame, size_t room, size_t *length)
+{
+    if (!it->is_ng) {
+        pcap_reader reader = {it->file, it->is_big};
+        enum pcap_next_is next = pcap_next(&reader, frame, room, length);
+        return next == PCAP_FRAME ? CAPTURE_FRAME : next == PCAP_END ? CAPTURE_END : CAPTURE_BROKEN;
+    }
+    for (;;) {
+        int first = fgetc(it->file);
+        if (first == EOF)
+            return CAPTURE_END;
+        ungetc(first, it->file);
+        enum capture_next next = read_block(it, frame, room, length);
+        if (next != CAPTURE_END)
+            return next;
+    }
+}

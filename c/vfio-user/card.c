@@ -1,0 +1,303 @@
+#include "card.h"
+
+#include <inttypes.h>
+#include <string.h>
+
+#include "memory.h"
+
+#define REFUSALS_TOLD 20
+#define RESETS (NIC_CTRL_RST | NIC_CTRL_LRST)
+
+/* The bus calls back without a word of whom it calls: there is one card. */
+static struct card *the_card;
+
+/* ---- the guests' memory ---- */
+
+static void *memory_of(void *of, unsigned int number, uint64_t address, size_t *length, bool write)
+{
+    const struct card *it = of;
+    const struct function *function = number <= CARD_FUNCTIONS_MOST ? it->active[number] : NULL;
+    return function ? memory_map_run(&function->session.map, address, length, write) : NULL;
+}
+
+static void refused(void *of, const char *what, unsigned int number, uint16_t queue, uint64_t address, size_t length)
+{
+    struct card *it = of;
+    if (it->told++ < REFUSALS_TOLD)
+        fprintf(stderr, "card: function %u, queue %u: %s, 0x%" PRIx64 ", %zu bytes%s\n", number, queue, what, address,
+                length, it->told == REFUSALS_TOLD ? "; no more of these are told" : "");
+}
+
+/* ---- what the bus calls: the hooks, and memory.h ---- */
+
+static uint32_t to_device(unsigned int function, uint32_t address, uint32_t word)
+{
+    return rings_to_device(the_card->rings, function, address, word);
+}
+
+static uint32_t to_driver(unsigned int function, uint32_t address, uint32_t word)
+{
+    (void)function;
+    return rings_to_driver(the_card->rings, address, word);
+}
+
+static void stepping(bool is_transmit, uint16_t queue)
+{
+    rings_step(the_card->rings, is_transmit, queue);
+}
+
+static void on_reset(uint16_t queue)
+{
+    the_card->stepper.is_due[queue] = false;
+    rings_reset(the_card->rings, queue);
+}
+
+void memory_begin(void)
+{
+}
+
+void memory_tail(bool is_transmit, uint16_t queue, uint32_t tail)
+{
+    struct stepper *stepper = &the_card->stepper;
+    rings_tail(the_card->rings, is_transmit, queue, tail, !stepper->has_seed || stepper_toss(stepper));
+    if (is_transmit)
+        stepper_tail(stepper, queue);
+}
+
+void memory_head(bool is_transmit, uint16_t queue, uint32_t head)
+{
+    rings_head(the_card->rings, is_transmit, queue, head);
+}
+
+void memory_to_driver(uint64_t bus, size_t length)
+{
+    rings_written(the_card->rings, bus, length);
+}
+
+void memory_written_back(uint16_t queue, uint64_t bus)
+{
+    rings_written_back(the_card->rings, queue, bus);
+}
+
+void *memory_at(uint64_t bus, size_t length)
+{
+    (void)bus;
+    (void)length;
+    return NULL;
+}
+
+static void one_out(void *to, const uint8_t *frame, size_t length)
+{
+    struct card *it = to;
+    if (it->sink)
+        it->sink(it->sink_to, frame, length);
+}
+
+static void sent(uint16_t queue, const uint8_t *frame, size_t length)
+{
+    if (the_card->offload)
+        offload_sent(the_card->offload, queue, frame, length, one_out, the_card);
+    else
+        one_out(the_card, frame, length);
+}
+
+static void on_message(unsigned int number, unsigned int vector)
+{
+    if (the_card->active[number])
+        function_message(the_card->active[number], vector);
+}
+
+/* ---- what functions ask ---- */
+
+uint32_t card_read(struct card *it, struct function *function, uint32_t offset)
+{
+    uint64_t enables = bus_counts()->enables;
+    it->active[function->number] = function;
+    uint32_t word = bus_read(function->number, offset);
+    it->stepper.has_changed |= bus_counts()->enables != enables;
+    return word;
+}
+
+void card_write(struct card *it, struct function *function, uint32_t offset, uint32_t word)
+{
+    it->active[function->number] = function;
+    it->stepper.has_changed = true;
+    if (function->number == BUS_PHYSICAL && offset == NIC_CTRL && word & RESETS)
+        it->let_in = bus_counts()->frames_in + bus_counts()->drops;
+    bus_write(function->number, offset, word);
+}
+
+void card_reset_function(struct card *it, struct function *function)
+{
+    if (function->number == BUS_PHYSICAL)
+        card_write(it, function, NIC_CTRL, RESETS);
+    else if (it->active[function->number] == function)
+        card_write(it, function, NIC_VFCTRL, NIC_PVFCTRL_RST);
+}
+
+void card_forget_function(struct card *it, const struct function *function)
+{
+    if (it->active[function->number] == function)
+        it->active[function->number] = NULL;
+}
+
+void card_remapped(struct card *it, const struct function *function)
+{
+    (void)function;
+    it->stepper.has_changed = true;
+}
+
+/* ---- steps ---- */
+
+bool card_arrive(struct card *it, const uint8_t *frame, size_t length)
+{
+    bool is_in = bus_arrive(frame, length);
+    it->stepper.has_changed = true;
+    it->let_in += is_in;
+    return is_in;
+}
+
+/* What is let in and neither received nor dropped: at least as much as waits, since a queue that goes off in the middle
+   of a frame drops its rest without a word. */
+static uint64_t waiting(const struct card *it)
+{
+    uint64_t done = bus_counts()->frames_in + bus_counts()->drops;
+    return it->let_in > done ? it->let_in - done : 0;
+}
+
+bool card_has_room(const struct card *it)
+{
+    return waiting(it) < CARD_FIFO / 2;
+}
+
+unsigned int card_receive(struct card *it)
+{
+    rings_prepare_receive(it->rings);
+    return waiting(it) ? bus_receive() : 0;
+}
+
+/* A message is due only where a cause and its mask are there, and most of the time none is. */
+static bool any_cause(const struct card *it)
+{
+    if (bus_peek(NIC_EICR) & bus_peek(NIC_EIMS))
+        return true;
+    for (unsigned int v = 0; v < it->options.functions; v++)
+        if (bus_peek(NIC_PVTEICR(v)) & bus_peek(NIC_PVTEIMS(v)))
+            return true;
+    return false;
+}
+
+unsigned int card_messages(struct card *it)
+{
+    return any_cause(it) ? bus_messages(on_message) : 0;
+}
+
+void card_transmit(struct card *it, uint16_t queue)
+{
+    bus_transmit(queue);
+    it->stepper.is_due[queue] = bus_peek(NIC_TDH(queue)) != bus_peek(NIC_TDT(queue));
+}
+
+/* Sends what tails gave, also where the queue or the link was off when they did; true where something is left. */
+static bool transmit_due(struct card *it)
+{
+    struct stepper *stepper = &it->stepper;
+    bool left = false;
+    for (uint16_t queue = 0; stepper->any_due && queue < BUS_QUEUES; queue++) {
+        if (!stepper->is_due[queue])
+            continue;
+        if (!stepper->has_seed || stepper_toss(stepper))
+            card_transmit(it, queue);
+        left |= stepper->is_due[queue];
+    }
+    stepper->any_due = left;
+    return left;
+}
+
+/* Each kind of step is made or left for later; true where something may be left. */
+static bool pump_late(struct card *it)
+{
+    struct stepper *stepper = &it->stepper;
+    bool left = false;
+    for (uint16_t queue = 0; queue < BUS_QUEUES; queue++)
+        for (int side = 0; side < 2; side++) {
+            if (stepper_toss(stepper))
+                bus_enable(side, queue);
+            else
+                left = true;
+        }
+    if (stepper_toss(stepper))
+        bus_eeprom();
+    left |= transmit_due(it);
+    if (stepper_toss(stepper))
+        card_receive(it);
+    else
+        left = true;
+    if (stepper_toss(stepper))
+        card_messages(it);
+    else
+        left = true;
+    return left;
+}
+
+bool card_pump(struct card *it)
+{
+    if (it->stepper.is_held)
+        return false;
+    if (it->stepper.has_seed)
+        return pump_late(it);
+    if (!it->stepper.has_changed)
+        return false;
+    it->stepper.has_changed = false;
+    transmit_due(it);
+    card_receive(it);
+    card_messages(it);
+    return false;
+}
+
+/* ---- the whole ---- */
+
+bool card_open(struct card *it, const struct card_options *options)
+{
+    static const char *const phases[] = {"all", NULL};
+    struct bus_options bus = {
+        .functions = (uint8_t)options->functions,
+        .fifo = CARD_FIFO,
+        .answers = options->answers,
+        .acts_at_writes = true,
+        .phases = phases,
+        .hooks = {.to_device = to_device, .to_driver = to_driver, .stepping = stepping, .reset = on_reset},
+        .trace = options->trace};
+    *it = (struct card){.options = *options};
+    stepper_begin(&it->stepper);
+    if (options->has_seed)
+        stepper_seed(&it->stepper, options->seed);
+    memcpy(bus.mac, options->mac, sizeof bus.mac);
+    the_card = it;
+    if (!bus_open(&bus))
+        return false;
+    bus_hold(options->has_seed);
+    it->offload = options->has_offloads ? offload_new() : NULL;
+    const struct rings_options rings = {.device = bus_device(),
+                                        .memory = memory_of,
+                                        .refused = refused,
+                                        .of = it,
+                                        .offload = it->offload,
+                                        .has_legacy = options->has_legacy};
+    it->rings = rings_new(&rings);
+    bus_send_to(sent);
+    return it->rings && (it->offload || !options->has_offloads);
+}
+
+void card_close(struct card *it)
+{
+    rings_free(it->rings);
+    offload_free(it->offload);
+    bus_close();
+}
+
+void card_send_to(struct card *it, card_sink *sink, void *to)
+{
+    it->sink = sink;
+    it->sink_to = to;
+}

@@ -1,0 +1,65 @@
+/* The card behind all of its functions: the bus of drivers/common with the bench's device, the rings of the guests, and
+   the steps that the device makes. The bus is one for each process, so a process has one card. */
+#ifndef VFU_CARD_H
+#define VFU_CARD_H
+
+#include <stdbool.h>
+#include <stdint.h>
+
+#include "bus.h"
+#include "function.h"
+#include "offload.h"
+#include "rings.h"
+#include "stepper.h"
+
+#define CARD_FUNCTIONS_MOST 7 /* virtual ones: a slot behind a root port has eight functions */
+#define CARD_FIFO 4096
+
+struct card_options {
+    uint8_t mac[6];
+    unsigned int functions; /* virtual ones */
+    unsigned int answers;   /* enum bus_answer */
+    bool has_offloads, has_legacy;
+    bool has_seed; /* steps are late by this seed */
+    uint64_t seed;
+    FILE *trace;
+};
+
+/* Where frames go that the card sent. */
+typedef void card_sink(void *to, const uint8_t *frame, size_t length);
+
+struct card {
+    struct card_options options;
+    struct offload *offload; /* null: none */
+    struct rings *rings;
+    struct stepper stepper;
+    struct function *active[1 + CARD_FUNCTIONS_MOST]; /* by number: which of its sockets accessed it last */
+    card_sink *sink;
+    void *sink_to;
+    uint64_t let_in, told; /* frames; refusals that were told */
+};
+
+/* Opens the card: false where memory is short. */
+bool card_open(struct card *it, const struct card_options *options);
+void card_close(struct card *it);
+void card_send_to(struct card *it, card_sink *sink, void *to);
+
+/* What functions ask. */
+uint32_t card_read(struct card *it, struct function *function, uint32_t offset);
+void card_write(struct card *it, struct function *function, uint32_t offset, uint32_t word);
+void card_reset_function(struct card *it, struct function *function);
+void card_forget_function(struct card *it, const struct function *function);
+void card_remapped(struct card *it, const struct function *function);
+
+/* A frame arrives: true where it was let in. */
+bool card_arrive(struct card *it, const uint8_t *frame, size_t length);
+/* Whether there is room for more frames in front of the queues. */
+bool card_has_room(const struct card *it);
+
+/* The device's steps. card_pump makes those that are due: true where it wants to be called again soon. */
+bool card_pump(struct card *it);
+unsigned int card_receive(struct card *it);
+unsigned int card_messages(struct card *it);
+void card_transmit(struct card *it, uint16_t queue);
+
+#endif

@@ -1,0 +1,176 @@
+#define _GNU_SOURCE
+#include "channel.h"
+
+#include <errno.h>
+#include <string.h>
+#include <sys/socket.h>
+#include <unistd.h>
+
+void channel_begin(struct channel *it, int file)
+{
+    it->file = file;
+    it->in_at = it->in_end = 0;
+    it->file_count = 0;
+    it->out = (struct buffer){0};
+}
+
+void channel_end(struct channel *it)
+{
+    if (it->file >= 0)
+        close(it->file);
+    for (unsigned int i = 0; i < it->file_count; i++)
+        close(it->files[i].file);
+    buffer_clear(&it->out);
+    channel_begin(it, -1);
+}
+
+/* ---- what comes ---- */
+
+/* Moves what is left to the front. */
+static void settle(struct channel *it)
+{
+    memmove(it->in, it->in + it->in_at, it->in_end - it->in_at);
+    for (unsigned int i = 0; i < it->file_count; i++)
+        it->files[i].end -= it->in_at;
+    it->in_end -= it->in_at;
+    it->in_at = 0;
+}
+
+/* Files came with the last of the bytes up to in_end; those that there is no room for are closed. */
+static bool take_files(struct channel *it, struct msghdr *head)
+{
+    bool fits = !(head->msg_flags & MSG_CTRUNC);
+    for (struct cmsghdr *c = CMSG_FIRSTHDR(head); c; c = CMSG_NXTHDR(head, c)) {
+        if (c->cmsg_level != SOL_SOCKET || c->cmsg_type != SCM_RIGHTS)
+            continue;
+        size_t count = (c->cmsg_len - CMSG_LEN(0)) / sizeof(int);
+        for (size_t i = 0; i < count; i++) {
+            int file;
+            memcpy(&file, CMSG_DATA(c) + i * sizeof file, sizeof file);
+            if (it->file_count == CHANNEL_FILES) {
+                close(file);
+                fits = false;
+                continue;
+            }
+            it->files[it->file_count].file = file;
+            it->files[it->file_count++].end = it->in_end;
+        }
+    }
+    return fits;
+}
+
+/* The kernel ends what it gives with the piece that bears files, so they belong to the last message in it. */
+enum channel_state channel_receive(struct channel *it)
+{
+    union {
+        struct cmsghdr aligned;
+        char room[CMSG_SPACE(VFU_FILES_MOST * sizeof(int))];
+    } control;
+    settle(it);
+    struct iovec part = {it->in + it->in_end, sizeof it->in - it->in_end};
+    struct msghdr head = {
+        .msg_iov = &part, .msg_iovlen = 1, .msg_control = control.room, .msg_controllen = sizeof control.room};
+    if (part.iov_len == 0)
+        return CHANNEL_OPEN;
+    ssize_t got = recvmsg(it->file, &head, MSG_CMSG_CLOEXEC | MSG_DONTWAIT);
+    if (got < 0 && (errno == EINTR || errno == EAGAIN || errno == EWOULDBLOCK))
+        return CHANNEL_OPEN;
+    if (got <= 0)
+        return CHANNEL_GONE;
+    it->in_end += (size_t)got;
+    return take_files(it, &head) ? CHANNEL_OPEN : CHANNEL_WRONG;
+}
+
+/* The files that belong to the message which ends at `end`; false: too many. */
+static bool give_files(struct channel *it, struct message *message, size_t end)
+{
+    unsigned int left = 0;
+    bool fits = true;
+    message->file_count = 0;
+    for (unsigned int i = 0; i < it->file_count; i++) {
+        if (it->files[i].end > end) {
+            it->files[left++] = it->files[i];
+        } else if (message->file_count == VFU_FILES_MOST) {
+            close(it->files[i].file);
+            fits = false;
+        } else {
+            message->files[message->file_count++] = it->files[i].file;
+        }
+    }
+    it->file_count = left;
+    return fits;
+}
+
+bool channel_next(struct channel *it, struct message *message, enum channel_state *state)
+{
+    size_t have = it->in_end - it->in_at;
+    if (have < sizeof message->head)
+        return false;
+    memcpy(&message->head, it->in + it->in_at, sizeof message->head);
+    if (message->head.size < sizeof message->head || message->head.size > VFU_MESSAGE_MOST) {
+        *state = CHANNEL_WRONG;
+        return false;
+    }
+    if (have < message->head.size)
+        return false;
+    message->length = message->head.size - (unsigned int)sizeof message->head;
+    memcpy(message->body.bytes, it->in + it->in_at + sizeof message->head, message->length);
+    it->in_at += message->head.size;
+    if (give_files(it, message, it->in_at))
+        return true;
+    message_drop_files(message);
+    *state = CHANNEL_WRONG;
+    return false;
+}
+
+void message_drop_files(struct message *message)
+{
+    for (unsigned int i = 0; i < message->file_count; i++)
+        if (message->files[i] >= 0)
+            close(message->files[i]);
+    message->file_count = 0;
+}
+
+/* ---- what goes ---- */
+
+size_t channel_waiting(const struct channel *it)
+{
+    return buffer_waiting(&it->out);
+}
+
+/* Bytes that went, or -1 where the client is gone. */
+static ssize_t try_to_send(const struct channel *it, const uint8_t *bytes, size_t length)
+{
+    for (;;) {
+        ssize_t went = send(it->file, bytes, length, MSG_NOSIGNAL | MSG_DONTWAIT);
+        if (went >= 0)
+            return went;
+        if (errno == EAGAIN || errno == EWOULDBLOCK)
+            return 0;
+        if (errno != EINTR)
+            return -1;
+    }
+}
+
+enum channel_state channel_flush(struct channel *it)
+{
+    while (channel_waiting(it)) {
+        ssize_t went = try_to_send(it, buffer_front(&it->out), channel_waiting(it));
+        if (went < 0)
+            return CHANNEL_GONE;
+        if (went == 0)
+            break;
+        buffer_take(&it->out, (size_t)went);
+    }
+    return CHANNEL_OPEN;
+}
+
+enum channel_state channel_send(struct channel *it, const void *bytes, size_t length)
+{
+    ssize_t went = channel_waiting(it) ? 0 : try_to_send(it, bytes, length);
+    if (went < 0)
+        return CHANNEL_GONE;
+    if ((size_t)went < length && !buffer_put(&it->out, NULL, 0, (const uint8_t *)bytes + went, length - (size_t)went))
+        return CHANNEL_GONE;
+    return CHANNEL_OPEN;
+}

@@ -1,0 +1,288 @@
+#define _GNU_SOURCE
+#include "function.h"
+
+#include <inttypes.h>
+#include <poll.h>
+#include <stdio.h>
+#include <string.h>
+#include <sys/socket.h>
+#include <sys/stat.h>
+#include <sys/un.h>
+#include <unistd.h>
+
+#include "bus.h"
+#include "card.h"
+
+#define INTEL 0x8086u
+#define VIRTUAL_DEVICE 0x10EDu
+#define NOBODY 0xFFFFu /* a shadow's: nothing finds it by looking for devices */
+#define ETHERNET 0x02000001u
+#define COMMANDS 0x0546u
+
+#define VECTORS 64
+#define VIRTUAL_VECTORS 3
+#define TABLE_BAR 4
+#define VIRTUAL_TABLE_BAR 3
+#define PENDING_AT 0x2000u /* of the table's BAR: which messages wait */
+
+/* places of capabilities, as on the card */
+#define POWER 0x40u
+#define MSIX 0x70u
+#define EXPRESS 0xA0u
+#define SRIOV 0x100u /* the card's is at 0x160, behind others */
+
+static unsigned int table_bar(const struct function *it)
+{
+    return it->kind == FUNCTION_PHYSICAL ? TABLE_BAR : VIRTUAL_TABLE_BAR;
+}
+
+static uint32_t register_bytes(const struct function *it)
+{
+    return it->kind == FUNCTION_PHYSICAL ? BUS_SPACE : BUS_FUNCTION_SPACE;
+}
+
+static unsigned int vectors_of(const struct function *it)
+{
+    return it->kind == FUNCTION_PHYSICAL ? VECTORS : VIRTUAL_VECTORS;
+}
+
+/* ---- configuration space ---- */
+
+/* A slot behind a root port has functions 0 to 7 only, so virtual ones are next to the host's; the card's are 128 away,
+   and every second. */
+static void make_config(struct function *it)
+{
+    const struct pci_identity identity = {
+        .vendor = it->kind == FUNCTION_SHADOW ? NOBODY : INTEL,
+        .device = it->kind == FUNCTION_PHYSICAL  ? it->device
+                  : it->kind == FUNCTION_VIRTUAL ? VIRTUAL_DEVICE
+                                                 : NOBODY,
+        .subsystem_vendor = INTEL,
+        .subsystem = 0x000C,
+        .class_revision = ETHERNET,
+        .command_mask = COMMANDS,
+    };
+    pci_begin(&it->config, &identity);
+    pci_add_bar64(&it->config, 0, 0);
+    pci_add_bar64(&it->config, table_bar(it), 0);
+    pci_add_power(&it->config, POWER);
+    pci_add_msix(&it->config, MSIX, vectors_of(it), table_bar(it), 0, PENDING_AT);
+    pci_add_express(&it->config, EXPRESS);
+    if (it->kind == FUNCTION_PHYSICAL && it->virtual_functions) {
+        const struct pci_sriov sriov = {.functions = (uint16_t)it->virtual_functions,
+                                        .first = 1,
+                                        .stride = 1,
+                                        .device = VIRTUAL_DEVICE,
+                                        .bars = {0, VIRTUAL_TABLE_BAR},
+                                        .bar_bytes = {BUS_FUNCTION_SPACE, FUNCTION_TABLE_BYTES}};
+        pci_add_sriov(&it->config, SRIOV, &sriov);
+    }
+}
+
+static void reset_registers(struct function *it)
+{
+    it->session.vectors.pending = 0;
+    card_reset_function(it->card, it);
+}
+
+/* QEMU takes the SR-IOV capability away where it finds it, and leaves extended space to the device where it finds
+   none. So there is none before the first reset, which comes when QEMU has looked. */
+static bool is_hidden(const struct function *it, uint64_t at)
+{
+    return at >= PCI_EXTENDED && !it->shows_sriov;
+}
+
+static void access_config(struct function *it, uint64_t offset, uint8_t *bytes, uint32_t length, bool write)
+{
+    uint32_t shown = length;
+    it->counts.config_reads += !write;
+    it->counts.config_writes += write;
+    while (shown && is_hidden(it, offset + shown - 1))
+        shown--;
+    if (write) {
+        pci_write(&it->config, (unsigned int)offset, bytes, shown);
+        if (pci_takes_reset(&it->config))
+            reset_registers(it);
+        return;
+    }
+    memset(bytes + shown, 0, length - shown);
+    pci_read(&it->config, (unsigned int)offset, bytes, shown);
+}
+
+/* ---- registers and table ---- */
+
+static void access_registers(struct function *it, uint64_t offset, uint8_t *bytes, uint32_t length, bool write)
+{
+    if (offset % 4 || length % 4) {
+        if (it->counts.odd_accesses++ == 0)
+            fprintf(stderr, "%s: an access of %" PRIu32 " bytes at 0x%05" PRIx64 ", where registers have 4\n", it->path,
+                    length, offset);
+        if (!write)
+            memset(bytes, 0xFF, length);
+        return;
+    }
+    for (uint32_t i = 0; i < length; i += 4) {
+        uint32_t word;
+        memcpy(&word, bytes + i, sizeof word);
+        if (write)
+            card_write(it->card, it, (uint32_t)offset + i, word);
+        else
+            word = card_read(it->card, it, (uint32_t)offset + i);
+        memcpy(bytes + i, &word, sizeof word);
+    }
+}
+
+/* The client keeps the table itself; of the pending bits it asks here. */
+static void access_table(struct function *it, uint64_t offset, uint8_t *bytes, uint32_t length, bool write)
+{
+    memcpy(it->table + PENDING_AT, &it->session.vectors.pending, sizeof it->session.vectors.pending);
+    if (write)
+        memcpy(it->table + offset, bytes, length);
+    else
+        memcpy(bytes, it->table + offset, length);
+}
+
+/* ---- what the session asks ---- */
+
+static uint64_t region_bytes(void *function, uint32_t region)
+{
+    const struct function *it = function;
+    if (region == VFU_CONFIG_REGION)
+        return PCI_CONFIG_BYTES;
+    if (region == 0)
+        return register_bytes(it);
+    return region == table_bar(it) ? FUNCTION_TABLE_BYTES : 0;
+}
+
+static bool access_region(void *function, uint32_t region, uint64_t offset, uint8_t *bytes, uint32_t length, bool write)
+{
+    struct function *it = function;
+    if (region == VFU_CONFIG_REGION)
+        access_config(it, offset, bytes, length, write);
+    else if (region == 0)
+        access_registers(it, offset, bytes, length, write);
+    else
+        access_table(it, offset, bytes, length, write);
+    return true;
+}
+
+static void reset(void *function)
+{
+    struct function *it = function;
+    make_config(it);
+    it->shows_sriov = it->kind == FUNCTION_PHYSICAL && it->virtual_functions != 0;
+    reset_registers(it);
+}
+
+static void remapped(void *function)
+{
+    struct function *it = function;
+    card_remapped(it->card, it);
+}
+
+static const struct session_calls calls = {region_bytes, access_region, reset, remapped};
+
+void function_message(struct function *it, unsigned int vector)
+{
+    if (pci_msix_is_on(&it->config))
+        vectors_raise(&it->session.vectors, vector);
+    else
+        it->counts.lost_messages++;
+}
+
+/* ---- sockets ---- */
+
+void function_begin(struct function *it)
+{
+    it->listener = -1;
+    make_config(it);
+    session_begin(&it->session, &calls, it, vectors_of(it));
+    it->session.name = it->path;
+}
+
+/* A socket that nobody listens at any more is in the way; one of a server that runs isn't taken from it. */
+static bool is_left_over(const struct sockaddr_un *name)
+{
+    struct stat about;
+    if (lstat(name->sun_path, &about) != 0 || !S_ISSOCK(about.st_mode))
+        return false;
+    int file = socket(AF_UNIX, SOCK_STREAM | SOCK_CLOEXEC, 0);
+    bool is_served = file < 0 || connect(file, (const struct sockaddr *)name, sizeof *name) == 0;
+    if (file >= 0)
+        close(file);
+    return !is_served;
+}
+
+bool function_listen(struct function *it)
+{
+    struct sockaddr_un name = {.sun_family = AF_UNIX};
+    memcpy(name.sun_path, it->path, sizeof name.sun_path);
+    if (is_left_over(&name))
+        unlink(it->path);
+    it->listener = socket(AF_UNIX, SOCK_STREAM | SOCK_CLOEXEC | SOCK_NONBLOCK, 0);
+    if (it->listener < 0)
+        return false;
+    mode_t mask = umask(0177);
+    bool is_bound = bind(it->listener, (struct sockaddr *)&name, sizeof name) == 0;
+    umask(mask);
+    if (is_bound && listen(it->listener, 4) == 0)
+        return true;
+    close(it->listener);
+    it->listener = -1;
+    return false;
+}
+
+/* Whether the client has hung up, and only what it sent before is left. */
+static bool is_leaving(const struct session *it)
+{
+    struct pollfd poll_for = {it->channel.file, POLLRDHUP, 0};
+    return session_is_open(it) && poll(&poll_for, 1, 0) == 1;
+}
+
+/* While a client leaves, the next one waits at the socket. */
+void function_accept(struct function *it)
+{
+    if (is_leaving(&it->session))
+        return;
+    int file = accept4(it->listener, NULL, NULL, SOCK_CLOEXEC);
+    if (file < 0)
+        return;
+    if (session_is_open(&it->session)) {
+        fprintf(stderr, "%s: a second client is turned away\n", it->path);
+        close(file);
+        return;
+    }
+    session_open(&it->session, file);
+    fprintf(stderr, "%s: a client has come\n", it->path);
+}
+
+/* The card goes on, as it does where a machine is switched off: whoever comes next finds it after a reset. */
+static void gone(struct function *it)
+{
+    fprintf(stderr, "%s: its client has gone\n", it->path);
+    make_config(it);
+    it->shows_sriov = false;
+    reset_registers(it);
+    card_forget_function(it->card, it);
+}
+
+void function_serve(struct function *it, short events)
+{
+    bool is_open = session_is_open(&it->session);
+    if (is_open && events & POLLOUT)
+        is_open = session_flush(&it->session);
+    if (is_open && events & (POLLIN | POLLHUP | POLLERR))
+        is_open = session_serve(&it->session);
+    if (!is_open)
+        gone(it);
+}
+
+void function_end(struct function *it)
+{
+    session_close(&it->session);
+    if (it->listener >= 0) {
+        close(it->listener);
+        unlink(it->path);
+    }
+    it->listener = -1;
+}

@@ -1,0 +1,52 @@
+/* One function of the card as a client sees it: its configuration space, its registers, its MSI-X table. A virtual
+   function has two sockets: one makes it a device of its own, for another guest; the other is a shadow that the host's
+   guest has in its place, which shows itself only by SR-IOV. */
+#ifndef VFU_FUNCTION_H
+#define VFU_FUNCTION_H
+
+#include <stdbool.h>
+#include <stdint.h>
+
+#include "pci_config.h"
+#include "session.h"
+
+#define FUNCTION_TABLE_BYTES 0x4000u
+#define FUNCTION_PATH_MOST 108 /* bytes of a socket's name, with its zero byte */
+
+struct card;
+
+enum function_kind { FUNCTION_PHYSICAL, FUNCTION_VIRTUAL, FUNCTION_SHADOW };
+
+struct function_counts {
+    uint64_t config_reads, config_writes, odd_accesses, lost_messages;
+};
+
+struct function {
+    enum function_kind kind;
+    unsigned int number; /* of the bus: 0 the physical function, v + 1 virtual function v */
+    uint16_t device;
+    unsigned int virtual_functions; /* that the physical function has */
+    struct card *card;
+    struct pci_config config;
+    bool shows_sriov;
+    uint8_t table[FUNCTION_TABLE_BYTES];
+    struct session session;
+    int listener; /* -1: none */
+    char path[FUNCTION_PATH_MOST];
+    struct function_counts counts;
+};
+
+/* Makes a function of a card; its path must be set, for what is told. */
+void function_begin(struct function *it);
+/* Listens at its path: false, and errno says why not. */
+bool function_listen(struct function *it);
+/* Takes the client that waits at the socket, or turns it away where there is one. */
+void function_accept(struct function *it);
+/* Serves its client, whose socket is ready for the events (of poll). */
+void function_serve(struct function *it, short events);
+/* A message of the device for this function. */
+void function_message(struct function *it, unsigned int vector);
+/* Ends its client and its socket. */
+void function_end(struct function *it);
+
+#endif

@@ -1,0 +1,66 @@
+/* What the card does to frames that it sends and the bench's device doesn't: checksums, cutting of large sends, VLAN
+   tags. The device is given descriptors that ask for none of it, and the frame that it sends is completed here, as the
+   Intel 82599 10 GbE Controller Datasheet (331520) describes it. This is the server's, and tested; nothing of it is
+   proved.
+
+   A large send goes to the device as one short frame, and is cut when that goes out. */
+#ifndef OFFLOAD_H
+#define OFFLOAD_H
+
+#include <stdbool.h>
+#include <stddef.h>
+#include <stdint.h>
+
+#include "legacy.h"
+
+#define OFFLOAD_QUEUES 128
+#define OFFLOAD_CONTEXTS 2
+#define OFFLOAD_LARGEST (256u * 1024 + 512) /* bytes of a large send: 18 bits of PAYLEN, and headers */
+#define OFFLOAD_FRAME_MOST 65536u           /* bytes of a frame that is given to the sink */
+#define OFFLOAD_STAND_IN 60u                /* bytes of the frame that the device sends in a large send's place */
+
+/* What one frame asks for. */
+struct offload_job {
+    bool sums_ip, sums_l4, is_large, has_tag;
+    uint8_t mac_length, l4_length, l4_type;
+    uint16_t ip_length, mss, tag;
+    struct legacy_sum legacy;
+};
+
+struct offload_queue {
+    uint64_t contexts[OFFLOAD_CONTEXTS][2];
+    struct offload_job job;
+    bool is_amid;   /* a frame has begun, and its last descriptor hasn't come */
+    bool is_ready;  /* it has come, and the device hasn't sent it */
+    uint8_t *bytes; /* of a large send */
+    size_t length, room;
+};
+
+struct offload_counts {
+    uint64_t sums, tags, large, segments, dropped;
+};
+
+struct offload {
+    struct offload_queue queues[OFFLOAD_QUEUES];
+    struct offload_counts counts;
+    uint8_t frame[OFFLOAD_FRAME_MOST];
+};
+
+typedef void offload_sink(void *to, const uint8_t *frame, size_t length);
+
+struct offload *offload_new(void);
+void offload_free(struct offload *it);
+
+/* A context descriptor is given to the device. */
+void offload_context(struct offload *it, unsigned int queue, uint64_t first, uint64_t second);
+/* A data descriptor, with its bytes: what the device gets as its second half, and of *length bytes how many. `legacy`
+   is null, or what a legacy descriptor asks for; then `tag` is its. */
+uint64_t offload_data(struct offload *it, unsigned int queue, uint64_t second, const uint8_t *bytes, size_t *length,
+                      const struct legacy_sum *legacy, uint16_t tag);
+/* The device sent a frame of this queue: the frames that go on the wire in its place. */
+void offload_sent(struct offload *it, unsigned int queue, const uint8_t *frame, size_t length, offload_sink *sink,
+                  void *to);
+/* A queue was reset, or its frame given up. */
+void offload_forget(struct offload *it, unsigned int queue);
+
+#endif

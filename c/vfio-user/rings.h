@@ -1,0 +1,69 @@
+/* Guests' memory of any size behind the device's 128 MiB of bus addresses. On the guest's side base registers and
+   descriptors hold the guest's addresses, on the device's side the device's: each ring has a place of its own length
+   there, and each queue a place for the buffer that it is at. A descriptor is read when a tail gives it away, as the
+   card prefetches, or when its turn comes; its buffer when the device acts on it.
+
+   All is copied and nothing in place, since the guest runs while calls do. What the guest polls is written last, by a
+   release store: a frame's bytes first, DD behind them. */
+#ifndef RINGS_H
+#define RINGS_H
+
+#include <stdbool.h>
+#include <stddef.h>
+#include <stdint.h>
+
+#include "nic82599.h"
+#include "offload.h"
+
+#define RINGS_QUEUES 128
+#define RINGS_BLOCKS 65536u
+#define RINGS_SPACE 0x20000u     /* bytes of the physical function's registers */
+#define RING_BYTES_MOST 0x80000u /* 32,768 descriptors: what the card takes */
+
+/* Where bytes of a function's guest are in this process. *length is how many are wanted, and becomes how many of them
+   are there in one piece; null: none. */
+typedef void *rings_memory(void *of, unsigned int function, uint64_t address, size_t *length, bool write);
+
+/* An access that goes nowhere, or a driver's mistake: told by whoever has the rings. `what` is a noun. */
+typedef void rings_refused(void *of, const char *what, unsigned int function, uint16_t queue, uint64_t address,
+                           size_t length);
+
+struct rings_options {
+    nic *device;
+    rings_memory *memory;
+    rings_refused *refused;
+    void *of;
+    struct offload *offload; /* null: descriptors go to the device as they are */
+    bool has_legacy;         /* legacy descriptors are advanced ones on the device's side */
+};
+
+struct rings_counts {
+    uint64_t descriptors, frames_bytes, refused, tails_outside, without_room;
+    uint32_t blocks, blocks_most; /* of rings */
+};
+
+struct rings *rings_new(const struct rings_options *options);
+void rings_free(struct rings *it);
+const struct rings_counts *rings_counts(const struct rings *it);
+
+/* A word on its way to the device, or back, by the physical function's address of the register. */
+uint32_t rings_to_device(struct rings *it, unsigned int function, uint32_t address, uint32_t word);
+uint32_t rings_to_driver(const struct rings *it, uint32_t address, uint32_t word);
+
+/* A tail is about to be written; `fetches`: the descriptors up to it are read now. */
+void rings_tail(struct rings *it, bool is_transmit, uint16_t queue, uint32_t tail, bool fetches);
+/* A head was written, or a queue reset: what was read ahead is forgotten. */
+void rings_head(struct rings *it, bool is_transmit, uint16_t queue, uint32_t head);
+void rings_reset(struct rings *it, uint16_t queue);
+
+/* Gives the device what its next step of this queue needs: before each transmit step, and behind a receive step. */
+void rings_step(struct rings *it, bool is_transmit, uint16_t queue);
+/* The same for each receive queue that was touched: before receive steps. */
+void rings_prepare_receive(struct rings *it);
+
+/* The device wrote these bytes: part of a frame, or a receive descriptor. */
+void rings_written(struct rings *it, uint64_t bus, size_t length);
+/* It wrote back a transmit descriptor of this queue, or its head. */
+void rings_written_back(struct rings *it, uint16_t queue, uint64_t bus);
+
+#endif

@@ -1,0 +1,29 @@
+/* The whole server: the card, its functions with their sockets, the wire, and the loop that serves them. */
+#ifndef VFU_SERVER_H
+#define VFU_SERVER_H
+
+#include <signal.h>
+#include <stdbool.h>
+
+#include "card.h"
+#include "function.h"
+#include "options.h"
+#include "wire.h"
+
+#define SERVER_FUNCTIONS (1 + 2 * CARD_FUNCTIONS_MOST)
+
+struct server {
+    struct options options;
+    struct card card;
+    struct wire wire;
+    struct function functions[SERVER_FUNCTIONS];
+    unsigned int function_count;
+};
+
+/* Opens all: false, and a line on standard error says what can't be had. */
+bool server_open(struct server *it);
+/* Serves until *ends isn't 0, or the client of --fd has gone. */
+void server_run(struct server *it, const volatile sig_atomic_t *ends, const sigset_t *unblocked);
+void server_close(struct server *it);
+
+#endif

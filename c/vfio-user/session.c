@@ -1,0 +1,374 @@
+#include "session.h"
+
+#include <errno.h>
+#include <inttypes.h>
+#include <stddef.h>
+#include <stdio.h>
+#include <string.h>
+
+static const char capabilities[] = "{\"capabilities\":{\"max_msg_fds\":16,\"max_data_xfer_size\":4096,"
+                                   "\"pgsizes\":4096,\"max_dma_maps\":16384,\"write_multiple\":true}}";
+
+/* A message that is being answered: `reply` is how many bytes of its body go back. */
+struct work {
+    struct session *session;
+    struct message *message;
+    unsigned int reply;
+};
+
+/* ---- what is checked of all ---- */
+
+/* The only place where a range is compared with what there is. */
+static bool is_inside(uint64_t first, uint64_t count, uint64_t all)
+{
+    return count <= all && first <= all - count;
+}
+
+static void *body(struct work *it)
+{
+    return it->message->body.bytes;
+}
+
+/* Takes a file of the message for its own. */
+static int take_file(struct message *message, unsigned int index)
+{
+    int file = index < message->file_count ? message->files[index] : -1;
+    if (index < message->file_count)
+        message->files[index] = -1;
+    return file;
+}
+
+/* ---- each command: 0, or a number of errno.h ---- */
+
+static int version(struct work *it)
+{
+    struct vfu_version *asked = body(it);
+    if (asked->major != 0)
+        return EINVAL;
+    asked->minor = 0;
+    memcpy((uint8_t *)asked + sizeof *asked, capabilities, sizeof capabilities);
+    it->reply = sizeof *asked + sizeof capabilities;
+    it->session->has_version = true;
+    return 0;
+}
+
+/* RAM that isn't shared can't be reached from here. Other memory without a file, such as a display's, is refused too,
+   which clients take well. */
+static void tell_of_memory(struct session *it, const struct vfu_dma_map *asked)
+{
+    if (it->is_told_of_memory)
+        return;
+    it->is_told_of_memory = true;
+    fprintf(stderr,
+            "%s: memory at 0x%" PRIx64 ", 0x%" PRIx64 " bytes, isn't shared, so the card can't reach it. If it is the "
+            "guest's RAM, start QEMU with -object memory-backend-memfd,id=ram,size=SIZE,share=on "
+            "-machine memory-backend=ram\n",
+            it->name, asked->address, asked->size);
+}
+
+static int dma_map(struct work *it)
+{
+    const struct vfu_dma_map *asked = body(it);
+    struct memory_range range = {.address = asked->address,
+                                 .size = asked->size,
+                                 .is_readable = (asked->flags & VFU_MAP_READ) != 0,
+                                 .is_writable = (asked->flags & VFU_MAP_WRITE) != 0};
+    bool has_file = it->message->file_count != 0;
+    if (!has_file && range.is_writable)
+        tell_of_memory(it->session, asked);
+    it->session->counts.maps++;
+    int error = memory_map_add(&it->session->map, &range, has_file ? it->message->files[0] : -1, asked->offset);
+    if (error == 0)
+        it->session->calls->remapped(it->session->function);
+    return error;
+}
+
+static int dma_unmap(struct work *it)
+{
+    const struct vfu_dma_unmap *asked = body(it);
+    int error = 0;
+    it->session->counts.unmaps++;
+    if (asked->flags & VFU_UNMAP_ALL)
+        memory_map_clear(&it->session->map);
+    else
+        error = memory_map_remove(&it->session->map, asked->address, asked->size);
+    it->session->calls->remapped(it->session->function);
+    it->reply = sizeof *asked;
+    return error;
+}
+
+static int device_info(struct work *it)
+{
+    struct vfu_device_info info = {
+        .argsz = sizeof info, .flags = VFU_DEVICE_RESETS | VFU_DEVICE_PCI, .regions = VFU_REGIONS, .irqs = VFU_IRQS};
+    memcpy(body(it), &info, sizeof info);
+    it->reply = sizeof info;
+    return 0;
+}
+
+static int region_info(struct work *it)
+{
+    struct vfu_region_info *asked = body(it);
+    if (asked->index >= VFU_REGIONS)
+        return EINVAL;
+    uint64_t bytes = it->session->calls->region_bytes(it->session->function, asked->index);
+    struct vfu_region_info info = {.argsz = sizeof info,
+                                   .flags = bytes ? VFU_REGION_READABLE | VFU_REGION_WRITABLE : 0,
+                                   .index = asked->index,
+                                   .size = bytes};
+    memcpy(asked, &info, sizeof info);
+    it->reply = sizeof info;
+    return 0;
+}
+
+/* INTx and MSI there aren't; errors and requests are never told, so their files are dropped. */
+static unsigned int irq_count(const struct session *it, uint32_t index)
+{
+    return index == VFU_MSIX ? it->vectors.count : index > VFU_MSIX && index < VFU_IRQS;
+}
+
+static int irq_info(struct work *it)
+{
+    struct vfu_irq_info *asked = body(it);
+    if (asked->index >= VFU_IRQS)
+        return EINVAL;
+    struct vfu_irq_info info = {.argsz = sizeof info,
+                                .flags = VFU_IRQ_EVENTFD,
+                                .index = asked->index,
+                                .count = irq_count(it->session, asked->index)};
+    memcpy(asked, &info, sizeof info);
+    it->reply = sizeof info;
+    return 0;
+}
+
+static int set_files(struct work *it, uint32_t start, uint32_t count)
+{
+    int error = 0;
+    for (uint32_t i = 0; i < count; i++) {
+        int file = take_file(it->message, i);
+        if (vectors_set(&it->session->vectors, start + i, file))
+            continue;
+        error = EINVAL;
+        if (i < it->message->file_count)
+            it->message->files[i] = file; /* closed with the message's others */
+    }
+    vectors_flush(&it->session->vectors);
+    return error;
+}
+
+static int set_irqs(struct work *it)
+{
+    const struct vfu_irq_set *asked = body(it);
+    struct vectors *vectors = &it->session->vectors;
+    const uint8_t *each = (const uint8_t *)asked + sizeof *asked;
+    uint32_t how = asked->flags & VFU_SET_DATA, start = asked->start, count = asked->count;
+    if (asked->index >= VFU_IRQS || !is_inside(start, count, irq_count(it->session, asked->index)) ||
+        (asked->flags & VFU_SET_ACTION) != VFU_SET_TRIGGER)
+        return EINVAL;
+    if (how == VFU_SET_BOOL && it->message->length < sizeof *asked + count)
+        return EINVAL;
+    if (asked->index != VFU_MSIX)
+        return 0;
+    if (count == 0) {
+        if (how != VFU_SET_NONE)
+            return EINVAL;
+        vectors_clear(vectors);
+        return 0;
+    }
+    if (how == VFU_SET_EVENTFD)
+        return set_files(it, start, count);
+    if (how != VFU_SET_NONE && how != VFU_SET_BOOL)
+        return EINVAL;
+    for (uint32_t i = 0; i < count; i++)
+        if (how == VFU_SET_NONE || each[i])
+            vectors_raise(vectors, start + i);
+    return 0;
+}
+
+/* An access of a region that is there; false, and nothing happened, where it isn't inside. */
+static bool access_region(struct session *it, const struct vfu_access *asked, uint8_t *bytes, bool write)
+{
+    uint64_t all = asked->region < VFU_REGIONS ? it->calls->region_bytes(it->function, asked->region) : 0;
+    return asked->count != 0 && is_inside(asked->offset, asked->count, all) &&
+           it->calls->access(it->function, asked->region, asked->offset, bytes, asked->count, write);
+}
+
+static int region_read(struct work *it)
+{
+    struct vfu_access *asked = body(it);
+    uint8_t *bytes = (uint8_t *)asked + sizeof *asked;
+    it->session->counts.reads++;
+    if (asked->count > VFU_TRANSFER_MOST || !access_region(it->session, asked, bytes, false))
+        return EINVAL;
+    it->reply = (unsigned int)sizeof *asked + asked->count;
+    return 0;
+}
+
+static int region_write(struct work *it)
+{
+    struct vfu_access *asked = body(it);
+    it->session->counts.writes++;
+    if (asked->count > VFU_TRANSFER_MOST || it->message->length - sizeof *asked < asked->count ||
+        !access_region(it->session, asked, (uint8_t *)asked + sizeof *asked, true))
+        return EINVAL;
+    it->reply = sizeof *asked;
+    return 0;
+}
+
+static int write_multiple(struct work *it)
+{
+    struct vfu_writes *asked = body(it);
+    struct vfu_write *each = (struct vfu_write *)((uint8_t *)asked + sizeof *asked);
+    uint64_t done = 0;
+    it->session->counts.multiple++;
+    if (asked->count > (it->message->length - sizeof *asked) / sizeof *each)
+        return EINVAL;
+    for (; done < asked->count; done++) {
+        const struct vfu_access one = {each[done].offset, each[done].region, each[done].count};
+        it->session->counts.writes++;
+        if (one.count > sizeof each->data || !access_region(it->session, &one, each[done].data, true))
+            return EINVAL;
+    }
+    it->reply = sizeof *asked;
+    return 0;
+}
+
+static int device_reset(struct work *it)
+{
+    it->session->calls->reset(it->session->function);
+    return 0;
+}
+
+/* What a command's body has at least, and what answers it; null: it isn't supported. */
+static const struct {
+    unsigned int least;
+    int (*answer)(struct work *it);
+} commands[VFU_COMMANDS] = {
+    [VFU_VERSION] = {sizeof(struct vfu_version), version},
+    [VFU_DMA_MAP] = {sizeof(struct vfu_dma_map), dma_map},
+    [VFU_DMA_UNMAP] = {sizeof(struct vfu_dma_unmap), dma_unmap},
+    [VFU_DEVICE_GET_INFO] = {sizeof(struct vfu_device_info), device_info},
+    [VFU_DEVICE_GET_REGION_INFO] = {sizeof(struct vfu_region_info), region_info},
+    [VFU_DEVICE_GET_IRQ_INFO] = {sizeof(struct vfu_irq_info), irq_info},
+    [VFU_DEVICE_SET_IRQS] = {sizeof(struct vfu_irq_set), set_irqs},
+    [VFU_REGION_READ] = {sizeof(struct vfu_access), region_read},
+    [VFU_REGION_WRITE] = {sizeof(struct vfu_access), region_write},
+    [VFU_DEVICE_RESET] = {0, device_reset},
+    [VFU_REGION_WRITE_MULTI] = {sizeof(struct vfu_writes), write_multiple},
+};
+
+static int answer(struct work *it)
+{
+    unsigned int command = it->message->head.command;
+    if (command >= VFU_COMMANDS || !commands[command].answer)
+        return ENOTSUP;
+    if (command != VFU_VERSION && !it->session->has_version)
+        return EPROTO;
+    if (it->message->length < commands[command].least)
+        return EINVAL;
+    return commands[command].answer(it);
+}
+
+static enum channel_state reply(struct work *it, int error)
+{
+    struct message *message = it->message;
+    it->session->counts.refused += error != 0;
+    if (message->head.flags & VFU_NO_REPLY)
+        return CHANNEL_OPEN;
+    message->head.flags = VFU_REPLY | (error ? VFU_ERROR : 0);
+    message->head.error = (uint32_t)error;
+    message->head.size = (uint32_t)sizeof message->head + (error ? 0 : it->reply);
+    /* head and body lie behind one another but for alignment, and one call is to send them */
+    uint8_t bytes[VFU_MESSAGE_MOST];
+    memcpy(bytes, &message->head, sizeof message->head);
+    memcpy(bytes + sizeof message->head, message->body.bytes, message->head.size - sizeof message->head);
+    return channel_send(&it->session->channel, bytes, message->head.size);
+}
+
+static enum channel_state serve_one(struct session *it, struct message *message)
+{
+    struct work work = {.session = it, .message = message};
+    it->counts.messages++;
+    if ((message->head.flags & VFU_TYPE) != 0) {
+        message_drop_files(message);
+        return CHANNEL_WRONG;
+    }
+    int error = answer(&work);
+    message_drop_files(message);
+    return reply(&work, error);
+}
+
+/* ---- a client ---- */
+
+void session_begin(struct session *it, const struct session_calls *calls, void *function, unsigned int vectors)
+{
+    channel_begin(&it->channel, -1);
+    it->map = (struct memory_map){0};
+    vectors_begin(&it->vectors, vectors);
+    it->calls = calls;
+    it->function = function;
+    it->has_version = it->is_told_of_memory = it->is_stalled = false;
+    it->counts = (struct session_counts){0};
+}
+
+void session_open(struct session *it, int file)
+{
+    channel_begin(&it->channel, file);
+    it->has_version = it->is_told_of_memory = it->is_stalled = false;
+}
+
+bool session_is_open(const struct session *it)
+{
+    return it->channel.file >= 0;
+}
+
+bool session_is_ready(const struct session *it)
+{
+    return channel_waiting(&it->channel) <= CHANNEL_KEPT;
+}
+
+void session_close(struct session *it)
+{
+    channel_end(&it->channel);
+    memory_map_clear(&it->map);
+    vectors_clear(&it->vectors);
+}
+
+static bool end_unless_open(struct session *it, enum channel_state state)
+{
+    if (state == CHANNEL_OPEN)
+        return true;
+    if (state == CHANNEL_WRONG)
+        fprintf(stderr, "%s: what the client sends isn't the protocol, so it is let go\n", it->name);
+    session_close(it);
+    return false;
+}
+
+bool session_serve(struct session *it)
+{
+    struct message message;
+    enum channel_state state = channel_receive(&it->channel);
+    it->is_stalled = false;
+    while (state != CHANNEL_WRONG) {
+        it->is_stalled = !session_is_ready(it);
+        if (it->is_stalled && state == CHANNEL_OPEN)
+            break;
+        enum channel_state now = CHANNEL_OPEN;
+        if (!channel_next(&it->channel, &message, &now)) {
+            state = now == CHANNEL_OPEN ? state : now;
+            break;
+        }
+        now = serve_one(it, &message);
+        state = now == CHANNEL_OPEN ? state : now;
+        if (now != CHANNEL_OPEN)
+            break;
+    }
+    return end_unless_open(it, state);
+}
+
+bool session_flush(struct session *it)
+{
+    if (!end_unless_open(it, channel_flush(&it->channel)))
+        return false;
+    return !it->is_stalled || !session_is_ready(it) || session_serve(it);
+}

@@ -1,0 +1,51 @@
+/* A client of one function: what it asks is checked here and answered, or handed to the function. */
+#ifndef VFU_SESSION_H
+#define VFU_SESSION_H
+
+#include <stdbool.h>
+#include <stdint.h>
+
+#include "channel.h"
+#include "memory_map.h"
+#include "vectors.h"
+
+/* What a session asks of the function that it is a client of. */
+struct session_calls {
+    /* bytes of a region; 0: there is none */
+    uint64_t (*region_bytes)(void *function, uint32_t region);
+    /* an access inside a region; false: the function hasn't these bytes */
+    bool (*access)(void *function, uint32_t region, uint64_t offset, uint8_t *bytes, uint32_t length, bool write);
+    void (*reset)(void *function);
+    /* the ranges of memory have changed */
+    void (*remapped)(void *function);
+};
+
+struct session_counts {
+    uint64_t messages, reads, writes, multiple, refused, maps, unmaps;
+};
+
+struct session {
+    struct channel channel;
+    struct memory_map map;
+    struct vectors vectors;
+    const struct session_calls *calls;
+    void *function;
+    const char *name; /* of the socket, for what is told on standard error */
+    bool has_version, is_told_of_memory;
+    bool is_stalled; /* messages that came wait for what is sent to go */
+    struct session_counts counts;
+};
+
+void session_begin(struct session *it, const struct session_calls *calls, void *function, unsigned int vectors);
+/* A client has connected: its socket, which is the session's from now on. */
+void session_open(struct session *it, int file);
+bool session_is_open(const struct session *it);
+/* Serves what has come. False: the session has ended, for a reason that is told if it is the client's fault. */
+bool session_serve(struct session *it);
+/* Sends what waits; false as above. */
+bool session_flush(struct session *it);
+/* Whether the session takes in more now. */
+bool session_is_ready(const struct session *it);
+void session_close(struct session *it);
+
+#endif

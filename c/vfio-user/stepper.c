@@ -1,0 +1,30 @@
+#include "stepper.h"
+
+#include <stddef.h>
+
+void stepper_begin(struct stepper *it)
+{
+    *it = (struct stepper){.has_changed = true};
+}
+
+/* Seeds that are next to one another give orders that aren't alike; a state of 0 would stay 0. */
+void stepper_seed(struct stepper *it, uint64_t seed)
+{
+    it->has_seed = true;
+    it->state = (seed + 1) * UINT64_C(0x9E3779B97F4A7C15);
+    if (it->state == 0)
+        it->state = 1;
+}
+
+bool stepper_toss(struct stepper *it)
+{
+    it->state ^= it->state << 13;
+    it->state ^= it->state >> 7;
+    it->state ^= it->state << 17;
+    return it->state >> 33 & 1;
+}
+
+void stepper_tail(struct stepper *it, uint16_t queue)
+{
+    it->is_due[queue] = it->any_due = true;
+}

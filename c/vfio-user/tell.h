@@ -1,0 +1,11 @@
+/* What a server tells of what passed. */
+#ifndef VFU_TELL_H
+#define VFU_TELL_H
+
+#include <stdio.h>
+
+#include "server.h"
+
+void tell_counts(const struct server *it, FILE *to);
+
+#endif

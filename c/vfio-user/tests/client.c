@@ -1,0 +1,385 @@
+/* A client that does what QEMU does, in its order: it looks at the device, maps memory, gives it eventfds, resets it,
+   and brings up a queue each way. And clients that do what none should. */
+#define _GNU_SOURCE
+#include <errno.h>
+#include <fcntl.h>
+#include <poll.h>
+#include <string.h>
+#include <sys/eventfd.h>
+#include <sys/mman.h>
+#include <sys/socket.h>
+#include <unistd.h>
+
+#include "../../tests/check.h"
+#include "nic82599.h"
+#include "peer/peer.h"
+
+#define RAM_BYTES (1u << 20)
+#define RAM 0x40000000u /* where it begins: above what the device can address */
+#define PAGE 4096u
+#define RX_RING 0x1000u
+#define TX_RING 0x2000u
+#define BUFFERS 0x10000u
+#define BUFFER 2048u
+#define FRAME 0x80000u
+#define SLOTS 64u
+#define ARP_BYTES 60u
+
+static int ram_file;
+static uint8_t *ram;
+
+static void make_ram(void)
+{
+    ram_file = memfd_create("ram", MFD_CLOEXEC);
+    CHECK(ftruncate(ram_file, RAM_BYTES) == 0);
+    ram = mmap(NULL, RAM_BYTES, PROT_READ | PROT_WRITE, MAP_SHARED, ram_file, 0);
+    CHECK(ram != MAP_FAILED);
+}
+
+static void put64(uint32_t at, uint64_t value)
+{
+    memcpy(ram + at, &value, sizeof value);
+}
+
+static uint64_t get64(uint32_t at)
+{
+    uint64_t value;
+    memcpy(&value, ram + at, sizeof value);
+    return value;
+}
+
+/* Waits until the guest's descriptor says that it is done. */
+static void wait_for(uint32_t at, uint64_t done)
+{
+    for (int i = 0; i < 3000; i++) {
+        if (__atomic_load_n((uint64_t *)(void *)(ram + at), __ATOMIC_ACQUIRE) & done)
+            return;
+        usleep(1000);
+    }
+    CHECK(!"a descriptor isn't done");
+}
+
+/* ---- what QEMU asks before the guest runs ---- */
+
+static void look_at_device(struct peer *it)
+{
+    struct vfu_device_info info = {.argsz = sizeof info};
+    CHECK(peer_ask(it, VFU_DEVICE_GET_INFO, &info, sizeof info, NULL, 0, &info, sizeof info) == 0);
+    CHECK(info.flags == (VFU_DEVICE_PCI | VFU_DEVICE_RESETS) && info.regions == 9 && info.irqs == 5);
+    for (uint32_t index = 0; index < 10; index++) {
+        struct vfu_region_info region = {.argsz = sizeof region, .index = index};
+        uint32_t error =
+            peer_ask(it, VFU_DEVICE_GET_REGION_INFO, &region, sizeof region, NULL, 0, &region, sizeof region);
+        CHECK(error == (index < 9 ? 0 : EINVAL));
+        CHECK(error || region.size == (index == 0 ? 0x20000 : index == 4 ? 0x4000 : index == 7 ? 4096 : 0));
+    }
+    for (uint32_t index = 0; index < 6; index++) {
+        struct vfu_irq_info irq = {.argsz = sizeof irq, .index = index};
+        uint32_t error = peer_ask(it, VFU_DEVICE_GET_IRQ_INFO, &irq, sizeof irq, NULL, 0, &irq, sizeof irq);
+        CHECK(error == (index < 5 ? 0 : EINVAL));
+        CHECK(error || irq.count == (index < 2 ? 0 : index == 2 ? 64 : 1));
+    }
+}
+
+static void look_at_config(struct peer *it)
+{
+    CHECK(peer_config(it, 0, 4) == 0x10F78086 && peer_config(it, 8, 4) == 0x02000001);
+    CHECK(peer_config(it, 0x10, 4) == 0xC && peer_config(it, 0x20, 4) == 0xC && peer_config(it, 0x30, 4) == 0);
+    peer_set_config(it, 0x30, 4, 0xFFFFF800);
+    CHECK(peer_config(it, 0x30, 4) == 0 && peer_config(it, 0x3D, 1) == 0);
+    CHECK(peer_config(it, 0x34, 1) == 0x40 && peer_config(it, 0x40, 2) == 0x7001 && peer_config(it, 0x70, 2) == 0xA011);
+    CHECK(peer_config(it, 0x72, 2) == 63 && peer_config(it, 0x74, 4) == 4 && peer_config(it, 0x78, 4) == 0x2004);
+    CHECK(peer_config(it, 0xA0, 2) == 0x0010 && peer_config(it, 0xFFF, 1) == 0);
+}
+
+static void bad_accesses(struct peer *it)
+{
+    static const struct vfu_access accesses[] = {
+        {0x20000, 0, 4}, {0x1FFFD, 0, 4},    {UINT64_MAX, 0, 4}, {UINT64_MAX - 3, 0, 4}, {0, 0, 0},
+        {0, 0, 4097},    {0, 0, UINT32_MAX}, {0, 1, 4},          {0x3FFD, 4, 4},         {4096, 7, 1},
+        {0, 8, 4},       {0, 9, 4},          {0, UINT32_MAX, 4},
+    };
+    uint8_t reply[64];
+    for (size_t i = 0; i < sizeof accesses / sizeof *accesses; i++) {
+        CHECK(peer_ask(it, VFU_REGION_READ, &accesses[i], sizeof *accesses, NULL, 0, reply, sizeof reply) == EINVAL);
+        CHECK(peer_ask(it, VFU_REGION_WRITE, &accesses[i], sizeof *accesses, NULL, 0, reply, sizeof reply) == EINVAL);
+    }
+    struct vfu_writes many = {3};
+    CHECK(peer_ask(it, VFU_REGION_WRITE_MULTI, &many, sizeof many, NULL, 0, reply, sizeof reply) == EINVAL);
+    CHECK(peer_ask(it, VFU_DMA_READ, reply, 32, NULL, 0, reply, sizeof reply) == ENOTSUP);
+    CHECK(peer_ask(it, 999, reply, 32, NULL, 0, reply, sizeof reply) == ENOTSUP);
+    CHECK(peer_ask(it, VFU_DMA_MAP, reply, 31, NULL, 0, reply, sizeof reply) == EINVAL);
+    /* registers have four bytes: a read of another size gives ones */
+    struct vfu_access odd = {NIC_STATUS + 1, 0, 2};
+    CHECK(peer_ask(it, VFU_REGION_READ, &odd, sizeof odd, NULL, 0, reply, sizeof reply) == 0);
+    CHECK(reply[16] == 0xFF && reply[17] == 0xFF);
+}
+
+static void map_memory(struct peer *it)
+{
+    CHECK(peer_map(it, RAM, RAM_BYTES, 0, 3, -1) == EINVAL); /* writable, and no file */
+    CHECK(peer_map(it, 0xFFFC0000, 0x40000, 0, 1, -1) == 0); /* a ROM */
+    CHECK(peer_map(it, RAM, RAM_BYTES + PAGE, 0, 3, ram_file) == EINVAL);
+    CHECK(peer_map(it, RAM, RAM_BYTES, PAGE, 3, ram_file) == EINVAL);
+    CHECK(peer_map(it, RAM + 4, PAGE, 0, 3, ram_file) == EINVAL);
+    CHECK(peer_map(it, RAM, 100, 0, 3, ram_file) == EINVAL);
+    CHECK(peer_map(it, UINT64_MAX - PAGE + 1, 2 * PAGE, 0, 3, ram_file) == EINVAL);
+    CHECK(peer_map(it, RAM, RAM_BYTES, 0, 3, it->file) == EINVAL); /* a socket */
+    CHECK(peer_map(it, RAM, RAM_BYTES, 0, 3, ram_file) == 0);
+    CHECK(peer_map(it, RAM, PAGE, 0, 3, ram_file) == EEXIST);
+    CHECK(peer_map(it, RAM + RAM_BYTES - PAGE, 2 * PAGE, 0, 3, ram_file) == EEXIST);
+    /* as the firmware has RAM mapped in pieces anew */
+    CHECK(peer_unmap(it, RAM, PAGE) == EINVAL && peer_unmap(it, RAM - PAGE, RAM_BYTES + 2 * PAGE) == 0);
+    CHECK(peer_map(it, RAM, 3 * PAGE, 0, 3, ram_file) == 0);
+    CHECK(peer_map(it, RAM + 3 * PAGE, RAM_BYTES - 3 * PAGE, 3 * PAGE, 3, ram_file) == 0);
+}
+
+/* ---- and what a driver does ---- */
+
+static void start_queues(struct peer *it)
+{
+    peer_write(it, NIC_RDBAL(0), RAM + RX_RING);
+    peer_write(it, NIC_RDBAH(0), 0);
+    peer_write(it, NIC_RDLEN(0), SLOTS * 16);
+    peer_write(it, NIC_SRRCTL(0), NIC_SRRCTL_DESCTYPE_IS(1) | NIC_SRRCTL_BSIZEPACKET_IS(2));
+    peer_write(it, NIC_TDBAL(0), RAM + TX_RING);
+    peer_write(it, NIC_TDLEN(0), SLOTS * 16);
+    peer_write(it, NIC_RXCTRL, NIC_RXCTRL_RXEN);
+    peer_write(it, NIC_DMATXCTL, NIC_DMATXCTL_TE);
+    peer_write(it, NIC_RXDCTL(0), NIC_RXDCTL_ENABLE);
+    peer_write(it, NIC_TXDCTL(0), NIC_TXDCTL_ENABLE);
+    CHECK(peer_read(it, NIC_RXDCTL(0)) & NIC_RXDCTL_ENABLE && peer_read(it, NIC_TXDCTL(0)) & NIC_TXDCTL_ENABLE);
+    CHECK(peer_read(it, NIC_RDBAL(0)) == RAM + RX_RING && peer_read(it, NIC_TDBAL(0)) == RAM + TX_RING);
+    for (uint32_t slot = 0; slot < SLOTS; slot++) {
+        put64(RX_RING + 16 * slot, RAM + BUFFERS + BUFFER * slot);
+        put64(RX_RING + 16 * slot + 8, 0);
+    }
+    peer_write(it, NIC_RDT(0), SLOTS - 1);
+}
+
+static void start_interrupts(struct peer *it, int event)
+{
+    int files[1] = {event};
+    peer_set_config(it, 0x72, 2, 0x8000);
+    CHECK(peer_vectors(it, 0, 1, NULL, 0) == 0);
+    CHECK(peer_vectors(it, 0, 1, files, 1) == 0);
+    CHECK(peer_vectors(it, 63, 2, files, 1) == EINVAL && peer_vectors(it, UINT32_MAX, 2, files, 1) == EINVAL);
+    CHECK(peer_vectors(it, 1, 1, &ram_file, 1) == EINVAL); /* no eventfd */
+    peer_write(it, NIC_IVAR(0), 0x80);
+    peer_write(it, NIC_EIMS, 1);
+}
+
+static void make_arp(uint8_t *frame)
+{
+    static const uint8_t head[] = {0xFF, 0xFF, 0xFF, 0xFF, 0xFF, 0xFF, 2, 0, 0, 0, 0x82, 0x99, 8,    6,
+                                   0,    1,    8,    0,    6,    4,    0, 1, 2, 0, 0,    0,    0x82, 0x99,
+                                   10,   0,    0,    2,    0,    0,    0, 0, 0, 0, 10,   0,    0,    1};
+    memset(frame, 0, ARP_BYTES);
+    memcpy(frame, head, sizeof head);
+}
+
+/* An ARP request in two buffers goes out, the reply comes in, and its interrupt. */
+static void pass_one(struct peer *it, uint32_t slot, int event)
+{
+    uint64_t told;
+    struct pollfd poll_for = {event, POLLIN, 0};
+    make_arp(ram + FRAME);
+    put64(TX_RING + 32 * slot, RAM + FRAME);
+    put64(TX_RING + 32 * slot + 8, NIC_TXD_DATA | NIC_TXD_DTALEN_IS(20));
+    put64(TX_RING + 32 * slot + 16, RAM + FRAME + 20);
+    put64(TX_RING + 32 * slot + 24, NIC_TXD_DATA | NIC_TXD_DTALEN_IS(40) | NIC_TXD_EOP | NIC_TXD_RS);
+    peer_write(it, NIC_TDT(0), 2 * slot + 2);
+    wait_for(TX_RING + 32 * slot + 24, NIC_TXWB_DD);
+    CHECK(!(get64(TX_RING + 32 * slot + 8) & NIC_TXWB_DD)); /* without RS nothing is written back */
+    wait_for(RX_RING + 16 * slot + 8, NIC_RXWB_DD);
+    uint64_t status = get64(RX_RING + 16 * slot + 8);
+    const uint8_t *frame = ram + BUFFERS + BUFFER * slot;
+    CHECK(status & NIC_RXWB_EOP && (status & NIC_RXWB_PKT_LEN) >> NIC_RXWB_PKT_LEN_SHIFT == ARP_BYTES);
+    CHECK(memcmp(frame, ram + FRAME + 6, 6) == 0 && frame[21] == 2 && memcmp(frame + 28, ram + FRAME + 38, 4) == 0);
+    CHECK(peer_read(it, NIC_RDH(0)) == slot + 1);
+    CHECK(poll(&poll_for, 1, 3000) == 1 && read(event, &told, sizeof told) == sizeof told && told >= 1);
+    peer_read(it, NIC_EICR);
+    peer_write(it, NIC_EIMS, 1);
+}
+
+/* What a driver did wrong is refused, and the card goes on after a reset. */
+static void lose_descriptors(struct peer *it)
+{
+    peer_write(it, NIC_TDT(0), 1000);
+    CHECK(!(peer_read(it, NIC_TXDCTL(0)) & NIC_TXDCTL_ENABLE));
+    peer_write(it, NIC_CTRL, NIC_CTRL_RST);
+    CHECK(peer_read(it, NIC_RDBAL(0)) == 0 && peer_read(it, NIC_RDLEN(0)) == 0);
+}
+
+/* A driver's run, with `event` for vector 0. */
+static void drive(struct peer *it, int event)
+{
+    start_interrupts(it, event);
+    for (int time = 0; time < 2; time++) {
+        start_queues(it);
+        peer_write(it, NIC_IVAR(0), 0x80);
+        peer_write(it, NIC_EIMS, 1);
+        for (uint32_t slot = 0; slot < 20; slot++)
+            pass_one(it, slot, event);
+        lose_descriptors(it);
+    }
+}
+
+static void sriov_is_hidden_until_reset(struct peer *it)
+{
+    CHECK(peer_config(it, 0x100, 4) == 0 && peer_config(it, 0xFE, 4) == 0);
+    CHECK(peer_ask(it, VFU_DEVICE_RESET, NULL, 0, NULL, 0, NULL, 0) == 0);
+    CHECK(peer_config(it, 0x100, 4) == 0x00010010 && peer_config(it, 0x10E, 2) == 2);
+    peer_set_config(it, 0x124, 4, UINT32_MAX);
+    CHECK(peer_config(it, 0x124, 4) == 0xFFFFC00C);
+    peer_set_config(it, 0xA8, 2, 0x8000); /* function level reset, which reads 0 */
+    CHECK(peer_config(it, 0xA8, 2) == 0);
+}
+
+static void as_qemu_does(const char *path)
+{
+    struct peer peer;
+    int event = eventfd(0, EFD_CLOEXEC | EFD_NONBLOCK);
+    uint8_t reply[64];
+    peer_open(&peer, path);
+    CHECK(peer_ask(&peer, VFU_DEVICE_RESET, NULL, 0, NULL, 0, reply, sizeof reply) == EPROTO);
+    CHECK(peer_version(&peer) == 0);
+    look_at_device(&peer);
+    look_at_config(&peer);
+    bad_accesses(&peer);
+    map_memory(&peer);
+    sriov_is_hidden_until_reset(&peer);
+    drive(&peer, event);
+    peer_close(&peer);
+    close(event);
+}
+
+/* ---- clients that do what none should ---- */
+
+static void in_pieces(const char *path)
+{
+    struct peer peer;
+    struct {
+        struct vfu_header head;
+        struct vfu_access access;
+    } message = {{7, VFU_REGION_READ, sizeof message, 0, 0}, {NIC_STATUS, 0, 4}};
+    uint8_t reply[64];
+    peer_open(&peer, path);
+    CHECK(peer_version(&peer) == 0);
+    for (size_t i = 0; i < sizeof message; i++) {
+        CHECK(send(peer.file, (uint8_t *)&message + i, 1, 0) == 1);
+        usleep(200);
+    }
+    CHECK(peer_reply(&peer, 7, reply, sizeof reply) == 0);
+    /* files with the first piece of their message, and another message behind the last one */
+    struct {
+        struct vfu_header head;
+        struct vfu_dma_map map;
+    } map = {{8, VFU_DMA_MAP, sizeof map, 0, 0}, {sizeof map.map, 3, 0, RAM, RAM_BYTES}};
+    struct iovec part = {&map, 20};
+    union {
+        struct cmsghdr aligned;
+        char room[CMSG_SPACE(sizeof(int))];
+    } control = {{0}};
+    struct msghdr head = {
+        .msg_iov = &part, .msg_iovlen = 1, .msg_control = control.room, .msg_controllen = sizeof control.room};
+    *CMSG_FIRSTHDR(&head) = (struct cmsghdr){CMSG_LEN(sizeof(int)), SOL_SOCKET, SCM_RIGHTS};
+    memcpy(CMSG_DATA(CMSG_FIRSTHDR(&head)), &ram_file, sizeof ram_file);
+    CHECK(sendmsg(peer.file, &head, 0) == 20);
+    usleep(20000);
+    CHECK(send(peer.file, (uint8_t *)&map + 20, sizeof map - 20, 0) == (ssize_t)sizeof map - 20);
+    CHECK(send(peer.file, &message, sizeof message, 0) == (ssize_t)sizeof message);
+    CHECK(peer_reply(&peer, 8, reply, sizeof reply) == 0 && peer_reply(&peer, 7, reply, sizeof reply) == 0);
+    peer_close(&peer);
+}
+
+/* Asks for 40 MB and doesn't read: the server keeps the rest, serves another client, and goes on once this reads. */
+static void without_reading(const char *path, const char *other_path)
+{
+    struct peer peer, other;
+    struct vfu_access access = {0, VFU_CONFIG_REGION, 4096};
+    uint8_t reply[64];
+    unsigned int sent = 0;
+    peer_open(&peer, path);
+    CHECK(peer_version(&peer) == 0);
+    struct {
+        struct vfu_header head;
+        struct vfu_access access;
+    } message = {{0, VFU_REGION_READ, sizeof message, 0, 0}, access};
+    while (sent < 10000 && send(peer.file, &message, sizeof message, MSG_DONTWAIT) == (ssize_t)sizeof message) {
+        message.head.id++;
+        sent++;
+    }
+    CHECK(sent > 100 && sent < 10000);
+    peer_open(&other, other_path);
+    CHECK(peer_version(&other) == 0 && peer_config(&other, 0, 4) == 0x10ED8086);
+    peer_close(&other);
+    for (unsigned int i = 0; i < sent; i++)
+        CHECK(peer_reply(&peer, (uint16_t)i, reply, sizeof reply) == 0);
+    peer_close(&peer);
+}
+
+static bool is_hung_up(const struct peer *it)
+{
+    struct pollfd poll_for = {it->file, POLLIN, 0};
+    uint8_t byte;
+    return poll(&poll_for, 1, 3000) == 1 && recv(it->file, &byte, 1, 0) <= 0;
+}
+
+static void what_is_no_message(const char *path)
+{
+    static const struct vfu_header heads[] = {
+        {1, VFU_REGION_READ, 15, 0, 0}, {1, VFU_REGION_READ, 0, 0, 0},          {1, 1, VFU_MESSAGE_MOST + 1, 0, 0},
+        {1, 1, UINT32_MAX, 0, 0},       {1, VFU_REGION_READ, 16, VFU_REPLY, 0},
+    };
+    struct peer peer, second;
+    for (size_t i = 0; i < sizeof heads / sizeof *heads; i++) {
+        peer_open(&peer, path);
+        CHECK(peer_version(&peer) == 0);
+        CHECK(send(peer.file, &heads[i], sizeof *heads, 0) == (ssize_t)sizeof *heads && is_hung_up(&peer));
+        peer_close(&peer);
+    }
+    peer_open(&peer, path);
+    CHECK(peer_version(&peer) == 0);
+    peer_open(&second, path);
+    CHECK(is_hung_up(&second)); /* there is a client */
+    peer_close(&second);
+    CHECK(peer_config(&peer, 0, 2) == 0x8086);
+    peer_close(&peer);
+}
+
+/* The file that the device's rings and buffers are in is cut behind the server's back. */
+static void with_a_cut_file(const char *path)
+{
+    struct peer peer;
+    peer_open(&peer, path);
+    CHECK(peer_version(&peer) == 0 && peer_map(&peer, RAM, RAM_BYTES, 0, 3, ram_file) == 0);
+    start_queues(&peer);
+    make_arp(ram + FRAME);
+    put64(TX_RING, RAM + FRAME);
+    put64(TX_RING + 8, NIC_TXD_DATA | NIC_TXD_DTALEN_IS(ARP_BYTES) | NIC_TXD_EOP | NIC_TXD_RS);
+    CHECK(ftruncate(ram_file, 0) == 0);
+    peer_write(&peer, NIC_TDT(0), 1);
+    peer_read(&peer, NIC_TDH(0));
+    CHECK(peer_config(&peer, 0, 2) == 0x8086);
+    peer_close(&peer);
+}
+
+int main(void)
+{
+    static const char *const words[] = {"--functions=2", NULL};
+    char function_path[120];
+    make_ram();
+    const char *path = server_start(words);
+    snprintf(function_path, sizeof function_path, "%s.vf1", path);
+    as_qemu_does(path);
+    as_qemu_does(path); /* the next one finds the card as the first did */
+    in_pieces(path);
+    without_reading(path, function_path);
+    what_is_no_message(path);
+    with_a_cut_file(path);
+    server_stop();
+    CHECK(access(path, F_OK) != 0);
+    printf("client: passed\n");
+    return 0;
+}

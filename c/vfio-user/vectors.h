@@ -1,0 +1,28 @@
+/* The MSI-X vectors of a function: the eventfd by which each is told to its client, and which messages wait for one. */
+#ifndef VFU_VECTORS_H
+#define VFU_VECTORS_H
+
+#include <stdbool.h>
+#include <stdint.h>
+
+#define VECTORS_MOST 64
+
+struct vectors {
+    unsigned int count;
+    int files[VECTORS_MOST]; /* -1: none */
+    uint64_t pending;        /* bit v: a message of vector v waits */
+    uint64_t sent[VECTORS_MOST];
+};
+
+void vectors_begin(struct vectors *it, unsigned int count);
+/* Closes all files; messages that wait are forgotten. */
+void vectors_clear(struct vectors *it);
+/* Gives a vector a file, which is the vectors' from now on, or (-1) takes it away. False, and the file is still the
+   caller's, where it is no eventfd. */
+bool vectors_set(struct vectors *it, unsigned int vector, int file);
+/* Sends a message, or has it wait until its vector has a file. */
+void vectors_raise(struct vectors *it, unsigned int vector);
+/* Sends what waits and can be sent. */
+void vectors_flush(struct vectors *it);
+
+#endif

@@ -1,0 +1,23 @@
+/* Frames with numbers from 1 on (frames.h) that come in any order: which have come, each byte compared. */
+#ifndef DRIVERS_NUMBERED_H
+#define DRIVERS_NUMBERED_H
+
+#include <stdbool.h>
+#include <stddef.h>
+#include <stdint.h>
+
+struct numbered {
+    unsigned int count, good, twice, wrong; /* wrong: frames that are none of these */
+    uint64_t *prints;                       /* of each frame, by number - 1 */
+    uint32_t *places;                       /* numbers by print, 0: none */
+    bool *has_come;
+    uint32_t room;
+};
+
+/* Makes the frames of these numbers once, of FRAME_MIN to `most` bytes: false where memory is short. */
+bool numbered_begin(struct numbered *it, unsigned int count, uint16_t most, const uint8_t to[6], const uint8_t from[6]);
+void numbered_end(struct numbered *it);
+/* A frame has come. */
+void numbered_take(struct numbered *it, const uint8_t *bytes, size_t length);
+
+#endif

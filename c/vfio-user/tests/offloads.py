@@ -1,0 +1,202 @@
+#!/usr/bin/env python3
+"""Compares the server's offloads with a second implementation: offloads.py PROGRAM SEED COUNT.
+
+Packets by chance, each with the descriptors that a driver gives the card for it, go through PROGRAM (offloads.c). What
+comes out is compared with frames that are made here, byte by byte: IPv4 and IPv6, with options and extension headers,
+TCP, UDP and SCTP, checksums, large sends, VLAN tags, legacy descriptors.
+"""
+
+from __future__ import annotations
+
+import random
+import struct
+import subprocess
+import sys
+from dataclasses import dataclass
+
+EOP, RS, DEXT, VLE, TSE = 1 << 24, 1 << 27, 1 << 29, 1 << 30, 1 << 31
+DATA, CONTEXT, INSERT_SUM = 3 << 20, 2 << 20, 1 << 26
+UDP, TCP, SCTP = 17, 6, 132
+TYPES = {UDP: 0, TCP: 1, SCTP: 2}
+
+
+def checksum(data: bytes) -> int:
+    """The Internet's checksum: the complement of the sum of 16-bit words, with the carries added."""
+    words = struct.unpack(f">{(len(data) + 1) // 2}H", data + bytes(len(data) % 2))
+    total = sum(words) % 0xFFFF
+    return 0xFFFF - (total or (0xFFFF if any(words) else 0))
+
+
+def crc32c(data: bytes) -> int:
+    crc = 0xFFFFFFFF
+    for byte in data:
+        crc ^= byte
+        for _ in range(8):
+            crc = crc >> 1 ^ (0x82F63B78 if crc & 1 else 0)
+    return crc ^ 0xFFFFFFFF
+
+
+@dataclass
+class Packet:
+    """A packet before it is checksummed or cut."""
+
+    ethernet: bytes
+    is_ipv4: bool
+    options: bytes  # of IPv4, or extension headers
+    protocol: int
+    addresses: bytes
+    identification: int
+    l4: bytes  # its header, with zeros for length and checksum
+    payload: bytes
+
+    def ip(self, l4_bytes: int, number: int, summed: bool) -> bytes:
+        if not self.is_ipv4:
+            head = struct.pack(">IHBB", 0x60012345, len(self.options) + l4_bytes, self.protocol, 64)
+            return head + self.addresses + self.options
+        all_bytes = 20 + len(self.options) + l4_bytes
+        words = (0x40 | 5 + len(self.options) // 4, 0, all_bytes, (self.identification + number) & 0xFFFF, 0x4000, 64)
+        head = bytearray(struct.pack(">BBHHHBBH", *words, self.protocol, 0) + self.addresses + self.options)
+        if summed:
+            struct.pack_into(">H", head, 10, checksum(bytes(head)))
+        return bytes(head)
+
+    def pseudo(self, l4_bytes: int) -> bytes:
+        return self.addresses + struct.pack(">II", l4_bytes, self.protocol)
+
+    def segment(self, payload: bytes, offset: int, is_first: bool, is_last: bool) -> bytes:
+        """The header and bytes of layer 4, checksummed."""
+        head, length = bytearray(self.l4), len(self.l4) + len(payload)
+        if self.protocol == TCP:
+            sequence = (struct.unpack_from(">I", head, 4)[0] + offset) & 0xFFFFFFFF
+            struct.pack_into(">I", head, 4, sequence)
+            head[13] &= 0xFF if is_last else 0xF6
+            head[13] &= 0xFF if is_first else 0x7F
+        if self.protocol == UDP:
+            struct.pack_into(">H", head, 4, length)
+        data = bytes(head) + payload
+        if self.protocol == SCTP:
+            return data[:8] + struct.pack("<I", crc32c(data)) + data[12:]
+        at = 16 if self.protocol == TCP else 6
+        value = checksum(self.pseudo(length) + data)
+        if self.protocol == UDP and value == 0:
+            value = 0xFFFF
+        return data[:at] + struct.pack(">H", value) + data[at + 2 :]
+
+    def frames(self, mss: int, tag: int | None) -> list[bytes]:
+        """The frames that are to go out; mss 0: one."""
+        step, found = mss or max(1, len(self.payload)), []
+        for number, offset in enumerate(range(0, max(1, len(self.payload)), step)):
+            part = self.payload[offset : offset + step]
+            is_last = offset + step >= len(self.payload)
+            data = self.segment(part, offset, number == 0, is_last)
+            frame = self.ethernet + self.ip(len(data), number, True) + data
+            found.append(frame if tag is None else frame[:12] + struct.pack(">HH", 0x8100, tag) + frame[12:])
+        return found
+
+    def as_given(self, is_large: bool) -> bytes:
+        """The bytes that a driver gives: no IP checksum, and the pseudo header's sum, without a length if it is large."""
+        length = len(self.l4) + len(self.payload)
+        head = bytearray(self.l4)
+        if self.protocol == UDP:
+            struct.pack_into(">H", head, 4, length)
+        if self.protocol != SCTP:
+            partial = 0xFFFF - checksum(self.pseudo(0 if is_large else length))
+            struct.pack_into(">H", head, 16 if self.protocol == TCP else 6, partial)
+        return self.ethernet + self.ip(length, 0, False) + bytes(head) + self.payload
+
+
+def some_packet(chance: random.Random, is_large: bool) -> Packet:
+    is_ipv4 = chance.random() < 0.5
+    protocol = TCP if is_large else chance.choice([TCP, UDP, SCTP])
+    mac = chance.randbytes(12)
+    tagged = b"\x81\x00" + chance.randbytes(2) if chance.random() < 0.2 else b""
+    options = chance.randbytes(4 * chance.randrange(11)) if is_ipv4 else b""
+    if not is_ipv4 and chance.random() < 0.3:
+        options = bytes([protocol, 0]) + chance.randbytes(6)
+    l4 = bytearray(chance.randbytes({TCP: 20 + 4 * chance.randrange(11), UDP: 8, SCTP: 12}[protocol]))
+    if protocol == TCP:
+        l4[12] = len(l4) // 4 << 4
+        l4[16:18] = b"\0\0"
+    elif protocol == UDP:
+        l4[4:8] = b"\0\0\0\0"
+    else:
+        l4[8:12] = b"\0\0\0\0"
+    most = 60000 if is_large else 1300
+    ethernet = mac + tagged + (b"\x08\x00" if is_ipv4 else b"\x86\xdd")
+    payload = chance.randbytes(chance.randrange(1 if is_large else 0, most))
+    addresses = chance.randbytes(8 if is_ipv4 else 32)
+    return Packet(ethernet, is_ipv4, options, protocol, addresses, chance.getrandbits(16), bytes(l4), payload)
+
+
+def pieces(chance: random.Random, data: bytes, least: int) -> list[bytes]:
+    """Bytes in as many descriptors as it likes; the first has `least` at least."""
+    found, at = [], 0
+    while at < len(data):
+        size = max(least if at == 0 else 1, chance.randrange(1, 16384))
+        found.append(data[at : at + size])
+        at += size
+    return found
+
+
+def advanced(chance: random.Random) -> tuple[list[str], list[bytes]]:
+    """Descriptors as Linux's driver makes them, and the frames."""
+    is_large = chance.random() < 0.4
+    packet = some_packet(chance, is_large)
+    tag = chance.getrandbits(16) if chance.random() < 0.3 else None
+    index, mss = chance.randrange(2), chance.randrange(200, 9000) if is_large else 0
+    ip_bytes = (20 if packet.is_ipv4 else 40) + len(packet.options)
+    first = ip_bytes | len(packet.ethernet) << 9 | (tag or 0) << 16
+    second = CONTEXT | DEXT | (packet.is_ipv4 and is_large) << 10 | TYPES[packet.protocol] << 11 | index << 36
+    second |= len(packet.l4) << 40 | mss << 48 if is_large else 0
+    lines = [f"context {first:x} {second:x}"]
+    common = DATA | DEXT | index << 36 | (VLE if tag is not None else 0) | (TSE if is_large else 0)
+    common |= (2 | (1 if packet.is_ipv4 else 0)) << 40
+    given = packet.as_given(is_large)
+    parts = pieces(chance, given, len(given) - len(packet.payload) if is_large else 1)
+    for number, part in enumerate(parts):
+        end = EOP | RS if number == len(parts) - 1 else 0
+        lines.append(f"data {common | end | len(part):x} 0 {part.hex()}")
+    return lines, packet.frames(mss, tag)
+
+
+def legacy(chance: random.Random) -> tuple[list[str], list[bytes]]:
+    """A legacy descriptor with a checksum and a tag, or neither."""
+    frame = bytearray(chance.randbytes(chance.randrange(60, 1514)))
+    second = EOP | RS | len(frame)
+    wanted = bytearray(frame)
+    if chance.random() < 0.6:
+        start, at = chance.randrange(14, 40), chance.randrange(14, 56)
+        second |= INSERT_SUM | start << 40 | at << 16
+        struct.pack_into(">H", wanted, at, checksum(bytes(frame[start:])))
+    if chance.random() < 0.5:
+        tag = chance.getrandbits(16)
+        second |= VLE | tag << 48
+        wanted[12:12] = struct.pack(">HH", 0x8100, tag)
+    return [f"data {second:x} 1 {frame.hex()}"], [bytes(wanted)]
+
+
+def plain(chance: random.Random) -> tuple[list[str], list[bytes]]:
+    """A frame for which nothing is asked."""
+    frame = chance.randbytes(chance.randrange(60, 1514))
+    return [f"data {DATA | DEXT | EOP | len(frame):x} 0 {frame.hex()}"], [frame]
+
+
+def main(words: list[str]) -> int:
+    program, seed, count = words[0], int(words[1]), int(words[2])
+    chance, lines, wanted = random.Random(seed), [], []
+    for _ in range(count):
+        made, frames = chance.choice([advanced, advanced, advanced, legacy, plain])(chance)
+        lines += made
+        wanted += [*(frame.hex() for frame in frames), "."]
+    ran = subprocess.run([program], input="\n".join(lines) + "\n", capture_output=True, text=True, check=False)
+    got = ran.stdout.split()
+    for number, (left, right) in enumerate(zip(got + ["(the end)"], wanted + ["(the end)"])):
+        if left != right:
+            print(f"offloads: line {number}:\n  {left}\nand not\n  {right}\n{ran.stderr}")
+            return 1
+    print(f"offloads: {len(wanted) - count} frames of {count} packets, each byte")
+    return ran.returncode
+
+
+if __name__ == "__main__":
+    sys.exit(main(sys.argv[1:]))

@@ -300,11 +300,11 @@ uint8_t nic_next_step(nic *n, nic_settling *where, nic_told *told);
 
 /* --- why nothing happens --- */
 
-/* What is in the way of what waits, in lines of text that end with '\n': of each frame that waits, each queue that isn't
-   at rest, each cause that has no message, and a read of the EEPROM. A line names registers and bits with their values,
-   as tools/niclint --trace does: "rx 3: RDH[3] 0, RDT[3] 0: head and tail meet, no slot is the device's until the driver
-   moves the tail". No text: nothing waits. What was dropped or sent waits no more; a queue that a fault switched off has
-   its reason as long as the slot is there.
+/* What is in the way of what waits, in lines of text that end with '\n': of each frame that waits, each queue that
+   isn't at rest, each cause that has no message, and a read of the EEPROM. A line names registers and bits with their
+   values, as tools/niclint --trace does: "rx 3: RDH[3] 0, RDT[3] 0: head and tail meet, no slot is the device's until
+   the driver moves the tail". No text: nothing waits. What was dropped or sent waits no more; a queue that a fault
+   switched off has its reason as long as the slot is there.
    As snprintf it writes at most `size` bytes with the 0 behind them, and returns how long the whole text is without it;
    a line that has no room as a whole isn't written, and none after it. `size` may be 0.
    Nothing changes. Registers don't show which frames wait, what was asked of a queue, and what was told: this is found

@@ -1,5 +1,5 @@
-/* nic_next_step beside nic_settle: by chance the same events in the same order and the same recording, and a driver that
-   acts between two steps. `steps RECORDING` leaves two recordings, RECORDING and RECORDING.2. */
+/* nic_next_step beside nic_settle: by chance the same events in the same order and the same recording, and a driver
+   that acts between two steps. `steps RECORDING` leaves two recordings, RECORDING and RECORDING.2. */
 #include <string.h>
 
 #include "check.h"

@@ -1,5 +1,5 @@
-/* What registers don't show of a controller: which frames wait and for which queues, which sides of queues were asked to
-   be on, and which causes no message has told. All of it is seen by what a copy of the controller does. */
+/* What registers don't show of a controller: which frames wait and for which queues, which sides of queues were asked
+   to be on, and which causes no message has told. All of it is seen by what a copy of the controller does. */
 #include <string.h>
 
 #include "why.h"
@@ -60,8 +60,8 @@ static void arm(nic *copy, uint16_t queue)
     nicd_write32(copy, NIC_RDT(queue), UINT16_MAX);
 }
 
-/* For which queues frames wait: with a tail that is no slot of its ring each receive step ends in a fault that names the
-   queue, which goes off then, and the frame is gone. */
+/* For which queues frames wait: with a tail that is no slot of its ring each receive step ends in a fault that names
+   the queue, which goes off then, and the frame is gone. */
 static void look_at_frames(nic *copy, struct nicd_inside *inside)
 {
     nic_told told;

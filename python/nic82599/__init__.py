@@ -8,8 +8,8 @@
 
 A `Nic` is a controller as after power-up. Registers go by the names of docs/REGISTERS.md or by address, packet memory
 by bus address (`nic.memory[0x800:0x83c]`). Frames come in by `arrive` and out by `collect`. The device acts in steps:
-`settle` makes all that have something to do, and `why` says why nothing happens. A refused call raises an exception with
-the refusal's name, and leaves the device unchanged. What the device reports is a small dataclass.
+`settle` makes all that have something to do, and `why` says why nothing happens. A refused call raises an exception
+with the refusal's name, and leaves the device unchanged. What the device reports is a small dataclass.
 
 The library is looked for in this order: where the variable NIC82599_LIBRARY says; beside this file; in c/out of the
 clone, where `make -C c` puts it; in the system. Calls hold the interpreter's lock, so the calls of several threads come

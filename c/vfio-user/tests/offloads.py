@@ -94,7 +94,7 @@ class Packet:
         return found
 
     def as_given(self, is_large: bool) -> bytes:
-        """The bytes that a driver gives: no IP checksum, and the pseudo header's sum, of a large one without a length."""
+        """The bytes that a driver gives: no IP checksum, and the pseudo header's sum, without a length if large."""
         length = len(self.l4) + len(self.payload)
         head = bytearray(self.l4)
         if self.protocol == UDP:

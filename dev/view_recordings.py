@@ -10,6 +10,7 @@ from pathlib import Path
 import nic82599
 from nic82599 import places
 from nic82599.tools.library import Place, played
+from nic82599.tools.page import Data
 from nic82599.tools.recording import of_recording
 from nic82599.tools.regs import REGISTERS
 from nic82599.tools.run import Run, of_script
@@ -311,6 +312,35 @@ def check_history(folder: Path, expect: Expect) -> None:
     check_tool(["nicview", ROOT / "examples/first.nic", "--script"], "", 2, ["is no recording"], expect)
 
 
+def cut_recording(folder: Path) -> Path:
+    """A recording that sets up a cause's vector and a queue's cause long before its last events."""
+    file = folder / "cut.recording"
+    nic82599.record(file)
+    with nic82599.Nic() as nic:
+        nic["GPIE"], nic["IVAR_MISC"], nic["IVAR[1]"], nic["EIMS"] = 0x10, 0x8200, 0x83, 1 << 20
+        nic["RDLEN[2]"] = 128
+        for _ in range(5):
+            nic.read32(0x00008)
+        nic.link(False)
+        nic.int_step()
+    nic82599.record(None)
+    return file
+
+
+def check_cut(folder: Path, expect: Expect) -> None:
+    """The page of a recording's end begins with the routes, vectors and groups of interrupts as they were."""
+    run = of_recording(str(cut_recording(folder)), 2)
+    data = Data(run).whole()
+    routes, vectors = data["routes"]
+    told = [data["texts"][number] for number in routes]
+    expect(told == ["rx 2 raises cause 3 of pf (IVAR[1] INT_Alloc[0])"], f"a cut recording: routes {told}")
+    expect(vectors == [2, None], f"a cut recording: vectors {vectors}")
+    expect([group["name"] for group in data["groups"]] == ["pf"], "a cut recording: no group of interrupts")
+    expect(run.steps[-1].reply == "message pf vector 2", f"a cut recording: {run.steps[-1]}")
+    quiet = Data(of_recording(str(folder / "cut.recording"), 1)).whole()
+    expect(len(quiet["groups"]) == 1, "a cut recording in which no group changes: no group of interrupts")
+
+
 def check_place(script: Path, vfs: int | None, chance: random.Random, expect: Expect) -> None:
     """What the debugger says of a recording's steps is what nicbench's says of a script."""
     bench = Bench(vfs)
@@ -355,6 +385,6 @@ def check_recordings(scripts: dict[Path, int | None], folder: Path, seed: int, e
     check_ends(folder, expect)
     check_refused(folder, expect)
     check_restored(folder, expect)
-    for check in (check_long, check_lent, check_no_bytes, check_history):
+    for check in (check_long, check_lent, check_no_bytes, check_history, check_cut):
         check(folder, expect)
     print(f"{len(scripts)} scripts, recorded, with seed {seed}")

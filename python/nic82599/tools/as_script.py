@@ -10,8 +10,8 @@ from __future__ import annotations
 from dataclasses import dataclass, field
 from pathlib import Path
 
-from .recording import BAD, Recording, bytes_of, parts
-from .script import Bench, Fault
+from .recording import Recording, parts
+from .script import Bench, Op
 
 INSTRUCTIONS, STRINGS, LONGEST, BLOCKS = 4_096, 1_024, 16_384, 256
 COLUMN = 28
@@ -21,14 +21,12 @@ class End(Exception):
     """No script can say a line: why."""
 
 
-@dataclass
-class Line:
-    """A line that counts, with its number in the file, and the one before it."""
+@dataclass(frozen=True)
+class Past:
+    """An event by its number, and the one before it."""
 
-    number: int
-    words: list[str]
-    reply: str
-    before: Line | None
+    event: int
+    before: Past | None
 
 
 @dataclass
@@ -67,16 +65,16 @@ class Made:
             del self.instructions[count:]
 
 
-def _history(recording: Recording, made: Made) -> list[Line]:
-    """The lines that lead to the end: what a restored snapshot took back is left out."""
-    here: Line | None = None
-    kept: dict[str, Line | None] = {}
-    for number, line in enumerate(recording.lines[1:], 2):
-        words, reply = parts(line)
-        if words:
-            here = Line(number, words, reply, here)
-            continue
-        match line[3:].split() if line.startswith("#: ") else []:
+def _history(recording: Recording, made: Made) -> list[int]:
+    """The events that lead to the end, by their numbers: what a restored snapshot took back is left out."""
+    here: Past | None = None
+    kept: dict[str, Past | None] = {}
+    at = 0
+    for number, words in [*recording.directives, (len(recording.lines), [])]:
+        while at < len(recording.line_of) and recording.line_of[at] <= number:
+            here = Past(at, here)
+            at += 1
+        match words:
             case ["snapshot", name]:
                 kept[name] = here
             case ["restore", name] if name in kept:
@@ -87,28 +85,27 @@ def _history(recording: Recording, made: Made) -> list[Line]:
             case [("image" | "text"), *_]:
                 made.end(number, "a script can't install an EEPROM image")
                 break
-    lines = []
+    events = []
     while here is not None:
-        lines.append(here)
+        events.append(here.event)
         here = here.before
-    return lines[::-1]
+    return events[::-1]
 
 
-def _add(made: Made, line: Line, strings: dict[str, bytes]) -> None:
-    """Adds a line; End."""
-    words = line.words
-    if words[0] == "data":
-        strings[words[1]] = bytes_of(words, line.reply)
-    elif words[0] == "lend" and line.reply == "done":
-        first, last = int(words[1]), int(words[-1])
+def _add(made: Made, recording: Recording, event: int) -> None:
+    """Adds the lines of an event; End."""
+    one, reply, number = recording.instructions[event], recording.replies[event], recording.line_of[event]
+    if one.op == Op.LEND and reply == "done":
+        first, last = one.blocks[0], one.blocks[-1]
         for block in range(first, min(last, BLOCKS - 1) + 1):
-            made.add(f"lend {block}", line.reply, line.number)
+            made.add(f"lend {block}", reply, number)
         if last >= BLOCKS:
             made.lines.append(f"# left out: lend {max(first, BLOCKS)} to {last}, since nicbench has {BLOCKS} blocks")
-    elif words[0] in ("poke", "arrive"):
-        made.add(" ".join([*words[:-1], made.name(strings[words[-1]])]), line.reply, line.number)
-    else:
-        made.add(" ".join(words), line.reply, line.number)
+        return
+    text, *_ = parts(recording.lines[number - 1])
+    if one.op in (Op.POKE, Op.ARRIVE):
+        text = " ".join([*text.split()[:-1], made.name(recording.data[one.x])])
+    made.add(text, reply, number)
 
 
 def _compared(made: Made, bench: Bench) -> None:
@@ -125,16 +122,16 @@ def _compared(made: Made, bench: Bench) -> None:
 
 def script(recording: Recording) -> tuple[str, str]:
     """The script, and why it ends before the recording does, if that is so."""
-    made, strings = Made(), {}
-    for line in _history(recording, made):
+    if recording.bad:
+        raise recording.bad[0]
+    made = Made()
+    for event in _history(recording, made):
         try:
-            _add(made, line, strings)
+            _add(made, recording, event)
         except End as end:
             made.ended = ""
-            made.end(line.number, str(end))
+            made.end(recording.line_of[event], str(end))
             break
-        except BAD as fault:
-            raise Fault(f"{recording.path}:{line.number}: this is no line of a recording ({fault})") from None
     _compared(made, Bench(recording.vfs, recording.fifo))
     name = Path(recording.path).name if recording.path != "-" else "standard input"
     head = f"# a recording as a script: {name}\n"

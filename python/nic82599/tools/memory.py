@@ -7,6 +7,7 @@ Where that doesn't fit into one script, several are run, each from the start up 
 
 from __future__ import annotations
 
+from bisect import bisect_left
 from dataclasses import dataclass, field
 
 from .frames import descriptor
@@ -115,6 +116,11 @@ def _leaves_memory(one: Instruction, step: Step) -> bool:
     return step.reply in UNTOUCHED or step.reply.startswith("stray") or one.op == Op.ARRIVE and step.reply != "done"
 
 
+def _below(steps: list[Step], count: int) -> int:
+    """How many of some steps are below a number."""
+    return bisect_left(steps, count, key=lambda step: step.number)
+
+
 class Replay:
     """Runs of the steps of a trace in their order, with further lines between and behind them."""
 
@@ -173,10 +179,14 @@ class Replay:
         """The steps below a number, without those that leave memory alone where there would be no room; None where
         there is none even so."""
         for steps in (self.steps, self.short):
-            some = [step for step in steps if step.number < count]
-            if len(some) + room <= self.trace.bench.most:
-                return some
+            end = _below(steps, count)
+            if end + room <= self.trace.bench.most:
+                return steps[:end]
         return None
+
+    def has_room(self, count: int, room: int) -> bool:
+        """Whether there are such steps."""
+        return min(_below(steps, count) for steps in (self.steps, self.short)) + room <= self.trace.bench.most
 
 
 class Watch:
@@ -295,7 +305,7 @@ def _ask_memory(trace: Trace, replay: Replay, asked: list[tuple[int, list[int]]]
     runs, at = 0, 0
     while at < len(asked):
         end, room = at, 0
-        while end < len(asked) and replay.up_to(asked[end][0] + 1, room + len(asked[end][1])) is not None:
+        while end < len(asked) and replay.has_room(asked[end][0] + 1, room + len(asked[end][1])):
             room += len(asked[end][1])
             end += 1
         if end == at or runs == RUNS:

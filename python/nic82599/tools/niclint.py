@@ -19,7 +19,7 @@ from collections.abc import Callable
 
 from .advice import Advice
 from .forms import Place, explained
-from .recording import is_recording, of_recording, read, refuse_sizes, whole
+from .recording import is_recording, of_recording, read, refuse_sizes
 from .refusals import MOST, refusals
 from .run import Run, of_trace
 from .script import Bench, Refused, Script, of_text, read_bytes, text_of
@@ -100,12 +100,13 @@ def of_script(asked: argparse.Namespace, raw: bytes) -> int:
 def of_recorded(asked: argparse.Namespace, raw: bytes) -> int:
     """Looks at a recording."""
     refuse_sizes(asked.script, asked.vfs, asked.fifo)
-    script, bad = whole(read(asked.script, raw))
-    for fault in bad:
+    made = read(asked.script, raw)
+    for fault in made.bad:
         print(fault)
-    if bad:
+    if made.bad:
         return 2
-    return lint(asked.script, script, (lambda: of_recording(asked.script, asked.limit, raw)) if asked.trace else None)
+    run = (lambda: of_recording(asked.script, asked.limit, raw)) if asked.trace else None
+    return lint(asked.script, made.script(), run)
 
 
 def main() -> int:

@@ -46,7 +46,7 @@ const isLent = (rows, block) => rows.some(([first, last]) => first <= block && b
 // The machine after n steps.
 function machine(n) {
   const state = {
-    words: new Map(start), memory: new Map(), lent: [], waiting: [], out: [], routes: [], vectors: [null, null],
+    words: new Map(start), memory: new Map(), lent: [], waiting: [], out: [], routes: run.routes,
   };
   const moved = (list, [sign, frames]) =>
     sign === "+" ? list.concat(frames) : list.filter((one) => !frames.includes(one));
@@ -57,8 +57,9 @@ function machine(n) {
     for (const one of more.l || []) state.lent = lentAfter(state.lent, one);
     for (const one of more.w || []) state.waiting = moved(state.waiting, one);
     for (const one of more.o || []) state.out = moved(state.out, one);
-    if (more.r) [state.routes, state.vectors] = [more.r[0].map((text) => run.texts[text]), more.r[1]];
+    if (more.r) state.routes = more.r;
   }
+  [state.routes, state.vectors] = [state.routes[0].map((text) => run.texts[text]), state.routes[1]];
   return state;
 }
 // A register's word after n steps, and the content of 16 bytes of memory, which are found from there backwards.

@@ -12,7 +12,7 @@ from .memory import Frame, Seen
 from .reasons import Reason
 from .regs import REGISTERS, first, queues_of_pool
 from .run import Run
-from .trace import Step, word_of
+from .trace import Step, not_as_reset, word_of
 
 HERE = Path(__file__).resolve().parent
 ROUTES = {"IVAR", "IVAR_MISC", "PVTIVAR", "GCR_EXT"}
@@ -75,15 +75,15 @@ def sides_of(seen: Seen) -> list[dict[str, Any]]:
 
 
 def groups_of(run: Run) -> list[dict[str, Any]]:
-    """The groups of interrupts, with the addresses of their registers and the names of their bits."""
+    """The groups of interrupts in use, with the addresses of their registers and the names of their bits."""
     groups: list[dict[str, Any]] = [
         {"name": "pf", **{key: first(name) for key, name in _GROUP.items()}, "bits": _bit_names("EICR")}
     ]
     for v in range(run.vfs):
         addresses = {key: first("PVT" + name, v) for key, name in _GROUP.items()}
         groups.append({"name": f"vf {v}", **addresses, "bits": _bit_names("PVTEICR")})
-    changed = {address for step in run.steps for address, _, _ in step.changes}
-    return [group for group in groups if changed & {group[key] for key in _GROUP}]
+    used = {address for step in run.steps for address, _, _ in step.changes} | not_as_reset(run.start)
+    return [group for group in groups if used & {group[key] for key in _GROUP}]
 
 
 _GROUP = {"cause": "EICR", "mask": "EIMS", "clear": "EIAC", "auto": "EIAM"}
@@ -150,16 +150,21 @@ class Data:
         if step.ring is not None:
             more["g"] = run.seen.sides.index(step.ring)
         if ROUTES & {REGISTERS[address].row.name for address, _, _ in step.changes}:
-            told = routes(run, self.words, run.seen.sides)
-            more["r"] = [[self.texts.number(text) for text in told], vectors(self.words)]
+            more["r"] = self._routes()
         if step.status != "running":
             more["s"] = step.status
         more = {key: value for key, value in more.items() if value not in ("", [])}
         return [step.pc, self.texts.number(step.reply), step.acc, [[a, new] for a, _, new in step.changes], more]
 
+    def _routes(self) -> list[Any]:
+        """Which cause each side raises, and the vectors, by the registers now."""
+        told = routes(self.run, self.words, self.run.seen.sides)
+        return [[self.texts.number(text) for text in told], vectors(self.words)]
+
     def whole(self) -> dict[str, Any]:
         """All that the page is made of."""
         run = self.run
+        first_routes = self._routes()
         for address, word in run.start.items():
             self._tell(address, word)
         steps = [self._step(step, reasons) for step, reasons in zip(run.steps, run.reasons)]
@@ -173,6 +178,7 @@ class Data:
             "steps": steps,
             "opening": run.opening,
             "start": list(run.start.items()),
+            "routes": first_routes,
             "registers": {address: [regs.name_at(address), REGISTERS[address].row.name] for address in run.start},
             "meanings": {REGISTERS[address].row.name: REGISTERS[address].row.meaning for address in run.start},
             "told": self.told,

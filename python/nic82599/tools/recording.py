@@ -10,8 +10,9 @@ what was there then.
 from __future__ import annotations
 
 import contextlib
+from bisect import bisect_right
 from collections.abc import Iterator
-from dataclasses import dataclass, field
+from dataclasses import dataclass, field, replace
 
 import nic82599
 from nic82599 import Nic, NicError, Snapshot
@@ -19,13 +20,15 @@ from nic82599 import Nic, NicError, Snapshot
 from .library import MOST_BLOCKS, Library, instruction, played
 from .regs import ENABLE, REGISTERS, first
 from .run import Run, of_script, of_trace
-from .script import HEAD, Bench, Fault, Script, read_bytes
+from .script import HEAD, Bench, Fault, Instruction, Op, Script, read_bytes
 from .tool import limit_of_script
 from .trace import Plan, Step, Trace
 
 # What a line of a recording can be wrong by.
 BAD = (ValueError, KeyError, IndexError, OverflowError, TypeError, NicError)
 EMPTY = ": no bytes"
+# Behind these the steps begin anew.
+RESTARTS = (["restore"], ["image"], ["text"])
 
 
 def is_recording(raw: bytes) -> bool:
@@ -38,32 +41,46 @@ def is_recording(raw: bytes) -> bool:
 
 @dataclass
 class Recording:
-    """The lines of a file, without a last one that wasn't written to its end."""
+    """The lines of a file, without a last one that wasn't written to its end, and what they say. `line_of` has the
+    number of the line of each instruction, from 1 on, and `directives` those of the lines that no script can have.
+    `bad` are lines that say nothing."""
 
     path: str
     lines: list[str]
     vfs: int
     fifo: int
     blocks: int
-    begin: int = 0  # the first line that is shown
-    before: int = 0  # how many events stand in front of it
+    instructions: list[Instruction] = field(default_factory=list)
+    replies: list[str] = field(default_factory=list)
+    line_of: list[int] = field(default_factory=list)
+    data: list[bytes] = field(default_factory=list)
+    directives: list[tuple[int, list[str]]] = field(default_factory=list)
+    bad: list[Fault] = field(default_factory=list)
+    begin: int = 0  # so many lines come before those that are shown
+    before: int = 0  # and so many events
     notes: list[str] = field(default_factory=list)
 
+    def fault(self, number: int, fault: Exception) -> Fault:
+        """That of a line."""
+        what = f"{type(fault).__name__} {fault}".strip()
+        return Fault(f"{self.path}:{number}: this is no line of a recording that can be made again ({what})")
 
-def parts(line: str) -> tuple[list[str], str]:
-    """The words of a line and its reply. Blocks that are lent in a row have a line that is a comment to a script."""
+    def script(self) -> Script:
+        """All of it as a script; the first of the bad lines."""
+        if self.bad:
+            raise self.bad[0]
+        return Script(self.path, self.lines, self.instructions, self.data, self.line_of, {}, [])
+
+
+def parts(line: str) -> tuple[str, str]:
+    """What a line says, and its reply. Blocks that are lent in a row have a line that is a comment to a script."""
     text, _, reply = (line[3:] if line.startswith("#: lend ") else line).partition("#")
-    return text.split(), reply.strip()
+    return text.strip(), reply.strip()
 
 
 def bytes_of(words: list[str], comment: str) -> bytes:
     """What a line `data` names. One of no bytes has one for a script, which can't say that."""
     return b"" if comment == EMPTY else bytes.fromhex("".join(words[2:]))
-
-
-def _is_event(line: str) -> bool:
-    is_other = line.startswith(("#", "data ")) and not line.startswith("#: lend ")
-    return not is_other and bool(line.strip())
 
 
 def read(path: str, raw: bytes) -> Recording:
@@ -76,18 +93,41 @@ def read(path: str, raw: bytes) -> Recording:
     head = HEAD.fullmatch(lines[0]) if lines else None
     if not head:
         raise Fault(f"{path} has no whole first line: a recording begins with `#: nic vfs 0 fifo 64 blocks 256`")
-    return Recording(path, lines, *(int(one) for one in head.groups()))
+    made = Recording(path, lines, *(int(one) for one in head.groups()))
+    _take(made)
+    return made
+
+
+def _take(made: Recording) -> None:
+    """Takes in what the lines behind the first say."""
+    names: dict[str, int] = {}
+    known: dict[str, Instruction] = {}
+    for number, line in enumerate(made.lines[1:], 2):
+        text, reply = parts(line)
+        try:
+            if not text:
+                if line.startswith("#: "):
+                    made.directives.append((number, line[3:].split()))
+            elif text.startswith("data "):
+                words = text.split()
+                names[words[1]] = len(made.data)
+                made.data.append(bytes_of(words, reply))
+            else:
+                one = known.get(text) or instruction(text.split(), names)
+                if one.op not in (Op.POKE, Op.ARRIVE, Op.JMP):
+                    known[text] = one  # (a name may be given anew)
+                made.instructions.append(one)
+                made.replies.append(reply)
+                made.line_of.append(number)
+        except BAD as fault:
+            made.bad.append(made.fault(number, fault))
 
 
 def cut(made: Recording, limit: int) -> None:
-    """Shows the last events of a recording, so many of them."""
-    lines = made.lines
-    events = [number for number, line in enumerate(lines) if _is_event(line)]
-    cuts = [k for k, line in enumerate(lines) if line.startswith(("#: restore ", "#: image ", "#: text "))]
-    made.begin = max(events[-limit] if len(events) > limit else 0, cuts[-1] + 1 if cuts else 0)
-    made.before = sum(number < made.begin for number in events)
-    while made.before and lines[made.begin - 1].startswith("data "):
-        made.begin -= 1
+    """Shows the last events of a recording, so many of them, from behind its last restored snapshot or image on."""
+    last = max((number for number, words in made.directives if words[:1] in RESTARTS), default=0)
+    made.before = max(len(made.line_of) - limit, bisect_right(made.line_of, last), 0)
+    made.begin = max(made.line_of[made.before - 1] if made.before else 0, last)
     if made.before:
         made.notes.append(f"{made.before:,} events came before the first step that is shown")
 
@@ -103,32 +143,28 @@ class Player:
         except BAD as fault:
             raise Fault(f"{recording.path} can't be made again: {fault}") from None
         self.snapshots: dict[str, Snapshot] = {}
-        self.strings: dict[str, int] = {}
-        self.data: list[bytes] = []
         self.others = 0
 
-    def fault(self, number: int, fault: Exception) -> Fault:
-        return Fault(f"{self.recording.path}:{number + 1}: {_why(fault)}")
-
-    def play(self, begin: int, end: int) -> None:
-        """Makes the lines of a range."""
-        for number in range(begin, end):
+    def play(self) -> None:
+        """Makes what isn't shown."""
+        made, at = self.recording, 0
+        directives = [one for one in made.directives if one[0] <= made.begin]
+        for number, words in [*directives, (made.begin, [])]:
+            end = min(bisect_right(made.line_of, number), made.before)
+            self._events(at, end)
+            at = end
             try:
-                self._line(self.recording.lines[number])
+                self._directive(words)
             except BAD as fault:
-                raise self.fault(number, fault) from None
+                raise made.fault(number, fault) from None
 
-    def _line(self, line: str) -> None:
-        words, reply = parts(line)
-        if not words:
-            if line.startswith("#: "):
-                self._directive(line[3:].split())
-        elif words[0] == "data":
-            self.strings[words[1]] = len(self.data)
-            self.data.append(bytes_of(words, reply))
-        else:
-            one = instruction(words, self.strings)
-            self.others += played(self.nic, one, self.data) != reply
+    def _events(self, begin: int, end: int) -> None:
+        made, at = self.recording, begin
+        try:
+            for at in range(begin, end):
+                self.others += played(self.nic, made.instructions[at], made.data) != made.replies[at]
+        except BAD as fault:
+            raise made.fault(made.line_of[at], fault) from None
 
     def _directive(self, words: list[str]) -> None:
         match words:
@@ -149,65 +185,26 @@ class Player:
 # --- the steps that are shown ---
 
 
-class Lines:
-    """Lines of a recording as a script, with the reply that each instruction had. `fault` makes that of a bad line."""
-
-    def __init__(self, recording: Recording, strings: dict[str, bytes]) -> None:
-        self.recording, self.earlier = recording, strings
-        self.names: dict[str, int] = {}
-        self.script = Script(recording.path, [], [], [], [], {}, [], 0)
-        self.replies: list[str] = []
-
-    def add(self, line: str) -> None:
-        """A further line; BAD."""
-        script = self.script
-        script.lines.append(line[3:] if line.startswith("#: lend ") else line)
-        words, reply = parts(line)
-        if words and words[0] == "data":
-            self._name(words[1], bytes_of(words, reply))
-        elif words:
-            if words[0] in ("poke", "arrive") and words[-1] not in self.names and words[-1] in self.earlier:
-                self._name(words[-1], self.earlier[words[-1]])
-            script.instructions.append(instruction(words, self.names))
-            script.line_of.append(len(script.lines))
-            self.replies.append(reply)
-
-    def _name(self, name: str, data: bytes) -> None:
-        self.names[name] = len(self.script.data)
-        self.script.data.append(data)
-        self.script.data_names.append(name)
-
-
-def whole(recording: Recording) -> tuple[Script, list[Fault]]:
-    """All lines of a recording as a script, and the bad ones."""
-    made, bad = Lines(recording, {}), []
-    for number, line in enumerate(recording.lines, 1):
-        try:
-            made.add(line)
-        except BAD as fault:
-            bad.append(Fault(f"{recording.path}:{number}: {_why(fault)}"))
-    return made.script, bad
-
-
-def _why(fault: Exception) -> str:
-    what = f"{type(fault).__name__} {fault}".strip()
-    return f"this is no line of a recording that can be made again ({what})"
-
-
-def _shown(player: Player) -> tuple[Script, list[str]]:
+def _shown(recording: Recording) -> tuple[Script, list[str]]:
     """What is shown as a script, and the reply that each instruction had."""
-    recording = player.recording
-    made = Lines(recording, {name: player.data[number] for name, number in player.strings.items()})
-    made.script.before = recording.begin
+    lines = [line[3:] if line.startswith("#: lend ") else line for line in recording.lines[recording.begin :]]
+    made = Script(recording.path, lines, [], [], [], {}, [], recording.begin)
+    replies = recording.replies[recording.before :]
     if recording.before:
-        made.script.before -= 1
-        made.add(f"r 0x{first('STATUS'):05x}                    # after the {recording.before:,} events before")
-    for number in range(recording.begin, len(recording.lines)):
-        try:
-            made.add(recording.lines[number])
-        except BAD as fault:
-            raise player.fault(number, fault) from None
-    return made.script, made.replies
+        text = f"r 0x{first('STATUS'):05x}"
+        lines.insert(0, f"{text}                    # after the {recording.before:,} events before")
+        made.before -= 1
+        made.instructions.append(instruction(text.split(), {}))
+        made.line_of.append(1)
+        replies.insert(0, "after")
+    for one, number in zip(recording.instructions[recording.before :], recording.line_of[recording.before :]):
+        if one.op in (Op.POKE, Op.ARRIVE):
+            made.data.append(recording.data[one.x])
+            one = replace(one, x=len(made.data) - 1)
+        made.instructions.append(one)
+        made.line_of.append(number - made.before)
+    made.data_names = [f"d{number}" for number in range(len(made.data))]
+    return made, replies
 
 
 def _waiting(nic: Nic) -> int:
@@ -260,7 +257,7 @@ def _steps(player: Player, script: Script, bench: Library, start: dict[int, int]
         try:
             step = Step(number, number, played(nic, one, script.data))
         except BAD as fault:
-            raise player.fault(script.before + script.line_of[number] - 1, fault) from None
+            raise player.recording.fault(script.before + script.line_of[number], fault) from None
         for address in sorted(set(plan.after(one, step.reply)) | always):
             word = nic.peek32(address) or 0
             if word != words[address]:
@@ -273,7 +270,7 @@ def _steps(player: Player, script: Script, bench: Library, start: dict[int, int]
 def trace(player: Player) -> Trace:
     """The trace of the steps that are shown, from the controller as it is in front of them."""
     nic, recording = player.nic, player.recording
-    script, replies = _shown(player)
+    script, replies = _shown(recording)
     bench = Library(nic, nic.snapshot())
     every = {address: nic.peek32(address) or 0 for address in REGISTERS}
     lent, out = _lent(nic), 0
@@ -290,7 +287,7 @@ def trace(player: Player) -> Trace:
             break
         always |= missed
     bench.begin_debug(script, [step.reply for step in steps])
-    player.others += sum(step.reply != reply for step, reply in zip(steps, replies) if not reply.startswith("after "))
+    player.others += sum(step.reply != reply for step, reply in zip(steps, replies) if reply != "after")
     if recording.before:
         steps[0].lent = [("+", *row) for row in in_rows(lent)]
     if player.others:
@@ -305,10 +302,11 @@ def trace(player: Player) -> Trace:
 @contextlib.contextmanager
 def traced(recording: Recording, limit: int) -> Iterator[Trace]:
     """The trace of a recording's last events, of at most so many, while its controller is there."""
+    recording.script()
     cut(recording, limit)
     player = Player(recording)
     with player.nic:
-        player.play(1, recording.begin)
+        player.play()
         yield trace(player)
 
 

@@ -131,6 +131,51 @@ class Wheel(unittest.TestCase):
             (self.installed / "kept").rename(self.installed / "nic82599/nicbench")
 
 
+PROGRAM = b"""#!/bin/sh
+echo "nicbench 1.2.3"
+echo "words: $*" >&2
+cat
+exit ${#}
+"""
+
+
+class Unproved(unittest.TestCase):
+    """A program without its proofs says so behind its version, and is else what it is."""
+
+    def setUp(self) -> None:
+        kept = tempfile.TemporaryDirectory()
+        self.addCleanup(kept.cleanup)
+        self.folder = Path(kept.name) / "a folder"
+        for name, data in backend.program_files(PROGRAM, False).items():
+            file = self.folder / name
+            file.parent.mkdir(parents=True, exist_ok=True)
+            file.write_bytes(data)
+            file.chmod(0o755)
+        (self.folder / "link").symlink_to("nic82599/nicbench")
+
+    def started(self, *words: str) -> tuple[int, str, str]:
+        made = subprocess.run([self.folder / words[0], *words[1:]], input="given\n", capture_output=True, text=True)
+        return made.returncode, made.stdout, made.stderr
+
+    def test_version(self) -> None:
+        program = self.folder / "nic82599/unproved/nicbench"
+        program.write_bytes(b'#!/bin/sh\necho "nicbench 1.2.3"\n')
+        for way in ("nic82599/nicbench", "link"):
+            for word in ("--version", "-V"):
+                self.assertEqual(self.started(way, word), (0, "nicbench 1.2.3+unproved\n", ""))
+        program.write_bytes(b"#!/bin/sh\nexit 2\n")
+        self.assertEqual(self.started("link", "--version"), (2, "", ""))
+
+    def test_all_else(self) -> None:
+        for words in ([], ["run"], ["run", "--vfs", "2"], ["help"], [""]):
+            want = (len(words), "nicbench 1.2.3\ngiven\n", f"words: {' '.join(words)}\n")
+            for way in ("nic82599/nicbench", "link"):
+                self.assertEqual(self.started(way, *words), want)
+
+    def test_proved(self) -> None:
+        self.assertEqual(backend.program_files(PROGRAM, True), {"nic82599/nicbench": PROGRAM})
+
+
 class Clone(unittest.TestCase):
     def test_pip_installs_it(self) -> None:
         """pip, without an index to ask, installs the folder of the clone, with the library that make -C c makes."""

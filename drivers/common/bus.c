@@ -192,6 +192,12 @@ static void give(struct place place, uint32_t word)
     }
 }
 
+/* A side of a queue is to go off. A driver that doesn't poll for that clears the ring; by then the card's is off. */
+static bool is_disable(struct place place, uint32_t word)
+{
+    return (place.kind == RECEIVE_CONTROL || place.kind == TRANSMIT_CONTROL) && !(word & NIC_RXDCTL_ENABLE);
+}
+
 void bus_write(unsigned int function, uint32_t offset, uint32_t word)
 {
     struct place place = place_of(function, offset);
@@ -209,7 +215,7 @@ void bus_write(unsigned int function, uint32_t offset, uint32_t word)
     else
         write_virtual(function, offset, word);
     mailbox_written(function, offset, word);
-    if (bus_inside.options.acts_at_writes)
+    if (bus_inside.options.acts_at_writes || is_disable(place, word))
         act(place);
     if (place.kind == TRANSMIT_TAIL && !bus_inside.is_held)
         steps_transmit(place.queue);
@@ -345,9 +351,11 @@ void bus_tell_counts(void)
         printf("  %-8s  %8" PRIu64 "  %8" PRIu64 "  %8" PRIu64 "\n", bus_phase_name(phase), counts.in[phase].reads,
                counts.in[phase].writes, counts.in[phase].waited / 1000);
     printf("the device filled %" PRIu64 " descriptors, fetched %" PRIu64 ", switched %" PRIu64 " sides of queues,\n"
-           "  gave %" PRIu64 " words of its EEPROM; %" PRIu64 " bytes were copied to it, %" PRIu64 " from it\n",
-           counts.receive_steps, counts.transmit_steps, counts.enables, counts.eeprom_words, counts.to_device,
-           counts.to_driver);
+           "  gave %" PRIu64 " words of its EEPROM",
+           counts.receive_steps, counts.transmit_steps, counts.enables, counts.eeprom_words);
+    if (counts.to_device || counts.to_driver)
+        printf("; %" PRIu64 " bytes were copied to it, %" PRIu64 " from it", counts.to_device, counts.to_driver);
+    printf("\n");
 }
 
 void bus_check_counts(uint64_t drops_expected, uint64_t faults_expected)

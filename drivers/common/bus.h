@@ -5,8 +5,8 @@
    a window of registers, whose offsets are the addresses in it.
 
    Nothing happens on the bench by itself, so the bus makes the steps: a read of RXDCTL or TXDCTL, which drivers poll,
-   makes that of the queue's enable, a read of EERD that of the EEPROM, a write of TDT all of sending. Receive steps and
-   messages are the run's to ask for. */
+   makes that of the queue's enable, a write there that of a disable, a read of EERD that of the EEPROM, a write of TDT
+   all of sending. Receive steps and messages are the run's to ask for. */
 #ifndef DRIVERS_BUS_H
 #define DRIVERS_BUS_H
 
@@ -75,7 +75,7 @@ struct bus_counts {
     uint64_t messages[BUS_FUNCTIONS]; /* and by which vectors, a bit each */
     uint32_t vectors[BUS_FUNCTIONS];
     uint64_t receive_steps, transmit_steps, frames_in, frames_out, enables, eeprom_words;
-    uint64_t to_device, to_driver;        /* bytes copied */
+    uint64_t to_device, to_driver;        /* bytes copied, by copies.c */
     uint64_t absent_reads, absent_writes; /* of functions that the mode has no pool for */
     uint64_t answered[7];                 /* how often each answer was given, by enum bus_answer's bit */
     uint64_t faults, refusals;            /* what never happens in a good run; told on standard error */

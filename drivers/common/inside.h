@@ -18,8 +18,13 @@ extern struct bus_inside bus_inside;
 /* steps.c: sends all that a queue has */
 void steps_transmit(uint16_t queue);
 
-/* memory.c */
+/* memory.c, or copies.c */
 void memory_begin(void);
+
+/* ranges.c */
+void ranges_begin(void);
+bool ranges_have_room(uint64_t bus, const void *host);
+void ranges_add(uint64_t bus, void *host, size_t length);
 
 /* answers.c: what is read where the device has no register, or answers another word than the bus does */
 void answers_begin(void);

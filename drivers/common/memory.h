@@ -1,6 +1,9 @@
-/* Memory that driver and device both see. It has two copies, the driver's in this process and the bench's, which are
-   made equal where that is needed: descriptors that a tail write gives away and the bytes that transmit descriptors
-   point at go to the device, and what a step of the device tells that it wrote goes to the driver. */
+/* Memory that driver and device both see. A run links one of two:
+   - memory.c: the device works in the driver's memory, in place. A store of the driver is what the next step reads.
+   - copies.c, for memory that another process may store into while a step is made: the driver's and the bench's are
+     made equal where that is needed. Descriptors that a tail write gives away and the bytes that transmit descriptors
+     point at go to the device, and what a step of the device tells that it wrote goes to the driver. What a driver
+     changes without a tail write isn't seen. */
 #ifndef DRIVERS_MEMORY_H
 #define DRIVERS_MEMORY_H
 
@@ -8,13 +11,15 @@
 #include <stddef.h>
 #include <stdint.h>
 
-/* Lends `length` bytes to the device: bus address `bus` is the byte at `host`, and so on. Both are multiples of 2,048,
-   and the bus addresses end at 128 MiB. False where they don't, where they are lent already, or where memory is short.
- */
+/* Lends `length` bytes to the device: bus address `bus` is the byte at `host`, and so on. `bus` and `length` are
+   multiples of 2,048, and the bus addresses end at 128 MiB. False where they don't, where they or, in place, these
+   bytes are lent already, or where memory is short. */
 bool memory_lend(uint64_t bus, void *host, size_t length);
 
 /* Where these bytes are in this process; null where they weren't lent in one piece. */
 void *memory_at(uint64_t bus, size_t length);
+
+/* ---- what the bus tells as it happens; in place nothing follows ---- */
 
 /* Copies; what isn't lent is refused, counted, and told on standard error. */
 void memory_to_device(uint64_t bus, size_t length);
@@ -27,8 +32,5 @@ void memory_head(bool is_transmit, uint16_t queue, uint32_t head);
 
 /* A step of the device wrote back at this bus address: a descriptor of the transmit queue, or its head. */
 void memory_written_back(uint16_t queue, uint64_t bus);
-
-/* How many of the `slots` descriptors at bus address `ring` differ between the copies. */
-unsigned int memory_unlike(uint64_t ring, unsigned int slots);
 
 #endif

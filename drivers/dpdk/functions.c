@@ -107,6 +107,7 @@ static bool restart_function(void)
         return false;
     if (who_gets(mac.addr_bytes, 0) >= 0)
         problem("a function that is stopped gets a frame");
+    known_drops++; /* its queue is off */
     if (!port_start(1))
         return false;
     pass(0, setting.functions);

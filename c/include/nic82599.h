@@ -306,7 +306,7 @@ uint8_t nic_next_step(nic *n, nic_settling *where, nic_told *told);
    the driver moves the tail". No text: nothing waits. What was dropped or sent waits no more; a queue that a fault
    switched off has its reason as long as the slot is there.
    As snprintf it writes at most `size` bytes with the 0 behind them, and returns how long the whole text is without it;
-   a line that has no room as a whole isn't written, and none after it. `size` may be 0.
+   a line that has no room as a whole isn't written, and none after it. `size` may be 0. A closed controller has none.
    Nothing changes. Registers don't show which frames wait, what was asked of a queue, and what was told: this is found
    out on a copy of the controller, which takes memory as a snapshot and a restored one do, 4,096 bytes for each lent
    block, for the time of the call. Without that memory the last line says so, and those that need it are missing. */

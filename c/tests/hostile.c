@@ -61,6 +61,8 @@ static void closed_memory(nic *n)
 static void closed_steps(nic *n)
 {
     nic_told told;
+    nic_settling where = {1, 9};
+    char text[8] = "text";
     uint8_t frame[60] = {2};
     size_t count = 5;
     memset(&told, 7, sizeof told);
@@ -74,6 +76,8 @@ static void closed_steps(nic *n)
     ANSWERS(NIC_CLOSED, nic_eeprom_step(n, &told));
     ANSWERS(NIC_CLOSED, nic_int_step(n, 0, &told));
     ANSWERS(NIC_CLOSED, nic_settle(n, 1, &told, 1, &count));
+    ANSWERS(NIC_CLOSED, nic_next_step(n, &where, &told));
+    CHECK(nic_why(n, text, sizeof text) == 0 && !*text && where.at == 9);
     CHECK(count == 0 && told.queue == 0x0707 && told.status == 7 && frame[0] == 2);
 }
 

@@ -66,6 +66,12 @@ static void make(nic *n, const char *text)
 
 /* --- what is told --- */
 
+/* Whether a room of so many bytes is tried: round the ends of lines, and some others. */
+static bool is_tried(const char *whole, size_t size)
+{
+    return size < 3 || size % 32 == 0 || size >= strlen(whole) || whole[size - 1] == '\n' || whole[size - 2] == '\n';
+}
+
 /* The text that fits is the whole lines of it that do. */
 static void is_cut(nic *n, const char *whole)
 {
@@ -73,6 +79,8 @@ static void is_cut(nic *n, const char *whole)
     size_t length = strlen(whole);
     for (size_t size = 0; size <= length + 1; size++) {
         size_t fits = size ? size - 1 : 0;
+        if (!is_tried(whole, size))
+            continue;
         memset(text, '#', sizeof text);
         CHECK(nic_why(n, text, size) == length);
         while (fits && whole[fits - 1] != '\n')

@@ -1,7 +1,8 @@
 //! What `Nic::why` tells of the set-ups of c/tests/why.cases, which says how they are written.
 
 use nic82599::desc::Descriptor;
-use nic82599::{Nic, Sizes};
+use nic82599::regs::*;
+use nic82599::{Arrival, Error, Nic, Sizes};
 
 const CASES: &str = concat!(env!("CARGO_MANIFEST_DIR"), "/../../c/tests/why.cases");
 
@@ -85,9 +86,42 @@ fn cases() {
 fn a_long_text() {
     let nic = Nic::open(Sizes { vfs: 0, fifo: 1, blocks: 1 }).unwrap();
     for queue in 0..128 {
-        nic.write(nic82599::regs::RDLEN.at(queue), 128);
+        nic.write(RDLEN.at(queue), 128);
     }
     let told = nic.why();
     assert_eq!(told.lines().filter(|line| line.ends_with("the queue is off")).count(), 128);
     assert!(told.ends_with("rx 127: SRRCTL[127].DESCTYPE 0: 1 is the form that the bench has"));
+}
+
+/// A frame for queue 3, whose driver writes the tail or forgets it.
+fn received(tail: u32) -> Result<Nic, Error> {
+    let mut frame = [0; 60];
+    frame[..15].copy_from_slice(&[2, 0, 0, 0, 0, 1, 2, 0, 0, 0, 0, 2, 8, 0, 0x45]);
+    let nic = Nic::open(Sizes::default())?;
+    nic.lend_all()?;
+    nic.memory().put_descriptor(0, 0, Descriptor::receive(0x800))?;
+    nic.write(RXCTRL, rxctrl::RXEN);
+    nic.write(FCTRL, fctrl::UPE);
+    nic.write(MRQC, mrqc::MRQE.is(1) | mrqc::IPV4);
+    nic.write(RETA.at(0), reta::ENTRY_0.is(3));
+    nic.write(RDLEN.at(3), 128);
+    nic.write(SRRCTL.at(3), srrctl::DESCTYPE.is(1) | srrctl::BSIZEPACKET.is(2));
+    nic.write(RXDCTL.at(3), rxdctl::ENABLE);
+    nic.settle(4)?;
+    nic.write(RDT.at(3), tail);
+    assert_eq!(nic.arrive(&frame)?, Arrival::Waits);
+    Ok(nic)
+}
+
+/// As docs/rust.md shows it.
+#[test]
+fn an_assertion() -> Result<(), Error> {
+    let nic = received(1)?;
+    let _ = nic.settle(4)?;
+    assert_eq!(nic.read(RDH.at(3)), 1, "{}", nic.why());
+    let nic = received(0)?;
+    let _ = nic.settle(4)?;
+    let told = nic.why();
+    assert!(told.contains("rx 3: RDH[3] 0, RDT[3] 0: head and tail meet, no slot is the device's"), "{told}");
+    Ok(())
 }

@@ -16,7 +16,8 @@ from pathlib import Path
 
 from .about import give_rings
 from .memory import Seen, look
-from .reasons import Reason, Reasons
+from .reason_table import Reason
+from .reasons import Reasons
 from .script import Bench, comment_of, instruction_of, read_bytes, text_of
 from .trace import Step, Trace, trace
 

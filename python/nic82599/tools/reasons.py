@@ -16,6 +16,8 @@ from .regs import ENABLE, queues_of_pool
 from .script import Op
 from .trace import Step, Trace, number_after, word_of
 
+__all__ = ["Reason", "Reasons", "sentence"]
+
 # The instructions that may set the word that an expect looks at.
 ACC = (Op.READ, Op.VF_READ, Op.PEEK, Op.AND)
 

@@ -174,7 +174,7 @@ impl<'a> Memory<'a> {
     /// [`Error::BadMemory`] where `bus` or `length` is no multiple of 2,048; [`Error::NotLent`] where not all of it is
     /// lent in place, and then none is taken back.
     pub fn unlend(&self, bus: u64, length: usize) -> Result<(), Error> {
-        Error::unless_lent(self.nic.handle().unlend_memory(bus, length), bus)
+        unless_lent(self.nic.handle().unlend_memory(bus, length), || bus)
     }
 
     /// Where a range begins and how many bytes it has. One that goes beyond the memory isn't lent, and is refused

@@ -18,11 +18,11 @@ static bool is_alone;
 
 /* --- a set-up --- */
 
-static void arrive(nic *n, unsigned last)
+static void arrive(nic *n, unsigned last, size_t length)
 {
     nic_told told;
-    uint8_t frame[60] = {2, 0, 0, 0, 0, (uint8_t)last, 2, 0, 0, 0, 0, 9, 8, 0, 0x45};
-    nic_arrive(n, frame, sizeof frame, &told);
+    uint8_t frame[1514] = {2, 0, 0, 0, 0, (uint8_t)last, 2, 0, 0, 0, 0, 9, 8, 0, 0x45};
+    nic_arrive(n, frame, length, &told);
 }
 
 static void settle(nic *n, uint16_t queues)
@@ -51,7 +51,7 @@ static void make(nic *n, const char *text)
     else if (!strcmp(word, "put"))
         nic_put_desc(n, a, 0, (nic_desc){b, c});
     else if (!strcmp(word, "arrive"))
-        arrive(n, (unsigned)a);
+        arrive(n, (unsigned)a, b ? (size_t)b : 60);
     else if (!strcmp(word, "settle"))
         settle(n, (uint16_t)a);
     else if (!strcmp(word, "rx"))

@@ -39,7 +39,8 @@ def make(nic: Nic, line: str) -> None:
         with contextlib.suppress(nic82599.NotLent):
             nic.memory.write(bus, first.to_bytes(8, "little") + second.to_bytes(8, "little"))
     elif word == "arrive":
-        nic.arrive(bytes.fromhex(f"0200000000{given[0]:02x}020000000009080045") + bytes(45))
+        last, length = given[0], given[1] if given[1:] else 60
+        nic.arrive(bytes.fromhex(f"0200000000{last:02x}020000000009080045").ljust(length, b"\0"))
     elif word == "int":
         nic.int_step(given[0] - 1 if given[0] else None)
     else:

@@ -25,8 +25,8 @@ fn make(nic: &Nic, line: &str) {
         ("put", &[at, first, second]) => {
             let _ = nic.memory().put_descriptor(at, 0, Descriptor { first, second });
         }
-        ("arrive", &[last]) => {
-            let mut frame = [0; 60];
+        ("arrive", &[last, ..]) => {
+            let mut frame = vec![0; given.get(1).map_or(60, |it| *it as usize)];
             frame[..15].copy_from_slice(&[2, 0, 0, 0, 0, last as u8, 2, 0, 0, 0, 0, 9, 8, 0, 0x45]);
             let _ = nic.arrive(&frame).unwrap();
         }

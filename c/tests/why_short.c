@@ -1,0 +1,100 @@
+/* nic_why where memory is short: each allocation fails in turn. What registers show is told all the same, the last line
+   says what is missing, and nothing has changed. Linked with -Wl,--wrap=malloc and so on. */
+#include <string.h>
+
+#include "check.h"
+
+enum { ROOM = 4096, MOST = 2000 };
+
+/* How many allocations succeed until one fails; below 0: all do. */
+static long left = -1;
+
+void *__real_malloc(size_t size);
+void *__real_calloc(size_t count, size_t size);
+void *__real_realloc(void *piece, size_t size);
+void *__wrap_malloc(size_t size);
+void *__wrap_calloc(size_t count, size_t size);
+void *__wrap_realloc(void *piece, size_t size);
+
+static bool fails(void)
+{
+    if (left > 0)
+        left--;
+    else if (left == 0)
+        return true;
+    return false;
+}
+
+void *__wrap_malloc(size_t size)
+{
+    return fails() ? NULL : __real_malloc(size);
+}
+
+void *__wrap_calloc(size_t count, size_t size)
+{
+    return fails() ? NULL : __real_calloc(count, size);
+}
+
+void *__wrap_realloc(void *piece, size_t size)
+{
+    return fails() ? NULL : __real_realloc(piece, size);
+}
+
+static const char whole[] = "rx: 1 frame waits, the one in front for queue 0\n"
+                            "rx 0: RXDCTL[0].ENABLE 1: it was asked to go off, but no `qstep rx 0` followed\n"
+                            "rx 0: RDH[0] 0, RDT[0] 0: head and tail meet, no slot is the device's until the driver "
+                            "moves the tail\n"
+                            "rx 0: SRRCTL[0].Drop_En 0: a frame that finds no slot waits\n"
+                            "int pf: LSC: the mask is 0\n"
+                            "int pf: RTxQ[0]: told already, and neither cause nor mask was 0 since\n";
+static const char part[] = "rx 0: RDH[0] 0, RDT[0] 0: head and tail meet, no slot is the device's until the driver "
+                           "moves the tail\n"
+                           "int pf: LSC: the mask is 0\n"
+                           "there is no memory for a copy: which frames wait, what was asked and what was told isn't "
+                           "known\n";
+
+static void set_up(nic *n)
+{
+    nic_told told;
+    uint8_t frame[60] = {2, 0, 0, 0, 0, 1};
+    ANSWERS(NIC_DONE, nic_open(n, 1, 8, 4));
+    ANSWERS(NIC_DONE, nic_lend_all(n));
+    nic_write32(n, NIC_RXCTRL, NIC_RXCTRL_RXEN);
+    nic_write32(n, NIC_FCTRL, NIC_FCTRL_UPE);
+    nic_write32(n, NIC_GPIE, NIC_GPIE_MULTIPLE_MSIX);
+    nic_write32(n, NIC_RDLEN(0), 128);
+    nic_write32(n, NIC_SRRCTL(0), NIC_SRRCTL_DESCTYPE_IS(1) | NIC_SRRCTL_BSIZEPACKET_IS(2));
+    nic_write32(n, NIC_RXDCTL(0), NIC_RXDCTL_ENABLE);
+    ANSWERS(NIC_DONE, nic_queue_step(n, false, 0, &told));
+    nic_write32(n, NIC_RXDCTL(0), 0);
+    ANSWERS(NIC_DONE, nic_arrive(n, frame, sizeof frame, &told));
+    nic_write32(n, NIC_IVAR(0), NIC_IVAR_INT_ALLOC_VAL_0);
+    nic_write32(n, NIC_EIMS, 1);
+    nic_write32(n, NIC_EICS, 1 | NIC_EICS_LSC);
+    ANSWERS(NIC_MESSAGE, nic_int_step(n, 0, &told));
+}
+
+int main(void)
+{
+    nic n;
+    char text[ROOM];
+    long refused = 0;
+    set_up(&n);
+    nic_why(&n, text, sizeof text);
+    CHECK(!strcmp(text, whole));
+    for (bool is_short = true; is_short; refused++) {
+        CHECK(refused < MOST);
+        left = refused;
+        size_t length = nic_why(&n, text, sizeof text);
+        left = -1;
+        is_short = strcmp(text, whole) != 0;
+        CHECK(!is_short || !strcmp(text, part));
+        CHECK(length == strlen(text));
+        nic_why(&n, text, sizeof text);
+        CHECK(!strcmp(text, whole));
+    }
+    nic_close(&n);
+    CHECK(refused > 3);
+    printf("%ld allocations refused\n", refused - 1);
+    return 0;
+}

@@ -133,19 +133,24 @@ module _ (s : State) (h : IsSound s) (queue : ℕ) where
               );
         }
 
+own-slot : (s : State) → IsSound s → (queue : ℕ) (f : Fetched) → (fetched_by s queue).answer ≡ Ok f
+    → f.slot ≡ field 15 0 (word_of s.registers Tdh queue)
+own-slot s h queue f is = (takes_slot _ _ _ _ f is).slot ∙ sym (low-half (word_of s.registers Tdh queue))
+
 abbrev After : State → ℕ → Outcome → Type 0
 After s queue o = ReportedAfter queue o.reply s o.state
 
-reply_so : (s : State) (queue : ℕ) (f : Fetched) (o : Option (List ℕ)) (new : State) → WritesBack s queue f.back new
+reply_so : (s : State) (queue : ℕ) (f : Fetched) (o : Option (List ℕ)) (new : State)
+    → f.slot ≡ field 15 0 (word_of s.registers Tdh queue) → WritesBack s queue f.back new
     → ReportedAfter queue (fetched_reply queue f o) s new
-reply_so s queue f (Some frame) new written = written
-reply_so s queue f None new written = written
+reply_so s queue f (Some frame) new slot written = (refl, written)
+reply_so s queue f None new slot written = (refl, slot, written)
 
 pub reports_so : ReportsAreWrittenBack
 unfolding step_of
 reports_so s h queue = transmitted_cases (After s queue) s queue (record {
   none = tt;
   idle = tt;
-  fault = λ fault. tt;
-  fetched = λ f is. reply_so s queue f f.frame _ (writes_back s h queue f is _ refl);
+  fault = λ fault. refl;
+  fetched = λ f is. reply_so s queue f f.frame _ (own-slot s h queue f is) (writes_back s h queue f is _ refl);
 })

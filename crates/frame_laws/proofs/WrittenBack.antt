@@ -1,11 +1,12 @@
 -- The bytes of a receive descriptor that is written back.
-use Rattle.std.proofs.Common.{◌≡◌, ◌<◌, ◌+◌, ◌*◌, ◌/◌, ◌%◌, ◌^◌, ℕ, Bool, true, false, cond, List, [], ◌∷◌, ◌++◌, take, Ok, refl, ap, subst, ◌∙◌, arith}
+use Rattle.std.proofs.Common.{◌≡◌, ◌<◌, ◌+◌, ◌*◌, ◌/◌, ◌%◌, ◌^◌, ℕ, Bool, true, false, cond, List, [], ◌∷◌, ◌++◌, take, Ok, refl, ap, sym, subst, ◌∙◌, arith, length, slice_index, inl, inr}
 use Rattle.std.specs.Int.{w64, to_le_bytes}
-use Rattle.std.proofs.lemmas.Bool.{eq-eqb}
+use Rattle.std.proofs.lemmas.Bool.{eq-eqb, cases_lt}
+use Rattle.std.proofs.lemmas.List.{get_or_past}
 use Rattle.nic_device.specs.DmaArena.Memory.{Memory, is_lent, read_at, write_at}
 use Rattle.nic_device.proofs.DmaArena.Bus.{is_lent-same, SameLent-write_at, IsWhole-write_at, read_at-write_at_same}
-use Rattle.nic_device.specs.DmaRing.Descriptor.{of_halves}
-use Rattle.nic_device.specs.DmaRing.Receive.{told_of, written_back}
+use Rattle.nic_device.specs.DmaRing.Descriptor.{first_half, of_halves}
+use Rattle.nic_device.specs.DmaRing.Receive.{told_of, written_back, buffer_of}
 use Rattle.nic_device.specs.DmaRing.declared.dir.Dir.TheVariants.{Rx}
 use Rattle.nic_device.specs.DmaRing.declared.receive.Packet.{Packet}
 use Rattle.nic_device.proofs.DmaRing.Fields.{halves_come_back, packet_is_told}
@@ -27,6 +28,8 @@ use Rattle.nic_device.proofs.QueueCases.{received_cases, filled_by}
 use Rattle.frame_laws.specs.Packets.{is_ipv4, is_ipv6, is_tcp, is_udp}
 use Rattle.frame_laws.specs.WrittenBack.{one_if, byte, written_bytes, ShowsPiece, DescriptorsAreWrittenBack}
 use Rattle.frame_laws.proofs.Packets.{flow-reads}
+use Rattle.nic_device.proofs.Blocks.{read_at-small}
+use Rattle.frame_laws.proofs.TransmitBytes.{first-is}
 use Rattle.frame_laws.proofs.Shown.{peek-is, answer}
 
 one-small : (b : Bool) → one_if b < 2
@@ -104,6 +107,15 @@ halves-are w end len type word short =
     let second = second-bytes len end short in
     λ k. first k ++ second k
 
+-- the bytes of a descriptor
+pub byte-small : (s : State) → IsSound s → (a k : ℕ) → slice_index (read_at s.memory a 16) k < 256
+byte-small s h a k =
+    let d : List ℕ = read_at s.memory a 16 in
+    elim (cases_lt k (length d)) as (λ _. slice_index d k < 256) [
+      | inl inside ↦ read_at-small s.memory h.blocks a 16 k 0 inside
+      | inr past ↦ rw (get_or_past d k 0 past) (omega arith)
+    ]
+
 -- a filled slot
 
 code-small : (type : RssType) → code_of type < 16
@@ -151,7 +163,7 @@ module _ (s : State) (h : IsSound s) (w : Waiting) (others : List Waiting) (e : 
       (read_at-write_at_same between f.desc bytes (IsWhole-write_at s.memory f.at _ h.blocks.whole) (rw size lent))
       ∙ halves-are w f.end f.len type waits.hash short
 
-  piece-shown : ShowsPiece w f.end f.desc f.at f.len left
+  piece-shown : ShowsPiece s w f.end f.desc f.at f.len left
   unfolding step_of
   piece-shown =
       let taken = takes_piece _ _ _ _ f is in
@@ -165,19 +177,22 @@ module _ (s : State) (h : IsSound s) (w : Waiting) (others : List Waiting) (e : 
             (eq-eqb (f.desc % 16) 0 aligned)
             ∙ ap (λ b. answer true b (read_at left.memory f.desc 16)) still
             ∙ ap (answer true true) read-back;
+        buffer =
+            taken.at ∙ ap (λ a. buffer_of (first_half (read_at s.memory a 16))) (sym taken.desc)
+            ∙ ap buffer_of (first-is (read_at s.memory f.desc 16) (λ k. byte-small s h f.desc k));
         bytes = (driver_reads _ _ _ (rest_of w) f h.blocks.whole told.fits is).bytes;
       }
 
 abbrev Written : State → Outcome → Type 0
 Written s o =
     (w : Waiting) (others : List Waiting) → s.waiting ≡ w ∷ others → (queue slot : ℕ) (end : Bool) (desc at len : ℕ)
-    → o.reply ≡ Wrote queue slot end desc at len → ShowsPiece w end desc at len o.state
+    → o.reply ≡ Wrote queue slot end desc at len → ShowsPiece s w end desc at len o.state
 
-told-as : (own : Waiting) (f : Filled) (new : State) → ShowsPiece own f.end f.desc f.at f.len new
+told-as : (s : State) (own : Waiting) (f : Filled) (new : State) → ShowsPiece s own f.end f.desc f.at f.len new
     → (w : Waiting) → own ≡ w → (queue slot : ℕ) (end : Bool) (desc at len : ℕ)
     → ◌≡◌ {A = Reply Block} (Wrote own.queue f.slot f.end f.desc f.at f.len) (Wrote queue slot end desc at len)
-    → ShowsPiece w end desc at len new
-told-as own f new shown w same queue slot end desc at len e =
+    → ShowsPiece s w end desc at len new
+told-as s own f new shown w same queue slot end desc at len e =
     let b : f.end ≡ end = cc in
     let c : f.desc ≡ desc = cc in
     let d : f.at ≡ at = cc in
@@ -193,5 +208,5 @@ written_back_so s h = received_cases (Written s) s (record {
   fault = λ own rest waits fault w others first queue slot end desc at len e. cc;
   filled = λ own rest waits f is w others first queue slot end desc at len e.
       let same : own ≡ w = cc in
-      told-as own f _ (piece-shown s h own rest waits f is) w same queue slot end desc at len e;
+      told-as s own f _ (piece-shown s h own rest waits f is) w same queue slot end desc at len e;
 })

@@ -9,7 +9,7 @@ use Rattle.nic_device.specs.State.{State}
 use Rattle.nic_device.specs.Step.{after, reply_to}
 use Rattle.nic_device.specs.declared.event.Event.TheVariants as event
 use Rattle.nic_device.specs.declared.event.Reply.{Reply}
-use Rattle.nic_device.specs.declared.event.Reply.TheVariants.{Advanced, Sent}
+use Rattle.nic_device.specs.declared.event.Reply.TheVariants.{Advanced, Sent, Fault}
 use Rattle.frame_laws.specs.Bits.{bit, field}
 use Rattle.frame_laws.specs.TransmitFaults.{IsReportedAt, type_in, report_bit}
 use Rattle.frame_laws.specs.Transmitting.{head_descriptor}
@@ -41,9 +41,12 @@ pub record WritesBack (s : State) (queue : ℕ) (back : Option ℕ) (new : State
       → IsReportedAt s.registers queue address 16
       → (back ≡ Some address) × (read_at new.memory address 16 ≡ with_dd (head_descriptor s queue))
 
+-- the reply names the step's own queue, and where no frame is sent the slot in TDH
 abbrev pub ReportedAfter : ℕ → Reply Block → State → State → Type 0
-ReportedAfter own (Advanced queue slot back) s new = WritesBack s own back new
-ReportedAfter own (Sent queue len back) s new = WritesBack s own back new
+ReportedAfter own (Advanced queue slot back) s new =
+    (queue ≡ own) × (slot ≡ field 15 0 (word_of s.registers Tdh own)) × WritesBack s own back new
+ReportedAfter own (Sent queue len back) s new = (queue ≡ own) × WritesBack s own back new
+ReportedAfter own (Fault queue fault) s new = queue ≡ own
 ReportedAfter own other s new = ⊤
 
 abbrev pub ReportsAreWrittenBack : Type 0

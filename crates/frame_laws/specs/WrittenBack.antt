@@ -1,5 +1,5 @@
 -- The 16 bytes that a step of receiving writes into a descriptor, and the bytes that it writes into the buffer.
-use Rattle.std.specs.Prelude.{ℕ, ◌≡◌, ◌+◌, ◌*◌, Bool, List, [], ◌∷◌, take, drop, if◌then◌else◌}
+use Rattle.std.specs.Prelude.{ℕ, ◌≡◌, ◌+◌, ◌*◌, ◌/◌, ◌^◌, Bool, List, [], ◌∷◌, take, drop, slice_index, if◌then◌else◌}
 use Rattle.nic_device.specs.DmaArena.Memory.{read_at, AreApart}
 use Rattle.nic_device.specs.Sound.{IsSound}
 use Rattle.nic_device.specs.State.{State, Waiting}
@@ -26,14 +26,21 @@ written_bytes w end len =
     ∷ byte 0 w.hash ∷ byte 1 w.hash ∷ byte 2 w.hash ∷ byte 3 w.hash
     ∷ (1 + 2 * one_if end) ∷ 0 ∷ 0 ∷ 0 ∷ byte 0 len ∷ byte 1 len ∷ 0 ∷ 0 ∷ []
 
--- a look at the descriptor shows these bytes, and the buffer, where it has no byte of the descriptor, has the next
--- bytes of the frame
-pub record ShowsPiece (w : Waiting) (end : Bool) (desc at len : ℕ) (new : State) : Type 0 where
+-- bytes 0 to 7 of the descriptor before that: the address of the buffer, the lowest byte first
+abbrev pub address_in : List ℕ → ℕ
+address_in d =
+    slice_index d 0 + slice_index d 1 * 2 ^ 8 + slice_index d 2 * 2 ^ 16 + slice_index d 3 * 2 ^ 24
+    + slice_index d 4 * 2 ^ 32 + slice_index d 5 * 2 ^ 40 + slice_index d 6 * 2 ^ 48 + slice_index d 7 * 2 ^ 56
+
+-- a look at the descriptor shows these bytes, and the buffer, at its address with bit 0 left out, has the next bytes of
+-- the frame where it has no byte of the descriptor
+pub record ShowsPiece (s : State) (w : Waiting) (end : Bool) (desc at len : ℕ) (new : State) : Type 0 where
   pub descriptor : reply_to new (event.Peek16 desc) ≡ Bytes (written_bytes w end len)
+  pub buffer : at ≡ 2 * (address_in (read_at s.memory desc 16) / 2)
   pub bytes : AreApart at len desc 16 → read_at new.memory at len ≡ take len (drop w.offset w.frame)
 
 abbrev pub DescriptorsAreWrittenBack : Type 0
 DescriptorsAreWrittenBack =
     (s : State) → IsSound s → (w : Waiting) (others : List Waiting) → s.waiting ≡ w ∷ others →
     (queue slot : ℕ) (end : Bool) (desc at len : ℕ) → reply_to s event.RxStep ≡ Wrote queue slot end desc at len →
-    ShowsPiece w end desc at len (after s event.RxStep)
+    ShowsPiece s w end desc at len (after s event.RxStep)

@@ -11,4 +11,5 @@ pub mod MailReset
 pub mod Mailbox
 pub mod Offsets
 pub mod Rings
+pub mod Settings
 pub mod Table

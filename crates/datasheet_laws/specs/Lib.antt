@@ -5,4 +5,5 @@ pub mod Hash
 pub mod ByKind
 pub mod Mailbox
 pub mod Offsets
+pub mod Settings
 pub mod Table

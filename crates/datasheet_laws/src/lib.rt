@@ -149,9 +149,9 @@ pub fn hash_is_of_the_key()
 {}
 
 /// CTRL bit 2, at 0x00000, stops the device's steps; RXCTRL bit 0, at 0x03000, and DMATXCTL bit 0, at 0x04A80, let
-/// frames in and out; HLREG0, at 0x04240, has padding in bit 10 and jumbo frames in bit 2, whose limit is in MAXFRS bits
-/// 31 to 16, at 0x04268; GPIE, at 0x00898, has bits 5 and 30 of interrupts. Of a queue SRRCTL bit 28 drops frames, and
-/// TDWBAL bit 0 has its head written back. A counter that a read clears stays at the largest word.
+/// frames in and out; HLREG0, at 0x04240, has padding in bit 10 and jumbo frames in bit 2, whose limit is in MAXFRS
+/// bits 31 to 16, at 0x04268; GPIE, at 0x00898, has bits 5 and 30 of interrupts. Of a queue SRRCTL bit 28 drops frames,
+/// and TDWBAL bit 0 has its head written back. A counter that a read clears stays at the largest word.
 pub fn settings_are_bits()
     ensures device { DevicesAreSet }
     ensures queue { QueuesAreSet }

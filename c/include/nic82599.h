@@ -69,7 +69,7 @@ enum nic_status {
     NIC_BAD_FIFO = 35,     /* nic_new: not 1 to 4,096 */
     NIC_BAD_BLOCKS = 36,   /* nic_new: not 1 to 65,536 */
     NIC_NO_BLOCK = 37,     /* nic_lend: the block is lent already, or doesn't exist */
-    NIC_MORE = 38,         /* nic_settle: the array is full, and there may be more to do */
+    NIC_MORE = 38,         /* nic_settle: the array is full, there may be more to do; nic_next_step: a step was made */
     NIC_BAD_MEMORY = 39,   /* nic_lend_memory: no multiples of 2,048, or bytes that are lent to it already */
     NIC_CLOSED = 40,       /* the controller or the snapshot isn't open: nic_close ended it, or nothing opened it */
     /* an EEPROM image or text is invalid, by the first of these that holds; the former image stays */
@@ -134,9 +134,9 @@ typedef struct nic_told {
     uint16_t queue; /* WROTE, ADVANCED, SENT, FAULT, FRAME: below 128 */
     uint16_t slot;  /* WROTE, ADVANCED: the slot of the ring */
     uint16_t group; /* MESSAGE: 0 the physical function, v + 1 virtual function v */
-    uint16_t of;    /* in nic_settle's array: the queue or the group of the step, else 0 */
+    uint16_t of;    /* by nic_settle and nic_next_step: the queue or the group of the step, else 0 */
     uint8_t status; /* enum nic_status, as the call returns it */
-    uint8_t step;   /* in nic_settle's array: enum nic_step */
+    uint8_t step;   /* by nic_settle and nic_next_step: enum nic_step */
     uint8_t end;    /* WROTE: 1 if the frame ends in this buffer */
     uint8_t back;   /* ADVANCED, SENT: 1 if something was written back */
     uint8_t why;    /* DROPPED: enum nic_why; FAULT: enum nic_fault */

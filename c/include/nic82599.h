@@ -280,7 +280,7 @@ uint8_t nic_int_step(nic *n, uint8_t group, nic_told *told);
    above 128. */
 uint8_t nic_settle(nic *n, uint16_t queues, nic_told *told, size_t length, size_t *count);
 
-/* Where nic_next_step is in its rounds. `nic_settling where = {4};` begins one of the queues below 4. */
+/* Where nic_next_step is in its rounds. `nic_settling where = {4, 0};` begins one of the queues below 4. */
 typedef struct nic_settling {
     uint16_t queues;
     uint16_t at; /* the place of the round that comes next: 0 at first */
@@ -288,7 +288,7 @@ typedef struct nic_settling {
 
 /* Makes the next step of nic_settle that has something to do, so that a driver acts on it before the device goes on:
 
-       nic_settling where = {4};
+       nic_settling where = {4, 0};
        while (nic_next_step(&n, &where, &told) == NIC_MORE)
            if (told.status == NIC_MESSAGE)
                handle(told.vector);

@@ -255,6 +255,30 @@ bool card_pump(struct card *it)
     return false;
 }
 
+void card_go(struct card *it)
+{
+    it->stepper.is_held = false;
+    bus_hold(it->stepper.has_seed);
+    it->stepper.has_changed = true;
+    for (uint16_t queue = 0; queue < BUS_QUEUES; queue++) {
+        bus_enable(false, queue);
+        bus_enable(true, queue);
+    }
+    bus_eeprom();
+}
+
+void card_tell_due(const struct card *it, FILE *to)
+{
+    for (uint16_t queue = 0; queue < BUS_QUEUES; queue++)
+        if (it->stepper.is_due[queue] && bus_peek(NIC_TDH(queue)) != bus_peek(NIC_TDT(queue)))
+            fprintf(to, "tx %u: head %" PRIu32 ", tail %" PRIu32 "\n", queue, bus_peek(NIC_TDH(queue)),
+                    bus_peek(NIC_TDT(queue)));
+    if (waiting(it))
+        fprintf(to, "rx: at most %" PRIu64 " frames\n", waiting(it));
+    if (any_cause(it))
+        fprintf(to, "int: EICR %08" PRIx32 ", EIMS %08" PRIx32 "\n", bus_peek(NIC_EICR), bus_peek(NIC_EIMS));
+}
+
 /* ---- the whole ---- */
 
 bool card_open(struct card *it, const struct card_options *options)

@@ -62,4 +62,9 @@ unsigned int card_receive(struct card *it);
 unsigned int card_messages(struct card *it);
 void card_transmit(struct card *it, uint16_t queue);
 
+/* After it was held: what was asked of queues and EEPROM happens, and steps are made as before. */
+void card_go(struct card *it);
+/* Which steps are due, a line each. */
+void card_tell_due(const struct card *it, FILE *to);
+
 #endif

@@ -34,6 +34,7 @@ static const char help[] =
     "  --without=NAME         leave out one of what the server does beyond the bench: offloads, legacy, SWSM, ANLP1,\n"
     "                         EICS, EERD, ABSENT, FWSM, RXPBSIZE\n"
     "  --bare                 leave out all of them\n"
+    "  --control=PATH         listen there for requests: help tells them\n"
     "  --seed=N               make each step of the device at once or late, by this seed\n"
     "  --strays=FILE          at the end write the accesses outside the register table there\n"
     "  --trace=FILE           write each access of a register there\n"
@@ -162,7 +163,8 @@ static bool read_file_word(struct options *it, const char *word)
     const struct {
         const char *name, **to;
     } files[] = {{"--socket-path", &it->socket_path}, {"--capture", &it->wire.capture}, {"--play", &it->wire.play},
-                 {"--strays", &it->strays},           {"--trace", &it->trace},          {"--record", &it->record}};
+                 {"--strays", &it->strays},           {"--trace", &it->trace},          {"--record", &it->record},
+                 {"--control", &it->control}};
     for (size_t i = 0; i < sizeof files / sizeof *files; i++) {
         const char *value = value_of(word, files[i].name);
         if (value && *value) {

@@ -16,7 +16,7 @@ struct options {
     uint16_t device;
     struct card_options card;
     struct wire_options wire;
-    const char *strays, *trace, *record; /* files, or null */
+    const char *strays, *trace, *record, *control; /* files, or null */
     bool is_quiet;
     char wire_text[OPTIONS_TEXT]; /* what wire's paths point into */
 };

@@ -384,6 +384,9 @@ static bool take_slot(struct rings *it, struct ring *ring, uint16_t queue, uint3
         refuse(it, "a descriptor", ring, queue, ring->base + (uint64_t)NIC_DESC_BYTES * slot, NIC_DESC_BYTES);
         return false;
     }
+    if (!descriptor->first && !descriptor->second && it->counts.zeros++ == 0)
+        it->options.refused(it->options.of, "a descriptor of zeros; is the guest's memory shared (share=on)? The ring",
+                            ring->function, queue, ring->base, ring->slots * NIC_DESC_BYTES);
     return true;
 }
 

@@ -38,7 +38,7 @@ struct rings_options {
 };
 
 struct rings_counts {
-    uint64_t descriptors, frames_bytes, refused, tails_outside, without_room;
+    uint64_t descriptors, frames_bytes, refused, tails_outside, without_room, zeros;
     uint32_t blocks, blocks_most; /* of rings */
 };
 

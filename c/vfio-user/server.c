@@ -8,13 +8,15 @@
 #include <sys/socket.h>
 #include <time.h>
 
-#define POLLS (2 * SERVER_FUNCTIONS + WIRE_POLLS)
+#define POLLS (2 * SERVER_FUNCTIONS + WIRE_POLLS + CONTROL_POLLS)
 #define FRAMES_MOST 64 /* that arrive before others have their turn */
 #define LATE_MS 1      /* between the times at which late steps may be made */
 
 static void from_card(void *to, const uint8_t *frame, size_t length)
 {
-    wire_send(to, frame, length);
+    struct server *it = to;
+    traffic_take(&it->traffic, frame, length);
+    wire_send(&it->wire, frame, length);
 }
 
 /* ---- open ---- */
@@ -82,7 +84,12 @@ bool server_open(struct server *it)
     }
     if (!wire_open(&it->wire, &it->options.wire))
         return false;
-    card_send_to(&it->card, from_card, &it->wire);
+    if (!control_open(&it->control, it->options.control)) {
+        fprintf(stderr, "no socket %s: %s\n", it->options.control, strerror(errno));
+        return false;
+    }
+    traffic_begin(&it->traffic, it->options.card.mac);
+    card_send_to(&it->card, from_card, it);
     return open_functions(it);
 }
 
@@ -90,6 +97,8 @@ void server_close(struct server *it)
 {
     for (unsigned int i = 0; i < it->function_count; i++)
         function_end(&it->functions[i]);
+    control_close(&it->control);
+    traffic_end(&it->traffic);
     wire_close(&it->wire);
     card_close(&it->card);
 }
@@ -109,9 +118,13 @@ static bool pass_frames(struct server *it)
     bool left = card_pump(&it->card);
     for (unsigned int i = 0; i < FRAMES_MOST && card_has_room(&it->card); i++) {
         size_t length = wire_next(&it->wire, plays(it));
-        if (!length)
+        const struct frame *made = length ? NULL : traffic_next(&it->traffic);
+        if (!length && !made)
             break;
-        card_arrive(&it->card, it->wire.frame, length);
+        if (made)
+            card_arrive(&it->card, made->bytes, made->length);
+        else
+            card_arrive(&it->card, it->wire.frame, length);
         left = card_pump(&it->card);
     }
     return left;
@@ -128,7 +141,8 @@ static nfds_t fill_polls(const struct server *it, struct pollfd *polls)
         polls[count++] = (struct pollfd){.fd = session->channel.file, .events = (short)(in | out)};
     }
     wire_polls(&it->wire, polls + count, card_has_room(&it->card));
-    return count + WIRE_POLLS;
+    control_polls(&it->control, polls + count + WIRE_POLLS);
+    return count + WIRE_POLLS + CONTROL_POLLS;
 }
 
 static void serve_functions(struct server *it, const struct pollfd *polls)
@@ -148,7 +162,7 @@ static void serve_functions(struct server *it, const struct pollfd *polls)
 static int patience(const struct server *it, bool is_late)
 {
     int wire = wire_patience(&it->wire);
-    if (card_has_room(&it->card) && wire_has_more(&it->wire, plays(it)))
+    if (card_has_room(&it->card) && (wire_has_more(&it->wire, plays(it)) || traffic_has_more(&it->traffic)))
         return 0;
     return is_late ? LATE_MS : wire;
 }
@@ -174,7 +188,8 @@ void server_run(struct server *it, const volatile sig_atomic_t *ends, const sigs
             serve_functions(it, polls);
         else
             memset(polls, 0, sizeof polls);
-        wire_serve(&it->wire, polls + count - WIRE_POLLS);
+        wire_serve(&it->wire, polls + count - CONTROL_POLLS - WIRE_POLLS);
+        control_serve(&it->control, polls + count - CONTROL_POLLS, it);
         is_late = pass_frames(it);
     }
 }

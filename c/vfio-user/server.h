@@ -6,8 +6,10 @@
 #include <stdbool.h>
 
 #include "card.h"
+#include "control.h"
 #include "function.h"
 #include "options.h"
+#include "traffic.h"
 #include "wire.h"
 
 #define SERVER_FUNCTIONS (1 + 2 * CARD_FUNCTIONS_MOST)
@@ -16,6 +18,8 @@ struct server {
     struct options options;
     struct card card;
     struct wire wire;
+    struct control control;
+    struct traffic traffic;
     struct function functions[SERVER_FUNCTIONS];
     unsigned int function_count;
 };

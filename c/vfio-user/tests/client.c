@@ -8,6 +8,7 @@
 #include <sys/eventfd.h>
 #include <sys/mman.h>
 #include <sys/socket.h>
+#include <sys/un.h>
 #include <unistd.h>
 
 #include "../../tests/check.h"
@@ -136,6 +137,17 @@ static void map_memory(struct peer *it)
 
 /* ---- and what a driver does ---- */
 
+/* Polls a register, as drivers do. */
+static void until(struct peer *it, uint32_t address, uint32_t mask, uint32_t word)
+{
+    for (int i = 0; i < 3000; i++) {
+        if ((peer_read(it, address) & mask) == word)
+            return;
+        usleep(1000);
+    }
+    CHECK(!"a register doesn't come");
+}
+
 static void start_queues(struct peer *it)
 {
     peer_write(it, NIC_RDBAL(0), RAM + RX_RING);
@@ -148,7 +160,8 @@ static void start_queues(struct peer *it)
     peer_write(it, NIC_DMATXCTL, NIC_DMATXCTL_TE);
     peer_write(it, NIC_RXDCTL(0), NIC_RXDCTL_ENABLE);
     peer_write(it, NIC_TXDCTL(0), NIC_TXDCTL_ENABLE);
-    CHECK(peer_read(it, NIC_RXDCTL(0)) & NIC_RXDCTL_ENABLE && peer_read(it, NIC_TXDCTL(0)) & NIC_TXDCTL_ENABLE);
+    until(it, NIC_RXDCTL(0), NIC_RXDCTL_ENABLE, NIC_RXDCTL_ENABLE);
+    until(it, NIC_TXDCTL(0), NIC_TXDCTL_ENABLE, NIC_TXDCTL_ENABLE);
     CHECK(peer_read(it, NIC_RDBAL(0)) == RAM + RX_RING && peer_read(it, NIC_TDBAL(0)) == RAM + TX_RING);
     for (uint32_t slot = 0; slot < SLOTS; slot++) {
         put64(RX_RING + 16 * slot, RAM + BUFFERS + BUFFER * slot);
@@ -196,7 +209,7 @@ static void pass_one(struct peer *it, uint32_t slot, int event)
     const uint8_t *frame = ram + BUFFERS + BUFFER * slot;
     CHECK(status & NIC_RXWB_EOP && (status & NIC_RXWB_PKT_LEN) >> NIC_RXWB_PKT_LEN_SHIFT == ARP_BYTES);
     CHECK(memcmp(frame, ram + FRAME + 6, 6) == 0 && frame[21] == 2 && memcmp(frame + 28, ram + FRAME + 38, 4) == 0);
-    CHECK(peer_read(it, NIC_RDH(0)) == slot + 1);
+    until(it, NIC_RDH(0), UINT32_MAX, slot + 1);
     CHECK(poll(&poll_for, 1, 3000) == 1 && read(event, &told, sizeof told) == sizeof told && told >= 1);
     peer_read(it, NIC_EICR);
     peer_write(it, NIC_EIMS, 1);
@@ -206,7 +219,7 @@ static void pass_one(struct peer *it, uint32_t slot, int event)
 static void lose_descriptors(struct peer *it)
 {
     peer_write(it, NIC_TDT(0), 1000);
-    CHECK(!(peer_read(it, NIC_TXDCTL(0)) & NIC_TXDCTL_ENABLE));
+    until(it, NIC_TXDCTL(0), NIC_TXDCTL_ENABLE, 0);
     peer_write(it, NIC_CTRL, NIC_CTRL_RST);
     CHECK(peer_read(it, NIC_RDBAL(0)) == 0 && peer_read(it, NIC_RDLEN(0)) == 0);
 }
@@ -252,6 +265,88 @@ static void as_qemu_does(const char *path)
     drive(&peer, event);
     peer_close(&peer);
     close(event);
+}
+
+/* ---- a device that is held, and one that is late ---- */
+
+static int control;
+
+/* A request's whole answer. */
+static const char *asked(const char *words)
+{
+    static char answer[16384];
+    size_t length = 0;
+    CHECK(send(control, words, strlen(words), 0) == (ssize_t)strlen(words) && send(control, "\n", 1, 0) == 1);
+    do {
+        ssize_t got = recv(control, answer + length, sizeof answer - 1 - length, 0);
+        CHECK(got > 0);
+        length += (size_t)got;
+        answer[length] = 0;
+    } while (!strstr(answer, "ok\n") && !strstr(answer, "error: "));
+    return answer;
+}
+
+static bool says(const char *words, const char *text)
+{
+    return strstr(asked(words), text) != NULL;
+}
+
+static void hostile_requests(void)
+{
+    static char line[1000];
+    memset(line, 'x', sizeof line - 1);
+    CHECK(says(line, "error: ") && says("", "error: ") && says("hol", "error: ") && says("holds", "error: "));
+    CHECK(says("tx", "error: ") && says("tx 128", "error: ") && says("tx -1", "error: ") && says("tx 1 2", "error: "));
+    CHECK(says("peek 1", "error: ") && says("peek 00008x", "error: ") && says("link", "error: "));
+    CHECK(says("frames 1", "error: ") && says("frames 1 59", "error: ") && says("frames 9999999 60", "error: "));
+    CHECK(says("qstep", "error: ") && says("qstep rx", "error: ") && says("expect 5 60 zz", "error: "));
+    CHECK(says("help", "hold") && says("counts", "wire: out"));
+}
+
+/* A frame waits at each of its steps until that is asked for. */
+static void held(const char *path, const char *control_path)
+{
+    struct peer peer;
+    struct sockaddr_un name = {.sun_family = AF_UNIX};
+    snprintf(name.sun_path, sizeof name.sun_path, "%s", control_path);
+    control = socket(AF_UNIX, SOCK_STREAM, 0);
+    CHECK(connect(control, (const struct sockaddr *)&name, sizeof name) == 0);
+    hostile_requests();
+    peer_open(&peer, path);
+    CHECK(peer_version(&peer) == 0 && peer_map(&peer, RAM, RAM_BYTES, 0, 3, ram_file) == 0);
+    CHECK(peer_ask(&peer, VFU_DEVICE_RESET, NULL, 0, NULL, 0, NULL, 0) == 0);
+    start_queues(&peer);
+    CHECK(says("hold", "ok") && says("due", "ok") && !says("due", "tx 0"));
+    make_arp(ram + FRAME);
+    put64(TX_RING, RAM + FRAME);
+    put64(TX_RING + 8, NIC_TXD_DATA | NIC_TXD_DTALEN_IS(ARP_BYTES) | NIC_TXD_EOP | NIC_TXD_RS);
+    peer_write(&peer, NIC_TDT(0), 1);
+    CHECK(peer_read(&peer, NIC_TDH(0)) == 0 && says("due", "tx 0: head 0, tail 1") && says("tx 0", "1 descriptors"));
+    CHECK(get64(TX_RING + 8) & NIC_TXWB_DD && says("peek 06010", "00000001"));
+    peer_read(&peer, NIC_STATUS); /* the reply to the request has arrived behind it */
+    CHECK(!(get64(RX_RING + 8) & NIC_RXWB_DD) && says("due", "rx: at most 1") && says("rx", "1 descriptors"));
+    CHECK(get64(RX_RING + 8) & NIC_RXWB_DD && says("link down", "done") && peer_read(&peer, NIC_LINKS) == 0);
+    peer_write(&peer, NIC_TXDCTL(1), NIC_TXDCTL_ENABLE);
+    CHECK(!(peer_read(&peer, NIC_TXDCTL(1)) & NIC_TXDCTL_ENABLE) && says("qstep tx 1", "done"));
+    CHECK(says("qstep tx 1", "idle") && peer_read(&peer, NIC_TXDCTL(1)) & NIC_TXDCTL_ENABLE);
+    peer_write(&peer, NIC_TXDCTL(2), NIC_TXDCTL_ENABLE);
+    CHECK(says("link up", "done") && says("go", "ok") && peer_read(&peer, NIC_TXDCTL(2)) & NIC_TXDCTL_ENABLE);
+    close(control);
+    peer_close(&peer);
+}
+
+static void late(const char *const *words)
+{
+    struct peer peer;
+    int event = eventfd(0, EFD_CLOEXEC | EFD_NONBLOCK);
+    const char *path = server_start(words);
+    peer_open(&peer, path);
+    CHECK(peer_version(&peer) == 0 && peer_map(&peer, RAM, RAM_BYTES, 0, 3, ram_file) == 0);
+    CHECK(peer_ask(&peer, VFU_DEVICE_RESET, NULL, 0, NULL, 0, NULL, 0) == 0);
+    drive(&peer, event);
+    peer_close(&peer);
+    close(event);
+    server_stop();
 }
 
 /* ---- clients that do what none should ---- */
@@ -367,13 +462,20 @@ static void with_a_cut_file(const char *path)
 
 int main(void)
 {
-    static const char *const words[] = {"--functions=2", NULL};
+    static char control_path[100], control_word[140];
+    static const char *const words[] = {"--functions=2", control_word, NULL};
+    static const char *const seeds[][2] = {{"--seed=1", NULL}, {"--seed=2", NULL}, {"--seed=3", NULL}};
     char function_path[120];
     make_ram();
+    for (size_t i = 0; i < sizeof seeds / sizeof *seeds; i++)
+        late(seeds[i]);
+    snprintf(control_path, sizeof control_path, "/tmp/nic82599-test.%ld.control", (long)getpid());
+    snprintf(control_word, sizeof control_word, "--control=%s", control_path);
     const char *path = server_start(words);
     snprintf(function_path, sizeof function_path, "%s.vf1", path);
     as_qemu_does(path);
     as_qemu_does(path); /* the next one finds the card as the first did */
+    held(path, control_path);
     in_pieces(path);
     without_reading(path, function_path);
     what_is_no_message(path);

@@ -1,0 +1,354 @@
+#define _GNU_SOURCE
+#include "control.h"
+
+#include <errno.h>
+#include <inttypes.h>
+#include <stdlib.h>
+#include <string.h>
+#include <sys/socket.h>
+#include <sys/stat.h>
+#include <sys/un.h>
+#include <unistd.h>
+
+#include "server.h"
+#include "tell.h"
+
+#define KEPT_MOST (4u << 20)
+
+/* ---- requests: what each answers, or null and "ok" ---- */
+
+/* A request's words: numbers, and the rest of the line behind its name. */
+struct request {
+    struct server *server;
+    const char *rest;
+    FILE *to;
+};
+
+static const char *tell(struct request *it)
+{
+    tell_counts(it->server, it->to);
+    return NULL;
+}
+
+static const char *link_up_or_down(struct request *it)
+{
+    bool up = strcmp(it->rest, "up") == 0;
+    if (!up && strcmp(it->rest, "down") != 0)
+        return "link up, or link down";
+    fprintf(it->to, "%s\n", nic_status_name(nic_link(bus_device(), up)));
+    it->server->card.stepper.has_changed = true;
+    return NULL;
+}
+
+static bool two_numbers(const char *text, unsigned int *first, unsigned int *second)
+{
+    int end = 0;
+    return sscanf(text, "%7u %5u%n", first, second, &end) == 2 && text[end] == 0;
+}
+
+static const char *frames(struct request *it)
+{
+    unsigned int count, most;
+    if (!two_numbers(it->rest, &count, &most) || count > TRAFFIC_MOST || most < FRAME_MIN || most > FRAME_JUMBO)
+        return "frames COUNT MOST: at most 1000000 frames, of 60 to 9014 bytes";
+    traffic_send(&it->server->traffic, count, (uint16_t)most);
+    return NULL;
+}
+
+static const char *expect(struct request *it)
+{
+    unsigned int count, most, mac[6];
+    int end = 0, behind = 0;
+    uint8_t from[6];
+    memcpy(from, it->server->options.card.mac, sizeof from);
+    if (sscanf(it->rest, "%7u %5u%n %2x:%2x:%2x:%2x:%2x:%2x%n", &count, &most, &end, &mac[0], &mac[1], &mac[2], &mac[3],
+               &mac[4], &mac[5], &behind) == 8)
+        for (int i = 0; i < 6; i++)
+            from[i] = (uint8_t)mac[i];
+    if (!end || it->rest[behind ? behind : end] || count > TRAFFIC_MOST || most < FRAME_MIN || most > FRAME_JUMBO)
+        return "expect COUNT MOST [FROM]: at most 1000000 frames, of 60 to 9014 bytes, from this address";
+    return traffic_expect(&it->server->traffic, count, (uint16_t)most, from) ? NULL : "memory is short";
+}
+
+static const char *turn(struct request *it)
+{
+    struct traffic *traffic = &it->server->traffic;
+    int end = 0;
+    if (sscanf(it->rest, "%7u %7u%n", &traffic->turn_in, &traffic->turn_out, &end) != 2 || it->rest[end])
+        return "turn IN OUT: numbers of frames, 0 for none";
+    traffic->taken = 0;
+    return NULL;
+}
+
+static const char *came(struct request *it)
+{
+    const struct numbered *expected = &it->server->traffic.expected;
+    fprintf(it->to, "%u of %u, twice %u, wrong %u\n", expected->good, expected->count, expected->twice,
+            expected->wrong);
+    return NULL;
+}
+
+static const char *hold(struct request *it)
+{
+    it->server->card.stepper.is_held = true;
+    bus_hold(true);
+    return NULL;
+}
+
+static const char *go(struct request *it)
+{
+    card_go(&it->server->card);
+    return NULL;
+}
+
+static const char *due(struct request *it)
+{
+    card_tell_due(&it->server->card, it->to);
+    return NULL;
+}
+
+static bool one_queue(const char *text, unsigned int *queue)
+{
+    int end = 0;
+    return sscanf(text, "%3u%n", queue, &end) == 1 && text[end] == 0 && *queue < BUS_QUEUES;
+}
+
+static const char *transmit(struct request *it)
+{
+    unsigned int queue;
+    uint64_t before = bus_counts()->transmit_steps;
+    if (!one_queue(it->rest, &queue))
+        return "tx QUEUE: 0 to 127";
+    card_transmit(&it->server->card, (uint16_t)queue);
+    fprintf(it->to, "%" PRIu64 " descriptors\n", bus_counts()->transmit_steps - before);
+    return NULL;
+}
+
+static const char *receive(struct request *it)
+{
+    fprintf(it->to, "%u descriptors\n", card_receive(&it->server->card));
+    return NULL;
+}
+
+static const char *interrupt(struct request *it)
+{
+    fprintf(it->to, "%u messages\n", card_messages(&it->server->card));
+    return NULL;
+}
+
+static const char *queue_step(struct request *it)
+{
+    unsigned int queue;
+    bool is_transmit = strncmp(it->rest, "tx ", 3) == 0;
+    if ((!is_transmit && strncmp(it->rest, "rx ", 3) != 0) || !one_queue(it->rest + 3, &queue))
+        return "qstep rx QUEUE, or qstep tx QUEUE";
+    fprintf(it->to, "%s\n", bus_enable(is_transmit, (uint16_t)queue) ? "done" : "idle");
+    it->server->card.stepper.has_changed = true;
+    return NULL;
+}
+
+static const char *eeprom(struct request *it)
+{
+    fprintf(it->to, "%s\n", bus_eeprom() ? "done" : "idle");
+    return NULL;
+}
+
+static const char *peek(struct request *it)
+{
+    unsigned int address;
+    uint32_t word = 0;
+    int end = 0;
+    if (sscanf(it->rest, "%5x%n", &address, &end) != 1 || it->rest[end] ||
+        nic_peek32(bus_device(), address, &word) != NIC_DONE)
+        return "peek ADDRESS: no register is there";
+    fprintf(it->to, "%08" PRIx32 "\n", word);
+    return NULL;
+}
+
+static const char *help(struct request *it);
+
+static const struct {
+    const char *name;
+    const char *(*answer)(struct request *it);
+    const char *text;
+} requests[] = {
+    {"counts", tell, "what passed so far"},
+    {"link", link_up_or_down, "link up, link down"},
+    {"frames", frames, "frames COUNT MOST: numbered frames of 60 to MOST bytes go to the card"},
+    {"expect", expect, "expect COUNT MOST [FROM]: what the card sends is compared with these from now on"},
+    {"turn", turn, "turn IN OUT: a byte is turned of these of them, to try what compares"},
+    {"came", came, "how many of them have come"},
+    {"hold", hold, "the device makes no step but those that are asked for"},
+    {"go", go, "it makes its steps again"},
+    {"due", due, "which steps are due"},
+    {"tx", transmit, "tx QUEUE: all of its sending"},
+    {"rx", receive, "receive steps until there is nothing to do"},
+    {"int", interrupt, "all messages that are due"},
+    {"qstep", queue_step, "qstep rx QUEUE, qstep tx QUEUE: the queue is on or off as it was asked"},
+    {"eeprom", eeprom, "the EEPROM answers"},
+    {"peek", peek, "peek ADDRESS: a register's word, without a read's effects"},
+    {"help", help, "these lines"},
+};
+
+static const char *help(struct request *it)
+{
+    for (size_t i = 0; i < sizeof requests / sizeof *requests; i++)
+        fprintf(it->to, "%-7s %s\n", requests[i].name, requests[i].text);
+    return NULL;
+}
+
+void control_obey(struct server *server, const char *line, FILE *to)
+{
+    size_t name = strcspn(line, " ");
+    struct request request = {server, line[name] ? line + name + 1 : "", to};
+    const char *error = "what is that? help tells the requests";
+    for (size_t i = 0; i < sizeof requests / sizeof *requests; i++)
+        if (strlen(requests[i].name) == name && strncmp(line, requests[i].name, name) == 0)
+            error = requests[i].answer(&request);
+    if (error)
+        fprintf(to, "error: %s\n", error);
+    else
+        fprintf(to, "ok\n");
+}
+
+/* ---- clients ---- */
+
+static void drop(struct control_client *it)
+{
+    if (it->file >= 0)
+        close(it->file);
+    buffer_clear(&it->out);
+    it->file = -1;
+    it->length = 0;
+    it->is_long = false;
+}
+
+static void flush(struct control_client *it)
+{
+    while (buffer_waiting(&it->out)) {
+        ssize_t went = send(it->file, buffer_front(&it->out), buffer_waiting(&it->out), MSG_NOSIGNAL | MSG_DONTWAIT);
+        if (went < 0 && (errno == EAGAIN || errno == EWOULDBLOCK || errno == EINTR))
+            return;
+        if (went < 0) {
+            drop(it);
+            return;
+        }
+        buffer_take(&it->out, (size_t)went);
+    }
+}
+
+static void obey(struct control_client *it, struct server *server)
+{
+    char *text = NULL;
+    size_t length = 0;
+    FILE *to = open_memstream(&text, &length);
+    if (!to)
+        return;
+    if (it->is_long)
+        fprintf(to, "error: a request has at most %d bytes\n", CONTROL_LINE - 1);
+    else
+        control_obey(server, it->line, to);
+    fclose(to);
+    bool fits = buffer_waiting(&it->out) + length <= KEPT_MOST && buffer_put(&it->out, NULL, 0, text, length);
+    free(text);
+    if (fits)
+        flush(it);
+    else
+        drop(it);
+}
+
+static void take(struct control_client *it, const char *bytes, size_t count, struct server *server)
+{
+    for (size_t i = 0; i < count && it->file >= 0; i++) {
+        if (bytes[i] != '\n') {
+            it->is_long |= it->length == CONTROL_LINE - 1;
+            if (!it->is_long)
+                it->line[it->length++] = bytes[i];
+            continue;
+        }
+        it->line[it->length] = 0;
+        if (it->length && it->line[it->length - 1] == '\r')
+            it->line[it->length - 1] = 0;
+        obey(it, server);
+        it->length = 0;
+        it->is_long = false;
+    }
+}
+
+static void serve_client(struct control_client *it, short events, struct server *server)
+{
+    char bytes[4096];
+    if (events & POLLOUT)
+        flush(it);
+    if (it->file < 0 || !(events & (POLLIN | POLLHUP | POLLERR)))
+        return;
+    ssize_t got = recv(it->file, bytes, sizeof bytes, MSG_DONTWAIT);
+    if (got > 0)
+        take(it, bytes, (size_t)got, server);
+    else if (got == 0 || (errno != EAGAIN && errno != EWOULDBLOCK && errno != EINTR))
+        drop(it);
+}
+
+static void accept_client(struct control *it)
+{
+    int file = accept4(it->listener, NULL, NULL, SOCK_CLOEXEC);
+    for (unsigned int i = 0; i < CONTROL_CLIENTS; i++)
+        if (file >= 0 && it->clients[i].file < 0) {
+            it->clients[i].file = file;
+            return;
+        }
+    if (file >= 0)
+        close(file);
+}
+
+void control_polls(const struct control *it, struct pollfd *polls)
+{
+    polls[0] = (struct pollfd){.fd = it->listener, .events = POLLIN};
+    for (unsigned int i = 0; i < CONTROL_CLIENTS; i++) {
+        const struct control_client *client = &it->clients[i];
+        short out = buffer_waiting(&client->out) ? POLLOUT : 0;
+        polls[1 + i] = (struct pollfd){.fd = client->file, .events = (short)(out ? out : POLLIN)};
+    }
+}
+
+void control_serve(struct control *it, const struct pollfd *polls, struct server *server)
+{
+    for (unsigned int i = 0; i < CONTROL_CLIENTS; i++)
+        if (polls[1 + i].revents && it->clients[i].file >= 0)
+            serve_client(&it->clients[i], polls[1 + i].revents, server);
+    if (polls[0].revents & POLLIN)
+        accept_client(it);
+}
+
+/* ---- the whole ---- */
+
+bool control_open(struct control *it, const char *path)
+{
+    struct sockaddr_un name = {.sun_family = AF_UNIX};
+    *it = (struct control){.path = path, .listener = -1};
+    for (unsigned int i = 0; i < CONTROL_CLIENTS; i++)
+        it->clients[i].file = -1;
+    if (!path)
+        return true;
+    if (strlen(path) >= sizeof name.sun_path) {
+        errno = ENAMETOOLONG;
+        return false;
+    }
+    memcpy(name.sun_path, path, strlen(path));
+    unlink(path);
+    it->listener = socket(AF_UNIX, SOCK_STREAM | SOCK_CLOEXEC | SOCK_NONBLOCK, 0);
+    mode_t mask = umask(0177);
+    bool is_bound = it->listener >= 0 && bind(it->listener, (struct sockaddr *)&name, sizeof name) == 0;
+    umask(mask);
+    return is_bound && listen(it->listener, CONTROL_CLIENTS) == 0;
+}
+
+void control_close(struct control *it)
+{
+    for (unsigned int i = 0; i < CONTROL_CLIENTS; i++)
+        drop(&it->clients[i]);
+    if (it->listener >= 0) {
+        close(it->listener);
+        unlink(it->path);
+    }
+}

@@ -1,0 +1,41 @@
+/* A socket at which a person or a program asks for steps of the device and looks at it: a line for each request, and
+   lines for its answer, the last of them "ok" or "error: " and why. docs/guests.md tells the requests. */
+#ifndef VFU_CONTROL_H
+#define VFU_CONTROL_H
+
+#include <poll.h>
+#include <stdbool.h>
+#include <stdio.h>
+
+#include "buffer.h"
+
+#define CONTROL_CLIENTS 4
+#define CONTROL_LINE 256 /* bytes of a request */
+#define CONTROL_POLLS (1 + CONTROL_CLIENTS)
+
+struct server;
+
+struct control_client {
+    int file; /* -1: nobody */
+    char line[CONTROL_LINE];
+    size_t length;
+    bool is_long; /* the line is longer than that, and is passed over */
+    struct buffer out;
+};
+
+struct control {
+    const char *path;
+    int listener; /* -1: there is no such socket */
+    struct control_client clients[CONTROL_CLIENTS];
+};
+
+/* Listens; a path that is null: nothing. False, and errno says why. */
+bool control_open(struct control *it, const char *path);
+void control_close(struct control *it);
+void control_polls(const struct control *it, struct pollfd *polls);
+void control_serve(struct control *it, const struct pollfd *polls, struct server *server);
+
+/* One request of a line, whose answer is written to `to`. */
+void control_obey(struct server *server, const char *line, FILE *to);
+
+#endif

@@ -171,8 +171,8 @@ impl<'a> Memory<'a> {
     ///
     /// # Errors
     ///
-    /// [`Error::BadMemory`] where `bus` or `length` is no multiple of 2,048; [`Error::NotLent`] with `bus` where not all
-    /// of it is lent in place, and then none is taken back.
+    /// [`Error::BadMemory`] where `bus` or `length` is no multiple of 2,048; [`Error::NotLent`] with `bus` where not
+    /// all of it is lent in place, and then none is taken back.
     pub fn unlend(&self, bus: u64, length: usize) -> Result<(), Error> {
         unless_lent(self.nic.handle().unlend_memory(bus, length), || bus)
     }

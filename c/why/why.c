@@ -336,7 +336,7 @@ static void group_of_causes(struct nicd_why *it, unsigned group, bool is_stopped
     unraised(it, group, causes, masks);
     if (causes)
         untold(it, group, causes, masks, is_stopped);
-    if (!group && it->lines > before)
+    if (!group && it->lines > before && (masks || named_causes(it, 0) || WORD(NIC_IVAR_MISC))) /* messages are used */
         nicd_why_no_msix(it);
 }
 

@@ -214,7 +214,7 @@ static unsigned queues_of_pool(struct nicd_why *it)
 }
 
 /* What is in the way of a transmit queue. Whether it has slots to send is no reason by itself. */
-static void tx_queue(struct nicd_why *it, uint16_t queue, bool is_stopped)
+static void tx_queue(struct nicd_why *it, uint16_t queue, bool sends)
 {
     struct ring ring = ring_of(it, NICD_TX, queue);
     unsigned before = it->lines, pool = queues_of_pool(it);
@@ -231,7 +231,7 @@ static void tx_queue(struct nicd_why *it, uint16_t queue, bool is_stopped)
         nicd_why_tx_pool_off(it, queue / pool);
     tx_slots(it, &ring, queue);
     if (it->lines == before)
-        (is_stopped ? nicd_why_tx_waits : nicd_why_tx_not_made)(it, queue);
+        (sends ? nicd_why_tx_not_made : nicd_why_tx_waits)(it, queue);
 }
 
 /* --- the causes of a group --- */
@@ -342,13 +342,14 @@ static void group_of_causes(struct nicd_why *it, unsigned group, bool is_stopped
 
 /* --- the whole --- */
 
-/* What stops all queues of a side, where one of them would do something. Answers whether it does. */
-static bool rx_side(struct nicd_why *it)
+/* What stops all queues, or those of a side, where one of them is in use. */
+static void rx_side(struct nicd_why *it)
 {
     bool is_used = false;
     for (uint16_t queue = 0; queue < NICD_QUEUES; queue++)
         is_used |= is_in_use(it, NICD_RX, queue);
-    return is_used && nicd_why_rx_off(it);
+    if (is_used)
+        nicd_why_rx_off(it);
 }
 
 static bool has_work(struct nicd_why *it, uint16_t queue)
@@ -410,10 +411,10 @@ static void frames(struct nicd_why *it, bool is_stopped)
 
 static void tell(struct nicd_why *it)
 {
-    bool is_stopped = nicd_why_disabled(it), is_silent = is_stopped;
-    is_silent |= link_is_down(it);
+    bool is_stopped = nicd_why_disabled(it), sends = !is_stopped;
+    sends &= !link_is_down(it);
     rx_side(it);
-    is_silent |= tx_side(it);
+    sends &= !tx_side(it);
     rx_pools(it);
     frames(it, is_stopped);
     for (uint16_t queue = 0; queue < NICD_QUEUES; queue++)
@@ -421,7 +422,7 @@ static void tell(struct nicd_why *it)
             rx_queue(it, queue);
     for (uint16_t queue = 0; queue < NICD_QUEUES; queue++)
         if (is_in_use(it, NICD_TX, queue))
-            tx_queue(it, queue, is_silent);
+            tx_queue(it, queue, sends);
     for (unsigned group = 0; group < NICD_GROUPS && has_group(it, group); group++)
         group_of_causes(it, group, is_stopped);
     about(it, "eestep", -1);

@@ -1,0 +1,120 @@
+/* What nic_why tells, beside what the device then does: controllers by chance, of which each step is asked for, and has
+   something to do just where the text says so. */
+#include <string.h>
+
+#include "set_up.h"
+
+enum { RUNS = 400, CALLS = 60, ROOM = 16384 };
+
+static char text[ROOM];
+static unsigned long asked;
+
+/* Whether a line is told that begins and ends so. */
+static bool is_told(const char *begin, const char *end)
+{
+    for (const char *line = text; *line; line = strchr(line, '\n') + 1) {
+        size_t length = (size_t)(strchr(line, '\n') - line);
+        bool begins = length >= strlen(begin) && !strncmp(line, begin, strlen(begin));
+        if (begins && length >= strlen(end) && !strncmp(line + length - strlen(end), end, strlen(end)))
+            return true;
+    }
+    return false;
+}
+
+/* A step of a copy of the controller; each is asked of the same state. */
+static uint8_t step(nic *n, const nic_kept *kept, uint8_t kind, uint16_t of)
+{
+    nic_told told;
+    uint8_t status;
+    switch (kind) {
+    case NIC_RX_ENABLE: status = nic_queue_step(n, false, of, &told); break;
+    case NIC_TX_ENABLE: status = nic_queue_step(n, true, of, &told); break;
+    case NIC_EEPROM: status = nic_eeprom_step(n, &told); break;
+    case NIC_TRANSMIT: status = nic_tx_step(n, of, &told); break;
+    case NIC_RECEIVE: status = nic_rx_step(n, &told); break;
+    default: status = nic_int_step(n, (uint8_t)of, &told); break;
+    }
+    asked++;
+    if (status != NIC_IDLE)
+        ANSWERS(NIC_DONE, nic_restore(n, kept));
+    return status;
+}
+
+static bool switches(nic *n, const nic_kept *kept, bool tx, uint16_t queue)
+{
+    char end[32];
+    snprintf(end, sizeof end, "no `qstep %s %u` followed", tx ? "tx" : "rx", queue);
+    bool is_due = step(n, kept, tx ? NIC_TX_ENABLE : NIC_RX_ENABLE, queue) == NIC_DONE;
+    CHECK(is_told("", end) == is_due);
+    return is_due;
+}
+
+static void sends(nic *n, const nic_kept *kept, uint16_t queue)
+{
+    char begin[16], end[32];
+    snprintf(begin, sizeof begin, "tx %u: ", queue);
+    snprintf(end, sizeof end, "but no `tx %u` followed", queue);
+    uint8_t status = step(n, kept, NIC_TRANSMIT, queue);
+    bool is_done = status == NIC_ADVANCED || status == NIC_SENT;
+    CHECK(!is_told(begin, end) || is_done);
+    CHECK(is_told(begin, "") || status == NIC_IDLE);
+    CHECK(status != NIC_FAULT || is_told(begin, ""));
+}
+
+static void receives(nic *n, const nic_kept *kept)
+{
+    uint8_t status = step(n, kept, NIC_RECEIVE, 0);
+    CHECK(!is_told("rx: ", "but no `rx` followed") || status == NIC_WROTE);
+    CHECK(is_told("rx: ", "") || status == NIC_IDLE);
+}
+
+static void interrupts(nic *n, const nic_kept *kept, uint8_t group)
+{
+    char end[32] = "but no `int pf` followed";
+    if (group)
+        snprintf(end, sizeof end, "but no `int %u` followed", group - 1u);
+    CHECK(is_told("int", end) == (step(n, kept, NIC_INTERRUPT, group) == NIC_MESSAGE));
+}
+
+static void try_all(nic *n)
+{
+    nic_kept kept = {NULL};
+    unsigned due = 0;
+    ANSWERS(NIC_DONE, nic_snapshot(n, &kept));
+    CHECK(nic_why(n, text, sizeof text) < sizeof text);
+    for (uint16_t queue = 0; queue < QUEUES; queue++) {
+        due += switches(n, &kept, false, queue) + switches(n, &kept, true, queue);
+        sends(n, &kept, queue);
+    }
+    receives(n, &kept);
+    for (uint8_t group = 0; group < 4; group++)
+        interrupts(n, &kept, group);
+    CHECK(is_told("eestep: ", "`eestep` followed") == (step(n, &kept, NIC_EEPROM, 0) == NIC_DONE));
+    nic_drop_snapshot(&kept);
+}
+
+static void run(void)
+{
+    nic n;
+    nic_told told[64];
+    size_t count;
+    open_all(&n, 1, (uint8_t)below(3));
+    for (int k = 0; k < CALLS; k++) {
+        one_call(&n, 1);
+        if (below(6) == 0)
+            try_all(&n);
+        if (below(12) == 0)
+            nic_settle(&n, (uint16_t)below(QUEUES + 1), told, 64, &count);
+    }
+    nic_write32(&n, NIC_CTRL, 0);
+    try_all(&n);
+    nic_close(&n);
+}
+
+int main(void)
+{
+    for (int k = 0; k < RUNS; k++)
+        run();
+    printf("%lu steps as told\n", asked);
+    return 0;
+}

@@ -85,16 +85,23 @@ fn no_text(rt: HostRuntime) {
     answers(&rt, rt.alloc(), &LOAD, &mut Flood, "refused TooLong\n", 2);
 }
 
-/// Each command that reads.
-const READING: [&[&str]; 7] = [&RUN, &DEBUG, &HASH, &ASM, &DIS, &EEPROM, &LOAD];
+/// A reader that comes to no end is refused by a command, whether it returns single bytes or fills each buffer.
+fn comes_to_no_end(rt: &impl Abort, alloc: Global, words: &[&str]) {
+    answers(rt, alloc, words, &mut Drip, "refused Input\n", 2);
+    answers(rt, alloc, words, &mut Flood, "refused TooLong\n", 2);
+}
 
-/// A reader that comes to no end, by single bytes or by whole buffers.
+/// Each command that reads.
 #[test]
 fn endless_readers(rt: HostRuntime) {
-    for words in READING {
-        answers(&rt, rt.alloc(), words, &mut Drip, "refused Input\n", 2);
-        answers(&rt, rt.alloc(), words, &mut Flood, "refused TooLong\n", 2);
-    }
+    let (rt, alloc) = (&rt, rt.alloc());
+    comes_to_no_end(rt, alloc, &RUN);
+    comes_to_no_end(rt, alloc, &DEBUG);
+    comes_to_no_end(rt, alloc, &HASH);
+    comes_to_no_end(rt, alloc, &ASM);
+    comes_to_no_end(rt, alloc, &DIS);
+    comes_to_no_end(rt, alloc, &EEPROM);
+    comes_to_no_end(rt, alloc, &LOAD);
 }
 
 /// A reader of a script that fails at the read of this number.

@@ -80,8 +80,8 @@ pub fn slots_have_their_faults()
 
 /// A receive step that writes a slot leaves the descriptor with these 16 bytes: RSS type, IPv4 and IPv6 in bits 3 to 0,
 /// 4 and 6 of byte 0, TCP and UDP in bits 0 and 1 of byte 1, the hash in bytes 4 to 7, DD and EOP in bits 0 and 1 of
-/// byte 8, the number of bytes in bytes 12 and 13, the lower byte first, and 0 in all others. The buffer, at the address
-/// that the descriptor had in bytes 0 to 7 with bit 0 ignored, has the next bytes of the frame.
+/// byte 8, the number of bytes in bytes 12 and 13, the lower byte first, and 0 in all others. The buffer, at the
+/// address that the descriptor had in bytes 0 to 7 with bit 0 ignored, has the next bytes of the frame.
 pub fn descriptors_are_written_back()
     ensures { DescriptorsAreWrittenBack }
 {}
@@ -103,8 +103,8 @@ pub fn descriptors_have_their_faults()
 
 /// A transmit step that is done writes nothing back with RS 0 or for a descriptor of type 2. With RS 1 it writes, where
 /// TDWBAL bit 0 is 1, the new head as 4 bytes, the lowest first, at TDWBAH and TDWBAL bits 31 to 2; else the descriptor
-/// with bit 0 of byte 12, DD, set, and its other bits unchanged. The reply names the step's own queue, and `Advanced` the
-/// slot in TDH.
+/// with bit 0 of byte 12, DD, set, and its other bits unchanged. The reply names the step's own queue, and `Advanced`
+/// the slot in TDH.
 pub fn reports_are_written_back()
     ensures { ReportsAreWrittenBack }
 {}

@@ -115,7 +115,7 @@ class Browser:
 
     def value(self, expression: str) -> Any:
         """The value of an expression in the page."""
-        answer = self.ask("Runtime.evaluate", {"expression": expression, "returnByValue": True})
+        answer = self.ask("Runtime.evaluate", {"expression": expression, "returnByValue": True, "awaitPromise": True})
         assert "exceptionDetails" not in answer, answer
         return answer["result"].get("value")
 

@@ -66,8 +66,10 @@ def check_walk(look: Look, rings: list[str], pictures: Path | None) -> None:
 
 
 def check_opening(look: Look) -> None:
-    """That it opens at the first step that went wrong, else at the last, and that the URL's number is the header's."""
+    """That it opens at the first step that went wrong, else at the first that did nothing, else at the last, and that
+    the URL's number is the header's."""
     numbers = [number for number in range(look.count) if look.kind(number) in TROUBLE]
+    numbers = numbers or [number for number in range(look.count) if look.kind(number) == "idle"]
     look.browser.size(1_280, 800, False)
     look.browser.load(look.file)
     look.is_at(numbers[0] if numbers else look.count - 1, "opening it")
@@ -118,7 +120,7 @@ def check_words(look: Look) -> None:
     """That buttons, the key and the help say what they are, and that comments wrap and can be hidden."""
     browser = look.browser
     look.expect([one.strip() for one in browser.value(words("[data-next]"))]
-                == ["Next fault", "Next message", "Next idle"], "the buttons' words")  # fmt: skip
+                == ["Next fault", "Next message", "Next idle", "Next warning"], "the buttons' words")  # fmt: skip
     look.expect("Key:" in browser.value(words(".legend b")), "the key has no title")
     look.expect({"Keys", "Rings"} <= set(browser.value(words("#keys h2"))), "the help has no titles")
     wide = "[...document.querySelectorAll('#lines .said')].filter((one) => one.scrollWidth > one.clientWidth).length"
@@ -194,6 +196,56 @@ def check_slots(look: Look, number: int, told: list[str]) -> None:
     look.browser.load(look.file, f"#{number}")
     forms = sorted(set(look.browser.value(words(".descriptors td b"))))
     look.expect(forms == told, f"step {number}: slots are told as {forms}, not as {told}")
+
+
+def check_warnings(look: Look, warned: dict[int, str]) -> None:
+    """That these steps, and no others, are told to be warned of, by a sign at the line, a mark and in words."""
+    browser = look.browser
+    browser.size(1_280, 800, False)
+    browser.load(look.file, "#start")
+    for number, text in warned.items():
+        browser.press("w")
+        look.is_at(number, "next warning")
+        told = browser.value(words("#now .warned li"))
+        look.expect(any(text in one for one in told), f"step {number} is warned of by {told}")
+        look.expect(browser.value(words("#lines li.here .sign")) == ["\u26a0"], f"step {number}: no sign at its line")
+    browser.press("w")
+    look.is_at(list(warned)[-1], "next warning behind the last")
+    look.expect(browser.value("document.querySelectorAll('#lines .sign').length") == len(warned), "other signs")
+    browser.load(look.file, "#start")
+    look.expect(not browser.value(words(".warned li")), "at the start there is a warning")
+
+
+def check_narrow(look: Look, number: int) -> None:
+    """That the line of a step stays in sight where the window gets narrow, and where it gets wide again."""
+    browser = look.browser
+    for wide, high in ((1_280, 800), (400, 800), (1_280, 500), (500, 500)):
+        browser.size(wide, high, False)
+        if wide == 1_280 and high == 800:
+            browser.load(look.file, f"#{number}")
+            browser.value("scrollTo(0, document.body.scrollHeight)")
+        browser.value("new Promise((done) => requestAnimationFrame(() => requestAnimationFrame(done)))")
+        seen = browser.value(
+            "(() => { const line = document.querySelector('#lines li.here').getBoundingClientRect(),"
+            " box = document.getElementById('lines').getBoundingClientRect(),"
+            " top = document.querySelector('header').getBoundingClientRect().bottom;"
+            " return [line.top, line.bottom, Math.max(box.top, top), Math.min(box.bottom, innerHeight)]; })()"
+        )
+        is_seen = seen[0] >= seen[2] - 1 and seen[1] <= seen[3] + 1
+        look.expect(is_seen, f"{wide} pixels wide: the line is at {seen[:2]} of {seen[2:]}")
+
+
+def check_vector(look: Look, name: str, vector: str) -> None:
+    """That the Interrupts panel tells a cause's vector, from the start of the page on."""
+    look.browser.size(1_280, 800, False)
+    for place in ("", "#0"):
+        look.browser.load(look.file, place)
+        rows = look.browser.value(
+            "[...document.querySelectorAll('#interrupts tr')]"
+            ".map((one) => [...one.children].map((it) => it.textContent))"
+        )
+        told = {row[0]: row[-1] for row in rows}
+        look.expect(told.get(name) == vector, f"{place}: the vector of {name} in {rows}")
 
 
 def check_fits(look: Look) -> None:

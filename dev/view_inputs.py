@@ -105,6 +105,8 @@ USES = [
     (["niclint", "-"], "#: nic vfs 2 fifo 64 blocks 256\nvr 1 0x0 # 0\n", 0, "1 instructions, nothing to say"),
     (["niclint", "-", "--trace"], "#: nic vfs 2 fifo 1 blocks 256\nvr 2 0x0 # 0\n", 1, "stray"),
     (["niclint", "-"], "w GPIE 0x10000\n", 1, "bits 0x00010000 of the word are reserved"),
+    (["niclint", "-"], "w EIMC 0x7fffffff\nw EIMC 0xffffffff\nw EICR 0x7fffffff\n", 0, "nothing to say"),
+    (["niclint", "-"], "w EIMC 0x00800000\n", 1, "bits 0x00800000 of the word are reserved"),
     (["niclint", "examples/first.nic"], "", 0, "nothing to say"),
     (["niclint", "-"], "w TXDCTL[0] 0x02000000\nw DMATXCTL 1\nqstep tx 0\n", 1, "before DMATXCTL.TE is 1"),
     (["niclint", "examples/tail.debug", "--trace"], "", 1, "head and tail meet"),
@@ -128,6 +130,11 @@ WARNED = {
     "masks.nic": ["RDT[127]: bits 0x12340000 of the word are reserved"],
     "tail.debug": ["RDT[0] is never written"],
 }
+
+
+# A script with two warnings and a step that does nothing, and of which steps niclint warns.
+WARNS = "w EIMC 0x7fffffff\nw RXDCTL[0] 0x02000000\nr STATUS\nrx\nw GPIE 0x10000\nr STATUS\n"
+WARNS_AT = {1: "no `qstep rx 0` follows", 4: "bits 0x00010000 of the word are reserved"}
 
 
 def sixteen_script() -> str:

@@ -312,10 +312,14 @@ def check_history(folder: Path, expect: Expect) -> None:
     check_tool(["nicview", ROOT / "examples/first.nic", "--script"], "", 2, ["is no recording"], expect)
 
 
-def cut_recording(folder: Path) -> Path:
-    """A recording that sets up a cause's vector and a queue's cause long before its last events."""
+def cut_recording(folder: Path) -> Path | None:
+    """A recording that sets up a cause's vector and a queue's cause long before its last events; None where there is no
+    library."""
     file = folder / "cut.recording"
-    nic82599.record(file)
+    try:
+        nic82599.record(file)
+    except places.Missing:
+        return None
     with nic82599.Nic() as nic:
         nic["GPIE"], nic["IVAR_MISC"], nic["IVAR[1]"], nic["EIMS"] = 0x10, 0x8200, 0x83, 1 << 20
         nic["RDLEN[2]"] = 128

@@ -1,9 +1,11 @@
-"""Captures of Ethernet frames: reads pcap (either byte order, microseconds or nanoseconds) and pcapng, writes pcap."""
+"""Captures of Ethernet frames: reads and writes pcap (read in either byte order, microseconds or nanoseconds) and
+pcapng."""
 
 from __future__ import annotations
 
 import struct
 from collections.abc import Iterable, Iterator
+from dataclasses import dataclass
 from os import PathLike
 from typing import TYPE_CHECKING
 
@@ -94,6 +96,38 @@ def _packet_in(data: bytes, at: int, order: str, kind: int, links: list[tuple[in
 def record_of(microseconds: int, frame: bytes) -> bytes:
     """A frame with its time, as a capture has it."""
     return struct.pack("<IIII", *divmod(microseconds, 1_000_000), len(frame), len(frame)) + frame
+
+
+@dataclass(frozen=True)
+class Packet:
+    """A frame of a pcapng: its time, the way that it went, and a comment, which Wireshark shows with it."""
+
+    microseconds: int
+    frame: bytes
+    is_inbound: bool
+    comment: str
+
+
+def _option(code: int, value: bytes) -> bytes:
+    return struct.pack("<HH", code, len(value)) + value + bytes(-len(value) % 4)
+
+
+def _block(kind: int, body: bytes, options: list[tuple[int, bytes]]) -> bytes:
+    told = b"".join(_option(code, value) for code, value in options) + (bytes(4) if options else b"")
+    size = struct.pack("<I", 12 + len(body) + len(told))
+    return struct.pack("<I", kind) + size + body + told + size
+
+
+def pcapng_of(packets: Iterable[Packet], name: str) -> Iterator[bytes]:
+    """The blocks of a pcapng of Ethernet frames that went through an interface of this name."""
+    yield _block(SECTION, struct.pack("<IHHq", 0x1A2B3C4D, 1, 0, -1), [(4, b"nic82599")])
+    yield _block(INTERFACE, struct.pack("<HHI", ETHERNET, 0, 0), [(2, name.encode())])
+    for one in packets:
+        high, low = divmod(one.microseconds, 1 << 32)
+        head = struct.pack("<IIIII", 0, high, low, len(one.frame), len(one.frame))
+        way = struct.pack("<I", 1 if one.is_inbound else 2)
+        padded = one.frame + bytes(-len(one.frame) % 4)
+        yield _block(ENHANCED, head + padded, [(1, one.comment.encode()[:0xFFFF]), (2, way)])
 
 
 def read_pcap(path: str | PathLike[str]) -> list[bytes]:

@@ -23,6 +23,11 @@ class Warning:
     text: str
 
 
+# What drivers write to clear all causes or masks at once, whichever bits a register has.
+ALL = (0x7FFF_FFFF, 0xFFFF_FFFF)
+CLEARED = ("EICR", "EIMC", "PVTEICR", "PVTEIMC")
+
+
 @dataclass(frozen=True)
 class Access:
     """A write of a register: at an instruction, which register, by which address or offset, and the word."""
@@ -100,7 +105,7 @@ class Advice:
             if row.kind in ("Ro", "Rc", "Calc"):
                 yield self._at(access.pc, f"{name} isn't written by drivers: the write changes nothing")
                 continue
-            rest = regs.reserved(row, word)
+            rest = 0 if word in ALL and row.name in CLEARED else regs.reserved(row, word)
             if rest:
                 yield self._at(
                     access.pc,

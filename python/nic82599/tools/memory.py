@@ -97,12 +97,13 @@ class Frame:
 @dataclass
 class Seen:
     """What a run shows beside its registers. `earlier` has for each step how many frames wait before it that came
-    before the run; none where it begins anew."""
+    before the run; none where it begins anew. `dropped` are the frames that weren't let in."""
 
     sides: list[tuple[str, int]]
     arrived: list[Frame]
     sent: list[Frame]
     earlier: list[int] = field(default_factory=list)
+    dropped: list[Frame] = field(default_factory=list)
 
 
 def is_event(one: Instruction) -> bool:
@@ -297,7 +298,22 @@ def look(trace: Trace) -> Seen:
     _give_hashes(trace, replay, arrived)
     _collect(replay, sent)
     _find_queues(trace, replay, arrived)
-    return Seen(sides, arrived, sent, replay.earlier)
+    return Seen(sides, arrived, sent, replay.earlier, _dropped(trace))
+
+
+def look_at_frames(trace: Trace) -> Seen:
+    """The same of frames alone, in less time."""
+    replay = Replay(trace)
+    arrived, sent = _account(trace, replay)
+    _collect(replay, sent)
+    _find_queues(trace, replay, arrived)
+    return Seen([], arrived, sent, replay.earlier, _dropped(trace))
+
+
+def _dropped(trace: Trace) -> list[Frame]:
+    """The frames that weren't let in."""
+    ones = [(step, trace.instruction(step)) for step in trace.steps if step.reply.startswith("dropped")]
+    return [Frame(step.number, trace.script.data[one.x]) for step, one in ones if one.op == Op.ARRIVE]
 
 
 def _ask_memory(trace: Trace, replay: Replay, asked: list[tuple[int, list[int]]], sent: list[Frame]) -> None:

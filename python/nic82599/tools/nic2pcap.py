@@ -1,11 +1,19 @@
-"""Makes a capture of the frames that went out in a run: of what `nicbench run` printed, each line `frame queue Q HEX`.
+"""Makes a capture of frames, as tshark, tcpdump and Wireshark read it.
 
     ./nicbench run < script.nic | tools/nic2pcap OUT.pcap [--queue Q]
+    tools/nic2pcap OUT.pcapng RUN [--queue Q] [--limit N]
 
-A frame is in such a line where the script collects it (`collect`). The capture is a pcap of Ethernet frames, as tshark,
-tcpdump and Wireshark read it; a frame's time is the number of its instruction, in microseconds. With --queue those of
-one queue are taken. Other lines are passed by; standard error tells how many frames there were. Status 1: a line of a
-frame isn't one, or the file can't be written.
+Of what `nicbench run` printed it takes each line `frame queue Q HEX`, the frames that a script collected, and makes a
+pcap: a frame's time is the number of its instruction, in microseconds. Other lines are passed by.
+
+With RUN, a recording of the C library (NIC82599_RECORD) or a script, it makes a pcapng of the frames that came in and
+those that went out, also of those that were dropped or not collected: the time is the step, in microseconds, and the
+comment has the way, queue, slot, step and line. Of a recording these are all, of a script those of 4,096 steps, or as
+many as --limit says.
+
+With --queue those of one queue are taken. Standard error tells how many frames there were. Status 1: a line of a frame
+isn't one, or the file can't be written; 2: the words are wrong, or RUN is refused or can't be read; 4: ./nicbench gave
+no answer.
 """
 
 from __future__ import annotations
@@ -15,8 +23,11 @@ import re
 import sys
 from collections.abc import Iterable, Iterator
 
-from ..pcap import HEADER, record_of
-from .tool import add_version, called, ended
+from ..pcap import HEADER, Packet, pcapng_of, record_of
+from .memory import Frame, look_at_frames
+from .recording import trace_of
+from .tool import MOST_STEPS, add_version, called, ended, number, sizes
+from .trace import Trace
 
 FRAME = re.compile(r"(\d+) frame queue (\d+) ((?:[0-9a-f]{2})*)")
 
@@ -36,13 +47,49 @@ def frames_in(lines: Iterable[str]) -> Iterator[tuple[int, int, bytes]]:
             yield int(found[1]), int(found[2]), bytes.fromhex(found[3])
 
 
-def main() -> int:
-    how = {"description": called(__doc__ or ""), "formatter_class": argparse.RawDescriptionHelpFormatter}
-    parser = argparse.ArgumentParser(prog=called("tools/nic2pcap"), **how)
-    parser.add_argument("out", metavar="OUT.pcap")
-    parser.add_argument("--queue", type=int, metavar="Q", help="take the frames of this queue alone")
-    add_version(parser, "nic2pcap")
-    given = parser.parse_args()
+def packets_of(run: Trace, queue: int | None) -> tuple[list[Packet], int]:
+    """The frames of a run in the order of their steps, of one queue or of all; and how many have no known bytes."""
+    seen = look_at_frames(run)
+    gone = {one: step for step in run.steps for sign, frames in step.waiting if sign == "-" for one in frames}
+    found: list[tuple[Frame, bool, str]] = [(frame, False, "out") for frame in seen.sent]
+    found += [(frame, True, f"in, {run.steps[frame.step].reply}") for frame in seen.dropped]
+    for place, frame in enumerate(seen.arrived):
+        step = gone.get(place)
+        lost = "" if step is None or step.reply.startswith("wrote") else f", lost at step {step.number}: {step.reply}"
+        found.append((frame, True, "in" + lost if step else "in, waits"))
+    packets = []
+    for frame, is_inbound, way in sorted(found, key=lambda one: one[0].step):
+        if frame.data is None or queue not in (None, frame.queue):
+            continue
+        where = frame.slots or ([f"queue {frame.queue}"] if frame.queue is not None else [])
+        line = run.script.before + run.script.line_of[run.steps[frame.step].pc]
+        told = ", ".join([way, *where, f"step {frame.step}", f"line {line}"])
+        packets.append(Packet(frame.step, frame.data, is_inbound, told))
+    return packets, sum(frame.data is None for frame in seen.sent)
+
+
+def of_run(given: argparse.Namespace) -> int:
+    """Makes a pcapng of a run."""
+    with trace_of(given.run, given.vfs, given.fifo, given.limit) as run:
+        packets, unknown = packets_of(run, given.queue)
+        notes = list(run.notes)
+    try:
+        with open(given.out, "wb") as file:
+            file.writelines(pcapng_of(packets, "82599"))
+    except OSError as fault:
+        print(f"nic2pcap: {fault}", file=sys.stderr)
+        return 1
+    for note in notes:
+        print(f"nic2pcap: note: {note}", file=sys.stderr)
+    if unknown:
+        print(f"nic2pcap: {unknown} frames went out whose bytes aren't known; they are left out", file=sys.stderr)
+    came = sum(packet.is_inbound for packet in packets)
+    print(f"nic2pcap: {came} frames in, {len(packets) - came} out", file=sys.stderr)
+    return 0
+
+
+def of_printed(given: argparse.Namespace) -> int:
+    """Makes a pcap of what a run printed."""
     try:
         found = [it for it in frames_in(sys.stdin) if given.queue in (None, it[1])]
         with open(given.out, "wb") as file:
@@ -52,6 +99,21 @@ def main() -> int:
         return 1
     print(f"nic2pcap: {len(found)} frames", file=sys.stderr)
     return 0
+
+
+def main() -> int:
+    how = {"description": called(__doc__ or ""), "formatter_class": argparse.RawDescriptionHelpFormatter}
+    parser = argparse.ArgumentParser(prog=called("tools/nic2pcap"), **how)
+    parser.add_argument("out", metavar="OUT")
+    parser.add_argument("run", metavar="RUN", nargs="?")
+    parser.add_argument("--queue", type=int, metavar="Q", help="take the frames of this queue alone")
+    parser.add_argument("--limit", type=number(1, MOST_STEPS), metavar="N", help="the steps that are taken of RUN")
+    sizes(parser)
+    add_version(parser, "nic2pcap")
+    given = parser.parse_args()
+    if given.run is None and (given.limit, given.vfs, given.fifo) != (None, None, None):
+        parser.error("--limit, --vfs and --fifo are for a RUN, a script or a recording")
+    return of_printed(given) if given.run is None else of_run(given)
 
 
 def command() -> int:

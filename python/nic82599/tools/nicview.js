@@ -26,6 +26,7 @@ const fields = (name, word) => run.told[`${name}:${word >>> 0}`] || [];
 const kindOf = (step) => step[4].k ?? "";
 const groupOf = (kind) => (TROUBLE.includes(kind) ? "fault" : kind);
 const replyOf = (step) => (kindOf(step) === "failed" ? run.last : run.texts[step[1]]);
+const warningsOf = (step) => run.warnings[step[0]] ?? [];
 const cut = (text, most) => (text.length > most ? text.slice(0, most - 2) + ".." : text);
 // The first parts of a list; the rest opens.
 function some(parts, most, what) {
@@ -149,7 +150,9 @@ function showNow(n, state) {
   const reasons = (more.y || []).map(([held, text]) => make("li", { className: held ? "held" : "" }, run.texts[text]));
   // What decided is the machine before the step; all else on the page is the machine after it.
   const decided = () => [faint("Before this step:"), make("ul", { className: "why" }, ...reasons)];
+  const warned = warningsOf(run.steps[n - 1]).map((text) => make("li", {}, text));
   now.replaceChildren(...(reasons.length ? decided() : []));
+  if (warned.length) now.append(faint("niclint warns of this line:"), make("ul", { className: "warned" }, ...warned));
   if (more.s === "ended") now.append(faint(`Here the run ended: ${run.last}`));
   const words = { "w+": "Waits", "w-": "Waits no more", "o+": "Out", "o-": "Collected" }, moved = [];
   for (const [key, all, way] of [["w", run.arrived, "came"], ["o", run.sent, "sent"]])
@@ -235,6 +238,7 @@ function buildLines() {
       return line;
     }
     rowOf.set(pc, line);
+    if (run.warnings[pc]) line.append(make("span", { className: "sign", title: run.warnings[pc].join("\n") }, "\u26a0"));
     line.append(span("reply"));
     if (firstStep.has(pc)) {
       line.classList.add("step");
@@ -243,6 +247,7 @@ function buildLines() {
     }
     return line;
   });
+  element("lines").style.setProperty("--digits", `${`${run.before + lines.length}`.length + 1}ch`);
   element("lines").append(...lines);
 }
 function showLines(n) {
@@ -259,9 +264,20 @@ function showLines(n) {
   lastLine?.classList.remove("here");
   lastLine = n ? rowOf.get(run.steps[n - 1][0]) : null;
   lastLine?.classList.add("here");
+  keepLine();
+}
+// Keeps the line of the step in sight of the script's box.
+function keepLine() {
   const box = element("lines"), top = lastLine ? lastLine.offsetTop : 0;
   const isSeen = top > box.scrollTop + 20 && top < box.scrollTop + box.clientHeight - 50;
   if (!isSeen) box.scrollTop = Math.max(0, top - box.clientHeight / 2);
+}
+// A window of another size may break lines elsewhere, and put the script above all else: its line stays in sight.
+function resized() {
+  keepLine();
+  if (!lastLine) return;
+  const { top, bottom } = lastLine.getBoundingClientRect(), first = document.querySelector("header").offsetHeight;
+  if (top < first || bottom > innerHeight) scrollBy(0, top - first - 60);
 }
 // The steps that changed the register that is searched.
 function showHits() {
@@ -331,8 +347,9 @@ function play(wanted = playing === null) {
   if (wanted && position === count) show(0);
   element("play").textContent = wanted ? "Pause" : "Play";
 }
+const isOf = (kind) => (step) => (kind === "warning" ? warningsOf(step).length : groupOf(kindOf(step)) === kind);
 function jump(kind, backwards) {
-  const test = (step) => groupOf(kindOf(step)) === kind;
+  const test = isOf(kind);
   const found = backwards ? previous(position, test) : next(position, test);
   if (found !== undefined) show(found);
 }
@@ -355,7 +372,7 @@ function keys(event) {
   }
   if (event.target.id === "search") return;
   const moves = { ArrowLeft: -1, ArrowRight: 1, PageUp: -10, PageDown: 10, Home: -count, End: count };
-  const letters = { f: "fault", m: "message", i: "idle" }, letter = event.key.toLowerCase();
+  const letters = { f: "fault", m: "message", i: "idle", w: "warning" }, letter = event.key.toLowerCase();
   if (event.key in moves) show(position + moves[event.key]);
   else if (letter in letters) jump(letters[letter], event.shiftKey);
   else if (event.key === " " && event.target.tagName !== "BUTTON") play();
@@ -369,17 +386,19 @@ function keys(event) {
 // The marks below the slider, each wide enough to hit. Where several steps would share a mark, it is that of the first
 // of the worst kind.
 function drawMarks() {
-  const marks = element("marks"), width = marks.clientWidth, wide = 14, ranks = [...TROUBLE, "message", "idle"];
+  const marks = element("marks"), width = marks.clientWidth, wide = 14, ranks = [...TROUBLE, "message", "idle", "warning"];
+  const markOf = (step) => kindOf(step) || (warningsOf(step).length ? "warning" : "");
   const isApart = width / Math.max(1, count) >= wide, bins = new Map();
   run.steps.forEach((step, k) => {
-    if (!kindOf(step)) return;
+    if (!markOf(step)) return;
     const at = ((k + 1) / count) * width, bin = isApart ? k : Math.floor(at / wide);
     const mark = bins.get(bin) ?? { rank: ranks.length, more: -1, left: isApart ? at : (bin + 0.5) * wide };
-    const rank = ranks.indexOf(kindOf(step));
+    const rank = ranks.indexOf(markOf(step));
     bins.set(bin, { ...mark, more: mark.more + 1, ...(rank < mark.rank ? { rank, k } : {}) });
   });
   marks.replaceChildren(...[...bins.values()].map(({ rank, k, more, left }) => {
-    const title = `step ${k}: ${cut(replyOf(run.steps[k]), 60)}` + (more ? `, and ${more} more` : "");
+    const said = ranks[rank] === "warning" ? "niclint warns" : cut(replyOf(run.steps[k]), 60);
+    const title = `step ${k}: ${said}` + (more ? `, and ${more} more` : "");
     const style = `left:${((100 * left) / width).toFixed(3)}%`;
     const mark = make("button", { className: groupOf(ranks[rank]), title, tabIndex: -1, style });
     mark.addEventListener("click", () => show(k + 1));
@@ -395,7 +414,7 @@ function begin() {
   element("names").append(...[...registers.values()].map(([name]) => make("option", { value: name })));
   for (const button of document.querySelectorAll("[data-next]")) {
     const kind = button.dataset.next;
-    button.disabled = !run.steps.some((step) => groupOf(kindOf(step)) === kind);
+    button.disabled = !run.steps.some(isOf(kind));
     button.addEventListener("click", (event) => jump(kind, event.shiftKey));
   }
   element("notes-part").hidden = !run.notes.length;
@@ -407,6 +426,7 @@ function begin() {
   for (const [id, act] of Object.entries(acts)) element(id).addEventListener("click", act);
   document.addEventListener("keydown", keys, true);
   new ResizeObserver(drawMarks).observe(element("marks"));
+  addEventListener("resize", resized);
   addEventListener("hashchange", () => show(placeOf(location.hash)));
   buildLines();
   show(placeOf(location.hash));

@@ -3,6 +3,7 @@
     tools/nicview SCRIPT -o run.html            a page, which needs no network
     tools/nicview SCRIPT --text                 the same as lines, with the rings drawn in characters
     tools/nicview SCRIPT --svg STEP -o it.svg   a picture of the machine after a step
+    tools/nicview SCRIPT --perfetto -o it.json  a trace for Perfetto: steps, who made them, messages, frames
     tools/nicview RECORDING --script            a script of a recording, as far as nicbench can read one
 
 SCRIPT is a register script, a session of the debugger (what stands in front of its line `%`), or - for standard input.
@@ -23,6 +24,7 @@ from pathlib import Path
 
 from . import draw
 from . import page
+from . import perfetto
 from .as_script import script
 from .recording import is_recording, read, refuse_sizes, run_of
 from .script import Fault, read_bytes
@@ -38,6 +40,7 @@ def words() -> argparse.Namespace:
     form = parser.add_mutually_exclusive_group()
     made = "what nicbench can read of a recording, as a script"
     form.add_argument("--script", action="store_true", dest="script_of", help=made)
+    form.add_argument("--perfetto", action="store_true", help="a trace for Perfetto, in JSON")
     form.add_argument("--text", action="store_true", help="lines of text in place of a page")
     step = number(0, MOST_STEPS)
     form.add_argument("--svg", type=step, metavar="STEP", help="a picture of the machine after this step")
@@ -78,6 +81,8 @@ def main() -> int:
     run = run_of(asked.script, asked.vfs, asked.fifo, asked.limit)
     if asked.text:
         write(asked.o, "".join(line + "\n" for line in draw.text(run)))
+    elif asked.perfetto:
+        write(asked.o, perfetto.trace(run))
     elif asked.svg is not None:
         if asked.svg >= len(run.steps):
             raise Fault(f"there is no step {asked.svg}: the run has {len(run.steps)} steps, counted from 0")

@@ -194,6 +194,7 @@ class Data:
             "finding": vars(run.finding) if run.finding else None,
             "comments": [run.comment(pc) for pc in range(len(run.line_of))],
             "notes": run.notes,
+            "warnings": run.warnings,
         }
 
 

@@ -17,12 +17,14 @@ from dataclasses import dataclass, field, replace
 import nic82599
 from nic82599 import Nic, NicError, Snapshot
 
+from .advice import Advice
 from .library import MOST_BLOCKS, Library, instruction, played
 from .regs import ENABLE, REGISTERS, first
-from .run import Run, of_script, of_trace
-from .script import HEAD, Bench, Fault, Instruction, Op, Script, read_bytes
-from .tool import limit_of_script
+from .run import Run, bench_of, of_script, of_trace
+from .script import HEAD, Bench, Fault, Instruction, Op, Script, read_bytes, text_of
+from .tool import MOST_STEPS, limit_of_script
 from .trace import Plan, Step, Trace
+from .trace import trace as of_text
 
 # What a line of a recording can be wrong by.
 BAD = (ValueError, KeyError, IndexError, OverflowError, TypeError, NicError)
@@ -287,7 +289,11 @@ def trace(player: Player) -> Trace:
             break
         always |= missed
     bench.begin_debug(script, [step.reply for step in steps])
-    player.others += sum(step.reply != reply for step, reply in zip(steps, replies) if reply != "after")
+    for step, reply in zip(steps, replies):
+        if step.reply == reply:  # what was recorded stands where it is another answer
+            at = script.line_of[step.pc] - 1
+            script.lines[at] = script.lines[at].partition("#")[0].rstrip()
+        player.others += step.reply != reply and reply != "after"
     if recording.before:
         steps[0].lent = [("+", *row) for row in in_rows(lent)]
     if player.others:
@@ -296,6 +302,7 @@ def trace(player: Player) -> Trace:
     start |= {address: every[address] for step in steps for address, _, _ in step.changes}
     made = Trace(bench, script, steps, start, f"ok {len(steps)}", recording.notes)
     made.lent, made.memory_before, made.waiting, made.out = lent, bench.before, waiting, out
+    made.warnings = [(one.line, one.text) for one in Advice(recording.script()).all()]
     return made
 
 
@@ -320,6 +327,19 @@ def refuse_sizes(path: str, vfs: int | None, fifo: int | None) -> None:
     """A recording brings its sizes."""
     if vfs is not None or fifo is not None:
         raise Fault(f"{path} is a recording, which has its sizes in its first line: leave --vfs and --fifo out")
+
+
+@contextlib.contextmanager
+def trace_of(path: str, vfs: int | None, fifo: int | None, limit: int | None) -> Iterator[Trace]:
+    """The trace of a script, of 4,096 steps, or of a whole recording; or of as many steps as `limit` says."""
+    raw = read_bytes(path)
+    if not is_recording(raw):
+        text = text_of(path, raw)
+        yield of_text(bench_of(Bench(vfs, fifo), text), path, text, limit_of_script(limit or 4_096))
+        return
+    refuse_sizes(path, vfs, fifo)
+    with traced(read(path, raw), limit or MOST_STEPS) as made:
+        yield made
 
 
 def run_of(path: str, vfs: int | None, fifo: int | None, limit: int) -> Run:

@@ -11,10 +11,11 @@ those of the rings. A step's `pc` is an index of `line_of`; several steps may ha
 from __future__ import annotations
 
 import re
-from dataclasses import dataclass
+from dataclasses import dataclass, field
 from pathlib import Path
 
 from .about import give_rings
+from .advice import Advice
 from .memory import Seen, look
 from .reason_table import Reason
 from .reasons import Reasons
@@ -38,7 +39,7 @@ class Run:
     """What is shown. `lines` stand at the left, and `line_of` has for each `pc` of a step the number of its line, from
     1 on; so many lines of the file come `before` them. `start` has the registers before the first step, as far as a
     step could change them, `seen` the rings and frames, and `reasons` for each step why it did nothing. `last` is the
-    line that the run ended with."""
+    line that the run ended with, and `warnings` are those of niclint, by `pc`."""
 
     name: str
     lines: list[str]
@@ -54,6 +55,8 @@ class Run:
     options: list[str]
     finding: Finding | None = None
     before: int = 0
+    is_recorded: bool = False
+    warnings: dict[int, list[str]] = field(default_factory=dict)
 
     def line(self, pc: int) -> int:
         """The number of a step's line in its file."""
@@ -70,11 +73,16 @@ class Run:
     @property
     def opening(self) -> int | None:
         """The step of the finding; else the first step that failed, met a fault, dropped a frame or was refused; else
-        the last, if there is one."""
+        the first that did nothing, of a recording the last; else the last, if there is one."""
         if self.finding and self.finding.step is not None and not self.last.startswith("failed"):
             return self.finding.step
         numbers = [step.number for step in self.steps if step.is_trouble]
-        return numbers[0] if numbers else self.steps[-1].number if self.steps else None
+        if numbers:
+            return numbers[0]
+        idle = [step.number for step in self.steps if step.kind == "idle"]
+        if idle:
+            return idle[-1 if self.is_recorded else 0]
+        return self.steps[-1].number if self.steps else None
 
 
 FAILED = re.compile(r"\s*# FAILED (\w+): (.*)")
@@ -109,6 +117,12 @@ def sizes_of(lines: list[str]) -> tuple[int, int] | None:
     return (int(told[1]), int(told[2])) if told else None
 
 
+def bench_of(bench: Bench, text: str) -> Bench:
+    """The bench for a script: with the sizes that an explorer's script brings, where none are given."""
+    sizes = None if bench.options else sizes_of(text.split("\n", 2))
+    return Bench(*sizes) if sizes else bench
+
+
 def of_trace(run: Trace) -> Run:
     """The run of a script that was traced."""
     script, bench = run.script, run.bench
@@ -116,14 +130,32 @@ def of_trace(run: Trace) -> Run:
     give_rings(run, seen)
     reasons = Reasons(run, seen).all()
     name = Path(script.path).name if script.path != "-" else "standard input"
+    told = warnings_of(run)
     return Run(
         name, script.lines, script.line_of, run.steps, run.start, seen, reasons, run.last, run.notes,
-        bench.vfs, bench.fifo, bench.options, finding_of(run), script.before,
+        bench.vfs, bench.fifo, bench.options, finding_of(run), script.before, run.warnings is not None, told,
     )  # fmt: skip
+
+
+def warnings_of(run: Trace) -> dict[int, list[str]]:
+    """What niclint warns of, by the instruction that it is about. Of a part it counts those of lines before it."""
+    script = run.script
+    found = run.warnings
+    if found is None:
+        found = [(one.line, one.text) for one in Advice(script).all()]
+    at = {script.before + line: pc for pc, line in enumerate(script.line_of)}
+    told: dict[int, list[str]] = {}
+    for line, text in found:
+        if line in at:
+            told.setdefault(at[line], []).append(text)
+    before = sum(line not in at for line, _ in found)
+    if before:
+        lines = "a line" if before == 1 else f"{before} lines"
+        run.notes.append(f"niclint warns of {lines} before the first step that is shown")
+    return told
 
 
 def of_script(bench: Bench, path: str, limit: int = 4_096, raw: bytes | None = None) -> Run:
     """The run of the script in a file, of at most so many steps. An explorer's script brings its device's sizes."""
     text = text_of(path, read_bytes(path) if raw is None else raw)
-    sizes = None if bench.options else sizes_of(text.split("\n", 2))
-    return of_trace(trace(Bench(*sizes) if sizes else bench, path, text, limit))
+    return of_trace(trace(bench_of(bench, text), path, text, limit))

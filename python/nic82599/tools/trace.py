@@ -77,7 +77,8 @@ def _nothing(_unit: int) -> bytes:
 class Trace:
     """A whole run. `start` has the registers before the first step, as far as any step could change them, and those
     that aren't as at a reset; `lent` the blocks that are lent then, and `memory_before` what 16 bytes of them hold;
-    `waiting` and `out` how many frames wait and went out: none where it begins anew."""
+    `waiting` and `out` how many frames wait and went out: none where it begins anew. `warnings` are those of niclint
+    with their lines, where the script is a part of what they are about."""
 
     bench: Bench
     script: Script
@@ -89,6 +90,7 @@ class Trace:
     memory_before: Callable[[int], bytes] = _nothing
     waiting: int = 0
     out: int = 0
+    warnings: list[tuple[int, str]] | None = None
 
     def instruction(self, step: Step) -> Instruction:
         return self.script.instructions[step.pc]

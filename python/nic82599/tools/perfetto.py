@@ -1,0 +1,119 @@
+"""A run as a trace in Chrome's JSON form, which Perfetto opens: steps, who made them, messages and frames as tracks.
+
+A step is a slice of a microsecond at its number, so that a time is a step. Each stands in the track of all steps, and
+in that of who made it: the explorer's script names tasks, handlers and the device's parts; of another run it is the
+driver, a virtual function's driver, the link, or the part of the device. Messages, and what went wrong, have a track of
+their own. A frame is a span from where it came to where it was taken, and counters tell how many wait and are out.
+"""
+
+from __future__ import annotations
+
+import json
+from collections.abc import Iterator
+from typing import Any
+
+from . import regs
+from .memory import Frame
+from .regs import REGISTERS
+from .run import Run, sizes_of
+from .trace import Step
+
+Event = dict[str, Any]
+PARTS = {"rx": "receive", "int": "interrupts", "qstep": "queues", "eestep": "EEPROM", "arrive": "link", "link": "link"}
+# The tracks that each run has, in front of those of who acts.
+STEPS, TROUBLE, MESSAGES = range(1, 4)
+NAMES = {STEPS: "all steps", TROUBLE: "faults, drops, refusals, idle steps", MESSAGES: "messages"}
+
+
+def actor_of(run: Run, step: Step, is_explored: bool) -> str:
+    """Who made a step."""
+    said = run.comment(step.pc)
+    if is_explored and said:
+        return said.partition(":")[0]
+    word, *rest = run.shown(step.pc).split()
+    if word == "tx":
+        return f"transmit queue {rest[0]}"
+    if word in ("vr", "vw"):
+        return f"driver of function {rest[0]}"
+    return PARTS.get(word, "driver")
+
+
+def _told(run: Run, step: Step) -> Event:
+    """What is shown of a step when it is picked."""
+    changes = {}
+    for address, old, new in step.changes:
+        fields = regs.told(REGISTERS[address].row, new)
+        changes[regs.name_at(address)] = f"0x{old:08x} -> 0x{new:08x}  {fields}".rstrip()
+    reasons = [reason.text for reason in run.reasons[step.number] if reason.held]
+    told = {"step": step.number, "line": run.line(step.pc), "answer": step.answer, "changes": changes, "why": reasons}
+    told["niclint"] = run.warnings.get(step.pc, [])
+    return {key: value for key, value in told.items() if value not in ("", {}, [])}
+
+
+def _slice(step: Step, track: int, name: str, told: Event) -> Event:
+    kind = step.kind or "step"
+    return {"ph": "X", "pid": 1, "tid": track, "ts": step.number, "dur": 1, "name": name, "cat": kind, "args": told}
+
+
+def _track(track: int, name: str) -> Iterator[Event]:
+    """The name of a track, and its place."""
+    head = {"ph": "M", "pid": 1, "tid": track}
+    yield {**head, "name": "thread_name", "args": {"name": name}}
+    yield {**head, "name": "thread_sort_index", "args": {"sort_index": track}}
+
+
+def _spans(run: Run, way: str) -> Iterator[Event]:
+    """Frames that were let in (`in`) or went out: each from its step to the one that takes it, or to the end."""
+    frames: list[Frame] = run.seen.arrived if way == "in" else run.seen.sent
+    ends: dict[int, Step] = {}
+    for step in run.steps:
+        for sign, some in step.waiting if way == "in" else step.out:
+            ends.update(dict.fromkeys(some, step) if sign == "-" else {})
+    for number, frame in enumerate(frames):
+        size = f"{len(frame.data)} bytes" if frame.data is not None else "bytes not known"
+        queue = f"queue {frame.queue}" if frame.queue is not None else "queue not known"
+        end = ends.get(number)
+        head = {"pid": 1, "cat": f"frames {way}", "id": f"{way} {number}", "name": f"frame {way}, {queue}"}
+        told = {"bytes": size, "slots": ", ".join(frame.slots), "taken": end.answer if end else "never"}
+        yield {**head, "ph": "b", "ts": frame.step, "args": told}
+        yield {**head, "ph": "e", "ts": end.number + 1 if end else len(run.steps)}
+
+
+def _counts(run: Run) -> Iterator[Event]:
+    """How many frames wait, and how many are out, where that changes."""
+    for name, of in (("frames that wait", lambda step: step.waiting), ("frames out", lambda step: step.out)):
+        count = 0
+        for step in run.steps:
+            moved = sum((1 if sign == "+" else -1) * len(some) for sign, some in of(step))
+            count += moved
+            if moved or not step.number:
+                yield {"ph": "C", "pid": 1, "name": name, "ts": step.number, "args": {"frames": count}}
+
+
+def events(run: Run) -> Iterator[Event]:
+    """The events of a run."""
+    is_explored = sizes_of(run.lines[:2]) is not None
+    tracks: dict[str, int] = {}
+    yield {"ph": "M", "pid": 1, "name": "process_name", "args": {"name": run.name}}
+    for track, name in NAMES.items():
+        yield from _track(track, name)
+    for step in run.steps:
+        name, told, actor = run.shown(step.pc), _told(run, step), actor_of(run, step, is_explored)
+        if actor not in tracks:
+            tracks[actor] = len(NAMES) + len(tracks) + 1
+            yield from _track(tracks[actor], actor)
+        yield _slice(step, STEPS, name, told)
+        yield _slice(step, tracks[actor], name, told)
+        if step.kind == "message":
+            yield _slice(step, MESSAGES, step.reply.removeprefix("message "), told)
+        elif step.kind:
+            yield _slice(step, TROUBLE, f"{name}: {step.answer}", told)
+    yield from _spans(run, "in")
+    yield from _spans(run, "out")
+    yield from _counts(run)
+
+
+def trace(run: Run) -> str:
+    """The file."""
+    made = {"traceEvents": list(events(run)), "displayTimeUnit": "ns", "otherData": {"run": run.name, "last": run.last}}
+    return json.dumps(made, separators=(",", ":")) + "\n"

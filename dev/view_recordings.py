@@ -9,18 +9,29 @@ from pathlib import Path
 
 import nic82599
 from nic82599 import places
+from nic82599.tools import as_script, perfetto
+from nic82599.tools.advice import Advice
 from nic82599.tools.library import Place, played
 from nic82599.tools.page import Data
-from nic82599.tools.recording import of_recording
+from nic82599.tools.recording import of_recording, read
 from nic82599.tools.regs import REGISTERS
 from nic82599.tools.run import Run, of_script
-from nic82599.tools.script import Bench, Op, load
+from nic82599.tools.script import Bench, Fault, Op, Refused, load
 from nic82599.tools.trace import Step
 from view_inputs import ENDS
 
 ROOT = Path(__file__).resolve().parents[1]
 Expect = Callable[[bool, str], None]
 HEAD = "#: nic vfs 0 fifo 64 blocks 256\n"
+# Lines that a changed recording may have, and with which one begins.
+STRANGE = [
+    "lend 99999999999", "lend -1", "#: lend 0 to 4000000000 # done", "#: lend 2 to 5 # done", "lend 3 to 9", "unlend 2",
+    "#: restore 1", "#: restore 0", "#: drop 1", "#: snapshot 7", "#: image 00", "#: text zz", "#: ", "jmp x", "x:",
+    "halt", "and 5", "int 300", "int 62", "tx 70000", "tx 200", "qstep rx 128", "vr 63 0", "vr 300 0", "r 0x100000000",
+    "r -1", "data d0", "data d0 0", "poke 0x100000000 d0", "poke 8 d1", "peek 0x10 9", "peek -1 0", "link sideways",
+    "arrive d1", "collect", "w 0 0x04000000", "w 0x0", "#: nic vfs 1 fifo 1 blocks 1", "", "   ", "\t# only this",
+]  # fmt: skip
+HOSTILE = ["#: snapshot 1", "#: lend 0 to 7 # done", "data d1 00  #: no bytes", "arrive d1 # dropped off", "rx # idle", ""]
 # What can't be drawn, and what is said of it with status 2.
 REFUSED = {
     "#: nic vfs 0": "has no whole first line",
@@ -365,6 +376,44 @@ def check_place(script: Path, vfs: int | None, chance: random.Random, expect: Ex
     expect(not odd, f"{script.name}, debugged: {odd[:3]}")
 
 
+def mutated(lines: list[str], chance: random.Random) -> bytes:
+    """A recording with some lines lost, moved, changed, or from elsewhere."""
+    made = list(lines)
+    for _ in range(chance.randint(1, 4)):
+        at, way = chance.randrange(1, len(made)), chance.randint(0, 3)
+        line = made[at]
+        if way == 0:
+            made[at] = chance.choice(STRANGE)
+        elif way == 1:
+            made.insert(chance.randrange(1, len(made)), made.pop(at))
+        elif way == 2 and line:
+            place = chance.randrange(len(line))
+            made[at] = line[:place] + chance.choice("0x9 #:-_\u00fc") + line[place + chance.randint(0, 3) :]
+        else:
+            made.insert(at, chance.choice(STRANGE))
+    return "\n".join(made).encode("latin-1")
+
+
+def check_hostile(folder: Path, chance: random.Random, expect: Expect) -> None:
+    """A recording that someone changed is shown or told of in a line, and ends no tool otherwise."""
+    file = cut_recording(folder)
+    assert file is not None
+    lines = [*file.read_text().split("\n"), *HOSTILE]
+    for _ in range(60):
+        raw = mutated(lines, chance)
+        try:
+            made = read("changed", raw)
+            Advice(made.script()).all()
+            run = of_recording("changed", chance.choice((3, 4_096)), raw)
+            Data(run).whole()
+            perfetto.trace(run)
+            as_script.script(made) if chance.randrange(8) == 0 else None
+        except (Fault, Refused):
+            continue
+        except Exception as fault:  # noqa: BLE001
+            expect(False, f"a changed recording ends with {fault!r}: {raw!r}")
+
+
 def check_recordings(scripts: dict[Path, int | None], folder: Path, seed: int, expect: Expect) -> None:
     """Recordings of scripts without jumps, where the library is made."""
     try:
@@ -391,4 +440,5 @@ def check_recordings(scripts: dict[Path, int | None], folder: Path, seed: int, e
     check_restored(folder, expect)
     for check in (check_long, check_lent, check_no_bytes, check_history, check_cut):
         check(folder, expect)
+    check_hostile(folder, chance, expect)
     print(f"{len(scripts)} scripts, recorded, with seed {seed}")

@@ -22,36 +22,43 @@ APART, ROOM = 1_024, 128 << 20
 MOST_BLOCKS = 65_536
 
 
+def _number(word: str) -> int:
+    """A number from 0 on; ValueError."""
+    if not word[:1].isdigit():
+        raise ValueError(f"{word} is no number")
+    return int(word, 0)
+
+
 def instruction(words: list[str], names: dict[str, int]) -> Instruction:
     """An instruction by the words of its line; data and labels by their numbers. ValueError, KeyError, IndexError."""
     op = OPS[words[0]]
     if op in (Op.WRITE, Op.READ):
-        return Instruction(op, 0, 0, int(words[1], 0), int(words[2], 0) if op == Op.WRITE else 0)
+        return Instruction(op, 0, 0, _number(words[1]), _number(words[2]) if op == Op.WRITE else 0)
     if op in (Op.VF_WRITE, Op.VF_READ):
-        word = int(words[3], 0) if op == Op.VF_WRITE else 0
-        return Instruction(op, 0, int(words[1]), int(words[2], 0), word)
+        word = _number(words[3]) if op == Op.VF_WRITE else 0
+        return Instruction(op, 0, _number(words[1]), _number(words[2]), word)
     if op == Op.POKE:
-        return Instruction(op, 0, names[words[2]], int(words[1], 0), 0)
+        return Instruction(op, 0, names[words[2]], _number(words[1]), 0)
     if op == Op.PEEK:
-        return Instruction(op, int(words[2]), 0, int(words[1], 0), 0)
+        return Instruction(op, _number(words[2]), 0, _number(words[1]), 0)
     if op in (Op.ARRIVE, Op.JMP):
         return Instruction(op, 0, names[words[1]], 0, 0)
     if op == Op.INT:
-        return Instruction(op, 0, 0, 0, 0) if words[1] == "pf" else Instruction(op, 1, int(words[1]), 0, 0)
+        return Instruction(op, 0, 0, 0, 0) if words[1] == "pf" else Instruction(op, 1, _number(words[1]), 0, 0)
     if op == Op.QSTEP:
-        return Instruction(op, int(words[1] == "tx"), int(words[2]), 0, 0)
+        return Instruction(op, int(words[1] == "tx"), _number(words[2]), 0, 0)
     if op == Op.LINK:
         return Instruction(op, int(words[1] == "up"), 0, 0, 0)
     if op == Op.LEND:
         return _lent(words)
-    return Instruction(op, 0, int(words[1]) if op in (Op.UNLEND, Op.TX) else 0, 0, 0)
+    return Instruction(op, 0, _number(words[1]) if op in (Op.UNLEND, Op.TX) else 0, 0, 0)
 
 
 def _lent(words: list[str]) -> Instruction:
     """`lend 3`, or `lend 0 to 255` of a recording."""
-    first, last = int(words[1]), 0
+    first, last = _number(words[1]), 0
     if len(words) > 2:
-        last = int(words[3])
+        last = _number(words[3])
         if words[2] != "to" or len(words) > 4 or not first < last < MOST_BLOCKS:
             raise ValueError(f"a range of blocks is as in `lend 0 to 255`, below {MOST_BLOCKS}")
     return Instruction(Op.LEND, 0, first, last, 0)

@@ -112,33 +112,28 @@ class Watch:
     """The controllers that a test makes, and what was in the way of those that its failure closed."""
 
     def __init__(self) -> None:
-        self.made: list[weakref.ref[nic82599.Nic]] = []
-        self.told: dict[weakref.ref[nic82599.Nic], tuple[str, str]] = {}
+        self.made: weakref.WeakKeyDictionary[nic82599.Nic, None] = weakref.WeakKeyDictionary()
+        self.closed: list[tuple[str, str]] = []
 
     def see(self, nic: nic82599.Nic) -> None:
-        """Takes in a controller that is made, or that is closed."""
-        one = weakref.ref(nic)
-        if one not in self.made:
-            self.made.append(one)
-        if sys.exc_info()[0] is not None:
-            self.told[one] = repr(nic), why_of(nic)
+        """Takes in a controller that is made, or one of these that is closed."""
+        if nic not in self.made:
+            self.made[nic] = None
+        elif sys.exc_info()[0] is not None:
+            del self.made[nic]
+            self.closed.append((repr(nic), why_of(nic)))
 
     def texts(self, more: list[nic82599.Nic]) -> Iterator[tuple[str, str]]:
         """Each controller, and what is in the way there."""
-        for one in self.made:
-            nic = one()
-            yield self.told.get(one) or ((repr(nic), why_of(nic)) if nic else ("", ""))
-        for nic in more:
-            if weakref.ref(nic) not in self.made:
-                yield repr(nic), why_of(nic)
+        yield from self.closed
+        for nic in [*self.made, *(it for it in more if it not in self.made)]:
+            yield repr(nic), why_of(nic)
 
     def sections(self, more: list[nic82599.Nic]) -> list[tuple[str, str]]:
-        """The sections of a report."""
-        every = list(self.texts(more))
-        number = (lambda k: f" (number {k} of {len(every)})") if len(every) > 1 else (lambda k: "")
-        return [
-            (f"why nothing happens in {name}{number(k)}", text) for k, (name, text) in enumerate(every, 1) if text
-        ]
+        """The sections of a report: one for each controller in which something waits."""
+        shown = [(name, text) for name, text in self.texts(more) if text]
+        number = (lambda k: f" ({k} of {len(shown)})") if len(shown) > 1 else (lambda k: "")
+        return [(f"why nothing happens in {name}{number(k)}", text) for k, (name, text) in enumerate(shown, 1)]
 
 
 def why_of(nic: nic82599.Nic) -> str:

@@ -127,6 +127,8 @@ class Steps(unittest.TestCase):
 
 
 FAILING = '''
+import gc
+
 import pytest
 from nic82599 import Nic
 
@@ -179,6 +181,15 @@ def test_two():
     assert False
 
 
+def test_gone():
+    broken()
+    Nic().close()
+    with broken():
+        pass
+    gc.collect()
+    assert False
+
+
 def test_nothing_waits():
     nic = Nic()
     assert False
@@ -204,13 +215,15 @@ class Plugin(unittest.TestCase):
 
     def test_sections(self) -> None:
         text = self.told()
-        self.assertIn("6 failed, 2 passed", text)
+        self.assertIn("7 failed, 2 passed", text)
         parts = dict(re.findall(r"^_+ (test_\w+) _+$(.*?)(?=^_+ test_|^=+ short)", text, re.M | re.S))
         for name in ("in_a_with", "by_a_fixture", "of_a_session_again", "still_open", "two"):
             self.assertIn(OFF, parts[f"test_{name}"], name)
             self.assertIn("why nothing happens in <Nic of 0 virtual functions and 256 blocks", parts[f"test_{name}"])
         self.assertIn("EICR 0x00000001 (RTxQ[0]), EIMS 0x00000000", parts["test_two"])
-        self.assertNotIn("why nothing happens", parts["test_nothing_waits"])
+        self.assertIn("256 blocks> (2 of 2)", parts["test_two"])
+        for name in ("gone", "nothing_waits"):
+            self.assertNotIn("why nothing happens", parts[f"test_{name}"], name)
         self.assertEqual(text.count("why nothing happens"), 6)
 
 

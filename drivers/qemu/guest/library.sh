@@ -1,0 +1,46 @@
+# What the guests' scripts share: busybox's sh reads it.
+
+# load MODULE: with what it depends on.
+load() {
+    while read -r module; do insmod "/modules/$module" 2>/dev/null; done <"/modules/$1.list"
+    usleep 200000
+}
+
+now() { cut -d' ' -f1 /proc/uptime; }
+
+# carrier [INTERFACE]: waits until there is one.
+carrier() {
+    n=0
+    while [ "$(cat "/sys/class/net/${1:-eth0}/carrier" 2>/dev/null)" != 1 ] && [ $n -lt 200 ]; do
+        usleep 100000
+        n=$((n + 1))
+    done
+    echo "guest: carrier at $(now) s"
+}
+
+# up ADDRESS [MODULE]: the card, with this address.
+up() {
+    load "${2:-ixgbe}"
+    ip addr add "$1/24" dev eth0
+    ip link set eth0 up
+    carrier
+}
+
+# passes MOST: numbered frames of at most so many bytes go out and come in; either end compares each byte.
+passes() {
+    echo "@control expect 2000 $1"
+    usleep 300000
+    frames send eth0 2000 "$1"
+    sleep 1
+    echo "@control came"
+    frames receive eth0 2000 "$1" 60 >/tmp/received &
+    while ! grep -q ready /tmp/received; do usleep 50000; done
+    echo "@control frames 2000 $1"
+    wait
+    cat /tmp/received
+}
+
+counts() {
+    echo "@control counts"
+    usleep 300000
+}

@@ -1,0 +1,534 @@
+#!/usr/bin/env python3
+"""Boots guests of QEMU with a card of nic82599-vfio-user, and compares what they and the server tell.
+
+    guests.py FETCHED OUT SERVER [--quick | --only NAME .. | --turn | --kernel PATH ..]
+    guests.py --list
+
+drivers/qemu/run calls it, and says what the words mean. A guest's script is a part of its initial file system; a line
+"@control WORDS" that it prints is a request to the server's control socket, whose answer stands in the guest's log.
+"""
+
+from __future__ import annotations
+
+import os
+import re
+import shutil
+import socket
+import subprocess
+import sys
+import tempfile
+import threading
+import time
+from collections.abc import Callable, Iterator, Sequence
+from contextlib import contextmanager
+from dataclasses import dataclass, field
+from pathlib import Path
+
+sys.dont_write_bytecode = True
+from initrd import Initrd  # noqa: E402
+
+HERE = Path(__file__).resolve().parent
+FRAMES = 2000
+SECONDS = 600  # that a guest may take: it took 15 to 40 on a machine that was busy
+
+
+class Wrong(Exception):
+    """A run isn't as it should be."""
+
+
+@dataclass
+class Place:
+    """Where things are."""
+
+    fetched: Path
+    out: Path
+    program: Path
+    folder: Path = field(default_factory=lambda: Path(tempfile.mkdtemp(prefix="nic82599-guests.")))
+
+    def qemu(self, name: str) -> list[str]:
+        """QEMU by its own loader and libraries, which this machine hasn't installed."""
+        root = self.fetched / "qemu/root"
+        libraries = root / "usr/lib/x86_64-linux-gnu"
+        loader = next(it for it in (libraries, root / "usr/lib64", root / "lib64") if (it / LOADER).exists()) / LOADER
+        paths = ":".join(str(it) for it in (libraries, root / "lib/x86_64-linux-gnu", libraries / "pulseaudio"))
+        words = [str(loader), "--library-path", paths, str(root / "usr/bin" / name)]
+        for share in ("qemu", "seabios", "ipxe/qemu"):
+            words += ["-L", str(root / "usr/share" / share)]
+        return words
+
+    def kernel(self, name: str) -> Path:
+        root = self.fetched / name / "root"
+        return next(it for it in [*root.glob("boot/vmlinuz-*"), *root.glob("usr/lib/modules/*/vmlinuz")])
+
+    def modules(self, name: str) -> Path:
+        root = self.fetched / name / "root"
+        return next(it for it in [*root.glob("usr/lib/modules/*"), *root.glob("lib/modules/*")])
+
+
+LOADER = "ld-linux-x86-64.so.2"
+
+
+class Server:
+    """A server with its sockets in a folder of its own."""
+
+    def __init__(self, place: Place, name: str, *words: str) -> None:
+        self.folder = Path(tempfile.mkdtemp(prefix=f"{name}.", dir=place.folder))
+        self.path, self.told = self.folder / "card", self.folder / "told"
+        given = [f"--socket-path={self.path}", f"--control={self.folder}/control", *words]
+        with open(self.told, "wb") as told:
+            self.process = subprocess.Popen([place.program, *given], stdout=told, stderr=subprocess.STDOUT)
+        self.socket = socket.socket(socket.AF_UNIX)
+        for _ in range(200):
+            try:
+                self.socket.connect(str(self.folder / "control"))
+                break
+            except OSError:
+                time.sleep(0.05)
+        else:
+            raise Wrong(f"the server doesn't start: {self.told.read_text()}")
+        self.answers = self.socket.makefile("r")
+
+    def ask(self, words: str) -> list[str]:
+        """The lines of an answer, without the "ok"."""
+        self.socket.sendall(f"{words}\n".encode())
+        lines: list[str] = []
+        for line in self.answers:
+            lines.append(line.rstrip())
+            if lines[-1] == "ok" or lines[-1].startswith("error"):
+                break
+        return [it for it in lines if it != "ok"]
+
+    def end(self) -> str:
+        """Ends it; what it told."""
+        self.process.terminate()
+        status = self.process.wait(timeout=20)
+        told = self.told.read_text()
+        if status:
+            raise Wrong(f"the server ended with status {status}: {told[-600:]}")
+        return told
+
+
+class Guest:
+    """A running guest. Its lines are kept with their times, and those that are requests are passed on."""
+
+    def __init__(self, words: Sequence[str], server: Server, log: Path) -> None:
+        self.server, self.lines, self.began, self.log = server, list[str](), time.time(), log
+        self.process = subprocess.Popen(
+            words, stdin=subprocess.DEVNULL, stdout=subprocess.PIPE, stderr=subprocess.STDOUT
+        )
+        self.reader = threading.Thread(target=self.read, daemon=True)
+        self.reader.start()
+
+    def add(self, line: str) -> None:
+        self.lines.append(line)
+        with open(self.log, "a", encoding="utf-8") as log:
+            log.write(f"{time.time() - self.began:7.2f} {line}\n")
+
+    def read(self) -> None:
+        assert self.process.stdout
+        for raw in self.process.stdout:
+            line = re.sub(r"\x1b\[[0-9;?]*[A-Za-z]|\x1bc", "", raw.decode("latin-1")).strip()
+            self.add(line)
+            if line.startswith("@control "):
+                for answer in self.server.ask(line.removeprefix("@control ")):
+                    self.add(f"control: {answer}")
+
+    def wait_for(self, text: str, seconds: float = SECONDS) -> None:
+        end = time.time() + seconds
+        while not any(text in it for it in self.lines):
+            if time.time() > end or (self.process.poll() is not None and not self.reader.is_alive()):
+                raise Wrong(f"the guest doesn't say {text!r}; its last lines: {self.lines[-12:]}")
+            time.sleep(0.05)
+
+    def end(self) -> str:
+        """Waits until it ends by itself; all its lines."""
+        try:
+            self.process.wait(timeout=max(1, self.began + SECONDS - time.time()))
+        except subprocess.TimeoutExpired:
+            raise Wrong(f"the guest doesn't end; its last lines: {self.lines[-12:]}") from None
+        finally:
+            self.kill()
+        self.reader.join(5)
+        return "\n".join(self.lines)
+
+    def kill(self) -> None:
+        if self.process.poll() is None:
+            self.process.kill()
+            self.process.wait()
+
+
+# ---- how guests are started ----
+
+
+def device(path: Path, **more: object) -> list[str]:
+    """The words for a card at a root port's slot."""
+    parts = ['"driver":"vfio-user-pci"', '"bus":"rp"', f'"socket":{{"type":"unix","path":"{path}"}}']
+    parts += [f'"{key}":{str(value).lower() if isinstance(value, bool) else f"{chr(34)}{value}{chr(34)}"}'
+              for key, value in more.items()]
+    return ["-device", "{" + ",".join(parts) + "}"]
+
+
+def memory(size: str) -> list[str]:
+    """Memory that the server can map."""
+    return ["-m", size, "-object", f"memory-backend-memfd,id=ram,size={size},share=on"]
+
+
+def port() -> list[str]:
+    return ["-device", "pcie-root-port,id=rp,chassis=1"]
+
+
+QUIET = ["-nographic", "-nodefaults", "-serial", "stdio", "-monitor", "none", "-no-reboot"]
+
+
+@dataclass
+class Machine:
+    """An x86 guest with a stock kernel, and a script."""
+
+    place: Place
+    kernel: str
+    script: str
+    processors: int = 1
+    memory: str = "512M"
+    append: str = ""
+    before: tuple[str, ...] = ()
+
+    def start(self, name: str, server: Server, *devices: str) -> Guest:
+        """Boots it with these devices."""
+        tools = self.place.fetched / "tools/root"
+        initrd = Initrd(self.place.modules(self.kernel), tools / "bin/busybox")
+        for module in ("ixgbe", "ixgbevf", "8021q"):
+            initrd.add_module(module)
+        initrd.add_program(tools / "sbin/ethtool", [tools / "usr/lib/x86_64-linux-gnu", tools / "lib/x86_64-linux-gnu"])
+        initrd.add_file("bin/frames", (self.place.out / "frames").read_bytes(), 0o755)
+        initrd.add_file("script", (LIBRARY + self.script).encode(), 0o644)
+        file = server.folder / f"{name}.initrd"
+        initrd.write(file)
+        words = [
+            *self.place.qemu("qemu-system-x86_64"), "-machine", "q35,accel=tcg,memory-backend=ram", *QUIET,
+            *memory(self.memory), "-cpu", "max", "-smp", str(self.processors), "-kernel",
+            str(self.place.kernel(self.kernel)), "-initrd", str(file), "-append",
+            f"console=ttyS0 quiet panic=-1 {self.append}", *self.before, *port(), *devices,
+        ]  # fmt: skip
+        return Guest(words, server, server.folder / f"{name}.log")
+
+
+LIBRARY = (HERE / "guest/library.sh").read_text()
+
+
+# ---- what is compared ----
+
+
+def has(text: str, what: str, pattern: str) -> None:
+    """A line must be there."""
+    if not re.search(pattern, text, re.MULTILINE):
+        raise Wrong(f"{what}: no line is like {pattern!r}; the last are:\n" + "\n".join(text.splitlines()[-15:]))
+
+
+def clean(told: str) -> None:
+    """The server tells of no fault and of nothing that was refused."""
+    has(told, "server", r"^device: .* faults 0$")
+    has(told, "server", r"^rings: .* accesses refused 0,")
+    has(told, "server", r"^wire: lost: nobody there 0, other end full 0, too long 0$")
+
+
+def passed_frames(text: str, many: int, count: int = FRAMES) -> None:
+    """So many times frames went each way, each byte as it should be."""
+    for pattern in (rf"^control: {count} of {count}, twice 0, wrong 0$",
+                    rf"^frames: received {count} of {count} .* twice 0, wrong 0$"):
+        found = len(re.findall(pattern, text, re.MULTILINE))
+        if found != many:
+            raise Wrong(f"{found} of {many} lines are like {pattern!r}:\n" + "\n".join(text.splitlines()[-25:]))
+
+
+def seconds_of(text: str) -> str:
+    """When the guest had its carrier, and how long frames took."""
+    carrier = re.search(r"carrier at ([\d.]+) s", text)
+    sent = re.search(r"^frames: sent (\d+) .* in ([\d.]+) s", text, re.MULTILINE)
+    got = re.search(r"^frames: received \d+ of (\d+) .* in ([\d.]+) s", text, re.MULTILINE)
+    told = [f"carrier {carrier[1]} s after the kernel's start"] if carrier else []
+    for what, found in (("out", sent), ("in", got)):
+        if found:
+            told.append(f"{what} {int(found[1]) / max(0.001, float(found[2])):,.0f} frames/s")
+    return ", ".join(told)
+
+
+@contextmanager
+def running(server: Server, *guests: Guest) -> Iterator[None]:
+    """What is started ends, whatever happens."""
+    try:
+        yield
+    finally:
+        for guest in guests:
+            guest.kill()
+        if server.process.poll() is None:
+            server.process.terminate()
+            server.process.wait()
+
+
+def alone(machine: Machine, *words: str) -> tuple[str, str]:
+    """One guest with one card: its log, and what the server told."""
+    server = Server(machine.place, "one", *words)
+    guest = machine.start("guest", server, *device(server.path))
+    with running(server, guest):
+        return guest.end(), server.end()
+
+
+# ---- the runs ----
+
+
+def ipxe(place: Place) -> str:
+    """iPXE's own driver, with legacy descriptors."""
+    script = place.folder / "script.ipxe"
+    lines = ["#!ipxe", "ifopen net0", "set net0/ip 10.0.0.2", "set net0/netmask 255.255.255.0",
+             "ping --count 4 10.0.0.1", "echo answered", "ifstat", "poweroff"]
+    script.write_text("\n".join(lines) + "\n")
+    server = Server(place, "ipxe")
+    words = [*place.qemu("qemu-system-x86_64"), "-machine", "q35,accel=tcg,memory-backend=ram", *QUIET, *memory("256M"),
+             "-kernel", str(place.fetched / "qemu/root/usr/lib/ipxe/ipxe.lkrn"), "-initrd", str(script), *port(),
+             *device(server.path)]
+    guest = Guest(words, server, server.folder / "guest.log")
+    with running(server, guest):
+        guest.wait_for("seq=4", 60)
+        guest.kill()
+        told = server.end()
+    text = "\n".join(guest.lines)
+    has(text, "iPXE", r"using 82599")
+    has(told, "server", r"^wire: out .*, of them replies 5,")
+    has(told, "server", r"^device: received 5 frames in 5 descriptors, .* faults 0$")
+    return "4 of 4 pings, descriptors legacy both ways"
+
+
+def arm64(place: Place) -> str:
+    """arm64, whose memory begins at 1 GiB."""
+    initrd = Initrd(place.modules("kernel-arm64"), place.fetched / "tools-arm64/root/bin/busybox")
+    initrd.add_module("ixgbe")
+    script = "up 10.0.0.2\nping -c 4 10.0.0.1\nping -c 4 -s 1400 10.0.0.1\n"
+    initrd.add_file("script", (LIBRARY + script).encode(), 0o644)
+    server = Server(place, "arm64")
+    initrd.write(server.folder / "initrd")
+    words = [*place.qemu("qemu-system-aarch64"), "-machine", "virt,accel=tcg,memory-backend=ram", *QUIET,
+             *memory("256M"), "-cpu", "cortex-a72", "-smp", "2", "-kernel", str(place.kernel("kernel-arm64")),
+             "-initrd", str(server.folder / "initrd"), "-append", "console=ttyAMA0 quiet panic=-1", *port(),
+             *device(server.path, romfile="")]
+    guest = Guest(words, server, server.folder / "guest.log")
+    with running(server, guest):
+        text, told = guest.end(), server.end()
+    if len(re.findall("4 packets received", text)) != 2:
+        raise Wrong("8 pings weren't answered:\n" + text[-1500:])
+    clean(told)
+    return f"8 of 8 pings, {seconds_of(text)}"
+
+
+TRAFFIC = """
+up 10.0.0.2
+ping -c 3 10.0.0.1
+passes 1514
+counts
+"""
+
+
+def boots(kernel: str, processors: int = 1) -> Callable[[Place], str]:
+    """A stock kernel boots, and frames pass both ways, byte by byte."""
+
+    def run(place: Place) -> str:
+        text, told = alone(Machine(place, kernel, TRAFFIC, processors))
+        has(text, "guest", "3 packets received")
+        passed_frames(text, 1)
+        clean(told)
+        return f"{FRAMES} frames each way, each byte; {seconds_of(text)}"
+
+    return run
+
+
+def four_queues(place: Place) -> str:
+    """Four processors, so four queues each way, and memory beyond 4 GiB."""
+    script = TRAFFIC + "ethtool -l eth0 | tail -1\ngrep -c TxRx /proc/interrupts | sed 's/^/vectors: /'\n"
+    text, told = alone(Machine(place, "kernel-6.1", script, 4, "5G"))
+    passed_frames(text, 1)
+    has(text, "guest", r"^vectors: 4$")
+    clean(told)
+    return f"4 queues, 5 GiB; {FRAMES} frames each way; {seconds_of(text)}"
+
+
+def jumbo(place: Place) -> str:
+    """MTU 9,000, and a VLAN."""
+    script = "up 10.0.0.2\nip link set eth0 mtu 9000\ncarrier\npasses 9014\nload 8021q\n"
+    script += "ip link add link eth0 name v7 type vlan id 7\nip addr add 10.7.0.2/24 dev v7\nip link set v7 up\n"
+    script += "ping -c 2 -W 1 10.7.0.1 >/dev/null\necho '@control counts'\nsleep 1\n"
+    text, told = alone(Machine(place, "kernel-6.1", script))
+    passed_frames(text, 1)
+    has(text, "guest", r"^control: offloads: checksums in \d+ frames, tags in [1-9]\d*")
+    clean(told)
+    return f"{FRAMES} frames of up to 9,014 bytes each way; tags inserted"
+
+
+def links(place: Place) -> str:
+    """Links, rings, queues and MTU change, and frames pass after each."""
+    script = (HERE / "guest/links.sh").read_text()
+    text, told = alone(Machine(place, "kernel-6.1", script, 4))
+    passed = len(re.findall(r"^1 packets transmitted, 1 packets received", text, re.MULTILINE))
+    if passed != 8:
+        raise Wrong(f"{passed} of 8 pings were answered:\n" + text[-2000:])
+    has(told, "server", r"^device: .* faults 0$")
+    return "8 changes (link, reset, rings, queues, MTU, down and up, driver again), a ping after each"
+
+
+def removal(place: Place) -> str:
+    """The card is gone while the guest runs."""
+    server = Server(place, "removal")
+    script = "up 10.0.0.2\nping -c 1 10.0.0.1\necho READY\nsleep 6\ndmesg | grep -i removed\necho STILL HERE\n"
+    guest = Machine(place, "kernel-6.1", script).start("guest", server, *device(server.path))
+    with running(server, guest):
+        guest.wait_for("READY")
+        server.end()
+        text = guest.end()
+    has(text, "guest", r"Adapter removed")
+    has(text, "guest", r"^STILL HERE$")
+    return 'the driver says "Adapter removed", the guest goes on'
+
+
+def iommu(place: Place) -> str:
+    """A strict IOMMU: each buffer is mapped and unmapped."""
+    before = ("-device", "intel-iommu,caching-mode=on")
+    machine = Machine(place, "kernel-6.1", TRAFFIC, append="intel_iommu=on iommu.strict=1", before=before)
+    text, told = alone(machine)
+    passed_frames(text, 1)
+    clean(told)
+    maps = re.search(r"memory: (\d+) maps, (\d+) unmaps", told)
+    if not maps or int(maps[2]) < 100:
+        raise Wrong(f"the IOMMU isn't used: {told}")
+    return f"{FRAMES} frames each way, {maps[1]} maps and {maps[2]} unmaps"
+
+
+def functions(place: Place) -> str:
+    """The host in one guest, a virtual function in another."""
+    server = Server(place, "host", "--functions=2", "--hairpin")
+    host = Machine(place, "kernel-6.1", (HERE / "guest/host.sh").read_text())
+    shadows = [device(Path(f"{server.path}.shadow{v}"), addr=f"0.{v + 1}") for v in range(2)]
+    first = host.start("host", server, *device(server.path, multifunction=True, addr="0.0"), *shadows[0], *shadows[1])
+    with running(server, first):
+        first.wait_for("HOST READY")
+        other = Machine(place, "kernel-6.1", (HERE / "guest/function.sh").read_text())
+        second = other.start("function", server, *device(Path(f"{server.path}.vf0")))
+        with running(server, second):
+            text = second.end()
+            server.ask("link up")
+            first.kill()
+    has(text, "function", r"^4 packets transmitted, 4 packets received")
+    has(text, "function", r"^3 packets transmitted, 3 packets received")
+    has(text, "function", r"^control: 2000 of 2000, twice 0, wrong 0$")
+    return "sriov_numvfs, ixgbevf in another guest: pings to the wire and to the host, 2000 frames out"
+
+
+def two_guests(mtu: int) -> Callable[[Place], str]:
+    """Two guests back to back, HTTP with checksums and large sends as stock kernels ask for them."""
+
+    def run(place: Place) -> str:
+        left = Server(place, f"left{mtu}", f"--wire=listen:{place.folder}/wire{mtu}")
+        right = Server(place, f"right{mtu}", f"--wire=stream:{place.folder}/wire{mtu}", "--mac=02:00:00:00:82:9a")
+        scripts = [(HERE / f"guest/{it}.sh").read_text().replace("MTU", str(mtu)) for it in ("serve", "get")]
+        server = Machine(place, "kernel-6.1", scripts[0]).start("guest", left, *device(left.path))
+        with running(left, server):
+            server.wait_for("SERVES")
+            client = Machine(place, "kernel-6.1", scripts[1]).start("guest", right, *device(right.path))
+            with running(right, client):
+                text, told = client.end(), right.end()
+            server.kill()
+        has(text, "guest", r"^sums are equal$")
+        other = left.told.read_text()
+        took = re.search(r"^real\s+(\S.*)$", text, re.MULTILINE)
+        has(told, "server", r"^device: .* faults 0$")
+        has(other, "server", r"^device: .* faults 0$")
+        has(other, "server", r"[1-9]\d* large sends in [1-9]\d* segments, dropped 0$")
+        return f"HTTP of 8 MiB, sums equal, in {took[1] if took else '?'}; " + other.splitlines()[-1]
+
+    return run
+
+
+def turned(place: Place) -> str:
+    """One byte is turned each way, which must be told."""
+    script = TRAFFIC.replace("passes 1514", "echo '@control turn 77 99'\npasses 1514")
+    text, _ = alone(Machine(place, "kernel-6.1", script))
+    count = FRAMES - 1
+    has(text, "server", rf"^control: {count} of {FRAMES}, twice 0, wrong 1$")
+    has(text, "guest", rf"^frames: received {count} of {FRAMES} .* twice 0, wrong 1$")
+    return "both were told"
+
+
+RUNS: dict[str, Callable[[Place], str]] = {
+    "ipxe": ipxe,
+    "arm64": arm64,
+    "linux-6.1": boots("kernel-6.1"),
+    "linux-6.12": boots("kernel-6.12"),
+    "linux-sid": boots("kernel-sid"),
+    "queues": four_queues,
+    "jumbo": jumbo,
+    "links": links,
+    "removal": removal,
+    "iommu": iommu,
+    "functions": functions,
+    "http": two_guests(1500),
+    "http-9000": two_guests(9000),
+}
+QUICK = ["ipxe", "arm64"]
+
+
+# ---- an author's own guest ----
+
+
+def own(place: Place, words: list[str]) -> int:
+    """Boots a kernel, or a disk, of the caller's on this terminal."""
+    given: dict[str, str] = {}
+    while words and words[0] != "--":
+        name = words.pop(0)
+        given[name] = "" if name == "--gdb" else words.pop(0) if words else ""
+    server = Server(place, "own")
+    line = [*place.qemu("qemu-system-x86_64"), "-machine", "q35,accel=kvm:tcg,memory-backend=ram", "-nographic",
+            *memory("2G"), "-cpu", "max", "-smp", "2", *port(), *device(server.path)]
+    for name in ("--kernel", "--initrd"):
+        line += [name[1:], given[name]] if name in given else []
+    line += ["-append", "console=ttyS0"] if "--kernel" in given else []
+    line += ["-drive", f"file={given['--disk']},if=virtio"] if "--disk" in given else []
+    line += ["-s", "-S"] if "--gdb" in given else []
+    print(f"drivers/qemu/run: the card answers at 10.0.0.1; its control socket is {server.folder}/control", flush=True)
+    try:
+        return subprocess.run([*line, *words[1:]], check=False).returncode
+    finally:
+        print(server.end())
+
+
+def all_runs(place: Place, names: list[str]) -> int:
+    failed = 0
+    for name in names:
+        began = time.time()
+        try:
+            said = (turned if name == "turn" else RUNS[name])(place)
+            print(f"{name:11} {said} ({time.time() - began:.0f} s)", flush=True)
+        except Wrong as fault:
+            print(f"{name:11} WRONG: {fault}\n  (logs: {place.folder})", flush=True)
+            failed += 1
+    print("all was as it should be" if not failed else f"{failed} of {len(names)} runs weren't as they should be")
+    if not failed:
+        shutil.rmtree(place.folder)
+    return 1 if failed else 0
+
+
+def main(words: list[str]) -> int:
+    if words == ["--list"]:
+        print(*RUNS, sep="\n")
+        return 0
+    place = Place(*(Path(it) for it in words[:3]))
+    words = words[3:]
+    if words and words[0] in ("--kernel", "--disk"):
+        return own(place, words)
+    names = {"--quick": QUICK, "--turn": ["turn"], "--only": words[1:]}.get(words[0] if words else "", list(RUNS))
+    unknown = [it for it in names if it not in RUNS and it != "turn"]
+    if unknown or not names:
+        print(f"drivers/qemu/run: what is {' '.join(unknown) or '--only of nothing'}? --list tells", file=sys.stderr)
+        return 3
+    os.environ["LC_ALL"] = "C.UTF-8"
+    return all_runs(place, names)
+
+
+if __name__ == "__main__":
+    sys.exit(main(sys.argv[1:]))

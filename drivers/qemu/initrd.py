@@ -1,0 +1,87 @@
+"""An initial file system for a guest: busybox, some modules of its kernel's package, programs with their libraries."""
+
+from __future__ import annotations
+
+import gzip
+import lzma
+import re
+from pathlib import Path
+
+FOLDERS = ("bin", "dev", "proc", "sys", "tmp", "lib", "lib64", "lib/x86_64-linux-gnu", "modules", "var", "var/www")
+APPLETS = """
+[ ash awk basename cat chmod cut date dd dirname dmesg echo expr false grep gzip head hostname httpd ifconfig insmod
+ip kill ln ls lsmod md5sum mkdir mount ping poweroff printf ps pwd rm rmmod sed seq sh sleep sort sync tail tee test
+time touch tr true uname uniq usleep wc wget xargs
+""".split()
+INIT = """#!/bin/sh
+export PATH=/bin
+mount -t proc p /proc
+mount -t sysfs s /sys
+mount -t devtmpfs d /dev 2>/dev/null
+ip link set lo up
+echo "guest: $(uname -r), init at $(cut -d' ' -f1 /proc/uptime) s"
+sh /script
+echo "guest: end at $(cut -d' ' -f1 /proc/uptime) s"
+poweroff -f
+"""
+
+
+class Initrd:
+    """Files by name; `modules` is the folder of a kernel's modules."""
+
+    def __init__(self, modules: Path, busybox: Path) -> None:
+        self.modules, self.files = modules, dict[str, tuple[int, bytes]]()
+        for folder in FOLDERS:
+            self.files[folder] = (0o040755, b"")
+        self.add_file("bin/busybox", busybox.read_bytes(), 0o755)
+        for applet in APPLETS:
+            self.files[f"bin/{applet}"] = (0o120777, b"busybox")
+        self.add_file("init", INIT.encode(), 0o755)
+
+    def add_file(self, name: str, data: bytes, mode: int) -> None:
+        self.files[name] = (0o100000 | mode, data)
+
+    def find_module(self, name: str) -> Path | None:
+        """A module's file, by its name with - or _; None where it is built in."""
+        pattern = re.sub("[-_]", "[-_]", name)
+        found = [it for end in ("ko", "ko.xz", "ko.gz") for it in self.modules.glob(f"kernel/**/{pattern}.{end}")]
+        return found[0] if found else None
+
+    def add_module(self, name: str) -> None:
+        """A module and all that it depends on, and a list NAME.list in the order in which they are loaded."""
+        order: list[str] = []
+        self.gather(name, order)
+        self.add_file(f"modules/{name}.list", ("\n".join(order) + "\n").encode(), 0o644)
+
+    def gather(self, name: str, order: list[str]) -> None:
+        file = self.find_module(name)
+        if not file:
+            return
+        data = {".xz": lzma.decompress, ".gz": gzip.decompress}.get(file.suffix, bytes)(file.read_bytes())
+        for line in re.findall(rb"\0depends=([^\0]*)\0", data):
+            for it in filter(None, line.decode().split(",")):
+                self.gather(it, order)
+        plain = file.name.split(".ko")[0] + ".ko"
+        if plain not in order:
+            order.append(plain)
+            self.add_file(f"modules/{plain}", data, 0o644)
+
+    def add_program(self, program: Path, folders: list[Path]) -> None:
+        """A program, and the libraries that it needs, as they lie in these folders."""
+        self.add_file(f"bin/{program.name}", program.read_bytes(), 0o755)
+        for folder in folders:
+            for file in folder.glob("*.so*"):
+                if re.match(r"(libc|libm|libmnl|ld-linux-x86-64)\.so\.\d+$", file.name):
+                    self.add_file(f"lib/x86_64-linux-gnu/{file.name}", file.read_bytes(), 0o755)
+        self.files["lib64/ld-linux-x86-64.so.2"] = (0o120777, b"/lib/x86_64-linux-gnu/ld-linux-x86-64.so.2")
+
+    def write(self, to: Path) -> None:
+        """The archive (cpio, "newc"), compressed."""
+        data = bytearray()
+        for number, (name, (mode, content)) in enumerate([*sorted(self.files.items()), ("TRAILER!!!", (0, b""))]):
+            fields = (number + 1, mode, 0, 0, 1, 0, len(content), 0, 0, 0, 0, len(name) + 1, 0)
+            data += b"070701" + b"".join(b"%08X" % it for it in fields) + name.encode() + b"\0"
+            data += bytes(-len(data) % 4)
+            data += content
+            data += bytes(-len(data) % 4)
+        to.write_bytes(gzip.compress(bytes(data), 1))

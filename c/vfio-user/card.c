@@ -6,6 +6,7 @@
 #include "memory.h"
 
 #define REFUSALS_TOLD 20
+#define WHY_BYTES 65536
 #define RESETS (NIC_CTRL_RST | NIC_CTRL_LRST)
 
 /* The bus calls back without a word of whom it calls: there is one card. */
@@ -20,12 +21,31 @@ static void *memory_of(void *of, unsigned int number, uint64_t address, size_t *
     return function ? memory_map_run(&function->session.map, address, length, write) : NULL;
 }
 
+static void keep_access(struct card *it, const struct function *function, bool is_write, uint32_t offset, uint32_t word)
+{
+    it->accesses[it->access_count++ % CARD_ACCESSES] = (struct card_access){function, offset, word, is_write};
+}
+
+static void tell_accesses(const struct card *it)
+{
+    uint64_t first = it->access_count > CARD_ACCESSES ? it->access_count - CARD_ACCESSES : 0;
+    for (uint64_t i = first; i < it->access_count; i++) {
+        const struct card_access *access = &it->accesses[i % CARD_ACCESSES];
+        fprintf(stderr, "  access %" PRIu64 ": function %u %c %05" PRIx32 " %08" PRIx32 "\n", i + 1,
+                access->function->number, access->is_write ? 'w' : 'r', access->offset, access->word);
+    }
+}
+
 static void refused(void *of, const char *what, unsigned int number, uint16_t queue, uint64_t address, size_t length)
 {
     struct card *it = of;
-    if (it->told++ < REFUSALS_TOLD)
-        fprintf(stderr, "card: function %u, queue %u: %s, 0x%" PRIx64 ", %zu bytes%s\n", number, queue, what, address,
-                length, it->told == REFUSALS_TOLD ? "; no more of these are told" : "");
+    bool is_last = ++it->told == REFUSALS_TOLD && !it->options.has_check;
+    if (it->told > REFUSALS_TOLD && !it->options.has_check)
+        return;
+    fprintf(stderr, "card: function %u, queue %u: %s, 0x%" PRIx64 ", %zu bytes%s\n", number, queue, what, address,
+            length, is_last ? "; no more of these are told" : "");
+    if (it->options.has_check)
+        tell_accesses(it);
 }
 
 /* ---- what the bus calls: the hooks, and memory.h ---- */
@@ -115,6 +135,7 @@ uint32_t card_read(struct card *it, struct function *function, uint32_t offset)
     it->active[function->number] = function;
     uint32_t word = bus_read(function->number, offset);
     it->stepper.has_changed |= bus_counts()->enables != enables;
+    keep_access(it, function, false, offset, word);
     return word;
 }
 
@@ -122,6 +143,7 @@ void card_write(struct card *it, struct function *function, uint32_t offset, uin
 {
     it->active[function->number] = function;
     it->stepper.has_changed = true;
+    keep_access(it, function, true, offset, word);
     if (function->number == BUS_PHYSICAL && offset == NIC_CTRL && word & RESETS)
         it->let_in = bus_counts()->frames_in + bus_counts()->drops;
     bus_write(function->number, offset, word);
@@ -265,6 +287,19 @@ void card_go(struct card *it)
         bus_enable(true, queue);
     }
     bus_eeprom();
+}
+
+/* Descriptors that come next are given to the device first: else it has none to tell of. */
+void card_tell_why(struct card *it, FILE *to)
+{
+    static char text[WHY_BYTES];
+    for (uint16_t queue = 0; queue < BUS_QUEUES; queue++)
+        if (it->stepper.is_due[queue])
+            rings_step(it->rings, true, queue);
+    rings_prepare_receive(it->rings);
+    rings_fill(it->rings);
+    nic_why(bus_device(), text, sizeof text);
+    fputs(text, to);
 }
 
 void card_tell_due(const struct card *it, FILE *to)

@@ -20,7 +20,8 @@ struct card_options {
     unsigned int functions; /* virtual ones */
     unsigned int answers;   /* enum bus_answer */
     bool has_offloads, has_legacy;
-    bool has_seed; /* steps are late by this seed */
+    bool has_check; /* each access outside the guest's memory is told with the accesses of registers before it */
+    bool has_seed;  /* steps are late by this seed */
     uint64_t seed;
     FILE *trace;
 };
@@ -28,8 +29,19 @@ struct card_options {
 /* Where frames go that the card sent. */
 typedef void card_sink(void *to, const uint8_t *frame, size_t length);
 
+#define CARD_ACCESSES 16
+
+/* An access of a register, which is kept to be told. */
+struct card_access {
+    const struct function *function;
+    uint32_t offset, word;
+    bool is_write;
+};
+
 struct card {
     struct card_options options;
+    struct card_access accesses[CARD_ACCESSES]; /* the last ones; the next goes to access_count modulo this */
+    uint64_t access_count;
     struct offload *offload; /* null: none */
     struct rings *rings;
     struct stepper stepper;
@@ -64,6 +76,8 @@ void card_transmit(struct card *it, uint16_t queue);
 
 /* After it was held: what was asked of queues and EEPROM happens, and steps are made as before. */
 void card_go(struct card *it);
+/* What is in the way of what waits, in the library's words. */
+void card_tell_why(struct card *it, FILE *to);
 /* Which steps are due, a line each. */
 void card_tell_due(const struct card *it, FILE *to);
 

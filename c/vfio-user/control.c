@@ -107,6 +107,12 @@ static const char *due(struct request *it)
     return NULL;
 }
 
+static const char *why(struct request *it)
+{
+    card_tell_why(&it->server->card, it->to);
+    return NULL;
+}
+
 static bool one_queue(const char *text, unsigned int *queue)
 {
     int end = 0;
@@ -181,6 +187,7 @@ static const struct {
     {"hold", hold, "the device makes no step but those that are asked for"},
     {"go", go, "it makes its steps again"},
     {"due", due, "which steps are due"},
+    {"why", why, "what is in the way of what waits"},
     {"tx", transmit, "tx QUEUE: all of its sending"},
     {"rx", receive, "receive steps until there is nothing to do"},
     {"int", interrupt, "all messages that are due"},

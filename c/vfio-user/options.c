@@ -36,6 +36,7 @@ static const char help[] =
     "  --bare                 leave out all of them\n"
     "  --control=PATH         listen there for requests: help tells them\n"
     "  --seed=N               make each step of the device at once or late, by this seed\n"
+    "  --iommu-check          tell each access outside the guest's memory, with the accesses of registers before it\n"
     "  --strays=FILE          at the end write the accesses outside the register table there\n"
     "  --trace=FILE           write each access of a register there\n"
     "  --record=FILE          write what the device is asked as a script, for nicview\n"
@@ -180,6 +181,8 @@ static bool read_plain_word(struct options *it, const char *word)
     if (strcmp(word, "--bare") == 0) {
         it->card.answers = 0;
         it->card.has_offloads = it->card.has_legacy = false;
+    } else if (strcmp(word, "--iommu-check") == 0) {
+        it->card.has_check = true;
     } else if (strcmp(word, "--hairpin") == 0) {
         it->wire.has_hairpin = true;
     } else if (strcmp(word, "--quiet") == 0) {

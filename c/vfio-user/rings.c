@@ -469,6 +469,31 @@ void rings_prepare_receive(struct rings *it)
     }
 }
 
+static void fill(struct rings *it, enum side side, uint16_t queue)
+{
+    const struct ring *ring = &it->rings[side][queue];
+    uint32_t head = peek(it, side == TRANSMIT ? NIC_TDH(queue) : NIC_RDH(queue));
+    uint32_t tail = peek(it, side == TRANSMIT ? NIC_TDT(queue) : NIC_RDT(queue));
+    uint32_t place = RECEIVE_FIRST + RECEIVE_BLOCKS * queue;
+    const nic_desc filler =
+        side == TRANSMIT ? (nic_desc){0, NIC_TXD_DEXT | NIC_TXD_DTYP_IS(2)} : (nic_desc){bus_of(place), 0};
+    if (head >= ring->slots || tail >= ring->slots)
+        return;
+    if (side == RECEIVE)
+        lend(it, place, RECEIVE_BLOCKS);
+    for (uint32_t slot = head; slot != tail; slot = slot + 1 < ring->slots ? slot + 1 : 0)
+        if (!ring->is_given || slot != ring->slot)
+            nic_put_desc(it->options.device, bus_of(ring->place), slot, filler);
+}
+
+void rings_fill(struct rings *it)
+{
+    for (uint16_t queue = 0; queue < RINGS_QUEUES; queue++) {
+        fill(it, RECEIVE, queue);
+        fill(it, TRANSMIT, queue);
+    }
+}
+
 /* ---- what the device wrote goes to the guest ---- */
 
 /* The ring at a bus address, and the slot; null: none is there. */

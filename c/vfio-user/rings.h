@@ -61,6 +61,9 @@ void rings_step(struct rings *it, bool is_transmit, uint16_t queue);
 /* The same for each receive queue that was touched: before receive steps. */
 void rings_prepare_receive(struct rings *it);
 
+/* Puts something harmless into the device's slots that aren't given yet, for whoever looks ahead on a copy of it. */
+void rings_fill(struct rings *it);
+
 /* The device wrote these bytes: part of a frame, or a receive descriptor. */
 void rings_written(struct rings *it, uint64_t bus, size_t length);
 /* It wrote back a transmit descriptor of this queue, or its head. */

@@ -321,7 +321,9 @@ static void held(const char *path, const char *control_path)
     put64(TX_RING, RAM + FRAME);
     put64(TX_RING + 8, NIC_TXD_DATA | NIC_TXD_DTALEN_IS(ARP_BYTES) | NIC_TXD_EOP | NIC_TXD_RS);
     peer_write(&peer, NIC_TDT(0), 1);
-    CHECK(peer_read(&peer, NIC_TDH(0)) == 0 && says("due", "tx 0: head 0, tail 1") && says("tx 0", "1 descriptors"));
+    CHECK(peer_read(&peer, NIC_TDH(0)) == 0 && says("due", "tx 0: head 0, tail 1"));
+    CHECK(says("why", "tx 0: TDH[0] 0, TDT[0] 1: nothing is in the way") && !says("why", "lent"));
+    CHECK(says("tx 0", "1 descriptors"));
     CHECK(get64(TX_RING + 8) & NIC_TXWB_DD && says("peek 06010", "00000001"));
     peer_read(&peer, NIC_STATUS); /* the reply to the request has arrived behind it */
     CHECK(!(get64(RX_RING + 8) & NIC_RXWB_DD) && says("due", "rx: at most 1") && says("rx", "1 descriptors"));
@@ -331,6 +333,11 @@ static void held(const char *path, const char *control_path)
     CHECK(says("qstep tx 1", "idle") && peer_read(&peer, NIC_TXDCTL(1)) & NIC_TXDCTL_ENABLE);
     peer_write(&peer, NIC_TXDCTL(2), NIC_TXDCTL_ENABLE);
     CHECK(says("link up", "done") && says("go", "ok") && peer_read(&peer, NIC_TXDCTL(2)) & NIC_TXDCTL_ENABLE);
+    /* what was unmapped is outside: a fault, and not what was there before */
+    CHECK(peer_unmap(&peer, RAM, RAM_BYTES) == 0);
+    peer_write(&peer, NIC_TDT(0), 2);
+    until(&peer, NIC_TXDCTL(0), NIC_TXDCTL_ENABLE, 0);
+    CHECK(says("counts", "not lent 1"));
     close(control);
     peer_close(&peer);
 }
@@ -463,7 +470,7 @@ static void with_a_cut_file(const char *path)
 int main(void)
 {
     static char control_path[100], control_word[140];
-    static const char *const words[] = {"--functions=2", control_word, NULL};
+    static const char *const words[] = {"--functions=2", "--iommu-check", control_word, NULL};
     static const char *const seeds[][2] = {{"--seed=1", NULL}, {"--seed=2", NULL}, {"--seed=3", NULL}};
     char function_path[120];
     make_ram();

@@ -495,6 +495,7 @@ def own(place: Place, words: list[str]) -> int:
         return subprocess.run([*line, *words[1:]], check=False).returncode
     finally:
         print(server.end())
+        shutil.rmtree(place.folder)
 
 
 def all_runs(place: Place, names: list[str]) -> int:

@@ -21,7 +21,7 @@ const char *nicd_why_bits(struct nicd_why *it, const char *const names[32], uint
 {
     size_t used = 0;
     it->names[0] = 0;
-    for (int bit = 0; bit < 32; bit++)
+    for (int bit = 0; bit < 32 && used < sizeof it->names; bit++)
         if (word >> bit & 1)
             used += (size_t)snprintf(it->names + used, sizeof it->names - used, "%s%s", used ? ", " : "", names[bit]);
     return it->names;
@@ -49,6 +49,8 @@ void nicd_why_say(struct nicd_why *it, const char *format, ...)
     va_start(list, format);
     used += vsnprintf(line + used, sizeof line - (size_t)used - 1, format, list);
     va_end(list);
+    if (used > (int)sizeof line - 2)
+        used = (int)sizeof line - 2;
     line[used] = '\n';
     append(it, line, (size_t)used + 1);
 }

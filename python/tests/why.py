@@ -7,6 +7,7 @@ import contextlib
 import os
 import re
 import subprocess
+import sys
 import tempfile
 import unittest
 from collections.abc import Iterator
@@ -96,6 +97,13 @@ class Why(unittest.TestCase):
             told = nic.why().splitlines()
             self.assertEqual(len([line for line in told if line.endswith("the queue is off")]), 128)
             self.assertEqual(told[-1], "rx 127: SRRCTL[127].DESCTYPE 0: 1 is the form that the bench has")
+
+    def test_example(self) -> None:
+        """The example prints what is stored."""
+        example = ROOT / "python/examples/why.py"
+        how = {**os.environ, "PYTHONPATH": str(ROOT / "python"), "PYTHONDONTWRITEBYTECODE": "1"}
+        ran = subprocess.run([sys.executable, example], env=how, capture_output=True, text=True, check=True)
+        self.assertEqual(ran.stdout, example.with_suffix(".out").read_text())
 
     def test_closed(self) -> None:
         nic = Nic()

@@ -31,9 +31,7 @@ STRANGE = [
     "r -1", "data d0", "data d0 0", "poke 0x100000000 d0", "poke 8 d1", "peek 0x10 9", "peek -1 0", "link sideways",
     "arrive d1", "collect", "w 0 0x04000000", "w 0x0", "#: nic vfs 1 fifo 1 blocks 1", "", "   ", "\t# only this",
 ]  # fmt: skip
-HOSTILE = [
-    "#: snapshot 1", "#: lend 0 to 7 # done", "data d1 00  #: no bytes", "arrive d1 # dropped off", "rx # idle", "",
-]  # fmt: skip
+HOSTILE = ["#: snapshot 1", "#: lend 0 to 7 # done", "data d1 00  #: no bytes", "arrive d1 # dropped off", ""]
 # What can't be drawn, and what is said of it with status 2.
 REFUSED = {
     "#: nic vfs 0": "has no whole first line",

@@ -356,6 +356,18 @@ def check_cut(folder: Path, expect: Expect) -> None:
     expect(len(quiet["groups"]) == 1, "a cut recording in which no group changes: no group of interrupts")
 
 
+def check_opening(folder: Path, expect: Expect) -> None:
+    """Without other trouble a script opens at its first idle step, and a recording at its last; else both at the first
+    trouble."""
+    file = folder / "idle.recording"
+    for last, script_at, recorded_at in (("r STATUS", 1, 3), ("r 0x10140", 4, 4)):
+        text = f"r STATUS\nrx\nr STATUS\nint pf\n{last}\nr STATUS\n"
+        (folder / "idle.nic").write_text(text)
+        record(folder / "idle.nic", None, file)
+        places_of = of_script(Bench(), str(folder / "idle.nic")).opening, of_recording(str(file)).opening
+        expect(places_of == (script_at, recorded_at), f"with {last} the pages open at {places_of}")
+
+
 def check_place(script: Path, vfs: int | None, chance: random.Random, expect: Expect) -> None:
     """What the debugger says of a recording's steps is what nicbench's says of a script."""
     bench = Bench(vfs)
@@ -438,7 +450,7 @@ def check_recordings(scripts: dict[Path, int | None], folder: Path, seed: int, e
     check_ends(folder, expect)
     check_refused(folder, expect)
     check_restored(folder, expect)
-    for check in (check_long, check_lent, check_no_bytes, check_history, check_cut):
+    for check in (check_long, check_lent, check_no_bytes, check_history, check_cut, check_opening):
         check(folder, expect)
     check_hostile(folder, chance, expect)
     print(f"{len(scripts)} scripts, recorded, with seed {seed}")

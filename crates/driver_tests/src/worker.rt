@@ -7,7 +7,14 @@ use crate::outcome::{
 use device_lock::{Pass, Shared};
 use nic_device::{Arena, Event, Octets, Port, Reply};
 use pmd::{Gate, Job, Lockstep, Ran, Rest, Setup, ThroughLock, WorkerEnd, pf_setup, run_workers};
-use std::sync::Mutex;
+use std::alloc::AllocGlobal;
+use std::process::Abort;
+use std::sync::{Mutex, Wait};
+
+/// A runtime by which a gate calls a shared device.
+trait Caller: Abort + Wait + AllocGlobal {}
+
+impl<R: Abort + Wait + AllocGlobal> Caller for R {}
 
 /// A shared device without virtual functions.
 type Bench = Shared<0, 64>;
@@ -35,27 +42,27 @@ struct Looking<'a, R> {
 }
 
 /// A call through a pass.
-fn reply(rt: &impl Hand, bench: &Bench, pass: &mut Pass, event: Event) -> Reply {
+fn reply(rt: &impl Caller, bench: &Bench, pass: &mut Pass, event: Event) -> Reply {
     done(rt, bench.call(rt, rt.alloc(), pass, event))
 }
 
 /// Whether the side of queue 0 is on that has this control register.
-fn is_on(rt: &impl Hand, bench: &Bench, pass: &mut Pass, register: u32) -> bool {
+fn is_on(rt: &impl Caller, bench: &Bench, pass: &mut Pass, register: u32) -> bool {
     let word = word_in(rt, reply(rt, bench, pass, Event::Read(Port::Pf, register)));
     word & 0x0200_0000 != 0
 }
 
 /// The oldest frame that went out. No bytes where there is none.
-fn collected(rt: &impl Hand, bench: &Bench, pass: &mut Pass) -> Octets {
+fn collected(rt: &impl Caller, bench: &Bench, pass: &mut Pass) -> Octets {
     match reply(rt, bench, pass, Event::Collect) {
         Reply::Frame { bytes, .. } => bytes,
-        Reply::Idle => Octets::of(empty(rt)),
+        Reply::Idle => Octets::of(Vec::new(rt.alloc())),
         _other => fail(rt, "another reply"),
     }
 }
 
 /// Looks at the device.
-fn look(rt: &impl Hand, bench: &Bench, pass: &mut Pass) -> Seen {
+fn look(rt: &impl Caller, bench: &Bench, pass: &mut Pass) -> Seen {
     let receives = is_on(rt, bench, pass, 0x01028); // RXDCTL
     let sends = is_on(rt, bench, pass, 0x06028); // TXDCTL
     Seen {
@@ -64,7 +71,7 @@ fn look(rt: &impl Hand, bench: &Bench, pass: &mut Pass) -> Seen {
     }
 }
 
-impl<'a, R: Hand> Gate for Looking<'a, R> {
+impl<'a, R: Caller> Gate for Looking<'a, R> {
     fn pass(&self, worker: usize, point: u8) -> bool {
         if worker == 0 && point == 2 {
             let seen = {

@@ -94,8 +94,11 @@ void nicd_dealloc(void *piece)
 
 /* --- tables --- */
 
+/* Where no controller has one, nobody waits for the lock. A thread sees the tables that it made. */
 struct nicd_table *nicd_table_of(const nic *n)
 {
+    if (!__atomic_load_n(&tables, __ATOMIC_RELAXED))
+        return NULL;
     nicd_table_hold();
     struct nicd_table *it = tables;
     while (it && it->device != n->device)
@@ -112,7 +115,7 @@ static struct nicd_table *made(const nic *n)
     it->device = n->device;
     nicd_table_hold();
     it->next = tables;
-    tables = it;
+    __atomic_store_n(&tables, it, __ATOMIC_RELAXED);
     nicd_table_let_go();
     return it;
 }
@@ -160,7 +163,7 @@ void nicd_table_end(struct nicd_table *it)
     struct nicd_table **at = &tables;
     while (*at != it)
         at = &(*at)->next;
-    *at = it->next;
+    __atomic_store_n(at, it->next, __ATOMIC_RELAXED);
     note_borders();
     nicd_table_let_go();
     for (uint32_t block = 0; block < it->room; block++)

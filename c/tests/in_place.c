@@ -137,6 +137,19 @@ static void settle(struct twins *t)
     }
 }
 
+/* The same steps, each by a call. */
+static void step_by_step(struct twins *t)
+{
+    nic_settling where[2] = {{1, 0}, {1, 0}};
+    nic_told told[2];
+    while (nic_next_step(&t->copies, &where[0], &told[0]) == NIC_MORE) {
+        ANSWERS(NIC_MORE, nic_next_step(&t->place, &where[1], &told[1]));
+        alike(&told[0], &told[1]);
+        t->wrote += told[0].status == NIC_WROTE;
+    }
+    ANSWERS(NIC_DONE, nic_next_step(&t->place, &where[1], &told[1]));
+}
+
 /* A side of the queue goes off, and is asked to go on again: the next settle makes that step, and reads its slots. */
 static void restart(struct twins *t)
 {
@@ -154,7 +167,7 @@ static void restart(struct twins *t)
 static void one_call(struct twins *t)
 {
     nic_told a = {0}, b = {0};
-    switch (below(40) ? below(7) : 7) {
+    switch (below(40) ? below(8) : 8) {
     case 0: post_buffer(t); break;
     case 1: one_arrives(t, &a, &b); break;
     case 2: CHECK(nic_rx_step(&t->copies, &a) == nic_rx_step(&t->place, &b)); break;
@@ -162,6 +175,7 @@ static void one_call(struct twins *t)
     case 4: CHECK(nic_tx_step(&t->copies, 0, &a) == nic_tx_step(&t->place, 0, &b)); break;
     case 5: collect(t, &a, &b); break;
     case 6: settle(t); break;
+    case 7: step_by_step(t); break;
     default: restart(t); break;
     }
     alike(&a, &b);

@@ -1,5 +1,5 @@
-/* What nic_why tells of the set-ups in why.cases: `why CASES`. That the text is cut at whole lines, and that nothing
-   changes, is tried for each. `why CASES TOLD` writes what is told into a file, in the form of the cases. */
+/* What nic_why tells of the set-ups in rust/nic82599/tests/why.cases: `why CASES`. That the text is cut at whole lines,
+   and that nothing changes, is tried for each. `why CASES TOLD` writes what is told into a file, as the cases are. */
 #include <string.h>
 
 #include "check.h"

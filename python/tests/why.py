@@ -1,5 +1,5 @@
-"""What `Nic.why` tells of the set-ups of c/tests/why.cases, steps one by one, and what the plugin of pytest adds to a
-failed test."""
+"""What `Nic.why` tells of the set-ups in rust/nic82599/tests/why.cases, steps one by one, and what the plugin of pytest
+adds to a failed test."""
 
 from __future__ import annotations
 
@@ -50,7 +50,7 @@ def make(nic: Nic, line: str) -> None:
 
 def cases() -> Iterator[tuple[str, list[str], list[str]]]:
     """The name of each case, the lines of its set-up, and what is told."""
-    lines = [line.rstrip() for line in (ROOT / "c/tests/why.cases").read_text().splitlines()]
+    lines = [line.rstrip() for line in (ROOT / "rust/nic82599/tests/why.cases").read_text().splitlines()]
     base, *parts = re.split(r"^case ", "\n".join(lines), flags=re.M)
     labelled = dict(part for line in bare(base) if len(part := line.split(": ", 1)) == 2)
     for part in parts:

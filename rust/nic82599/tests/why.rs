@@ -1,10 +1,10 @@
-//! What `Nic::why` tells of the set-ups of c/tests/why.cases, which says how they are written.
+//! What `Nic::why` tells of the set-ups in why.cases, which says how they are written.
 
 use nic82599::desc::Descriptor;
 use nic82599::regs::*;
 use nic82599::{Arrival, Error, Nic, Sizes};
 
-const CASES: &str = concat!(env!("CARGO_MANIFEST_DIR"), "/../../c/tests/why.cases");
+const CASES: &str = include_str!("why.cases");
 
 fn number(word: &str) -> u64 {
     let parsed = match word.strip_prefix("0x") {
@@ -63,8 +63,7 @@ fn set_up<'a>(base: &[(&'a str, &'a str)], lines: &[&'a str]) -> Vec<&'a str> {
 
 #[test]
 fn cases() {
-    let text = std::fs::read_to_string(CASES).unwrap();
-    let mut parts = text.split("\ncase ");
+    let mut parts = CASES.split("\ncase ");
     let base: Vec<(&str, &str)> =
         parts.next().unwrap().lines().map(bare).filter_map(|line| line.split_once(": ")).collect();
     let mut count = 0;

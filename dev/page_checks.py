@@ -170,7 +170,7 @@ def check_when(look: Look) -> None:
         waiting += sum((1 if sign == "+" else -1) * len(frames) for sign, frames in more.get("w", []))
         when = set(browser.value(words(".when")))
         look.expect(when == {f"after step {number}"}, f"step {number}: its panels say {when}")
-        why, conditions = browser.value(words("#now > p:first-child")), browser.value(words("#now li"))
+        why, conditions = browser.value(words("#now > p:has(+ .why)")), browser.value(words("#now .why li"))
         look.expect(not conditions or why == ["Before this step:"], f"step {number}: its conditions stand under {why}")
         told = [found[1] for one in conditions if (found := re.match(r"(\w+) frames? waits?\b", one))]
         look.expect(told in ([], [str(before or "no")]), f"step {number}: {told} frames wait before it, not {before}")

@@ -389,7 +389,7 @@ def removal(place: Place) -> str:
 
 def iommu(place: Place) -> str:
     """A strict IOMMU: each buffer is mapped and unmapped."""
-    before = ("-device", "intel-iommu,caching-mode=on")
+    before = ("-device", "intel-iommu,caching-mode=on,intremap=off")
     machine = Machine(place, "kernel-6.1", TRAFFIC, append="intel_iommu=on iommu.strict=1", before=before)
     text, told = alone(machine)
     passed_frames(text, 1)

@@ -198,6 +198,34 @@ NOTES = {
     "left": (1, "it doesn't fail alone: the same options find it again"),
 }
 
+# Of which scenarios what is told never to have run: these lines and no others.
+NEVER = {
+    "fine": [],
+    "faults": [],
+    "vector": [
+        "task poll never came past its first wait",
+        "handler isr never started: no message pf vector 5 came; there came pf vector 6",
+    ],
+    "filter": [
+        "task poll never came past its first wait",
+        "handler isr never started: no message pf vector 5 came",
+        "no frame was ever written to memory: dropped filter",
+    ],
+    "all": [
+        "task poll never came past its first wait",
+        "handler isr never started: no message pf vector 5 came",
+        "no frame was ever written to memory: dropped filter",
+    ],
+    "slots": [
+        "task poll never came past its first wait",
+        "handler isr never started: no message pf vector 5 came",
+        "no frame was ever written to memory: it waits inside the device",
+    ],
+    "waits": ["task poll never came past its first wait"],
+    "queue": ["queue 0 was on, and sent nothing"],
+    "link": ["change 0 of the link, up, never changed it"],
+}
+
 # Loops that end, and two handlers of a vector.
 FINE = ("fine", "polls", "spins", "two", "descriptor", "handlers")
 
@@ -288,6 +316,42 @@ def check_faults(kit: Kit) -> str:
     if xml.etree.ElementTree.parse(out / "result.xml").find("testcase/failure") is not None:
         raise Wrong("a search without a failure has one in its JUnit file")
     return f"{len(FAULTS) + 1} faults told"
+
+
+def check_never(kit: Kit) -> str:
+    """What of a scenario never ran is told, in JUnit too; by --strict the search has a status of its own."""
+    program, out = kit.build(HERE / "tests/vacuous.c"), kit.folder / "never"
+    out.mkdir(exist_ok=True)
+    ways: list[list[object]] = [["--runs", 200], ["--strategy", "exhaustive", "--preemptions", 1]]
+    for mode, wanted in NEVER.items():
+        for way in ways:
+            words = [program, mode, "--quiet", "--jobs", 2, "--out", out, "--junit", out / "result.xml", *way]
+            said = ran(words)
+            lines = [line.partition(": note: ")[2] for line in said.splitlines() if ": note: " in line]
+            if [line for line in lines if not line.startswith("faults are allowed")] != wanted:
+                raise Wrong(f"vacuous {mode}: it isn't told what never ran:\n{said}")
+            suite = xml.etree.ElementTree.parse(out / "result.xml").getroot()
+            if [one.get("value") for one in suite.iterfind("properties/property[@name='never']")] != wanted:
+                raise Wrong(f"vacuous {mode}: the JUnit file has other properties")
+            strict = ran([*words, "--strict"], 3 if wanted else 0)
+            suite = xml.etree.ElementTree.parse(out / "result.xml").getroot()
+            if (suite.find("testcase/failure") is not None) != bool(wanted) or "FAILED" in strict:
+                raise Wrong(f"vacuous {mode}: by --strict the JUnit file has another end")
+    told(ran([program, "faults", "--runs", 9]), "note: faults are allowed, and none was met", "faults")
+    one = ran([program, "fine", "--quiet", "--jobs", 1, "--runs", 300])
+    two = ran([program, "fine", "--quiet", "--jobs", 2, "--runs", 300])
+    counts = [re.findall(r"(\d+) distinct schedules", said) for said in (one, two)]
+    if counts[0] != counts[1] or not 10 < int(counts[0][0]) < 300:
+        raise Wrong(f"distinct schedules: {counts}")
+    return f"{len(NEVER)} scenarios of which a part never runs, or all does; {ran([count_program(kit)]).strip()}"
+
+
+def count_program(kit: Kit) -> Path:
+    """The test of how distinct schedules are counted, which calls the engine itself."""
+    program = kit.folder / "distinct"
+    words = [kit.compiler, *STRICT, *kit.flags, f"-I{C}/include", f"-I{HERE}/engine", HERE / "tests/distinct.c"]
+    ran([*words, kit.explorer, C / "out/libnic82599.a", "-o", program])
+    return program
 
 
 def check_refusals(kit: Kit) -> str:
@@ -404,6 +468,7 @@ def check_all(kit: Kit, amount: str) -> list[str]:
     return [
         check_names(kit),
         check_faults(kit),
+        check_never(kit),
         check_refusals(kit),
         check_orders(kit, states),
         check_sleeping(kit, scenarios),

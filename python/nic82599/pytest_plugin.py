@@ -9,10 +9,11 @@ at the end of a `with`. pytest's own option `-p no:nic82599` leaves the plugin o
         return Poll()                  # a nic82599.explore.Scenario
 
 The words of the marker are those of `nic82599.explore.search`: runs, seed, strategy, depth, preemptions, hang, shrink,
-jobs. A failure is told with its schedule. With --nic-out FOLDER the schedule goes into a file there, NAME.schedule,
-which --nic-replay FILE makes once in place of the search; tests of other scenarios are skipped then. Beside it is
-NAME.nic, the device's side of it, which nicview draws. --nic-jobs N has N processes search each scenario. A word of the
-marker that can't be taken fails its test; one of the options ends pytest, with status 4.
+jobs, strict. What of a scenario never ran is a warning and a property in JUnit XML, and by `strict` a failure. A
+failure is told with its schedule. With --nic-out FOLDER the schedule goes into a file there, NAME.schedule, which
+--nic-replay FILE makes once in place of the search; tests of other scenarios are skipped then. Beside it is NAME.nic,
+the device's side of it, which nicview draws. --nic-jobs N has N processes search each scenario. A word of the marker
+that can't be taken fails its test; one of the options ends pytest, with status 4.
 """
 
 from __future__ import annotations
@@ -27,12 +28,12 @@ import pytest
 
 import nic82599
 
-from .explore import BadSchedule, BadWord, Failure, Scenario, check_number, check_out, replay, search
+from .explore import BadSchedule, BadWord, Failure, Report, Scenario, Vacuous, check_number, check_out, replay, search
 
 if TYPE_CHECKING:
     from pluggy import Result
 
-WORDS = ("runs", "seed", "strategy", "depth", "preemptions", "hang", "shrink", "jobs")
+WORDS = ("runs", "seed", "strategy", "depth", "preemptions", "hang", "shrink", "jobs", "strict")
 
 
 def pytest_addoption(parser: pytest.Parser) -> None:
@@ -83,6 +84,14 @@ def replayed(scenario: Scenario, path: str) -> None:
         raise Failure(result, "replayed", None)
 
 
+def tell_report(item: pytest.Function, report: Report) -> None:
+    """Properties of a JUnit file, and a warning where something never ran."""
+    item.user_properties.append(("distinct", report.distinct))
+    item.user_properties.extend(("never", line) for line in report.never)
+    if report.never:
+        item.warn(pytest.PytestWarning("nic_schedules: " + "; ".join(report.never)))
+
+
 @pytest.hookimpl(tryfirst=True)
 def pytest_pyfunc_call(pyfuncitem: pytest.Function) -> bool | None:
     marker = pyfuncitem.get_closest_marker("nic_schedules")
@@ -102,9 +111,10 @@ def pytest_pyfunc_call(pyfuncitem: pytest.Function) -> bool | None:
         if config.getoption("--nic-jobs") is not None:
             words["jobs"] = config.getoption("--nic-jobs")
         try:
-            search(scenario, **words, out=config.getoption("--nic-out"))
+            report = search(scenario, **words, out=config.getoption("--nic-out"))
         except BadWord as fault:
             pytest.fail(f"nic_schedules: {fault}", pytrace=False)
+        tell_report(pyfuncitem, report)
     return True
 
 
@@ -169,7 +179,7 @@ def pytest_runtest_makereport(
     outcome = yield
     if call.when != "teardown" and outcome.get_result().failed:
         tell_why(item, outcome.get_result())
-    if call.excinfo is not None and isinstance(call.excinfo.value, (Failure, BadSchedule)):
+    if call.excinfo is not None and isinstance(call.excinfo.value, (Failure, BadSchedule, Vacuous)):
         report = outcome.get_result()
         if report.failed:
             report.longrepr = str(call.excinfo.value)

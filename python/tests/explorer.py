@@ -23,6 +23,7 @@ from nic82599.explore import (  # noqa: E402
     Mutex,
     Scenario,
     Search,
+    Vacuous,
     replay,
     search,
     write_files,
@@ -119,6 +120,23 @@ class Looking(Faulty):
         return "it was counted" if self.count else None
 
 
+class Vector(Fixed):
+    """A cause that goes to another vector than its handler's, or frames that no filter lets in."""
+
+    def __init__(self, is_filtered: bool) -> None:
+        self.is_filtered = is_filtered
+
+    def bring_up(self) -> None:
+        super().bring_up()
+        self.write32("IVAR[0]", 0x86)
+        self.write32("EIMS", 0x60)
+        if self.is_filtered:
+            self.write32("FCTRL", 0)
+
+    def end(self) -> None:
+        return None
+
+
 class Twice(Faulty):
     def end(self) -> str | None:
         return None if self.count == 2 else f"{self.count} and not 2"
@@ -208,6 +226,22 @@ class Found(unittest.TestCase):
         search(Faulty("await", "await", "count"), 200)
         search(Faulty("poll", "count"), 200)
         search(Faulty("pause", "pause"), 50)
+
+    def test_never(self) -> None:
+        """What of a scenario never ran is told, as C tells it; a strict search raises it."""
+        wrong = ["task poll never came past its first wait", "handler isr never started: no message pf vector 5 came"]
+        filtered = "no frame was ever written to memory: dropped filter"
+        for jobs in (1, 2):
+            for is_filtered, lines in ((False, [wrong[0], f"{wrong[1]}; there came pf vector 6"]),
+                                       (True, [*wrong, filtered])):  # fmt: skip
+                for how in ({"runs": 60}, {"runs": None, "strategy": "exhaustive", "preemptions": 0}):
+                    report = search(Vector(is_filtered), jobs=jobs, **how)
+                    self.assertEqual(report.never, lines)
+            with self.assertRaisesRegex(Vacuous, "some of it never ran: task poll never came"):
+                search(Vector(True), 30, strict=True, jobs=jobs)
+            report = search(Fixed(), 60, strict=True, jobs=jobs)
+            self.assertEqual((report.never, report.faults), ([], 0))
+            self.assertTrue(10 < report.distinct <= 60)
 
     def test_interrupts(self) -> None:
         self.assertIn("end: it came inside", self.failure(Interrupted(), 500))

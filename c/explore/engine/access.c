@@ -128,6 +128,8 @@ static void note_beyond(const struct step *step)
 static void after(const struct step *step)
 {
     nicxi_wake(step);
+    if (step->kind == STEP_WRITE && step->address == NIC_CTRL && step->word & (NIC_CTRL_RST | NIC_CTRL_LRST))
+        nicxi_cover_reset();
     note_stray(step);
     note_beyond(step);
     if (!nicxi.self && is_change(step)) {

@@ -2,6 +2,7 @@
 #ifndef NICX_ENGINE_H
 #define NICX_ENGINE_H
 
+#include "coverage.h"
 #include "fiber.h"
 #include "nic82599_explore.h"
 
@@ -158,6 +159,8 @@ struct engine {
     uint32_t waits;       /* of no thread, in a row, without a step that changed anything */
     bool is_settled;      /* in the bring-up, no step of the device is left */
     struct notes *notes, own_notes;
+    struct coverage *coverage, own_coverage;
+    uint16_t waiting[NICX_FRAMES], let_in, oldest; /* frames that came in, and which of them waits longest */
 
     uint64_t epoch; /* the schedule's number, for locks */
     uint64_t acts, changes;

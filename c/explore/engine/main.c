@@ -11,7 +11,7 @@
 #include "search.h"
 #include "words.h"
 
-enum { NOTHING = 0, FAILURE = 1, REFUSED = 2, MOST_PATH = 1024 };
+enum { NOTHING = 0, FAILURE = 1, REFUSED = 2, VACUOUS = 3, MOST_PATH = 1024 };
 
 static int refuse(const nicx_scenario *scenario, const char *why)
 {
@@ -59,6 +59,30 @@ static void tell_notes(const struct notes *notes)
         printf("%s: note: %" PRIu32 " accesses of no register, the first by %s\n", name, notes->strays, notes->stray);
     if (notes->beyond)
         printf("%s: note: queue %" PRIu32 " isn't below .queues, so it never goes on\n", name, notes->beyond - 1);
+}
+
+static void tell_never(void *argument, const char *line)
+{
+    fprintf(argument, "%s: note: %s\n", nicxi.scenario->name, line);
+}
+
+/* Of a search that found nothing: how much it saw, and what never happened in it. The status. */
+static int tell_nothing(const struct options *options, const struct totals *totals)
+{
+    const char *name = nicxi.scenario->name;
+    const struct coverage *coverage = &totals->coverage;
+    bool allows_faults = (nicxi.scenario->allowed & NICX_FAULTS) != 0;
+    if (options->strategy != EXHAUSTIVE)
+        printf("%s: %s%" PRIu64 " distinct schedules\n", name, totals->is_exact ? "" : "about ", totals->distinct);
+    if (coverage->faults)
+        printf("%s: note: %" PRIu64 " faults, which are allowed, the first: %s\n", name, coverage->faults,
+               coverage->fault);
+    else if (allows_faults)
+        printf("%s: note: faults are allowed, and none was met\n", name);
+    uint32_t never = nicxi_never(coverage, tell_never, stdout);
+    bool fails = never && options->is_strict;
+    printf("%s: nothing was found%s\n", name, fails ? ", and some of it never ran: --strict" : "");
+    return fails ? VACUOUS : NOTHING;
 }
 
 static int replay(const char *path)
@@ -213,10 +237,8 @@ static int search(const struct options *options, const char *program)
         uint32_t tries = options->no_shrink || failure.is_stale ? 0 : nicxi_shrink(options, &failure);
         keep(options, &failure, schedule, script);
         tell_failure(&failure, &found, tries, schedule, script, program);
-    } else {
-        printf("%s: nothing was found\n", nicxi.scenario->name);
     }
-    int status = failure.is_there ? FAILURE : NOTHING;
+    int status = failure.is_there ? FAILURE : tell_nothing(options, &totals);
     if (options->junit && !nicxi_write_junit(options, &totals, &failure, schedule)) {
         fprintf(stderr, "%s: it can't be written\n", options->junit);
         status = REFUSED;

@@ -12,7 +12,7 @@
 const char nicxi_usage[] =
     "usage: %s [options]\n"
     "Searches for a schedule of scenario %s that fails. Status 0: none was found; 1: one was; 2: the words,\n"
-    "the scenario or a schedule's file can't be taken.\n"
+    "the scenario or a schedule's file can't be taken; 3: by --strict, something never ran.\n"
     "  --strategy NAME    random, priorities, exhaustive, or mixed: random and priorities in turn (mixed)\n"
     "  --runs N           at most N schedules (10,000; of the exhaustive search, all)\n"
     "  --seconds S        at most S seconds\n"
@@ -27,6 +27,7 @@ const char nicxi_usage[] =
     "  --junit FILE       writes the result as JUnit XML\n"
     "  --no-shrink        keeps a failing schedule as it was found\n"
     "  --replay FILE      makes one schedule, to the letter, in this process, and prints each point\n"
+    "  --strict           fails with status 3 where something of the scenario never ran\n"
     "  --quiet            no progress\n"
     "  --help             this\n";
 
@@ -150,6 +151,8 @@ static bool take_flag(const char *word, struct options *options)
 {
     if (!strcmp(word, "--quiet"))
         options->is_quiet = true;
+    else if (!strcmp(word, "--strict"))
+        options->is_strict = true;
     else if (!strcmp(word, "--no-sleep"))
         options->no_sleep = true;
     else if (!strcmp(word, "--no-shrink"))

@@ -22,7 +22,7 @@ struct options {
     const char *replay;   /* a schedule's file, or null */
     const char *out;      /* a folder that is there */
     const char *junit;    /* a file to write, or null */
-    bool is_quiet, no_sleep, no_shrink, wants_help;
+    bool is_quiet, is_strict, no_sleep, no_shrink, wants_help;
 };
 
 /* Null, or what is wrong with the words. */

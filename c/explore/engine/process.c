@@ -48,6 +48,7 @@ void nicxi_note_in(struct post *post)
     nicxi.schedule = post->schedule;
     nicxi.points = &post->at;
     nicxi.notes = &post->notes;
+    nicxi.coverage = &post->coverage;
 }
 
 /* --- a task that hangs --- */

@@ -18,6 +18,7 @@ struct post {
     uint8_t strategy;
     nicx_result result;
     struct notes notes;
+    struct coverage coverage;
     pid_t process;
     uint16_t *schedule;
 };

@@ -166,6 +166,7 @@ static bool device_acts(uint16_t number)
     nicxi.acts++;
     nicxi.changes++;
     nicxi_wake(&step);
+    nicxi_cover_step(&step);
     nicxi_told(&step);
     look();
     return true;
@@ -241,6 +242,11 @@ static void start_handler(const struct actor *actor)
     nicxi_told(&handler->next);
 }
 
+static bool is_wait(const struct step *step)
+{
+    return step->kind == STEP_LOCAL && (step->word == LOCAL_WAIT || step->word == LOCAL_PAUSE);
+}
+
 void nicxi_next(struct thread *self)
 {
     if (self) {
@@ -255,6 +261,8 @@ void nicxi_next(struct thread *self)
             start_handler(actor);
         else if (thread->stack == PARKED)
             nicxi_told(&thread->next);
+        if (thread->stack != PARKED ? !is_wait(&thread->next) : actor->kind == BY_START)
+            nicxi_cover_thread(actor->of);
         if (!nicxi.result.outcome) {
             nicxi_thread_resume(self, thread);
             return;
@@ -304,6 +312,7 @@ static void reset(void)
     nicxi.tasks = nicxi.handlers = 0;
     nicxi.frame_count = nicxi.next_frame = 0;
     nicxi.link_count = nicxi.next_link = 0;
+    nicxi.let_in = nicxi.oldest = 0;
 }
 
 /* The first that waits for a lock, or for ever where it shouldn't. */

@@ -133,6 +133,7 @@ static const char *bring_up(void)
         snprintf(why, sizeof why, "bring_up: %s", words ? words : nicxi.result.words);
         return why;
     }
+    nicxi_cover_bring_up();
     return nicxi_keep();
 }
 
@@ -188,6 +189,7 @@ const char *nicx_open(const nicx_scenario *scenario)
     nicxi.scenario = scenario;
     nicxi.points = &nicxi.own_points;
     nicxi.notes = &nicxi.own_notes;
+    nicxi.coverage = &nicxi.own_coverage;
     nicxi_forget_polls(&nicxi.outside);
     nicxi.most_points = scenario->points ? scenario->points : USUAL_POINTS;
     nicxi.schedule = nicxi.own_schedule = calloc(nicxi.most_points + 1u, sizeof *nicxi.schedule);

@@ -20,6 +20,7 @@ struct common {
     volatile uint64_t lowest; /* the lowest run that failed */
     volatile bool stop;
     struct parts parts;
+    struct distinct distinct;
 };
 
 struct job {
@@ -37,7 +38,7 @@ static double now(void)
 
 /* --- in one of the processes --- */
 
-static bool make(struct post *post, const nicx_chooser *chooser)
+static bool make(struct post *post, const nicx_chooser *chooser, struct distinct *distinct)
 {
     nicx_result result;
     post->is_running = true;
@@ -45,8 +46,11 @@ static bool make(struct post *post, const nicx_chooser *chooser)
     post->is_running = false;
     post->runs++;
     post->points += result.points;
-    if (result.outcome == NICX_FINE)
+    if (result.outcome == NICX_FINE) {
+        if (distinct)
+            nicxi_count_schedule(distinct, post->schedule, result.points);
         return false;
+    }
     post->result = result;
     post->is_found = true;
     return true;
@@ -89,7 +93,7 @@ static void search_by_chance(struct post *post, const struct job *job)
         post->strategy = by_priority ? PRIORITIES : RANDOM;
         nicx_chooser chooser = by_priority ? nicxi_by_priority(&priorities, options->seed, run, options->depth, length)
                                            : nicxi_by_chance(&chance, options->seed, run);
-        if (make(post, &chooser))
+        if (make(post, &chooser, &job->common->distinct))
             return;
     }
 }
@@ -108,7 +112,7 @@ static void search_all(struct post *post, const struct job *job)
         }
         post->run = run;
         nicx_chooser chooser = nicxi_exhaustive_chooser(state);
-        if (make(post, &chooser))
+        if (make(post, &chooser, NULL))
             break;
         nicxi_exhaustive_made(state);
     }
@@ -159,8 +163,10 @@ static void sum_notes(struct search *search)
 {
     struct notes *all = &search->totals->notes;
     *all = *nicxi.notes;
+    search->totals->coverage = *nicxi.coverage;
     for (uint32_t k = 0; k < search->options->jobs; k++) {
         const struct notes *one = &search->posts[k].notes;
+        nicxi_cover_more(&search->totals->coverage, &search->posts[k].coverage);
         if (!all->strays && one->strays)
             memcpy(all->stray, one->stray, sizeof all->stray);
         all->strays += one->strays;
@@ -277,6 +283,7 @@ const char *nicxi_search(const struct options *options, struct totals *totals, s
     wait_for_all(&search);
     sum(&search);
     sum_notes(&search);
+    totals->distinct = nicxi_distinct(&search.common->distinct, &totals->is_exact);
     totals->is_whole = is_whole(&search);
     if (!keep_failure(&search, failure))
         fault = "there is no memory for the schedule that failed";

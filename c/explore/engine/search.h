@@ -11,6 +11,9 @@ struct totals {
     double seconds;
     bool is_whole; /* an exhaustive search that has come to its end */
     struct notes notes;
+    struct coverage coverage;
+    uint64_t distinct; /* schedules that differ; not counted by the exhaustive search, whose schedules all do */
+    bool is_exact;
 };
 
 /* A failure: of several the one of the lowest run. The schedule is the caller's to free. */

@@ -23,6 +23,7 @@ static void live(void *argument)
     struct thread *self = argument;
     for (;;) {
         self->function(self->argument);
+        nicxi_cover_thread((uint16_t)(self - nicxi.threads));
         if (self->on >= 0)
             nicxi.threads[self->on].interrupted_by = -1;
         if (self->masked)

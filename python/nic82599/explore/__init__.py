@@ -19,15 +19,20 @@ from dataclasses import dataclass
 from pathlib import Path
 
 from .. import BadMemory, Nic, NotLent, address_of, offset_of
+from .coverage import Coverage
 from .engine import POLLS, Choose, Result, Run, Thread
 from .jobs import Found, Over, searched
 from .script import Script, name_of, number_of, offset_name_of
 from .strategy import Exhaustive, by_chance, by_list, by_priority
 
-__all__ = ["BESIDE", "BadSchedule", "BadWord", "Failure", "Mutex", "Result", "Scenario", "Search", "replay", "search"]
+__all__ = [
+    "BESIDE", "BadSchedule", "BadWord", "Failure", "Mutex", "Report", "Result", "Scenario", "Search", "Vacuous",
+    "replay", "search",
+]  # fmt: skip
 
 BESIDE = ""
 NAME = re.compile(r"[A-Za-z0-9_-]{1,63}")
+RESETS = 1 << 26 | 1 << 3  # of CTRL
 STRATEGIES = ("random", "priorities", "mixed", "exhaustive")
 
 
@@ -175,6 +180,8 @@ class Scenario:
         address = address_of(at) if isinstance(at, str) else at
         run = self._point()
         is_there = self._nic.write32(address, word)
+        if run and address == 0 and word & RESETS:
+            run.waiting.clear()
         self._did(run, f"w {name_of(address)} 0x{word:08x}{'' if is_there else ' (stray)'}")
         if self._script:
             self._script.line(f"w {name_of(address)} {number_of(word)}", self._who(run))
@@ -361,6 +368,20 @@ class Failure(AssertionError):
         self.result, self.path = result, path
 
 
+class Vacuous(AssertionError):
+    """A strict search found nothing, and some of the scenario never ran."""
+
+
+@dataclass
+class Report:
+    """Of a search that found nothing: how many distinct schedules were made, how many faults were met, and a line for
+    each thing that never happened, though the scenario names it."""
+
+    distinct: int
+    faults: int
+    never: list[str]
+
+
 # --- files ---
 
 
@@ -411,6 +432,8 @@ class Search:
         scenario._nic.memory._before_lending = scenario._refuse_memory
         scenario.bring_up()
         self.kept = scenario._nic.snapshot()
+        self.coverage = Coverage()
+        self.coverage.look(scenario._nic, scenario.queues)
 
     def close(self) -> None:
         self.kept.drop()
@@ -426,10 +449,11 @@ class Search:
         """Makes one schedule."""
         scenario = self.scenario
         scenario._nic.restore(self.kept)
-        scenario._run = Run(scenario, scenario._nic, choose, self.hang)
+        scenario._run = Run(scenario, scenario._nic, choose, self.hang, self.coverage)
         try:
             return scenario._run.make()
         finally:
+            self.coverage.made(scenario._run)
             self.is_cut = scenario._run.is_cut
             scenario._run = None
 
@@ -497,8 +521,15 @@ class _Plan:
         share = self.exhaustive if self.strategy == "exhaustive" else self.by_runs
         if self.jobs == 1:
             return share(searching, 0, lambda _rank: False)
+
+        def work(mine: int, is_over: Over) -> tuple[Found | None, object]:
+            return share(searching, mine, is_over), searching.coverage
+
         what = "in a part of the exhaustive search:" if self.strategy == "exhaustive" else f"in seed {self.seed}, run"
-        return searched(self.jobs, lambda mine, is_over: share(searching, mine, is_over), what)
+        found, seen = searched(self.jobs, work, what)
+        for one in seen:
+            searching.coverage.add(one)
+        return found
 
 
 FIRST = 16
@@ -558,11 +589,12 @@ def write_files(scenario: Scenario, result: Result, told: str, out: Path, hang: 
 def search(
     scenario: Scenario, runs: int | None = 1_000, *, seed: int = 1, strategy: str = "mixed", depth: int = 3,
     preemptions: int = 2, hang: float = 10, out: str | Path | None = None, shrink: bool = True, jobs: int = 1,
-) -> None:  # fmt: skip
+    strict: bool = False,
+) -> Report:  # fmt: skip
     """Makes so many schedules; Failure at the first that fails, shrunk, and in the folder `out` as NAME.schedule, with
     the device's side of it as NAME.nic. The exhaustive search makes all schedules with at most so many preemptions
     where `runs` is None. So many processes share the work, and the failure is the same however many they are. BadWord
-    where a word can't be taken."""
+    where a word can't be taken. Where nothing fails: what never ran is in the report, and `strict` raises Vacuous."""
     plan = _checked(_Plan(runs, seed, strategy, depth, preemptions, jobs))
     check_hang(hang)
     if out is not None:
@@ -570,7 +602,11 @@ def search(
     with Search(scenario, hang) as searching:
         found = plan.search(searching)
         if found is None:
-            return
+            seen = searching.coverage
+            report = Report(len(seen.schedules), seen.faults, seen.never())
+            if strict and report.never:
+                raise Vacuous("nothing was found, and some of it never ran: " + "; ".join(report.never))
+            return report
         result = found.result
         if shrink and result.points and result.outcome not in ("hang", "endless"):
             result = searching.shrink(result)

@@ -13,6 +13,7 @@ from typing import TYPE_CHECKING, Any
 
 from .. import Event, Fault, Message, Nic, NicError, NoGroup, OutOfMemory
 from ..printed import printed
+from .coverage import Coverage
 
 if TYPE_CHECKING:
     from . import Scenario
@@ -91,8 +92,12 @@ class Actor:
 class Run:
     """A schedule of a scenario, whose controller is as its bring-up left it."""
 
-    def __init__(self, scenario: Scenario, nic: Nic, choose: Choose, hang: float) -> None:
+    def __init__(
+        self, scenario: Scenario, nic: Nic, choose: Choose, hang: float, coverage: Coverage | None = None
+    ) -> None:
         self.scenario, self.nic, self.choose, self.hang = scenario, nic, choose, hang
+        self.coverage = Coverage() if coverage is None else coverage
+        self.waiting: list[int] = []  # frames inside the device
         self.result = Result()
         self.threads: list[Thread] = []
         self.frames: list[bytes] = []
@@ -211,13 +216,18 @@ class Run:
         if actor.kind == "link":
             up = self.links[self.next_link]
             self.next_link += 1
-            told = "done" if self.nic.link(up) else "idle"
+            is_changed = self.nic.link(up)
+            if is_changed:
+                self.coverage.links.add(self.next_link - 1)
+            told = "done" if is_changed else "idle"
             if script:
                 script.line("link up" if up else "link down", f"link: {told}")
             return "link up" if up else "link down"
         frame = self.frames[self.next_frame]
         self.next_frame += 1
-        told = printed(self.nic.arrive(frame) or True)
+        dropped = self.nic.arrive(frame)
+        self.coverage.arrived(self, self.next_frame - 1, dropped or None)
+        told = printed(dropped or True)
         if script:
             script.line(f"arrive {script.data(frame)}", f"link: {told}")
         return told
@@ -232,6 +242,7 @@ class Run:
                 actor.is_idle = True
                 return False
             words = printed(event)
+            self.coverage.step(self, actor, event)
             self._judge(event)
         self.note(actor, words)
         self.acts += 1
@@ -288,6 +299,7 @@ class Run:
         try:
             if not self.is_over:
                 thread.function()
+                self.coverage.ran.add(thread.name)
                 if thread.masked:
                     self.failed("misuse", f"{thread.name} ends with its interrupts off")
         except Over:
@@ -332,6 +344,7 @@ class Run:
         self.note(actor, words)
         if words and self.scenario._script:
             self.scenario._script.own(actor.name, words)
+        self.coverage.goes_on(actor.thread)
         if actor.kind == "thread" and actor.thread is thread:
             return True
         self.self = actor.thread

@@ -26,7 +26,7 @@ class Found:
 
 
 Over = Callable[[int], bool]
-Work = Callable[[int, Over], Found | None]
+Work = Callable[[int, Over], tuple[Found | None, object]]
 
 
 class _Shared:
@@ -50,10 +50,10 @@ class _Shared:
 def _work(work: Work, mine: int, shared: _Shared, pipe: int) -> None:
     """In a process: its share, whose result goes into the pipe. It doesn't return."""
     try:
-        found = work(mine, lambda rank: shared.is_over(mine, rank))
+        found, seen = work(mine, lambda rank: shared.is_over(mine, rank))
         if found and found.rank < shared.get(0):
             shared.put(0, found.rank)
-        said: tuple[str, object] = ("found", found)
+        said: tuple[str, object] = ("found", (found, seen))
     except BaseException:  # noqa: BLE001
         said = ("fault", traceback.format_exc())
     with os.fdopen(pipe, "wb") as stream:
@@ -70,11 +70,11 @@ def _ended(status: int, rank: int, told: str) -> Found:
     return Found(rank, Result("crash", words), f"{told} {rank}")
 
 
-def searched(jobs: int, work: Work, told: str) -> Found | None:
-    """What so many processes find. `told` is what is said of a rank whose process ended without a word."""
+def searched(jobs: int, work: Work, told: str) -> tuple[Found | None, list[object]]:
+    """What so many processes find, and what each saw. `told` is said of a rank whose process ended without a word."""
     if not hasattr(os, "fork"):
         raise ValueError("jobs: this system has no fork, so one process searches")
-    shared, pipes, processes, found = _Shared(jobs), [], [], []
+    shared, pipes, processes, found, seen = _Shared(jobs), [], [], [], []
     try:
         for mine in range(jobs):
             reads, writes = os.pipe()
@@ -96,9 +96,10 @@ def searched(jobs: int, work: Work, told: str) -> Found | None:
             kind, what = pickle.loads(said)
             if kind == "fault":
                 raise RuntimeError(f"a process of the search failed:\n{what}")
-            found += [what] if what else []
+            found += what[:1] if what[0] else []
+            seen.append(what[1])
     finally:
         for process in filter(None, processes):
             os.kill(process, signal.SIGKILL)
             os.waitpid(process, 0)
-    return min(found, key=lambda one: one.rank, default=None)
+    return min(found, key=lambda one: one.rank, default=None), seen

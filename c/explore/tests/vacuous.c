@@ -1,0 +1,89 @@
+/* `vacuous MODE words..`: scenarios of which a part never runs, for c/explore/check.py: what is told of them. */
+#include <stdio.h>
+#include <string.h>
+
+#include "card.h"
+
+static const char *mode;
+static bool scheduled, never;
+
+static bool is(const char *name)
+{
+    return !strcmp(mode, name);
+}
+
+static const char *bring_up(void)
+{
+    lend_blocks(2);
+    bring_up_receive(is("slots") ? 0 : 2);
+    bring_up_interrupt();
+    if (is("vector") || is("all"))
+        nicx_write32(NIC_IVAR(0), NIC_IVAR_INT_ALLOC_0_IS(6) | NIC_IVAR_INT_ALLOC_VAL_0);
+    if (is("vector"))
+        nicx_write32(NIC_EIMS, CAUSE | CAUSE << 1);
+    if (is("filter") || is("all"))
+        nicx_write32(NIC_FCTRL, 0);
+    if (is("queue")) {
+        nicx_write32(NIC_TXDCTL(0), ENABLE);
+        nicx_settle();
+    }
+    return NULL;
+}
+
+static void poll(void *unused)
+{
+    (void)unused;
+    for (;;) {
+        if (is("waits"))
+            while (!never)
+                nicx_wait();
+        nicx_wait_until(nicx_is_set, &scheduled);
+        scheduled = false;
+        nicx_write32(NIC_EIMS, CAUSE);
+    }
+}
+
+static void other(void *unused)
+{
+    (void)unused;
+    nicx_read32(NIC_STATUS);
+}
+
+static void isr(void *unused)
+{
+    (void)unused;
+    scheduled = true;
+}
+
+static void begin(void)
+{
+    scheduled = never = false;
+    nicx_service("poll", poll, NULL);
+    nicx_service("other", other, NULL);
+    nicx_handler("isr", 0, 5, isr, NULL, NICX_ANYWHERE);
+    frames_come(is("slots") ? 3 : 2);
+    if (is("link"))
+        nicx_link_change(true);
+}
+
+static const char *end(void)
+{
+    return NULL;
+}
+
+int main(int argc, char **argv)
+{
+    mode = argc > 1 ? argv[1] : "fine";
+    const nicx_scenario scenario = {
+        .name = "vacuous",
+        .fifo = 64,
+        .blocks = 16,
+        .queues = 1,
+        .bring_up = bring_up,
+        .begin = begin,
+        .end = end,
+        .allowed = is("faults") ? NICX_FAULTS : 0,
+    };
+    argv[argc > 1] = argv[0];
+    return nicx_main(argc - (argc > 1), argv + (argc > 1), &scenario);
+}

@@ -31,7 +31,7 @@ import nic82599  # noqa: E402
 import nic82599.buffers  # noqa: E402
 import nic82599.descriptors  # noqa: E402
 import packing  # noqa: E402
-import why  # noqa: E402
+import why_nothing  # noqa: E402
 
 
 def texts() -> int:
@@ -78,7 +78,7 @@ def main() -> None:
     print(f"{units(explorer)} tests of the explorer")
     print(f"{units(packing)} tests of the package")
     print(f"{units(ends)} tests of how tools end")
-    print(f"{units(why)} tests of why nothing happens")
+    print(f"{units(why_nothing)} tests of why nothing happens")
     made = answers = 0
     with tempfile.TemporaryDirectory() as folder:
         for batch in range(given.batches):

@@ -207,7 +207,7 @@ class Machine:
             *self.place.qemu("qemu-system-x86_64"), "-machine", "q35,accel=tcg,memory-backend=ram", *QUIET,
             *memory(self.memory), "-cpu", "max", "-smp", str(self.processors), "-kernel",
             str(self.place.kernel(self.kernel)), "-initrd", str(file), "-append",
-            f"console=ttyS0 quiet panic=-1 {self.append}", *self.before, *port(), *devices,
+            f"console=ttyS0 quiet panic=-1 no_timer_check {self.append}", *self.before, *port(), *devices,
         ]  # fmt: skip
         return Guest(words, server, server.folder / f"{name}.log")
 

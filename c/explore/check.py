@@ -346,6 +346,25 @@ def check_never(kit: Kit) -> str:
     return f"{len(NEVER)} scenarios of which a part never runs, or all does; {ran([count_program(kit)]).strip()}"
 
 
+SIMPLE = ("length_before_dd", "link_change_lost", "tail_before_descriptor")
+
+
+def check_bounds(kit: Kit) -> str:
+    """The exhaustive search finds a failure with as few preemptions as any."""
+    out, found = kit.folder / "bounds", 0
+    out.mkdir(exist_ok=True)
+    for source in (one for one in corpus() if one.stem in SIMPLE):
+        program, schedules = kit.build(source), []
+        for bound in (1, 2, 4, "any"):
+            words = [program, "--quiet", "--no-shrink", "--strategy", "exhaustive", "--out", out, "--jobs", 1]
+            ran([*words, "--preemptions", bound], 1)
+            schedules.append((out / f"{source.stem}.schedule").read_text())
+        found += 1
+        if len(set(schedules)) != 1 or "by exhaustive in part" not in schedules[0]:
+            raise Wrong(f"{source.stem}: with another bound the exhaustive search finds another failure first")
+    return f"{found} failures with one preemption found first"
+
+
 def count_program(kit: Kit) -> Path:
     """The test of how distinct schedules are counted, which calls the engine itself."""
     program = kit.folder / "distinct"
@@ -469,6 +488,7 @@ def check_all(kit: Kit, amount: str) -> list[str]:
         check_names(kit),
         check_faults(kit),
         check_never(kit),
+        check_bounds(kit),
         check_refusals(kit),
         check_orders(kit, states),
         check_sleeping(kit, scenarios),

@@ -184,7 +184,7 @@ class Found(unittest.TestCase):
 
     def test_race(self) -> None:
         for strategy in ("random", "priorities", "mixed", "exhaustive"):
-            told = self.failure(Race(), 1_000, strategy=strategy)
+            told = self.failure(Race(), None if strategy == "exhaustive" else 1_000, strategy=strategy)
             self.assertIn("end: a frame lies in the ring", told, strategy)
         search(Fixed(), 300)
         search(Fixed(), None, strategy="exhaustive", preemptions=0)
@@ -255,7 +255,8 @@ class Found(unittest.TestCase):
         """Several processes find the failure that one finds; of a process that dies its run is told."""
         twice = Twice("add", "add", "point")
         for scenario, strategy in ((Race(), "mixed"), (Race(), "exhaustive"), (twice, "exhaustive")):
-            told = [self.failure(scenario, 500, strategy=strategy, jobs=jobs) for jobs in (1, 2, 3)]
+            runs = None if strategy == "exhaustive" else 500
+            told = [self.failure(scenario, runs, strategy=strategy, jobs=jobs) for jobs in (1, 2, 3)]
             told[0] = re.sub(r"(by exhaustive) in run \d+", r"\1", told[0])
             self.assertEqual(len(set(told)), 1, told)
         search(Fixed(), 60, jobs=3)

@@ -10,8 +10,8 @@
 
 /* Where a failure comes from, for the comments on top. */
 struct origin {
-    const char *strategy;
-    uint64_t seed, run;
+    const char *where;
+    uint64_t seed;
     const nicx_result *result;
 };
 

@@ -167,7 +167,8 @@ static void keep(const struct options *options, const struct failure *failure, c
                  char script_path[MOST_PATH])
 {
     struct writing it = {NULL, {NULL, 0, 0, NULL}, failure};
-    struct origin origin = {nicxi_strategy_name(failure->strategy), options->seed, failure->run, &failure->result};
+    char where[80];
+    struct origin origin = {nicxi_where(failure, where), options->seed, &failure->result};
     FILE *schedule = open_file(options, "schedule", schedule_path), *script = open_file(options, "nic", script_path);
     struct post *post = nicxi_posts(1);
     it.schedule = schedule ? schedule : stderr;
@@ -207,10 +208,11 @@ static void tell_totals(const struct options *options, const struct totals *tota
 static void tell_failure(const struct failure *failure, const nicx_result *found, uint32_t tries, const char *schedule,
                          const char *script, const char *program)
 {
+    char where[80];
     const char *name = nicxi.scenario->name;
     printf("%s: FAILED %s: %s\n", name, nicxi_outcome_name(failure->result.outcome), failure->result.words);
-    printf("%s: found by %s in run %" PRIu64 ", %" PRIu32 " points and %" PRIu32 " switches", name,
-           nicxi_strategy_name(failure->strategy), failure->run, found->points, found->switches);
+    printf("%s: found by %s, %" PRIu32 " points and %" PRIu32 " switches", name, nicxi_where(failure, where),
+           found->points, found->switches);
     if (tries)
         printf("; shrunk by %" PRIu32 " tries to %" PRIu32 " and %" PRIu32, tries, failure->result.points,
                failure->result.switches);

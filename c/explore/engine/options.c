@@ -18,7 +18,7 @@ const char nicxi_usage[] =
     "  --seconds S        at most S seconds\n"
     "  --seed N           what chance begins with (1)\n"
     "  --first N          the first run of the seed (0), so that one run can be made again\n"
-    "  --depth D          of priorities: changes at D - 1 points, D from 1 to 16 (3)\n"
+    "  --depth D          of priorities: changes at D - 1 points, D from 1 to 16 (3; of mixed, 2 to 6 in turn)\n"
     "  --preemptions N    of the exhaustive search: at most N, or any (2)\n"
     "  --no-sleep         of the exhaustive search: orders of independent steps too\n"
     "  --jobs N           so many processes, 1 to 256 (one for each core)\n"
@@ -169,7 +169,6 @@ static void set_usual(struct options *options)
     long cores = sysconf(_SC_NPROCESSORS_ONLN);
     memset(options, 0, sizeof *options);
     options->seed = 1;
-    options->depth = 3;
     options->preemptions = 2;
     options->hang = 10;
     options->out = ".";

@@ -15,7 +15,7 @@ struct options {
     uint64_t first; /* the first run of the seed */
     uint64_t seed;
     double seconds;       /* at most so long; 0: no bound */
-    uint32_t depth;       /* of priorities: 1 to 16 */
+    uint32_t depth;       /* of priorities: 1 to 16; 0: the usual ones */
     uint32_t preemptions; /* of the exhaustive search; UNBOUNDED: any number */
     uint32_t jobs;        /* 1 to 256 processes */
     uint32_t hang;        /* seconds without a point after which a task hangs */

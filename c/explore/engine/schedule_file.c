@@ -13,8 +13,7 @@ void nicxi_write_head(FILE *file, const struct origin *origin)
     char words[sizeof origin->result->words];
     nicxi_plain(origin->result->words, words, sizeof words);
     fprintf(file, "# %s: %s\n", nicxi_outcome_name(origin->result->outcome), words);
-    fprintf(file, "# found by %s in run %" PRIu64 " of seed %" PRIu64 "; who acts at each point:\n", origin->strategy,
-            origin->run, origin->seed);
+    fprintf(file, "# found by %s of seed %" PRIu64 "; who acts at each point:\n", origin->where, origin->seed);
     fprintf(file, "scenario %s\n", nicxi.scenario->name);
 }
 

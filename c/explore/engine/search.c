@@ -13,13 +13,14 @@
 
 #include "exhaustive.h"
 
-enum { TRIED = 16, PAUSE = 10000000 };
+/* The exhaustive search allows no preemption first, then one more each time, and from SLOWLY on all that it may. */
+enum { TRIED = 16, PAUSE = 10000000, SLOWLY = 3, BOUNDS = SLOWLY + 1, RUNS_OF_BOUND = 1 << 24 };
 
 /* What all processes of a search share. */
 struct common {
     volatile uint64_t lowest; /* the lowest run that failed */
     volatile bool stop;
-    struct parts parts;
+    struct parts parts[BOUNDS];
     struct distinct distinct;
 };
 
@@ -34,6 +35,16 @@ static double now(void)
     struct timespec time;
     clock_gettime(CLOCK_MONOTONIC, &time);
     return (double)time.tv_sec + (double)time.tv_nsec * 1e-9;
+}
+
+const char *nicxi_where(const struct failure *failure, char room[80])
+{
+    const char *strategy = nicxi_strategy_name(failure->strategy);
+    if (failure->strategy == EXHAUSTIVE)
+        snprintf(room, 80, "%s in part %" PRIu64, strategy, failure->run % RUNS_OF_BOUND);
+    else
+        snprintf(room, 80, "%s in run %" PRIu64, strategy, failure->run);
+    return room;
 }
 
 /* --- in one of the processes --- */
@@ -76,6 +87,16 @@ static bool is_by_priority(const struct options *options, uint64_t run)
     return options->strategy == PRIORITIES || (options->strategy == MIXED && run % 2);
 }
 
+/* Mixed has each depth in turn: a lower one finds sooner what takes few steps in an order, a higher one what takes
+   more. */
+static uint32_t depth_of(const struct options *options, uint64_t run)
+{
+    enum { LEAST = 2, MOST = 6, USUAL = 3 };
+    if (options->depth)
+        return options->depth;
+    return options->strategy == MIXED ? LEAST + (uint32_t)((run / 2 + 1) % (MOST - LEAST + 1)) : USUAL;
+}
+
 static void search_by_chance(struct post *post, const struct job *job)
 {
     static struct by_priority priorities;
@@ -91,24 +112,25 @@ static void search_by_chance(struct post *post, const struct job *job)
         bool by_priority = is_by_priority(options, run);
         post->run = run;
         post->strategy = by_priority ? PRIORITIES : RANDOM;
-        nicx_chooser chooser = by_priority ? nicxi_by_priority(&priorities, options->seed, run, options->depth, length)
-                                           : nicxi_by_chance(&chance, options->seed, run);
+        nicx_chooser chooser = by_priority
+                                   ? nicxi_by_priority(&priorities, options->seed, run, depth_of(options, run), length)
+                                   : nicxi_by_chance(&chance, options->seed, run);
         if (make(post, &chooser, &job->common->distinct))
             return;
     }
 }
 
-static void search_all(struct post *post, const struct job *job)
+/* All schedules within a bound; the runs of a lower bound come before those of a higher one. False where the search is
+   over. */
+static bool search_within(struct post *post, const struct job *job, uint32_t preemptions, uint32_t number)
 {
-    struct exhaustive *state =
-        nicxi_exhaustive(job->options->preemptions, !job->options->no_sleep, &job->common->parts);
-    post->strategy = EXHAUSTIVE;
+    struct exhaustive *state = nicxi_exhaustive(preemptions, !job->options->no_sleep, &job->common->parts[number]);
     while (state && nicxi_exhaustive_next(state)) {
-        uint64_t run = nicxi_exhaustive_part(state);
+        uint64_t run = (uint64_t)number * RUNS_OF_BOUND + nicxi_exhaustive_part(state);
         if (job->common->stop || run > job->common->lowest ||
             (job->options->runs && post->runs * job->options->jobs >= job->options->runs)) {
             nicxi_free_exhaustive(state);
-            return;
+            return false;
         }
         post->run = run;
         nicx_chooser chooser = nicxi_exhaustive_chooser(state);
@@ -122,8 +144,24 @@ static void search_all(struct post *post, const struct job *job)
         post->result = strange;
         post->is_found = post->is_stale = true;
     }
-    post->is_over = state && !post->is_found;
+    bool is_over = state && !post->is_found;
     nicxi_free_exhaustive(state);
+    return is_over;
+}
+
+/* So the failure that is found takes as few preemptions as any. */
+static void search_all(struct post *post, const struct job *job)
+{
+    uint32_t most = job->options->preemptions;
+    post->strategy = EXHAUSTIVE;
+    for (uint32_t number = 0; number < BOUNDS; number++) {
+        uint32_t bound = number < SLOWLY && number < most ? number : most;
+        if (!search_within(post, job, bound, number))
+            return;
+        post->is_over = bound == most;
+        if (post->is_over)
+            return;
+    }
 }
 
 static void work(struct post *post, void *argument)

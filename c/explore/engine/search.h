@@ -26,6 +26,9 @@ struct failure {
     uint16_t *schedule;
 };
 
+/* "random in run 36": by what it was found, and where. */
+const char *nicxi_where(const struct failure *failure, char room[80]);
+
 /* Null, or why there can be no search. */
 const char *nicxi_search(const struct options *options, struct totals *totals, struct failure *failure);
 

@@ -482,9 +482,13 @@ class _Plan:
     runs: int | None
     seed: int
     strategy: str
-    depth: int
+    depth: int | None
     preemptions: int
     jobs: int
+
+    def depth_of(self, number: int) -> int:
+        """Mixed has each depth in turn."""
+        return self.depth or (2 + (number // 2 + 1) % 5 if self.strategy == "mixed" else 3)
 
     def by_runs(self, searching: Search, mine: int, is_over: Over) -> Found | None:
         """The first runs, by which the usual length is known, are made by each process."""
@@ -497,7 +501,7 @@ class _Plan:
             mixed = "priorities" if number >= FIRST and number % 2 else "random"
             way = mixed if self.strategy == "mixed" else self.strategy
             is_random, seed = way == "random", self.seed
-            choose = by_chance(seed, number) if is_random else by_priority(seed, number, self.depth, length)
+            choose = by_chance(seed, number) if is_random else by_priority(seed, number, self.depth_of(number), length)
             result = searching.run(choose)
             length = max(length, len(result.points)) if number < FIRST else length
             if result.outcome != "fine":
@@ -505,16 +509,21 @@ class _Plan:
         return None
 
     def exhaustive(self, searching: Search, mine: int, is_over: Over) -> Found | None:
-        way, number = Exhaustive(self.preemptions, mine, self.jobs), 0
-        while (self.runs is None or number * self.jobs < self.runs) and not is_over(way.rank):
-            way.begin()
-            result = searching.run(way.choose)
-            if result.outcome != "fine":
-                where = f" in run {number}" if self.jobs == 1 else ""
-                return Found(way.rank, result, f"found by exhaustive{where}")
-            number += 1
-            if not way.next():
-                return None
+        """Without a preemption first, then with one more each time: so the failure takes as few as any."""
+        number, slowly = 0, 3
+        for bound in (*range(min(slowly, self.preemptions)), self.preemptions):
+            way, before = Exhaustive(bound, mine, self.jobs), bound << 40
+            goes_on = True
+            while goes_on:
+                if (self.runs is not None and number * self.jobs >= self.runs) or is_over(before + way.rank):
+                    return None
+                way.begin()
+                result = searching.run(way.choose)
+                if result.outcome != "fine":
+                    where = f" in run {number}" if self.jobs == 1 else ""
+                    return Found(before + way.rank, result, f"found by exhaustive{where}")
+                number += 1
+                goes_on = way.next()
         return None
 
     def search(self, searching: Search) -> Found | None:
@@ -568,7 +577,8 @@ def _checked(plan: _Plan) -> _Plan:
     if plan.strategy not in STRATEGIES:
         raise BadWord(f"strategy: {plan.strategy!r} is none of {', '.join(STRATEGIES)}")
     for name in RANGES:
-        if name != "runs" or plan.runs is not None or plan.strategy != "exhaustive":
+        may_be_none = name == "depth" or (name == "runs" and plan.strategy == "exhaustive")
+        if getattr(plan, name) is not None or not may_be_none:
             check_number(name, getattr(plan, name))
     return plan
 
@@ -587,7 +597,7 @@ def write_files(scenario: Scenario, result: Result, told: str, out: Path, hang: 
 
 
 def search(
-    scenario: Scenario, runs: int | None = 1_000, *, seed: int = 1, strategy: str = "mixed", depth: int = 3,
+    scenario: Scenario, runs: int | None = 1_000, *, seed: int = 1, strategy: str = "mixed", depth: int | None = None,
     preemptions: int = 2, hang: float = 10, out: str | Path | None = None, shrink: bool = True, jobs: int = 1,
     strict: bool = False,
 ) -> Report:  # fmt: skip

@@ -270,6 +270,14 @@ WORDS = {
     "words": "words: there is no such option",
     "--seed 18446744073709551616": "is no number of 0 to",
     "--preemptions 1001": '"1001" is no number of 0 to 1000',
+    "--shard": "--shard: it wants a word behind it",
+    "--shard 2": "--shard: it is K/N, as 1/4",
+    "--shard /2": "--shard: it is K/N, as 1/4",
+    "--shard 1/": "--shard: it is K/N, as 1/4",
+    "--shard 0/2": '"0" is no number of 1 to 2',
+    "--shard 3/2": '"3" is no number of 1 to 2',
+    "--shard 1/65537": '"65537" is no number of 1 to 65536',
+    "--shard 1/2/3": '"2/3" is no number of 1 to 65536',
     "--hang 0": '"0" is no number of 1 to 86400',
     "--out /nowhere": "there is no such folder",
     "--out /dev/null": "there is no such folder",
@@ -363,6 +371,35 @@ def check_bounds(kit: Kit) -> str:
         if len(set(schedules)) != 1 or "by exhaustive in part" not in schedules[0]:
             raise Wrong(f"{source.stem}: with another bound the exhaustive search finds another failure first")
     return f"{found} failures with one preemption found first"
+
+
+def check_shards(kit: Kit) -> str:
+    """Shards make together what one search makes, and each of it once but the first schedule of a bound."""
+    fixed, race = kit.build(HERE / "examples/race.c", "FIXED"), kit.build(HERE / "examples/race.c")
+    out, shards = kit.folder / "shards", 3
+    out.mkdir(exist_ok=True)
+
+    def made(*words: object, jobs: int = 1) -> int:
+        said = ran([fixed, "--quiet", "--jobs", jobs, "--out", out, *words])
+        if "exhaustive" in words and "these are all schedules" not in said:
+            raise Wrong(f"a shard doesn't come to its end:\n{said}")
+        return int(re.findall(r": (\d+) schedules", said)[0])
+
+    every = ["--strategy", "exhaustive", "--preemptions", 1, "--no-sleep"]
+    parts = [made(*every, "--shard", f"{k}/{shards}") for k in range(1, shards + 1)]
+    if sum(parts) != made(*every) + 2 * (shards - 1) or min(parts) < 20:
+        raise Wrong(f"the shards of the exhaustive search make {parts} schedules")
+    for jobs in (1, 2):
+        parts = [made("--runs", 100, "--shard", f"{k}/{shards}", jobs=jobs) for k in range(1, shards + 1)]
+        if parts != [34, 33, 33]:
+            raise Wrong(f"the shards of 100 schedules make {parts}")
+    words = [race, "--quiet", "--no-shrink", "--jobs", 2, "--out", out]
+    found = [ran([*words, "--shard", f"{k}/{shards}"], 1) for k in range(1, shards + 1)]
+    runs = [int(re.findall(r"in run (\d+)", said)[0]) for said in found]
+    whole = int(re.findall(r"in run (\d+)", ran(words, 1))[0])
+    if [run % shards for run in runs] != list(range(shards)) or min(runs) != whole:
+        raise Wrong(f"shards find the failure in runs {runs}, and one search in run {whole}")
+    return f"{shards} shards make what one search makes"
 
 
 def count_program(kit: Kit) -> Path:
@@ -489,6 +526,7 @@ def check_all(kit: Kit, amount: str) -> list[str]:
         check_faults(kit),
         check_never(kit),
         check_bounds(kit),
+        check_shards(kit),
         check_refusals(kit),
         check_orders(kit, states),
         check_sleeping(kit, scenarios),

@@ -241,13 +241,20 @@ static void drop_node(struct exhaustive *it)
 
 /* --- making a schedule --- */
 
+/* The number of the next part that is taken by nobody yet. */
+static uint64_t next_part(struct parts *parts)
+{
+    uint64_t next = __sync_fetch_and_add(&parts->next, 1);
+    return parts->shards ? next * parts->shards + parts->shard : next;
+}
+
 /* Whether this process searches the part that begins here. */
 static bool is_mine(struct exhaustive *it)
 {
     if (it->seen++ != it->mine)
         return false;
     it->part = it->mine + 1;
-    it->mine = __sync_fetch_and_add(&it->parts->next, 1);
+    it->mine = next_part(it->parts);
     return true;
 }
 
@@ -370,7 +377,7 @@ static bool put_to_sleep(struct exhaustive *it, struct node *node)
 bool nicxi_exhaustive_next(struct exhaustive *it)
 {
     if (it->is_first) {
-        it->mine = __sync_fetch_and_add(&it->parts->next, 1);
+        it->mine = next_part(it->parts);
         return true;
     }
     while (it->depth && !it->is_strange) {

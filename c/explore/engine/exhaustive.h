@@ -9,6 +9,7 @@
    point of the first schedule. */
 struct parts {
     uint64_t next;
+    uint32_t shard, shards; /* of each `shards` parts the one of this number is taken; all where that is 0 */
 };
 
 struct exhaustive;

@@ -198,11 +198,12 @@ static void tell_totals(const struct options *options, const struct totals *tota
            nicxi_strategy_name(options->strategy), options->seed);
     if (options->strategy != EXHAUSTIVE || !totals->is_whole)
         return;
-    if (options->preemptions == UNBOUNDED)
-        printf("%s: these are all schedules\n", nicxi.scenario->name);
-    else
-        printf("%s: these are all schedules with at most %" PRIu32 " preemptions\n", nicxi.scenario->name,
-               options->preemptions);
+    printf("%s: these are all schedules", nicxi.scenario->name);
+    if (options->preemptions != UNBOUNDED)
+        printf(" with at most %" PRIu32 " preemptions", options->preemptions);
+    if (options->shards > 1)
+        printf(" of shard %" PRIu32 "/%" PRIu32, options->shard + 1, options->shards);
+    printf("\n");
 }
 
 static void tell_failure(const struct failure *failure, const nicx_result *found, uint32_t tries, const char *schedule,

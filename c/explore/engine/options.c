@@ -22,6 +22,7 @@ const char nicxi_usage[] =
     "  --preemptions N    of the exhaustive search: at most N, or any (2)\n"
     "  --no-sleep         of the exhaustive search: orders of independent steps too\n"
     "  --jobs N           so many processes, 1 to 256 (one for each core)\n"
+    "  --shard K/N        of N machines that share this search the K-th, from 1 on; N up to 65,536 (1/1)\n"
     "  --hang S           a task that makes no point for S seconds hangs (10)\n"
     "  --out FOLDER       where the files of a failure go (.)\n"
     "  --junit FILE       writes the result as JUnit XML\n"
@@ -91,6 +92,26 @@ static const char *take_seconds(const char *word, const char *text, double *seco
     return refused(word, range);
 }
 
+static const char *take_shard(const char *word, const char *text, struct options *options)
+{
+    char first[12];
+    const char *slash = strchr(text, '/');
+    uint32_t shard = 0, shards = 0;
+    if (!*text)
+        return without_word(word);
+    if (!slash || slash - text >= (int)sizeof first)
+        return refused(word, "it is K/N, as 1/4");
+    snprintf(first, sizeof first, "%.*s", (int)(slash - text), text);
+    const char *fault = !slash[1] ? "" : take_small(word, slash + 1, 1, 65536, &shards);
+    if (!fault)
+        fault = !*first ? "" : take_small(word, first, 1, shards, &shard);
+    if (fault)
+        return *fault ? fault : refused(word, "it is K/N, as 1/4");
+    options->shard = shard - 1;
+    options->shards = shards;
+    return NULL;
+}
+
 static const char *take_strategy(const char *text, struct options *options)
 {
     if (!*text)
@@ -136,6 +157,8 @@ static const char *take_value(const char *word, const char *text, struct options
         return take_preemptions(word, text, options);
     if (!strcmp(word, "--jobs"))
         return take_small(word, text, 1, 256, &options->jobs);
+    if (!strcmp(word, "--shard"))
+        return take_shard(word, text, options);
     if (!strcmp(word, "--hang"))
         return take_small(word, text, 1, 86400, &options->hang);
     if (!strcmp(word, "--out"))
@@ -171,6 +194,7 @@ static void set_usual(struct options *options)
     options->seed = 1;
     options->preemptions = 2;
     options->hang = 10;
+    options->shards = 1;
     options->out = ".";
     options->jobs = cores < 1 ? 1 : cores > 256 ? 256 : (uint32_t)cores;
 }

@@ -18,6 +18,8 @@ struct options {
     uint32_t depth;       /* of priorities: 1 to 16; 0: the usual ones */
     uint32_t preemptions; /* of the exhaustive search; UNBOUNDED: any number */
     uint32_t jobs;        /* 1 to 256 processes */
+    uint32_t shard;       /* of `shards` the one that is searched, from 0 on */
+    uint32_t shards;      /* 1 to 65,536 machines that share a search */
     uint32_t hang;        /* seconds without a point after which a task hangs */
     const char *replay;   /* a schedule's file, or null */
     const char *out;      /* a folder that is there */

@@ -106,7 +106,9 @@ static void search_by_chance(struct post *post, const struct job *job)
     post->run = options->first;
     post->strategy = RANDOM;
     uint32_t length = options->strategy == RANDOM ? 0 : usual_length(options);
-    for (uint64_t run = options->first + job->number; run < end; run += options->jobs) {
+    uint64_t step = (uint64_t)options->jobs * options->shards;
+    uint64_t run = options->first + (uint64_t)job->number * options->shards + options->shard;
+    for (; run < end; run += step) {
         if (job->common->stop || run > job->common->lowest)
             return;
         bool by_priority = is_by_priority(options, run);
@@ -128,7 +130,7 @@ static bool search_within(struct post *post, const struct job *job, uint32_t pre
     while (state && nicxi_exhaustive_next(state)) {
         uint64_t run = (uint64_t)number * RUNS_OF_BOUND + nicxi_exhaustive_part(state);
         if (job->common->stop || run > job->common->lowest ||
-            (job->options->runs && post->runs * job->options->jobs >= job->options->runs)) {
+            (job->options->runs && post->runs * job->options->jobs * job->options->shards >= job->options->runs)) {
             nicxi_free_exhaustive(state);
             return false;
         }
@@ -314,6 +316,10 @@ const char *nicxi_search(const struct options *options, struct totals *totals, s
         return "there is no memory for the search";
     search.common = memory;
     search.common->lowest = UINT64_MAX;
+    for (uint32_t k = 0; k < BOUNDS; k++) {
+        search.common->parts[k].shard = options->shard;
+        search.common->parts[k].shards = options->shards;
+    }
     start_all(&search);
     const char *fault = search.living == options->jobs ? NULL : "a process can't be started";
     if (fault)

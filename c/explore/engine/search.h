@@ -12,7 +12,7 @@ struct totals {
     bool is_whole; /* an exhaustive search that has come to its end */
     struct notes notes;
     struct coverage coverage;
-    uint64_t distinct; /* schedules that differ; not counted by the exhaustive search, whose schedules all do */
+    uint64_t distinct; /* schedules that differ; not counted by the exhaustive search */
     bool is_exact;
 };
 

@@ -483,8 +483,8 @@ def own(place: Place, words: list[str]) -> int:
         name = words.pop(0)
         given[name] = "" if name == "--gdb" else words.pop(0) if words else ""
     server = Server(place, "own")
-    line = [*place.qemu("qemu-system-x86_64"), "-machine", "q35,accel=kvm:tcg,memory-backend=ram", "-nographic",
-            *memory("2G"), "-cpu", "max", "-smp", "2", *port(), *device(server.path)]
+    line = [*place.qemu("qemu-system-x86_64"), "-machine", "q35,accel=tcg,memory-backend=ram", "-nographic",
+            "-nic", "none", *memory("2G"), "-cpu", "max", "-smp", "2", *port(), *device(server.path)]
     for name in ("--kernel", "--initrd"):
         line += [name[1:], given[name]] if name in given else []
     line += ["-append", "console=ttyS0"] if "--kernel" in given else []

@@ -50,8 +50,19 @@ static void refused(void *of, const char *what, unsigned int number, uint16_t qu
 
 /* ---- what the bus calls: the hooks, and memory.h ---- */
 
+static void note_enable(uint32_t address)
+{
+    for (uint16_t queue = 0; address % 0x40 == NIC_TXDCTL(0) % 0x40 && queue < BUS_QUEUES; queue++) {
+        if (address == NIC_RXDCTL(queue))
+            stepper_ask(&the_card->stepper, false, queue);
+        if (address == NIC_TXDCTL(queue))
+            stepper_ask(&the_card->stepper, true, queue);
+    }
+}
+
 static uint32_t to_device(unsigned int function, uint32_t address, uint32_t word)
 {
+    note_enable(address);
     return rings_to_device(the_card->rings, function, address, word);
 }
 
@@ -129,32 +140,68 @@ static void on_message(unsigned int number, unsigned int vector)
 
 /* ---- what functions ask ---- */
 
+/* An access at which the device is to be held: what it would do by itself isn't done any more. */
+static void watch(struct card *it, const struct function *function, bool is_write, uint32_t offset, uint32_t word)
+{
+    if (!it->stepper.is_held && watch_meets(&it->watch, function->number, is_write, offset, word))
+        card_hold(it);
+}
+
 uint32_t card_read(struct card *it, struct function *function, uint32_t offset)
 {
     uint64_t enables = bus_counts()->enables;
     it->active[function->number] = function;
+    watch(it, function, false, offset, 0);
     uint32_t word = bus_read(function->number, offset);
+    if (function->number == BUS_PHYSICAL && offset == NIC_CTRL)
+        word |= it->stepper.reset.word & RESETS;
     it->stepper.has_changed |= bus_counts()->enables != enables;
     keep_access(it, function, false, offset, word);
     return word;
 }
 
+/* A reset, whether a driver asked for it or the client, forgets the frames that wait. */
+static void reset(struct card *it, uint32_t word)
+{
+    it->stepper.reset.word = 0;
+    it->stepper.has_changed = true;
+    it->let_in = bus_counts()->frames_in + bus_counts()->drops;
+    bus_write(BUS_PHYSICAL, NIC_CTRL, word);
+}
+
+/* What is written while the card is being reset has no effect. */
+static void lose(struct card *it, const struct function *function, uint32_t offset)
+{
+    if (it->lost_writes++ == 0)
+        refused(it, "a write of a register while the card is being reset, the first of them. The register",
+                function->number, 0, offset, sizeof(uint32_t));
+}
+
 void card_write(struct card *it, struct function *function, uint32_t offset, uint32_t word)
 {
+    bool resets = function->number == BUS_PHYSICAL && offset == NIC_CTRL && word & RESETS;
     it->active[function->number] = function;
     it->stepper.has_changed = true;
     keep_access(it, function, true, offset, word);
-    if (function->number == BUS_PHYSICAL && offset == NIC_CTRL && word & RESETS)
-        it->let_in = bus_counts()->frames_in + bus_counts()->drops;
-    bus_write(function->number, offset, word);
+    watch(it, function, true, offset, word);
+    if (it->stepper.reset.word)
+        lose(it, function, offset);
+    else if (resets && it->stepper.has_seed && !it->stepper.is_held)
+        stepper_reset(&it->stepper, word);
+    else if (resets)
+        reset(it, word);
+    else
+        bus_write(function->number, offset, word);
 }
 
 void card_reset_function(struct card *it, struct function *function)
 {
-    if (function->number == BUS_PHYSICAL)
-        card_write(it, function, NIC_CTRL, RESETS);
-    else if (it->active[function->number] == function)
+    if (function->number == BUS_PHYSICAL) {
+        it->active[BUS_PHYSICAL] = function;
+        reset(it, RESETS);
+    } else if (it->active[function->number] == function) {
         card_write(it, function, NIC_VFCTRL, NIC_PVFCTRL_RST);
+    }
 }
 
 void card_forget_function(struct card *it, const struct function *function)
@@ -236,29 +283,51 @@ static bool transmit_due(struct card *it)
     return left;
 }
 
+/* Queues go on and off as they were asked to, some of them now: true where something is left. */
+static bool enable_asked(struct card *it)
+{
+    struct stepper *stepper = &it->stepper;
+    bool left = false;
+    for (uint16_t queue = 0; stepper->any_asked && queue < BUS_QUEUES; queue++)
+        for (int side = 0; side < 2; side++) {
+            if (!stepper->is_asked[side][queue])
+                continue;
+            stepper->is_asked[side][queue] = !stepper_toss(stepper);
+            if (!stepper->is_asked[side][queue])
+                bus_enable(side, queue);
+            left |= stepper->is_asked[side][queue];
+        }
+    stepper->any_asked = left;
+    return left;
+}
+
+/* The EEPROM is asked for a word, and hasn't answered. */
+static bool reads_eeprom(void)
+{
+    return (bus_peek(NIC_EERD) & (NIC_EERD_START | NIC_EERD_DONE)) == NIC_EERD_START;
+}
+
 /* Each kind of step is made or left for later; true where something may be left. */
 static bool pump_late(struct card *it)
 {
     struct stepper *stepper = &it->stepper;
-    bool left = false;
-    for (uint16_t queue = 0; queue < BUS_QUEUES; queue++)
-        for (int side = 0; side < 2; side++) {
-            if (stepper_toss(stepper))
-                bus_enable(side, queue);
-            else
-                left = true;
-        }
-    if (stepper_toss(stepper))
+    if (stepper->reset.word) {
+        if (!stepper_is_reset(stepper))
+            return true;
+        reset(it, stepper->reset.word);
+    }
+    bool left = enable_asked(it);
+    if (reads_eeprom() && stepper_toss(stepper))
         bus_eeprom();
-    left |= transmit_due(it);
-    if (stepper_toss(stepper))
+    left |= transmit_due(it) || reads_eeprom();
+    if (waiting(it) && stepper_toss(stepper))
         card_receive(it);
     else
-        left = true;
-    if (stepper_toss(stepper))
+        left |= waiting(it) != 0;
+    if (any_cause(it) && stepper_toss(stepper))
         card_messages(it);
     else
-        left = true;
+        left |= any_cause(it);
     return left;
 }
 
@@ -277,15 +346,39 @@ bool card_pump(struct card *it)
     return false;
 }
 
+/* A reset that goes on isn't held: it has begun. */
+void card_hold(struct card *it)
+{
+    if (it->stepper.reset.word)
+        reset(it, it->stepper.reset.word);
+    it->stepper.is_held = true;
+    bus_hold(true);
+}
+
+void card_seed(struct card *it, const uint64_t *seed)
+{
+    it->stepper.has_seed = seed != NULL;
+    if (seed)
+        stepper_seed(&it->stepper, *seed);
+    if (it->stepper.is_held)
+        return;
+    if (seed)
+        bus_hold(true);
+    else
+        card_go(it);
+}
+
 void card_go(struct card *it)
 {
     it->stepper.is_held = false;
+    if (it->stepper.reset.word)
+        reset(it, it->stepper.reset.word);
     bus_hold(it->stepper.has_seed);
     it->stepper.has_changed = true;
-    for (uint16_t queue = 0; queue < BUS_QUEUES; queue++) {
-        bus_enable(false, queue);
-        bus_enable(true, queue);
-    }
+    for (uint16_t queue = 0; queue < BUS_QUEUES; queue++)
+        for (int side = 0; side < 2; side++)
+            if (it->stepper.is_asked[side][queue])
+                bus_enable(side, queue);
     bus_eeprom();
 }
 

@@ -11,6 +11,7 @@
 #include "offload.h"
 #include "rings.h"
 #include "stepper.h"
+#include "watch.h"
 
 #define CARD_FUNCTIONS_MOST 7 /* virtual ones: a slot behind a root port has eight functions */
 #define CARD_FIFO 4096
@@ -45,10 +46,12 @@ struct card {
     struct offload *offload; /* null: none */
     struct rings *rings;
     struct stepper stepper;
+    struct watch watch;                               /* accesses at which it is held */
     struct function *active[1 + CARD_FUNCTIONS_MOST]; /* by number: which of its sockets accessed it last */
     card_sink *sink;
     void *sink_to;
     uint64_t let_in, told; /* frames; refusals that were told */
+    uint64_t lost_writes;  /* of registers, while the card was being reset */
 };
 
 /* Opens the card: false where memory is short. */
@@ -74,6 +77,10 @@ unsigned int card_receive(struct card *it);
 unsigned int card_messages(struct card *it);
 void card_transmit(struct card *it, uint16_t queue);
 
+/* From now on each step is late by this seed, or (null) none is. */
+void card_seed(struct card *it, const uint64_t *seed);
+/* The device makes no step but those that are asked for. */
+void card_hold(struct card *it);
 /* After it was held: what was asked of queues and EEPROM happens, and steps are made as before. */
 void card_go(struct card *it);
 /* What is in the way of what waits, in the library's words. */

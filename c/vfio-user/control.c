@@ -22,6 +22,7 @@ struct request {
     struct server *server;
     const char *rest;
     FILE *to;
+    bool watches; /* places at which the device is held, from now on */
 };
 
 static const char *tell(struct request *it)
@@ -88,11 +89,59 @@ static const char *came(struct request *it)
     return NULL;
 }
 
+static void tell_places(const struct watch *it, FILE *to)
+{
+    for (unsigned int i = 0; i < it->count; i++)
+        fprintf(to, "at %s, %" PRIu64 " times\n", it->places[i].text, it->places[i].times);
+}
+
+static const char *hold_at(struct request *it, const char *place)
+{
+    struct card *card = &it->server->card;
+    if (!*place)
+        tell_places(&card->watch, it->to);
+    else if (strcmp(place, "off") == 0)
+        watch_clear(&card->watch);
+    else
+        it->watches = true;
+    return it->watches ? watch_add(&card->watch, place, card->options.functions) : NULL;
+}
+
 static const char *hold(struct request *it)
 {
-    it->server->card.stepper.is_held = true;
-    bus_hold(true);
+    if (strcmp(it->rest, "at") == 0 || strncmp(it->rest, "at ", 3) == 0)
+        return hold_at(it, it->rest + (it->rest[2] ? 3 : 2));
+    if (*it->rest)
+        return "hold, hold at PLACE, hold at off, or hold at";
+    card_hold(&it->server->card);
     return NULL;
+}
+
+static const char *seed(struct request *it)
+{
+    uint64_t number;
+    int end = 0;
+    if (strcmp(it->rest, "off") == 0) {
+        card_seed(&it->server->card, NULL);
+        return NULL;
+    }
+    if (!strchr("0123456789", *it->rest) || sscanf(it->rest, "%20" SCNu64 "%n", &number, &end) != 1 || it->rest[end])
+        return "seed N, or seed off";
+    card_seed(&it->server->card, &number);
+    return NULL;
+}
+
+static const char *snapshot(struct request *it)
+{
+    struct snapshots *snapshots = &it->server->snapshots;
+    for (unsigned int i = 0; !*it->rest && i < snapshots->count; i++)
+        fprintf(it->to, "%s\n", snapshots->all[i].name);
+    return *it->rest ? snapshots_take(snapshots, &it->server->card, it->rest) : NULL;
+}
+
+static const char *restore(struct request *it)
+{
+    return snapshots_restore(&it->server->snapshots, &it->server->card, it->rest);
 }
 
 static const char *go(struct request *it)
@@ -184,8 +233,11 @@ static const struct {
     {"expect", expect, "expect COUNT MOST [FROM]: what the card sends is compared with these from now on"},
     {"turn", turn, "turn IN OUT: a byte is turned of these of them, to try what compares"},
     {"came", came, "how many of them have come"},
-    {"hold", hold, "the device makes no step but those that are asked for"},
+    {"hold", hold, "the device makes no step but those that are asked for; hold at PLACE, hold at off: at accesses"},
     {"go", go, "it makes its steps again"},
+    {"seed", seed, "seed N: from now on each step is at once or late, by this seed; seed off"},
+    {"snapshot", snapshot, "snapshot NAME: keeps the device as it is; without a name: which there are"},
+    {"restore", restore, "restore NAME: the device is as it was then; the guest isn't"},
     {"due", due, "which steps are due"},
     {"why", why, "what is in the way of what waits"},
     {"tx", transmit, "tx QUEUE: all of its sending"},
@@ -200,14 +252,14 @@ static const struct {
 static const char *help(struct request *it)
 {
     for (size_t i = 0; i < sizeof requests / sizeof *requests; i++)
-        fprintf(it->to, "%-7s %s\n", requests[i].name, requests[i].text);
+        fprintf(it->to, "%-8s %s\n", requests[i].name, requests[i].text);
     return NULL;
 }
 
-void control_obey(struct server *server, const char *line, FILE *to)
+bool control_obey(struct server *server, const char *line, FILE *to)
 {
     size_t name = strcspn(line, " ");
-    struct request request = {server, line[name] ? line + name + 1 : "", to};
+    struct request request = {server, line[name] ? line + name + 1 : "", to, false};
     const char *error = "what is that? help tells the requests";
     for (size_t i = 0; i < sizeof requests / sizeof *requests; i++)
         if (strlen(requests[i].name) == name && strncmp(line, requests[i].name, name) == 0)
@@ -216,6 +268,7 @@ void control_obey(struct server *server, const char *line, FILE *to)
         fprintf(to, "error: %s\n", error);
     else
         fprintf(to, "ok\n");
+    return request.watches;
 }
 
 /* ---- clients ---- */
@@ -227,7 +280,7 @@ static void drop(struct control_client *it)
     buffer_clear(&it->out);
     it->file = -1;
     it->length = 0;
-    it->is_long = false;
+    it->is_long = it->watches = false;
 }
 
 static void flush(struct control_client *it)
@@ -244,6 +297,14 @@ static void flush(struct control_client *it)
     }
 }
 
+static void say(struct control_client *it, const char *text, size_t length)
+{
+    if (buffer_waiting(&it->out) + length <= KEPT_MOST && buffer_put(&it->out, NULL, 0, text, length))
+        flush(it);
+    else
+        drop(it);
+}
+
 static void obey(struct control_client *it, struct server *server)
 {
     char *text = NULL;
@@ -253,15 +314,23 @@ static void obey(struct control_client *it, struct server *server)
         return;
     if (it->is_long)
         fprintf(to, "error: a request has at most %d bytes\n", CONTROL_LINE - 1);
-    else
-        control_obey(server, it->line, to);
+    else if (control_obey(server, it->line, to))
+        it->watches = true;
     fclose(to);
-    bool fits = buffer_waiting(&it->out) + length <= KEPT_MOST && buffer_put(&it->out, NULL, 0, text, length);
+    say(it, text, length);
     free(text);
-    if (fits)
-        flush(it);
-    else
-        drop(it);
+}
+
+/* The device is held at an access that was asked for: the only line that no request asks for. */
+static void tell_held(struct control *it, struct watch *watch)
+{
+    char text[WATCH_TEXT + 32];
+    int length = snprintf(text, sizeof text, watch->met->is_write ? "held at %s %08" PRIx32 "\n" : "held at %s\n",
+                          watch->met->text, watch->word);
+    watch->met = NULL;
+    for (unsigned int i = 0; i < CONTROL_CLIENTS; i++)
+        if (it->clients[i].file >= 0 && it->clients[i].watches)
+            say(&it->clients[i], text, (size_t)length);
 }
 
 static void take(struct control_client *it, const char *bytes, size_t count, struct server *server)
@@ -320,6 +389,8 @@ void control_polls(const struct control *it, struct pollfd *polls)
 
 void control_serve(struct control *it, const struct pollfd *polls, struct server *server)
 {
+    if (server->card.watch.met)
+        tell_held(it, &server->card.watch);
     for (unsigned int i = 0; i < CONTROL_CLIENTS; i++)
         if (polls[1 + i].revents && it->clients[i].file >= 0)
             serve_client(&it->clients[i], polls[1 + i].revents, server);

@@ -20,6 +20,7 @@ struct control_client {
     char line[CONTROL_LINE];
     size_t length;
     bool is_long; /* the line is longer than that, and is passed over */
+    bool watches; /* it asked for places at which the device is held, and is told when it is */
     struct buffer out;
 };
 
@@ -35,7 +36,7 @@ void control_close(struct control *it);
 void control_polls(const struct control *it, struct pollfd *polls);
 void control_serve(struct control *it, const struct pollfd *polls, struct server *server);
 
-/* One request of a line, whose answer is written to `to`. */
-void control_obey(struct server *server, const char *line, FILE *to);
+/* One request of a line, whose answer is written to `to`: true where it asked to be told when the device is held. */
+bool control_obey(struct server *server, const char *line, FILE *to);
 
 #endif

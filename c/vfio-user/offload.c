@@ -40,6 +40,39 @@ void offload_free(struct offload *it)
     free(it);
 }
 
+static bool copy_bytes(struct offload_queue *it, const struct offload_queue *from)
+{
+    it->bytes = from->bytes ? malloc(from->room) : NULL;
+    if (it->bytes)
+        memcpy(it->bytes, from->bytes, from->length);
+    return it->bytes || !from->bytes;
+}
+
+struct offload *offload_copy(const struct offload *it)
+{
+    struct offload *copy = malloc(sizeof *copy);
+    bool fits = copy != NULL;
+    if (!copy)
+        return NULL;
+    *copy = *it;
+    for (unsigned int queue = 0; queue < OFFLOAD_QUEUES; queue++)
+        fits &= copy_bytes(&copy->queues[queue], &it->queues[queue]);
+    if (fits)
+        return copy;
+    offload_free(copy);
+    return NULL;
+}
+
+void offload_become(struct offload *it, struct offload *copy)
+{
+    const struct offload_counts counts = it->counts;
+    for (unsigned int queue = 0; queue < OFFLOAD_QUEUES; queue++)
+        free(it->queues[queue].bytes);
+    *it = *copy;
+    it->counts = counts;
+    free(copy);
+}
+
 void offload_forget(struct offload *it, unsigned int queue)
 {
     struct offload_queue *of = &it->queues[queue];

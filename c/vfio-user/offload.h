@@ -50,6 +50,9 @@ typedef void offload_sink(void *to, const uint8_t *frame, size_t length);
 
 struct offload *offload_new(void);
 void offload_free(struct offload *it);
+/* As rings_copy and rings_become. */
+struct offload *offload_copy(const struct offload *it);
+void offload_become(struct offload *it, struct offload *copy);
 
 /* A context descriptor is given to the device. */
 void offload_context(struct offload *it, unsigned int queue, uint64_t first, uint64_t second);

@@ -35,7 +35,7 @@ static const char help[] =
     "                         EICS, EERD, ABSENT, FWSM, RXPBSIZE\n"
     "  --bare                 leave out all of them\n"
     "  --control=PATH         listen there for requests: help tells them\n"
-    "  --seed=N               make each step of the device at once or late, by this seed\n"
+    "  --seed=N               make each step of the device, and each reset, at once or late, by this seed\n"
     "  --iommu-check          tell each access outside the guest's memory, with the accesses of registers before it\n"
     "  --strays=FILE          at the end write the accesses outside the register table there\n"
     "  --trace=FILE           write each access of a register there\n"

@@ -350,6 +350,10 @@ void rings_tail(struct rings *it, bool is_transmit, uint16_t queue, uint32_t tai
         refuse(it, "a tail outside its ring: the ring's end", ring, queue, ring->base, ring->slots * NIC_DESC_BYTES);
         return;
     }
+    if (!is_on(it, is_transmit, queue) && tail != peek(it, is_transmit ? NIC_TDH(queue) : NIC_RDH(queue)) &&
+        it->counts.tails_off++ == 0)
+        it->options.refused(it->options.of, "a tail in a ring that is off, the first of them", ring->function, queue,
+                            ring->base, ring->slots * NIC_DESC_BYTES);
     uint32_t slot = ring->next_ahead < ring->slots ? ring->next_ahead : tail;
     for (; slot != tail; slot = slot + 1 < ring->slots ? slot + 1 : 0)
         ring->is_ahead[slot] = fetches && read_slot(it, ring, slot, &ring->ahead[slot]);
@@ -596,13 +600,61 @@ struct rings *rings_new(const struct rings_options *options)
     return it;
 }
 
-void rings_free(struct rings *it)
+static void give_up_places(struct rings *it)
 {
-    for (unsigned int queue = 0; it && queue < RINGS_QUEUES; queue++) {
+    for (unsigned int queue = 0; queue < RINGS_QUEUES; queue++) {
         give_up_place(it, &it->rings[RECEIVE][queue]);
         give_up_place(it, &it->rings[TRANSMIT][queue]);
     }
+}
+
+void rings_free(struct rings *it)
+{
+    if (it)
+        give_up_places(it);
     free(it);
+}
+
+/* Descriptors that were read ahead, in memory of the copy's own: false where that is short. */
+static bool copy_ahead(struct ring *ring, const struct ring *from)
+{
+    ring->ahead = NULL;
+    ring->is_ahead = NULL;
+    if (!from->ahead)
+        return true;
+    if (!make_ahead(ring, from->slots))
+        return false;
+    memcpy(ring->ahead, from->ahead, from->slots * sizeof *ring->ahead);
+    memcpy(ring->is_ahead, from->is_ahead, from->slots * sizeof *ring->is_ahead);
+    return true;
+}
+
+struct rings *rings_copy(const struct rings *it)
+{
+    struct rings *copy = malloc(sizeof *copy);
+    bool fits = copy != NULL;
+    if (!copy)
+        return NULL;
+    *copy = *it;
+    for (unsigned int queue = 0; queue < RINGS_QUEUES; queue++)
+        for (unsigned int side = 0; side < 2; side++)
+            fits &= copy_ahead(&copy->rings[side][queue], &it->rings[side][queue]);
+    if (fits)
+        return copy;
+    rings_free(copy);
+    return NULL;
+}
+
+void rings_become(struct rings *it, struct rings *copy)
+{
+    const struct rings_options options = it->options;
+    struct rings_counts counts = it->counts;
+    counts.blocks = copy->counts.blocks;
+    give_up_places(it);
+    *it = *copy;
+    it->options = options;
+    it->counts = counts;
+    free(copy);
 }
 
 const struct rings_counts *rings_counts(const struct rings *it)

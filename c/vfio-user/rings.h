@@ -38,13 +38,18 @@ struct rings_options {
 };
 
 struct rings_counts {
-    uint64_t descriptors, frames_bytes, refused, tails_outside, without_room, zeros;
+    uint64_t descriptors, frames_bytes, refused, tails_outside, tails_off, without_room, zeros;
     uint32_t blocks, blocks_most; /* of rings */
 };
 
 struct rings *rings_new(const struct rings_options *options);
 void rings_free(struct rings *it);
 const struct rings_counts *rings_counts(const struct rings *it);
+
+/* What it has to be to go on from here; null: memory is short. `rings_become` makes it that, and ends the copy; counts
+   go on as they are. */
+struct rings *rings_copy(const struct rings *it);
+void rings_become(struct rings *it, struct rings *copy);
 
 /* A word on its way to the device, or back, by the physical function's address of the register. */
 uint32_t rings_to_device(struct rings *it, unsigned int function, uint32_t address, uint32_t word);

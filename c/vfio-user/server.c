@@ -100,6 +100,7 @@ void server_close(struct server *it)
     control_close(&it->control);
     traffic_end(&it->traffic);
     wire_close(&it->wire);
+    snapshots_clear(&it->snapshots);
     card_close(&it->card);
 }
 

@@ -9,6 +9,7 @@
 #include "control.h"
 #include "function.h"
 #include "options.h"
+#include "snapshots.h"
 #include "traffic.h"
 #include "wire.h"
 
@@ -20,6 +21,7 @@ struct server {
     struct wire wire;
     struct control control;
     struct traffic traffic;
+    struct snapshots snapshots;
     struct function functions[SERVER_FUNCTIONS];
     unsigned int function_count;
 };

@@ -2,6 +2,8 @@
 
 #include <stddef.h>
 
+#define RESET_TOSSES 3u /* a driver polls ten times for its end */
+
 void stepper_begin(struct stepper *it)
 {
     *it = (struct stepper){.has_changed = true};
@@ -27,4 +29,19 @@ bool stepper_toss(struct stepper *it)
 void stepper_tail(struct stepper *it, uint16_t queue)
 {
     it->is_due[queue] = it->any_due = true;
+}
+
+void stepper_ask(struct stepper *it, bool is_transmit, uint16_t queue)
+{
+    it->is_asked[is_transmit][queue] = it->any_asked = true;
+}
+
+void stepper_reset(struct stepper *it, uint32_t word)
+{
+    it->reset = (struct late_reset){word, RESET_TOSSES};
+}
+
+bool stepper_is_reset(struct stepper *it)
+{
+    return stepper_toss(it) || --it->reset.tosses == 0;
 }

@@ -67,9 +67,10 @@ void tell_counts(const struct server *it, FILE *to)
             bus->answered[6]);
     fprintf(to,
             "rings: %" PRIu64 " descriptors, %" PRIu64 " bytes of frames; at most %" PRIu32 " KB of rings; accesses "
-            "refused %" PRIu64 ", of them tails outside %" PRIu64 ", rings without room %" PRIu64 "\n",
+            "refused %" PRIu64 ", of them tails outside %" PRIu64 ", rings without room %" PRIu64
+            "; tails in rings that are off %" PRIu64 ", writes lost in resets %" PRIu64 "\n",
             rings->descriptors, rings->frames_bytes, rings->blocks_most * 2, rings->refused, rings->tails_outside,
-            rings->without_room);
+            rings->without_room, rings->tails_off, it->card.lost_writes);
     if (it->card.offload) {
         const struct offload_counts *offload = &it->card.offload->counts;
         fprintf(to,

@@ -221,6 +221,7 @@ static void lose_descriptors(struct peer *it)
     peer_write(it, NIC_TDT(0), 1000);
     until(it, NIC_TXDCTL(0), NIC_TXDCTL_ENABLE, 0);
     peer_write(it, NIC_CTRL, NIC_CTRL_RST);
+    until(it, NIC_CTRL, NIC_CTRL_RST, 0);
     CHECK(peer_read(it, NIC_RDBAL(0)) == 0 && peer_read(it, NIC_RDLEN(0)) == 0);
 }
 
@@ -303,19 +304,39 @@ static void hostile_requests(void)
     CHECK(says("help", "hold") && says("counts", "wire: out"));
 }
 
+static void connect_control(const char *path)
+{
+    struct sockaddr_un name = {.sun_family = AF_UNIX};
+    snprintf(name.sun_path, sizeof name.sun_path, "%s", path);
+    control = socket(AF_UNIX, SOCK_STREAM, 0);
+    CHECK(connect(control, (const struct sockaddr *)&name, sizeof name) == 0);
+}
+
+/* A client whose queues are on. */
+static void open_started(struct peer *it, const char *path)
+{
+    peer_open(it, path);
+    CHECK(peer_version(it) == 0 && peer_map(it, RAM, RAM_BYTES, 0, 3, ram_file) == 0);
+    CHECK(peer_ask(it, VFU_DEVICE_RESET, NULL, 0, NULL, 0, NULL, 0) == 0);
+    start_queues(it);
+}
+
+/* Puts a frame into a slot, and gives it to the device. */
+static void give_frame(struct peer *it, uint32_t slot)
+{
+    make_arp(ram + FRAME);
+    put64(TX_RING + 16 * slot, RAM + FRAME);
+    put64(TX_RING + 16 * slot + 8, NIC_TXD_DATA | NIC_TXD_DTALEN_IS(ARP_BYTES) | NIC_TXD_EOP | NIC_TXD_RS);
+    peer_write(it, NIC_TDT(0), slot + 1);
+}
+
 /* A frame waits at each of its steps until that is asked for. */
 static void held(const char *path, const char *control_path)
 {
     struct peer peer;
-    struct sockaddr_un name = {.sun_family = AF_UNIX};
-    snprintf(name.sun_path, sizeof name.sun_path, "%s", control_path);
-    control = socket(AF_UNIX, SOCK_STREAM, 0);
-    CHECK(connect(control, (const struct sockaddr *)&name, sizeof name) == 0);
+    connect_control(control_path);
     hostile_requests();
-    peer_open(&peer, path);
-    CHECK(peer_version(&peer) == 0 && peer_map(&peer, RAM, RAM_BYTES, 0, 3, ram_file) == 0);
-    CHECK(peer_ask(&peer, VFU_DEVICE_RESET, NULL, 0, NULL, 0, NULL, 0) == 0);
-    start_queues(&peer);
+    open_started(&peer, path);
     CHECK(says("hold", "ok") && says("due", "ok") && !says("due", "tx 0"));
     make_arp(ram + FRAME);
     put64(TX_RING, RAM + FRAME);
@@ -340,6 +361,120 @@ static void held(const char *path, const char *control_path)
     CHECK(says("counts", "not lent 1"));
     close(control);
     peer_close(&peer);
+}
+
+/* ---- snapshots, and accesses at which the device is held ---- */
+
+static void hostile_snapshots(void)
+{
+    char words[64];
+    CHECK(says("snapshot a b", "error: ") && says("snapshot a/b", "error: ") && says("restore", "error: "));
+    CHECK(says("snapshot 12345678901234567890123456789012", "error: ") && says("restore nobody", "error: "));
+    for (int i = 0; i < 15; i++) {
+        snprintf(words, sizeof words, "snapshot s%d", i);
+        CHECK(says(words, "ok"));
+    }
+    CHECK(says("snapshot more", "error: there are 16") && says("snapshot s3", "ok") && says("snapshot", "s14"));
+}
+
+/* What a restore puts back: registers, the rings' places, frames that wait. The guest's memory stays as it is. */
+static void snapshots(struct peer *it)
+{
+    give_frame(it, 0);
+    wait_for(TX_RING + 8, NIC_TXWB_DD);
+    wait_for(RX_RING + 8, NIC_RXWB_DD);
+    CHECK(says("hold", "ok") && says("frames 3 60", "ok") && says("due", "rx: at most 3") &&
+          says("snapshot one", "ok"));
+    hostile_snapshots();
+    CHECK(says("rx", "3 descriptors") && says("go", "ok"));
+    give_frame(it, 1);
+    wait_for(TX_RING + 24, NIC_TXWB_DD);
+    peer_write(it, NIC_CTRL, NIC_CTRL_RST);
+    CHECK(peer_read(it, NIC_RDBAL(0)) == 0 && says("restore one", "ok") && peer_read(it, NIC_TDH(0)) == 1);
+    CHECK(peer_read(it, NIC_RDBAL(0)) == RAM + RX_RING && peer_read(it, NIC_TDBAL(0)) == RAM + TX_RING);
+    CHECK(get64(TX_RING + 24) & NIC_TXWB_DD); /* the guest's */
+    give_frame(it, 1);
+    wait_for(TX_RING + 24, NIC_TXWB_DD);
+    until(it, NIC_RDH(0), UINT32_MAX, 5); /* a reply, three frames a second time, a reply */
+    CHECK(says("hold", "ok") && says("restore one", "ok") && says("due", "rx: at most 3") && says("rx", "3 descr"));
+    CHECK(says("go", "ok"));
+}
+
+static void hostile_places(void)
+{
+    static const char *const places[] = {"w TDT[128]",  "x TDT[0]",  "w",           "w NOPE",       "w TDT[0",
+                                         "w 0x20000",   "w 0x00801", "vw 2 VFCTRL", "vw VFCTRL",    "vw 0 VFTDT[8]",
+                                         "vr 0 TDT[0]", "r EICR[1]", "w TDT[0]]",   "vw 0 0x04000", "offs"};
+    char words[64];
+    for (size_t i = 0; i < sizeof places / sizeof *places; i++) {
+        snprintf(words, sizeof words, "hold at %s", places[i]);
+        CHECK(says(words, "error: "));
+    }
+    CHECK(says("hold on", "error: ") && says("hold at ", "ok") && !says("hold at", "at "));
+    for (int i = 0; i < 8; i++)
+        CHECK(says("hold at r 0x1fffc", "ok"));
+    CHECK(says("hold at r EICR", "error: there are 8") && says("hold at off", "ok"));
+}
+
+static void held_at(struct peer *it, const char *function_path)
+{
+    struct peer other;
+    hostile_places();
+    give_frame(it, 1);
+    wait_for(TX_RING + 24, NIC_TXWB_DD);
+    CHECK(says("hold at w TDT[0]", "ok") && says("hold at r RETA[3]", "ok") && says("hold at vr 1 VFSTATUS", "ok"));
+    give_frame(it, 2);
+    CHECK(peer_read(it, NIC_TDH(0)) == 2 && says("due", "held at w TDT[0] 00000003\ntx 0: head 2, tail 3"));
+    CHECK(says("hold at", "at w TDT[0], 1 times\nat r RETA[3], 0 times\nat vr 1 VFSTATUS, 0 times\nok"));
+    CHECK(!(get64(TX_RING + 40) & NIC_TXWB_DD) && says("go", "ok"));
+    wait_for(TX_RING + 40, NIC_TXWB_DD);
+    peer_read(it, NIC_RETA(3));
+    CHECK(says("go", "held at r RETA[3]\nok"));
+    peer_open(&other, function_path);
+    CHECK(peer_version(&other) == 0);
+    peer_read(&other, 8);
+    CHECK(says("due", "held at vr 1 VFSTATUS") && says("hold at off", "ok") && says("go", "ok"));
+    peer_close(&other);
+    give_frame(it, 3);
+    wait_for(TX_RING + 56, NIC_TXWB_DD);
+}
+
+/* Resets take time by a seed, and what is written meanwhile is lost, and counted. */
+static void seeded(struct peer *it)
+{
+    unsigned int late = 0;
+    CHECK(says("seed", "error: ") && says("seed -1", "error: ") && says("seed 1x", "error: ") && says("seed 7", "ok"));
+    for (int i = 0; i < 20; i++) {
+        peer_write(it, NIC_CTRL, NIC_CTRL_RST);
+        late += (peer_read(it, NIC_CTRL) & NIC_CTRL_RST) != 0;
+        until(it, NIC_CTRL, NIC_CTRL_RST, 0);
+    }
+    CHECK(late > 0 && says("counts", "writes lost in resets 0"));
+    for (int i = 0; i < 20; i++) {
+        peer_write(it, NIC_CTRL, NIC_CTRL_RST);
+        peer_write(it, NIC_EITR(1), 8);
+        until(it, NIC_CTRL, NIC_CTRL_RST, 0);
+    }
+    CHECK(!says("counts", "writes lost in resets 0") && says("seed off", "ok"));
+    peer_write(it, NIC_CTRL, NIC_CTRL_RST);
+    CHECK(!(peer_read(it, NIC_CTRL) & NIC_CTRL_RST));
+    peer_write(it, NIC_TDLEN(3), SLOTS * 16);
+    peer_write(it, NIC_TDT(3), 0);
+    CHECK(peer_read(it, NIC_TDT(3)) == 0 && says("counts", "rings that are off 0"));
+    peer_write(it, NIC_TDT(3), 2);
+    CHECK(peer_read(it, NIC_TDT(3)) == 2 && says("counts", "rings that are off 1"));
+}
+
+static void kept(const char *path, const char *function_path, const char *control_path)
+{
+    struct peer peer;
+    connect_control(control_path);
+    open_started(&peer, path);
+    snapshots(&peer);
+    held_at(&peer, function_path);
+    seeded(&peer);
+    peer_close(&peer);
+    close(control);
 }
 
 static void late(const char *const *words)
@@ -483,6 +618,7 @@ int main(void)
     as_qemu_does(path);
     as_qemu_does(path); /* the next one finds the card as the first did */
     held(path, control_path);
+    kept(path, function_path, control_path);
     in_pieces(path);
     without_reading(path, function_path);
     what_is_no_message(path);

@@ -1,0 +1,243 @@
+"""A guest that is searched, with its server: boots it, has it do what a seed says, and judges what came of it."""
+
+from __future__ import annotations
+
+import re
+import subprocess
+import sys
+import threading
+import time
+from collections.abc import Sequence
+from dataclasses import dataclass, field
+from pathlib import Path
+
+HERE = Path(__file__).resolve().parent
+sys.path.insert(0, str(HERE.parent))
+from guests import LIBRARY, QUIET, Guest, Place, Server, Wrong, device, memory, port  # noqa: E402
+from initrd import Initrd  # noqa: E402
+from verdict import FATAL, Finding, checked, counted, numbers, spoken, worst_first  # noqa: E402
+from workload import Plan, script  # noqa: E402
+
+BOOT_SECONDS = 300
+SILENT_SECONDS = 90  # in which a guest that is well says something
+LOCKED_SECONDS = 30  # after a first lockup, in which the kernel tells of it again
+FUNCTION_MAC = "02:00:00:00:00:55"
+REQUEST = re.compile(r"@(control|search|host) (.*)$")
+WORKLOAD = LIBRARY + (HERE / "guest.sh").read_text()
+
+
+class Asked(Server):
+    """A server that is asked by two threads: the guest's reader, and whoever judges."""
+
+    def __init__(self, place: Place, name: str, *words: str) -> None:
+        self.lock = threading.Lock()
+        super().__init__(place, name, *words)
+
+    def ask(self, words: str) -> list[str]:
+        """Wrong: the server has ended."""
+        try:
+            with self.lock:
+                answer = super().ask(words)
+        except OSError:
+            answer = []
+        if self.process.poll() is not None:
+            raise Wrong(f"the server has ended with status {self.process.poll()}: {self.told.read_text()[-500:]}")
+        return answer
+
+
+@dataclass(frozen=True)
+class Kernel:
+    """A kernel and its modules; `module` is a file that is loaded in place of one of them."""
+
+    name: str
+    image: Path
+    modules: Path
+    module: Path | None = None
+
+
+@dataclass
+class Outcome:
+    """What came of one seed."""
+
+    kernel: str
+    driver: str
+    seed: int
+    findings: list[Finding]
+    rounds: int
+    seconds: float
+    lines: list[str] = field(default_factory=list, repr=False)
+    told: str = field(default="", repr=False)
+    why: str = field(default="", repr=False)
+    record: Path | None = None
+    is_repeated: bool | None = None  # by itself in a fresh guest; None: it wasn't tried
+
+    @property
+    def is_fatal(self) -> bool:
+        return any(it.kind in FATAL for it in self.findings)
+
+    @property
+    def verdict(self) -> str:
+        return self.findings[0].kind if self.findings else "ok"
+
+
+class Relay(Guest):
+    """A guest that is sent words on its serial line, and whose requests go to the server or to the host's guest."""
+
+    def __init__(self, words: Sequence[str], server: Server, log: Path, host: Relay | None = None) -> None:
+        self.server, self.lines, self.began, self.log = server, list[str](), time.time(), log
+        self.host, self.last = host, time.time()
+        self.process = subprocess.Popen(
+            words, stdin=subprocess.PIPE, stdout=subprocess.PIPE, stderr=subprocess.STDOUT
+        )
+        self.reader = threading.Thread(target=self.read, daemon=True)
+        self.reader.start()
+
+    def send(self, words: str) -> None:
+        assert self.process.stdin
+        try:
+            self.process.stdin.write(f"{words}\n".encode())
+            self.process.stdin.flush()
+        except OSError:
+            pass
+
+    def read(self) -> None:
+        assert self.process.stdout
+        for raw in self.process.stdout:
+            line = re.sub(r"\x1b\[[0-9;?]*[A-Za-z]|\x1bc", "", raw.decode("latin-1")).strip()
+            self.last = time.time()
+            found = REQUEST.search(line)
+            self.add(found[0] if found else line)
+            if found and found[1] == "control":
+                self.relay(found[2])
+            if found and found[1] == "host" and self.host:
+                self.host.send(found[2])
+
+    def relay(self, words: str) -> None:
+        try:
+            for answer in self.server.ask(words):
+                self.add(f"control: {answer}")
+        except Wrong:
+            self.add("control: the server has ended")
+
+    @property
+    def has_ended(self) -> bool:
+        return self.process.poll() is not None and not self.reader.is_alive()
+
+
+@dataclass
+class Bench:
+    """One server and its guests, until something breaks."""
+
+    place: Place
+    kernel: Kernel
+    plan: Plan
+    seeds: Sequence[int]
+    is_recorded: bool
+    seeds_done: int = 0
+
+    def __post_init__(self) -> None:
+        words = ["--functions=1", "--hairpin"] if self.plan.is_function else []
+        record = self.place.folder / f"record.{id(self)}"
+        self.record = record if self.is_recorded else None
+        self.server = Asked(self.place, self.kernel.name, *words, *([f"--record={record}"] if self.record else []))
+        self.host: Relay | None = None
+        try:
+            if self.plan.is_function:
+                shadow = device(Path(f"{self.server.path}.shadow0"), addr="0.1")
+                first = device(self.server.path, multifunction=True, addr="0.0")
+                self.host = self.boot("host", "host.sh", 1, [*first, *shadow], None)
+                self.guest = self.boot("function", "function.sh", self.plan.processors,
+                                       device(Path(f"{self.server.path}.vf0")), self.host)
+            else:
+                self.guest = self.boot("guest", "", self.plan.processors, device(self.server.path), None)
+        except Wrong:
+            self.end()
+            raise
+
+    def initrd(self, start: str) -> Initrd:
+        """busybox, tools, the driver, and each seed's script."""
+        tools = self.place.fetched / "tools/root"
+        it = Initrd(self.kernel.modules, tools / "bin/busybox")
+        it.files["bin/stty"] = (0o120777, b"busybox")
+        for module in ("ixgbe", "ixgbevf"):
+            it.add_module(module)
+        if self.kernel.module:
+            it.add_file(f"modules/{self.kernel.module.name}", self.kernel.module.read_bytes(), 0o644)
+        it.add_program(tools / "sbin/ethtool", [tools / "usr/lib/x86_64-linux-gnu", tools / "lib/x86_64-linux-gnu"])
+        it.add_file("bin/frames", (self.place.out / "frames").read_bytes(), 0o755)
+        begins = (HERE / start).read_text() if start else "start() { up 10.0.0.2; }\n"
+        it.add_file("script", f"{WORKLOAD}{begins}start\nobey\n".encode(), 0o644)
+        it.files["seeds"] = (0o040755, b"")
+        for seed in self.seeds:
+            it.add_file(f"seeds/{seed}", script(seed, self.plan).encode(), 0o644)
+        return it
+
+    def boot(self, name: str, start: str, processors: int, devices: Sequence[str], host: Relay | None) -> Relay:
+        file = self.server.folder / f"{name}.initrd"
+        self.initrd(start).write(file)
+        words = [
+            *self.place.qemu("qemu-system-x86_64"), "-machine", "q35,accel=tcg,memory-backend=ram", *QUIET,
+            *memory("384M"), "-cpu", "max", "-smp", str(processors), "-kernel", str(self.kernel.image), "-initrd",
+            str(file), "-append", "console=ttyS0 quiet loglevel=5 panic=-1 no_timer_check watchdog_thresh=5",
+            *port(), *devices,
+        ]  # fmt: skip
+        guest = Relay(words, self.server, self.server.folder / f"{name}.log", host)
+        try:
+            guest.wait_for("@search ready", BOOT_SECONDS)
+        except Wrong:
+            guest.kill()
+            raise
+        return guest
+
+    # ---- a seed ----
+
+    def run(self, seed: int) -> Outcome:
+        """Has the guest do what the seed says, and judges it."""
+        began, first, before = time.time(), len(self.guest.lines), numbers(self.server.ask("counts"))
+        self.seeds_done += 1
+        self.guest.send(f". /seeds/{seed}")
+        ends = self.wait(f"@search done {seed}", first)
+        lines = self.guest.lines[first:]
+        findings = [*spoken(lines), *counted(before, numbers(self.server.ask("counts")))]
+        if ends != "done":
+            findings.append(Finding("stuck", f"{ends}; last: {self.last_operation(lines)}"))
+        else:
+            findings = [Finding(it.kind, f"{it.text}; it went on") if it.kind == "lockup" else it for it in findings]
+            findings += checked(lines, self.plan.is_function)
+        outcome = Outcome(self.kernel.name, self.plan.driver, seed, worst_first(findings),
+                          len({it for it in lines if it.startswith("@search doing round")}), time.time() - began, lines)
+        if outcome.findings:
+            outcome.why, outcome.told = "\n".join(self.server.ask("why") or ["the device waits for nothing"]), self.server.told.read_text()
+        self.server.ask("seed off")
+        return outcome
+
+    def wait(self, text: str, first: int) -> str:
+        """Until the guest says that it is done, or it is plain that it won't: "done", or why not."""
+        locked = 0.0
+        while True:
+            lines = self.guest.lines[first:]
+            if text in lines:
+                return "done"
+            if self.guest.has_ended:
+                return "the guest ended"
+            lockups = sum("BUG: soft lockup" in it for it in lines)
+            locked = locked or (time.time() if lockups else 0)
+            if lockups > 1 or (locked and time.time() - locked > LOCKED_SECONDS):
+                return "a processor is locked up"
+            if "@search stuck was told" in lines:
+                return "an operation takes more than 40 s"
+            if time.time() - self.guest.last > SILENT_SECONDS:
+                return f"nothing was said for {SILENT_SECONDS} s"
+            time.sleep(0.1)
+
+    def last_operation(self, lines: Sequence[str]) -> str:
+        said = [it for it in lines if it.startswith("@search doing")]
+        return said[-1].removeprefix("@search doing ") if said else "none"
+
+    def end(self) -> None:
+        for guest in (getattr(self, "guest", None), self.host):
+            if guest:
+                guest.kill()
+        if self.server.process.poll() is None:
+            self.server.process.terminate()
+            self.server.process.wait()

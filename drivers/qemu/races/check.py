@@ -1,0 +1,133 @@
+#!/usr/bin/env python3
+"""Tries what a search judges by, without a guest: drivers/qemu/races/check.py, in a second. Status 0: all is as it should
+be."""
+
+from __future__ import annotations
+
+import gzip
+import sys
+import tempfile
+from collections.abc import Sequence
+from pathlib import Path
+
+sys.dont_write_bytecode = True
+sys.path.insert(0, str(Path(__file__).resolve().parent))
+from bench import Outcome  # noqa: E402
+from initrd import Initrd  # noqa: E402
+from modules import Unreadable, unpack_modules  # noqa: E402
+from report import junit, line, table  # noqa: E402
+from verdict import Finding, checked, counted, numbers, spoken, worst_first  # noqa: E402
+from windows import told, windows  # noqa: E402
+from workload import Plan, script  # noqa: E402
+
+LOCKUP = """[   35.242358] watchdog: BUG: soft lockup - CPU#1 stuck for 13s! [ip:129]
+[   35.243421] CPU: 1 PID: 129 Comm: ip Not tainted 6.1.0
+[   35.243421] RIP: 0010:ixgbe_clean_tx_ring+0x90/0x190 [ixgbe]""".splitlines()
+COUNTS = ["device: received 5 frames in 5 descriptors, sent 5 from 5; faults {faults}",
+          "rings: 9 descriptors, 9 bytes of frames; at most 4 KB of rings; accesses refused {refused}, of them tails "
+          "outside {outside}, rings without room 0; tails in rings that are off {off}, writes lost in resets {lost}"]
+GOOD = """@search carrier 1
+@search answered 1
+control: 300 of 300, twice 0, wrong 0
+frames: received 300 of 300 of at most 1400 bytes in 0.1 s, twice 0, wrong 0
+@search pings 10 10""".splitlines()
+RECORD = """w 0x03000 0x00000001         # done
+w 0x06018 0x00000002         # done
+w 0x03000 0x00000000         # done
+r 0x042a4                    # word 0x70000000
+w 0x08900 0x00000000         # stray 0x00000000
+w 0x08904 0x00000000         # stray 0x00000000
+w 0x06058 0x00000001         # done
+w 0x00000 0x04000004         # done
+w 0x03000 0x00000001         # done""".splitlines()
+
+
+def counts(**more: int) -> dict[str, int]:
+    values = {"faults": 0, "refused": 0, "outside": 0, "off": 0, "lost": 0, **more}
+    return numbers(it.format(**values) for it in COUNTS)
+
+
+def kinds(findings: Sequence[Finding]) -> list[str]:
+    return [it.kind for it in findings]
+
+
+def verdicts() -> None:
+    found = list(spoken(LOCKUP))
+    assert kinds(found) == ["lockup"] and found[0].text.endswith("in ixgbe_clean_tx_ring"), found
+    assert kinds(list(spoken(["ixgbe eth0: Detected Tx Unit Hang", "WARNING: CPU: 1 PID: 2 at net/sched/x.c:5"]))) == [
+        "hung unit", "kernel"]  # fmt: skip
+    assert not list(spoken(["ixgbe 0000:01:00.0 eth0: NIC Link is Down", "control: faults 3"]))
+    assert set(kinds(list(counted(counts(), counts(refused=5, outside=3, lost=1))))) == {
+        "tail outside", "refused", "reset"}  # fmt: skip
+    assert not list(counted(counts(outside=3, refused=3), counts(outside=3, refused=3)))
+    assert kinds(list(counted(counts(outside=3, refused=3), counts(outside=4, refused=4)))) == ["tail outside"]
+    assert kinds(worst_first([Finding("fault", "b"), Finding("lockup", "a"), Finding("fault", "c")])) == ["lockup", "fault"]
+
+
+def checks() -> None:
+    assert not list(checked(GOOD, False)) and not list(checked(GOOD, True))
+    for bad, is_function, kind in (
+        (GOOD[1:], False, "no link"), (GOOD[:1] + GOOD[2:], False, "no answer"), (GOOD[:2] + GOOD[3:], False, "frames"),
+        ([it.replace("wrong 0", "wrong 1") for it in GOOD], False, "frames"),
+        ([it.replace("received 300", "received 299") for it in GOOD], False, "frames"),
+        ([it.replace("10 10", "10 9") for it in GOOD], True, "frames"),
+    ):  # fmt: skip
+        assert kind in kinds(list(checked(bad, is_function))), (bad, kind)
+
+
+def workloads() -> None:
+    for plan in (Plan(), Plan("ixgbevf", 2, 2)):
+        assert script(7, plan) == script(7, plan) != script(8, plan)
+        assert script(7, plan).count("\nround ") == plan.rounds and "finish 7" in script(7, plan)
+    assert "channels" not in script(7, Plan("ixgbevf"))
+
+
+def archives(folder: Path) -> None:
+    made = Initrd(Path("/nowhere"), Path("/bin/true"))
+    made.files["lib/modules/6.0/kernel/a/b.ko.xz"] = (0o100644, b"module")
+    made.write(folder / "plain")
+    packed = (folder / "plain").read_bytes()
+    for name, data in (("plain", packed), ("early", gzip.decompress(packed)[:0] + bytes(8) + packed)):
+        (folder / name).write_bytes(data)
+        to = unpack_modules(folder / name, folder / f"{name}.to")
+        assert (to / "kernel/a/b.ko.xz").read_bytes() == b"module"
+    for data in (b"", b"nothing", packed[:50], gzip.compress(b"070701")):
+        (folder / "bad").write_bytes(data)
+        try:
+            unpack_modules(folder / "bad", folder / "bad.to")
+        except Unreadable:
+            continue
+        raise AssertionError(data[:20])
+
+
+def recordings() -> None:
+    found = list(windows(RECORD))
+    assert len(found) == 1 and [it.name for it in found[0].tails] == ["TDT[1]"], found
+    text = "\n".join(told(found[0]))
+    assert "8 r LINKS" not in text and "TDT[1] 00000001  <- a frame" in text and "<- a reset" in text, text
+    assert text.index("going down") < text.index("TDT[1]") < text.rindex("the card receives"), text
+
+
+def reports(folder: Path) -> None:
+    bad = Outcome("linux-6.1", "ixgbe", 3, [Finding("lockup", "a"), Finding("fault", "b")], 4, 1.5, is_repeated=False)
+    good = Outcome("linux-6.1", "ixgbe", 4, [], 4, 1.0)
+    assert line(bad).endswith("lockup: a; fault: b; not again when alone") and line(good).endswith("s: ok")
+    assert "| linux-6.1 | ixgbe | 2 | 8 | 1 | 1 | 1 |" in table([bad, good]), table([bad, good])
+    junit([bad, good], folder / "junit.xml")
+    assert 'tests="2" failures="1"' in (folder / "junit.xml").read_text()
+
+
+def main() -> int:
+    with tempfile.TemporaryDirectory() as folder:
+        verdicts()
+        checks()
+        workloads()
+        archives(Path(folder))
+        recordings()
+        reports(Path(folder))
+    print("drivers/qemu/races: passed")
+    return 0
+
+
+if __name__ == "__main__":
+    sys.exit(main())

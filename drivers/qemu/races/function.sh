@@ -1,0 +1,26 @@
+# The guest that has the virtual function, behind guest.sh: broadcasts don't reach it, so addresses are entered by hand.
+start() {
+    load ixgbevf
+    ip link set eth0 address 02:00:00:00:00:55
+    ip addr add 10.0.0.5/24 dev eth0
+    ip link set eth0 up
+    neighbour
+    carrier
+}
+
+calm() {
+    host mtu 1500
+    sleep 3
+}
+
+# The check of a function: numbered frames out; frames of the wire go to the host's address, so pings are the other way.
+exchange() {
+    doing exchange
+    neighbour
+    echo "@control expect 300 1400 02:00:00:00:00:55"
+    usleep 300000
+    frames send eth0 300 1400
+    sleep 1
+    echo "@control came"
+    usleep 200000
+}

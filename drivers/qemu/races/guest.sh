@@ -1,0 +1,168 @@
+# What a guest of drivers/qemu/search does, behind guest/library.sh: busybox's sh reads it. Lines "@search .." are the
+# runner's, "@control .." go to the server, "@host .." to the guest that has the physical function.
+
+# doing WORDS..: what the guest does now, which the watcher looks at too.
+doing() {
+    echo "@search doing $*"
+    step=$((step + 1))
+    echo "$step $*" >/tmp/doing
+}
+
+rings() {
+    doing rings "$@"
+    ethtool -G eth0 rx "$1" tx "$2"
+}
+channels() {
+    doing channels "$@"
+    ethtool -L eth0 combined "$1"
+}
+mtu() {
+    doing mtu "$@"
+    ip link set eth0 mtu "$1"
+}
+burst() {
+    doing burst "$@"
+    echo "@control frames $1 $2"
+}
+blink() {
+    doing blink "$@"
+    echo "@control link down"
+    usleep "$1"
+    echo "@control link up"
+}
+again() {
+    doing again
+    ethtool -r eth0
+}
+promiscuous() {
+    doing promiscuous
+    ip link set eth0 promisc on
+    ip link set eth0 promisc off
+}
+spread() {
+    doing spread
+    ethtool -X eth0 equal 1
+    ethtool -X eth0 default
+}
+filters() {
+    doing filters
+    ethtool -K eth0 ntuple on
+    ethtool -K eth0 ntuple off
+}
+down_up() {
+    doing down_up
+    ip link set eth0 down
+    ip link set eth0 up
+}
+host() {
+    doing host "$@"
+    echo "@host $*"
+}
+round() { doing round "$@"; }
+
+# Traffic that goes on meanwhile: two senders, and echo requests.
+traffic() {
+    : >/tmp/pids
+    (while [ -e /tmp/pids ]; do ping -q -c 20 -i 0.02 -s 1400 10.0.0.1; done) >/dev/null 2>&1 &
+    (while [ -e /tmp/pids ]; do frames send eth0 300 1400 && usleep 50000 || usleep 200000; done) >/dev/null 2>&1 &
+    (while [ -e /tmp/pids ]; do frames send eth0 100 60 && usleep 100000 || usleep 300000; done) >/dev/null 2>&1 &
+}
+
+begin() {
+    doing begin "$1"
+    echo "@control seed $1"
+    traffic
+}
+
+# answers [HOW MANY]: whether an echo request is answered, in some tries.
+answers() {
+    doing answers
+    n=0
+    while [ $n -lt "${1:-3}" ]; do
+        ping -c 1 -W 2 10.0.0.1 >/dev/null 2>&1 && return 0
+        n=$((n + 1))
+    done
+    return 1
+}
+
+# All is quiet again: carrier, an answer, and numbered frames each way, of which none may be missing.
+settle() {
+    doing settle
+    rm /tmp/pids
+    echo "@control link up"
+    ip link set eth0 up
+    mtu 1500
+    rings 512 512
+    calm
+    carrier
+    neighbour
+    echo "@search carrier $(cat /sys/class/net/eth0/carrier)"
+    answers 8 && echo "@search answered 1" || echo "@search answered 0"
+    usleep 500000
+    exchange
+    ping -q -c 10 -i 0.05 -s 1400 10.0.0.1 | sed -n 's/^\([0-9]*\) packets transmitted, \([0-9]*\) .*/@search pings \1 \2/p'
+}
+
+# What else has to be as it was.
+calm() { :; }
+
+# The other end's address, so that the kernel asks for it no more: such a frame isn't a numbered one.
+neighbour() { ip neigh replace 10.0.0.1 lladdr 02:00:00:00:00:01 dev eth0; }
+
+# The check of the physical function: frames of the wire go to its address.
+exchange() {
+    doing exchange
+    neighbour
+    echo "@control expect 300 1400"
+    usleep 300000
+    frames send eth0 300 1400
+    sleep 1
+    echo "@control came"
+    usleep 200000
+    frames receive eth0 300 1400 20 >/tmp/received &
+    receiver=$!
+    while ! grep -q ready /tmp/received; do usleep 50000; done
+    echo "@control frames 300 1400"
+    wait $receiver
+    cat /tmp/received
+}
+
+# The line that ends a seed, more than once: the kernel may speak in the middle of one.
+finish() {
+    doing idle
+    for _ in 1 2 3; do
+        echo "@search done $1"
+        usleep 100000
+    done
+}
+
+# Where one operation takes longer than 40 seconds, what each process and processor does.
+watcher() {
+    last=
+    same=0
+    while sleep 5; do
+        now=$(cat /tmp/doing)
+        [ "$now" = "$last" ] && same=$((same + 1)) || same=0
+        last=$now
+        case $now in *idle) same=0 ;; esac
+        [ $same = 8 ] || continue
+        echo "@search stuck at $now"
+        dmesg -n 8
+        echo w >/proc/sysrq-trigger
+        echo l >/proc/sysrq-trigger
+        dmesg -n 5
+        echo "@search stuck was told"
+    done
+}
+
+# Words that the runner sends, a line each.
+obey() {
+    step=0
+    echo 20 >/proc/sys/kernel/hung_task_timeout_secs 2>/dev/null
+    echo 1 >/proc/sys/kernel/sysrq
+    stty -F /dev/ttyS0 -echo
+    doing idle
+    watcher &
+    echo "@search ready"
+    while read -r words; do eval "$words"; done </dev/ttyS0
+}

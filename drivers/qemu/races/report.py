@@ -1,0 +1,90 @@
+"""What a search leaves: a line a seed, a table, JUnit, and a folder for each failure."""
+
+from __future__ import annotations
+
+import shutil
+import subprocess
+from collections import Counter
+from collections.abc import Iterable, Sequence
+from pathlib import Path
+from xml.etree import ElementTree
+
+from bench import Outcome
+from verdict import KINDS
+from windows import with_tails
+
+ROOT = Path(__file__).resolve().parents[3]
+EVENTS = 3000  # of a recording that a page shows
+
+
+def said(repeated: bool | None) -> str:
+    return {None: "", True: "; again when alone", False: "; not again when alone"}[repeated]
+
+
+def line(it: Outcome) -> str:
+    """What is said of a seed."""
+    findings = "; ".join(f"{finding.kind}: {finding.text}" for finding in it.findings) or "ok"
+    return f"{it.kernel} {it.driver} seed {it.seed}: {it.rounds} rounds in {it.seconds:.0f} s: {findings}" + said(
+        it.is_repeated
+    )
+
+
+def table(outcomes: Sequence[Outcome]) -> str:
+    """By kernel and driver: seeds, rounds, and how many had each kind of finding."""
+    groups: dict[tuple[str, str], list[Outcome]] = {}
+    for it in outcomes:
+        groups.setdefault((it.kernel, it.driver), []).append(it)
+    kinds = [kind for kind in KINDS if any(kind == f.kind for it in outcomes for f in it.findings)]
+    head = ["kernel", "driver", "seeds", "rounds", "ok", *kinds]
+    rows = [head, ["---"] * len(head)]
+    for (kernel, driver), each in sorted(groups.items()):
+        counts = Counter(finding.kind for it in each for finding in it.findings)
+        rows.append([kernel, driver, str(len(each)), str(sum(it.rounds for it in each)),
+                     str(sum(not it.findings for it in each)), *(str(counts[kind]) for kind in kinds)])
+    return "\n".join("| " + " | ".join(row) + " |" for row in rows) + "\n"
+
+
+def junit(outcomes: Iterable[Outcome], to: Path) -> None:
+    """A test case a seed."""
+    suite = ElementTree.Element("testsuite", name="drivers/qemu/search")
+    for it in outcomes:
+        name = f"seed {it.seed}" + ("" if it.rounds else ", nothing ran")
+        case = ElementTree.SubElement(suite, "testcase", classname=f"{it.kernel}.{it.driver}", name=name,
+                                      time=f"{it.seconds:.1f}")
+        if it.findings:
+            failure = ElementTree.SubElement(case, "failure", message=f"{it.verdict}: {it.findings[0].text}"[:300])
+            failure.text = line(it)
+    suite.set("tests", str(len(suite)))
+    suite.set("failures", str(sum(1 for case in suite if len(case))))
+    ElementTree.ElementTree(suite).write(to, encoding="utf-8", xml_declaration=True)
+
+
+def draw(record: Path, events: int = EVENTS) -> Path | None:
+    """The page of a recording's end, by tools/nicview; None where it can't be drawn."""
+    page = record.with_suffix(".html")
+    words = [str(ROOT / "tools/nicview"), str(record), "--limit", str(events), "-o", str(page)]
+    ran = subprocess.run(words, capture_output=True, text=True, check=False)
+    if ran.returncode > 1:
+        page.with_suffix(".txt").write_text(ran.stderr)
+        return None
+    return page
+
+
+def keep_failure(it: Outcome, workload: str, out: Path) -> Path:
+    """What is known of a failure, in a folder of its own."""
+    number, folder = 1, out / f"{it.kernel}-{it.driver}-{it.seed}"
+    while folder.exists():
+        number += 1
+        folder = out / f"{it.kernel}-{it.driver}-{it.seed}.{number}"
+    folder.mkdir(parents=True)
+    (folder / "verdict.txt").write_text(line(it) + "\n")
+    (folder / "console.txt").write_text("\n".join(it.lines) + "\n")
+    (folder / "server.txt").write_text(it.told)
+    (folder / "why.txt").write_text(it.why + "\n")
+    (folder / "workload.sh").write_text(workload)
+    if it.record and it.record.exists():
+        record = folder / "record.nic"
+        shutil.move(it.record, record)
+        (folder / "down.txt").write_text(with_tails(record))
+        draw(record)
+    return folder

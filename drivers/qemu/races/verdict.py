@@ -1,0 +1,115 @@
+"""What a seed's lines and the server's counts say: findings, the worst first."""
+
+from __future__ import annotations
+
+import re
+from collections.abc import Iterable, Iterator, Mapping, Sequence
+from dataclasses import dataclass
+
+
+@dataclass(frozen=True)
+class Finding:
+    """What went wrong: its kind, and the words that say it."""
+
+    kind: str
+    text: str
+
+
+# Kinds, the worst first, and what each means. After one of the first a guest isn't used again.
+KINDS = {
+    "server": "the server ended, or the guest doesn't boot",
+    "lockup": "a processor runs in the kernel without end",
+    "stall": "RCU waits for a processor",
+    "kernel": "a BUG, an oops, a warning of the kernel",
+    "hung task": "a process waits in the kernel without end",
+    "stuck": "the guest's script stands still",
+    "hung unit": "a transmit queue isn't cleared in time",
+    "no link": "no carrier at the end",
+    "no answer": "no echo reply at the end",
+    "frames": "frames lost or changed, when all was quiet again",
+    "changed": "a frame that the card sent is none that was given to it",
+    "driver": "the driver says that the card didn't do what it waited for",
+    "reset": "registers written while the card was being reset",
+    "tail outside": "a tail moved to a slot that its ring hasn't",
+    "tail off": "a tail moved in a ring that is off",
+    "fault": "a fault of the device",
+    "refused": "another access that the server refused",
+}
+FATAL = frozenset(list(KINDS)[: list(KINDS).index("frames") + 1])
+
+SPOKEN: Sequence[tuple[str, str]] = (
+    ("lockup", r"BUG: soft lockup|hard LOCKUP"),
+    ("stall", r"rcu: INFO: .* (self-)?detected (expedited )?stall|rcu_\w+ kthread starved"),
+    ("hung unit", r"Detected Tx Unit Hang|NETDEV WATCHDOG|transmit queue \d+ timed out"),
+    ("hung task", r"INFO: task \S+ blocked for more than"),
+    ("kernel", r"\bBUG:(?! soft lockup)|Oops|general protection|Kernel panic|WARNING: (CPU|.* at )|UBSAN|KASAN"
+               r"|refcount_t|list_(add|del) corruption|page allocation failure|DMA-API"),
+    ("driver", r"within the polling period|Could not enable|Hardware Error|Adapter removed|[Rr]eset polling failed"
+               r"|not cleared|Failed to|PF still (resetting|in reset)"),
+)  # fmt: skip
+RIP = re.compile(r"RIP: \S*?:?([A-Za-z_]\w*)\+0x")
+WARNED = re.compile(r"WARNING: CPU.* at (\S+)|WARNING: (\S+) at (\S+)")
+COUNTED = {
+    "reset": r"writes lost in resets (\d+)",
+    "tail outside": r"tails outside (\d+)",
+    "tail off": r"rings that are off (\d+)",
+    "fault": r"faults (\d+)$",
+    "refused": r"accesses refused (\d+)",
+}
+
+
+def without_time(line: str) -> str:
+    return re.sub(r"^\[ *[\d.]+\] ", "", line)
+
+
+def spoken(lines: Sequence[str]) -> Iterator[Finding]:
+    """What the kernel said, each kind once, with the function where it says one."""
+    for kind, pattern in SPOKEN:
+        at = next((i for i, line in enumerate(lines) if re.search(pattern, line)), None)
+        if at is None:
+            continue
+        text = without_time(lines[at])
+        where = next((found[1] for line in lines[at : at + 25] if (found := RIP.search(line))), None)
+        yield Finding(kind, f"{text}, in {where}" if where and kind in ("lockup", "kernel", "stall") else text)
+
+
+def numbers(counts: Iterable[str]) -> dict[str, int]:
+    """The server's counts that a seed may raise."""
+    text = "\n".join(counts)
+    found = {kind: re.search(pattern, text, re.MULTILINE) for kind, pattern in COUNTED.items()}
+    return {kind: int(it[1]) if it else 0 for kind, it in found.items()}
+
+
+def counted(before: Mapping[str, int], after: Mapping[str, int]) -> Iterator[Finding]:
+    raised = {kind: after[kind] - before.get(kind, 0) for kind in after}
+    raised["refused"] -= raised["tail outside"]
+    for kind, many in raised.items():
+        if many > 0:
+            yield Finding(kind, f"{many} times: {KINDS[kind]}")
+
+
+def checked(lines: Sequence[str], is_function: bool) -> Iterator[Finding]:
+    """What the guest and the server told of the check at the end."""
+    text = "\n".join(lines)
+    if not re.search(r"^@search carrier 1$", text, re.MULTILINE):
+        yield Finding("no link", KINDS["no link"])
+    elif not re.search(r"^@search answered 1$", text, re.MULTILINE):
+        yield Finding("no answer", KINDS["no answer"])
+    out = re.search(r"^control: (\d+) of (\d+), twice (\d+), wrong (\d+)$", text, re.MULTILINE)
+    back = re.search(r"^frames: received (\d+) of (\d+) .* twice (\d+), wrong (\d+)$", text, re.MULTILINE)
+    pings = re.search(r"^@search pings (\d+) (\d+)$", text, re.MULTILINE)
+    for way, found in (("out", out), ("in", back)):
+        if way == "in" and is_function:
+            continue
+        if not found or found[1] != found[2] or found[3] != "0" or found[4] != "0":
+            yield Finding("frames", f"{way}: " + (found[0].split(": ")[-1] if found else "nothing was told"))
+    if is_function and (not pings or pings[1] != pings[2]):
+        yield Finding("frames", f"echo replies: {pings[2]} of {pings[1]}" if pings else "no echo replies were told")
+
+
+def worst_first(findings: Iterable[Finding]) -> list[Finding]:
+    """Each kind once, in the order of KINDS."""
+    by_kind: dict[str, Finding] = {}
+    for it in findings:
+        by_kind.setdefault(it.kind, it)
+    return [by_kind[kind] for kind in KINDS if kind in by_kind]

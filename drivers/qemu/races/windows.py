@@ -1,0 +1,132 @@
+"""Where a driver has its card down: the accesses of a recording between RXCTRL = 0 and RXCTRL.RXEN, when no frame may be
+given to it, and the tails that were moved all the same."""
+
+from __future__ import annotations
+
+import re
+import sys
+from collections.abc import Iterable, Iterator
+from dataclasses import dataclass, field
+from pathlib import Path
+
+sys.path.insert(0, str(Path(__file__).resolve().parents[3] / "python"))
+from nic82599.tools.regs import register_at  # noqa: E402
+
+RXEN, RESET = 1, 0x04000008
+ACCESS = re.compile(r"([rw]) 0x([0-9a-f]{5})(?: 0x([0-9a-f]{8}))?(?: +# word 0x([0-9a-f]{8}))?")
+TAIL = re.compile(r"TDT\[\d+\]")
+KEPT = 100_000  # accesses of a window
+FAMILIES, SHORT = 8, 4
+
+
+@dataclass
+class Access:
+    """An access, by the number of its line."""
+
+    line: int
+    way: str
+    name: str
+    word: int
+
+    @property
+    def family(self) -> str:
+        return f"{self.way} " + (self.name.split("[")[0] if not self.name.startswith("0x") else "of no register")
+
+    @property
+    def gives(self) -> bool:
+        """A frame is given to the card."""
+        return self.way == "w" and self.word != 0 and TAIL.fullmatch(self.name) is not None
+
+    @property
+    def mark(self) -> str:
+        """What it means for the whole card, or for a queue's frames; "": it is one of many."""
+        if self.way == "r":
+            return ""
+        if self.name == "RXCTRL":
+            return "the card receives" if self.word & RXEN else "the card is going down"
+        if self.name == "CTRL" and self.word & RESET:
+            return "a reset"
+        if TAIL.fullmatch(self.name):
+            return "a frame is given to the card" if self.word else "the ring begins anew"
+        return ""
+
+
+@dataclass
+class Window:
+    """The accesses of one time that the card was down, and those right before."""
+
+    before: list[Access]
+    accesses: list[Access] = field(default_factory=list)
+
+    @property
+    def tails(self) -> list[Access]:
+        return [it for it in self.accesses if it.gives]
+
+
+def name_of(address: int) -> str:
+    register = register_at(address)
+    return register.name if register else f"0x{address:05x}"
+
+
+def accesses(lines: Iterable[str]) -> Iterator[Access]:
+    for number, line in enumerate(lines, 1):
+        found = ACCESS.match(line)
+        if found:
+            address, word = int(found[2], 16), int(found[3] or found[4] or "0", 16)
+            yield Access(number, found[1], name_of(address), word)
+
+
+def windows(lines: Iterable[str]) -> Iterator[Window]:
+    """Each time that the card was down, and (last) what is behind the last one."""
+    before: list[Access] = []
+    window: Window | None = None
+    for it in accesses(lines):
+        if it.way == "w" and it.name == "RXCTRL" and not it.word & RXEN and window is None:
+            window = Window(before[-30:])
+        elif it.way == "w" and it.name == "RXCTRL" and it.word & RXEN and window:
+            window.accesses.append(it)
+            yield window
+            window, before = None, []
+        if window is None:
+            before = [*before[-29:], it]
+        elif len(window.accesses) < KEPT:
+            window.accesses.append(it)
+    if window:
+        yield window
+
+
+def told(window: Window) -> Iterator[str]:
+    """A line for each access that matters, and one for all between two of these."""
+    run: list[Access] = []
+    for it in [*window.before, *window.accesses]:
+        if not it.mark:
+            run.append(it)
+            continue
+        yield from lines_of(run)
+        yield line_of(it)
+        run = []
+    yield from lines_of(run)
+
+
+def lines_of(run: list[Access]) -> Iterator[str]:
+    """Each of a few, and the families of many."""
+    if len(run) <= SHORT:
+        yield from (line_of(it) for it in run)
+        return
+    families = list(dict.fromkeys(it.family for it in run))
+    more = f", and {len(families) - FAMILIES} kinds more" if len(families) > FAMILIES else ""
+    yield f"{run[0].line:8} .. {run[-1].line}: {len(run)} accesses: {', '.join(families[:FAMILIES])}{more}"
+
+
+def line_of(it: Access) -> str:
+    return f"{it.line:8} {it.way} {it.name} {it.word:08x}" + (f"  <- {it.mark}" if it.mark else "")
+
+
+def with_tails(record: Path, most: int = 3) -> str:
+    """The last times that the card was down and a tail was moved."""
+    with open(record, encoding="latin-1") as lines:
+        found = [it for it in windows(lines) if it.tails]
+    text = f"{len(found)} times the card was down and a frame was given to it\n"
+    for window in found[-most:]:
+        text += "\n" + "\n".join(told(window)) + "\n"
+    return text

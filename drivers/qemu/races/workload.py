@@ -1,0 +1,92 @@
+"""What a guest does with a seed: a shell script of what people do to an interface, under traffic both ways. The same seed
+and plan make the same script; races/guest.sh has the words of it."""
+
+from __future__ import annotations
+
+import random
+from collections.abc import Callable, Sequence
+from dataclasses import dataclass
+
+# Microseconds between two of them: mostly none, since a race needs two at once.
+NAPS = (0, 0, 0, 0, 20_000, 100_000, 300_000)
+MTUS = (1500, 1500, 2000, 2500, 3000, 9000)
+FUNCTION_MTUS = (1500, 1400, 1000, 1492)
+SLOTS = (64, 96, 128, 192, 256, 320, 512, 1024)
+
+
+@dataclass(frozen=True)
+class Plan:
+    """What all seeds of a search have in common."""
+
+    driver: str = "ixgbe"
+    rounds: int = 4
+    processors: int = 4
+
+    @property
+    def is_function(self) -> bool:
+        return self.driver == "ixgbevf"
+
+
+Operation = Callable[[random.Random, Plan], str]
+
+
+def rings(chance: random.Random, plan: Plan) -> str:
+    return f"rings {chance.choice(SLOTS)} {chance.choice(SLOTS)}"
+
+
+def channels(chance: random.Random, plan: Plan) -> str:
+    return f"channels {chance.randint(1, plan.processors)}"
+
+
+def mtu(chance: random.Random, plan: Plan) -> str:
+    return f"mtu {chance.choice(FUNCTION_MTUS if plan.is_function else MTUS)}"
+
+
+def burst(chance: random.Random, plan: Plan) -> str:
+    return f"burst {chance.choice((50, 200, 400))} {chance.choice((60, 600, 1400))}"
+
+
+def blink(chance: random.Random, plan: Plan) -> str:
+    """The cable is out for a moment."""
+    return f"blink {chance.choice((20_000, 100_000, 300_000))}"
+
+
+def says(words: str) -> Operation:
+    def operation(chance: random.Random, plan: Plan) -> str:
+        return words
+
+    return operation
+
+
+HOST: Sequence[Operation] = (
+    rings, channels, mtu, burst, blink, says("again"), says("promiscuous"), says("spread"), says("filters"),
+    says("down_up"), says("blink 300000"),
+)  # fmt: skip
+FUNCTION: Sequence[Operation] = (
+    rings, mtu, burst, blink, says("promiscuous"), says("down_up"), says("host again"), says("host down_up"),
+    says("host mtu 2000"), says("host mtu 1500"), says("blink 300000"),
+)  # fmt: skip
+
+
+def one_round(chance: random.Random, plan: Plan) -> list[str]:
+    """All operations in an order of chance, the cable's most often in front: what follows it meets the driver while it
+    sees to the link."""
+    operations = list(FUNCTION if plan.is_function else HOST)
+    chance.shuffle(operations)
+    lines: list[str] = []
+    for operation in operations:
+        lines.append(operation(chance, plan))
+        nap = chance.choice(NAPS)
+        if nap:
+            lines.append(f"usleep {nap}")
+    return lines
+
+
+def script(seed: int, plan: Plan) -> str:
+    """The lines of a seed. It ends with a check that frames pass, each byte of them."""
+    chance = random.Random(f"{plan.driver} {seed}")
+    lines = [f"begin {seed}"]
+    for number in range(1, plan.rounds + 1):
+        lines += [f"round {number}", *one_round(chance, plan), "answers"]
+    lines += ["settle", f"finish {seed}"]
+    return "\n".join(lines) + "\n"

@@ -15,12 +15,12 @@ HERE = Path(__file__).resolve().parent
 sys.path.insert(0, str(HERE.parent))
 from guests import LIBRARY, QUIET, Guest, Place, Server, Wrong, device, memory, port  # noqa: E402
 from initrd import Initrd  # noqa: E402
-from verdict import FATAL, Finding, checked, counted, numbers, spoken, worst_first  # noqa: E402
+from verdict import FATAL, NOTES, Finding, checked, counted, numbers, spoken, went_on, worst_first  # noqa: E402
 from workload import Plan, script  # noqa: E402
 
 BOOT_SECONDS = 300
 SILENT_SECONDS = 90  # in which a guest that is well says something
-LOCKED_SECONDS = 30  # after a first lockup, in which the kernel tells of it again
+LOCKED_SECONDS = 25  # after a lockup was told, in which a guest that goes on begins another operation
 FUNCTION_MAC = "02:00:00:00:00:55"
 REQUEST = re.compile(r"@(control|search|host) (.*)$")
 WORKLOAD = LIBRARY + (HERE / "guest.sh").read_text()
@@ -76,8 +76,12 @@ class Outcome:
         return any(it.kind in FATAL for it in self.findings)
 
     @property
+    def fails(self) -> bool:
+        return any(it.kind not in NOTES for it in self.findings)
+
+    @property
     def verdict(self) -> str:
-        return self.findings[0].kind if self.findings else "ok"
+        return self.findings[0].kind if self.fails else "ok"
 
 
 class Relay(Guest):
@@ -122,6 +126,16 @@ class Relay(Guest):
     @property
     def has_ended(self) -> bool:
         return self.process.poll() is not None and not self.reader.is_alive()
+
+
+def is_locked(lines: Sequence[str]) -> bool:
+    """A lockup was told, and no operation has begun since the first of those that are told now."""
+    for line in reversed(lines):
+        if line.startswith("@search doing"):
+            return False
+        if "BUG: soft lockup" in line:
+            return True
+    return False
 
 
 @dataclass
@@ -202,12 +216,13 @@ class Bench:
         if ends != "done":
             findings.append(Finding("stuck", f"{ends}; last: {self.last_operation(lines)}"))
         else:
-            findings = [Finding(it.kind, f"{it.text}; it went on") if it.kind == "lockup" else it for it in findings]
-            findings += checked(lines, self.plan.is_function)
-        outcome = Outcome(self.kernel.name, self.plan.driver, seed, worst_first(findings),
-                          len({it for it in lines if it.startswith("@search doing round")}), time.time() - began, lines)
-        if outcome.findings:
-            outcome.why, outcome.told = "\n".join(self.server.ask("why") or ["the device waits for nothing"]), self.server.told.read_text()
+            findings = [*went_on(findings), *checked(lines, self.plan.is_function)]
+        rounds = len({it for it in lines if it.startswith("@search doing round")})
+        outcome = Outcome(self.kernel.name, self.plan.driver, seed, worst_first(findings), rounds,
+                          time.time() - began, lines)
+        if outcome.fails:
+            outcome.why = "\n".join(self.server.ask("why") or ["the device waits for nothing"])
+            outcome.told = self.server.told.read_text()
         self.server.ask("seed off")
         return outcome
 
@@ -220,10 +235,12 @@ class Bench:
                 return "done"
             if self.guest.has_ended:
                 return "the guest ended"
-            lockups = sum("BUG: soft lockup" in it for it in lines)
-            locked = locked or (time.time() if lockups else 0)
-            if lockups > 1 or (locked and time.time() - locked > LOCKED_SECONDS):
-                return "a processor is locked up"
+            if is_locked(lines):
+                locked = locked or time.time()
+                if time.time() - locked > LOCKED_SECONDS:
+                    return "a processor is locked up"
+            else:
+                locked = 0.0
             if "@search stuck was told" in lines:
                 return "an operation takes more than 40 s"
             if time.time() - self.guest.last > SILENT_SECONDS:

@@ -1,6 +1,6 @@
 #!/usr/bin/env python3
-"""Tries what a search judges by, without a guest: drivers/qemu/races/check.py, in a second. Status 0: all is as it should
-be."""
+"""Tries what a search judges by, without a guest: drivers/qemu/races/check.py, in a second. Status 0: all is as it
+should be."""
 
 from __future__ import annotations
 
@@ -12,11 +12,11 @@ from pathlib import Path
 
 sys.dont_write_bytecode = True
 sys.path.insert(0, str(Path(__file__).resolve().parent))
-from bench import Outcome  # noqa: E402
+from bench import Outcome, is_locked  # noqa: E402
 from initrd import Initrd  # noqa: E402
 from modules import Unreadable, unpack_modules  # noqa: E402
 from report import junit, line, table  # noqa: E402
-from verdict import Finding, checked, counted, numbers, spoken, worst_first  # noqa: E402
+from verdict import Finding, checked, counted, numbers, spoken, went_on, worst_first  # noqa: E402
 from windows import told, windows  # noqa: E402
 from workload import Plan, script  # noqa: E402
 
@@ -59,13 +59,17 @@ def verdicts() -> None:
     assert not list(spoken(["ixgbe 0000:01:00.0 eth0: NIC Link is Down", "control: faults 3"]))
     assert set(kinds(list(counted(counts(), counts(refused=5, outside=3, lost=1))))) == {
         "tail outside", "refused", "reset"}  # fmt: skip
+    assert kinds(list(went_on([Finding("lockup", "a"), Finding("kernel", "b")]))) == ["slow", "kernel"]
+    assert is_locked(["@search doing mtu", *LOCKUP]) and not is_locked([*LOCKUP, "@search doing mtu"])
     assert not list(counted(counts(outside=3, refused=3), counts(outside=3, refused=3)))
     assert kinds(list(counted(counts(outside=3, refused=3), counts(outside=4, refused=4)))) == ["tail outside"]
-    assert kinds(worst_first([Finding("fault", "b"), Finding("lockup", "a"), Finding("fault", "c")])) == ["lockup", "fault"]
+    three = [Finding("fault", "b"), Finding("lockup", "a"), Finding("fault", "c")]
+    assert kinds(worst_first(three)) == ["lockup", "fault"]
 
 
 def checks() -> None:
     assert not list(checked(GOOD, False)) and not list(checked(GOOD, True))
+    assert not list(checked(["control: 299 of 300, twice 0, wrong 0", *GOOD], False))
     for bad, is_function, kind in (
         (GOOD[1:], False, "no link"), (GOOD[:1] + GOOD[2:], False, "no answer"), (GOOD[:2] + GOOD[3:], False, "frames"),
         ([it.replace("wrong 0", "wrong 1") for it in GOOD], False, "frames"),
@@ -110,9 +114,9 @@ def recordings() -> None:
 
 def reports(folder: Path) -> None:
     bad = Outcome("linux-6.1", "ixgbe", 3, [Finding("lockup", "a"), Finding("fault", "b")], 4, 1.5, is_repeated=False)
-    good = Outcome("linux-6.1", "ixgbe", 4, [], 4, 1.0)
-    assert line(bad).endswith("lockup: a; fault: b; not again when alone") and line(good).endswith("s: ok")
-    assert "| linux-6.1 | ixgbe | 2 | 8 | 1 | 1 | 1 |" in table([bad, good]), table([bad, good])
+    good = Outcome("linux-6.1", "ixgbe", 4, [Finding("slow", "c")], 4, 1.0)
+    assert line(bad).endswith("lockup: a; fault: b; not again when alone") and line(good).endswith("s: ok (slow: c)")
+    assert "| linux-6.1 | ixgbe | 2 | 8 | 1 | 1 | 1 | 1 |" in table([bad, good]), table([bad, good])
     junit([bad, good], folder / "junit.xml")
     assert 'tests="2" failures="1"' in (folder / "junit.xml").read_text()
 

@@ -20,7 +20,5 @@ exchange() {
     echo "@control expect 300 1400 02:00:00:00:00:55"
     usleep 300000
     frames send eth0 300 1400
-    sleep 1
-    echo "@control came"
-    usleep 200000
+    sent
 }

@@ -100,7 +100,8 @@ settle() {
     answers 8 && echo "@search answered 1" || echo "@search answered 0"
     usleep 500000
     exchange
-    ping -q -c 10 -i 0.05 -s 1400 10.0.0.1 | sed -n 's/^\([0-9]*\) packets transmitted, \([0-9]*\) .*/@search pings \1 \2/p'
+    ping -q -c 10 -i 0.05 -s 1400 10.0.0.1 \
+        | sed -n 's/^\([0-9]*\) packets transmitted, \([0-9]*\) .*/@search pings \1 \2/p'
 }
 
 # What else has to be as it was.
@@ -109,6 +110,15 @@ calm() { :; }
 # The other end's address, so that the kernel asks for it no more: such a frame isn't a numbered one.
 neighbour() { ip neigh replace 10.0.0.1 lladdr 02:00:00:00:00:01 dev eth0; }
 
+# The other end tells what has come: the last that it says counts, since a busy machine is late.
+sent() {
+    for n in 1 3; do
+        sleep $n
+        echo "@control came"
+        usleep 200000
+    done
+}
+
 # The check of the physical function: frames of the wire go to its address.
 exchange() {
     doing exchange
@@ -116,9 +126,7 @@ exchange() {
     echo "@control expect 300 1400"
     usleep 300000
     frames send eth0 300 1400
-    sleep 1
-    echo "@control came"
-    usleep 200000
+    sent
     frames receive eth0 300 1400 20 >/tmp/received &
     receiver=$!
     while ! grep -q ready /tmp/received; do usleep 50000; done

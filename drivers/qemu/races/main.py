@@ -98,7 +98,8 @@ class Search:
             lines = bench.guest.lines if bench else []
             if bench:
                 bench.end()
-            return Outcome(self.kernel.name, self.plan.driver, task.seed, [Finding("server", str(fault))], 0, 0.0, lines), None
+            found = [Finding("server", str(fault))]
+            return Outcome(self.kernel.name, self.plan.driver, task.seed, found, 0, 0.0, lines), None
 
     def is_the_case(self, it: Outcome) -> bool:
         case = self.case
@@ -110,12 +111,12 @@ class Search:
             if task.first:
                 task.first.is_repeated = any(it.kind == task.first.verdict for it in outcome.findings)
                 self.note(task.first)
-            elif outcome.findings and self.is_tried_again(outcome):
+            elif outcome.fails and self.is_tried_again(outcome):
                 print(f"{line(outcome)}; again, alone", flush=True)
                 self.tasks.appendleft(Task(outcome.seed, outcome))
             else:
                 self.note(outcome)
-        if outcome.findings and (not task.first or outcome.record):
+        if outcome.fails and (not task.first or outcome.record):
             folder = keep_failure(outcome, script(outcome.seed, self.plan), self.words.out / "failures")
             if self.is_the_case(outcome):
                 self.is_found, self.found = True, folder
@@ -149,7 +150,7 @@ class Search:
         print(f"{NAME}: {self.words.out} has a line a seed, junit.xml, and a folder for each failure")
         if self.case:
             return self.tell_case()
-        return 1 if any(it.findings for it in self.outcomes) else 0
+        return 1 if any(it.fails for it in self.outcomes) else 0
 
     def tell_case(self) -> int:
         assert self.case

@@ -29,8 +29,8 @@ def by_command(name: str) -> Callable[[bytes], bytes]:
 
 
 FORMS: tuple[tuple[bytes, Callable[[bytes], bytes]], ...] = (
-    (b"\x1f\x8b", gzip.decompress), (b"\xfd7zXZ", lzma.decompress), (b"]\0\0", lzma.decompress), (b"BZh", bz2.decompress),
-    (b"\x28\xb5\x2f\xfd", by_command("zstd")), (b"\x02\x21\x4c\x18", by_command("lz4")),
+    (b"\x1f\x8b", gzip.decompress), (b"\xfd7zXZ", lzma.decompress), (b"]\0\0", lzma.decompress),
+    (b"BZh", bz2.decompress), (b"\x28\xb5\x2f\xfd", by_command("zstd")), (b"\x02\x21\x4c\x18", by_command("lz4")),
 )  # fmt: skip
 
 

@@ -23,7 +23,8 @@ def said(repeated: bool | None) -> str:
 
 def line(it: Outcome) -> str:
     """What is said of a seed."""
-    findings = "; ".join(f"{finding.kind}: {finding.text}" for finding in it.findings) or "ok"
+    findings = "; ".join(f"{finding.kind}: {finding.text}" for finding in it.findings)
+    findings = findings if it.fails else "ok" + (f" ({findings})" if findings else "")
     return f"{it.kernel} {it.driver} seed {it.seed}: {it.rounds} rounds in {it.seconds:.0f} s: {findings}" + said(
         it.is_repeated
     )
@@ -40,7 +41,7 @@ def table(outcomes: Sequence[Outcome]) -> str:
     for (kernel, driver), each in sorted(groups.items()):
         counts = Counter(finding.kind for it in each for finding in it.findings)
         rows.append([kernel, driver, str(len(each)), str(sum(it.rounds for it in each)),
-                     str(sum(not it.findings for it in each)), *(str(counts[kind]) for kind in kinds)])
+                     str(sum(not it.fails for it in each)), *(str(counts[kind]) for kind in kinds)])
     return "\n".join("| " + " | ".join(row) + " |" for row in rows) + "\n"
 
 
@@ -51,7 +52,7 @@ def junit(outcomes: Iterable[Outcome], to: Path) -> None:
         name = f"seed {it.seed}" + ("" if it.rounds else ", nothing ran")
         case = ElementTree.SubElement(suite, "testcase", classname=f"{it.kernel}.{it.driver}", name=name,
                                       time=f"{it.seconds:.1f}")
-        if it.findings:
+        if it.fails:
             failure = ElementTree.SubElement(case, "failure", message=f"{it.verdict}: {it.findings[0].text}"[:300])
             failure.text = line(it)
     suite.set("tests", str(len(suite)))

@@ -34,8 +34,11 @@ KINDS = {
     "tail off": "a tail moved in a ring that is off",
     "fault": "a fault of the device",
     "refused": "another access that the server refused",
+    "slow": "a processor or a process was stuck for seconds, and went on",
 }
 FATAL = frozenset(list(KINDS)[: list(KINDS).index("frames") + 1])
+# What isn't a failure: a busy machine does it too.
+NOTES = frozenset(["slow"])
 
 SPOKEN: Sequence[tuple[str, str]] = (
     ("lockup", r"BUG: soft lockup|hard LOCKUP"),
@@ -95,7 +98,8 @@ def checked(lines: Sequence[str], is_function: bool) -> Iterator[Finding]:
         yield Finding("no link", KINDS["no link"])
     elif not re.search(r"^@search answered 1$", text, re.MULTILINE):
         yield Finding("no answer", KINDS["no answer"])
-    out = re.search(r"^control: (\d+) of (\d+), twice (\d+), wrong (\d+)$", text, re.MULTILINE)
+    came = list(re.finditer(r"^control: (\d+) of (\d+), twice (\d+), wrong (\d+)$", text, re.MULTILINE))
+    out = came[-1] if came else None
     back = re.search(r"^frames: received (\d+) of (\d+) .* twice (\d+), wrong (\d+)$", text, re.MULTILINE)
     pings = re.search(r"^@search pings (\d+) (\d+)$", text, re.MULTILINE)
     for way, found in (("out", out), ("in", back)):
@@ -105,6 +109,12 @@ def checked(lines: Sequence[str], is_function: bool) -> Iterator[Finding]:
             yield Finding("frames", f"{way}: " + (found[0].split(": ")[-1] if found else "nothing was told"))
     if is_function and (not pings or pings[1] != pings[2]):
         yield Finding("frames", f"echo replies: {pings[2]} of {pings[1]}" if pings else "no echo replies were told")
+
+
+def went_on(findings: Iterable[Finding]) -> Iterator[Finding]:
+    """The same of a guest that did all that it should: what ended by itself was slow."""
+    for it in findings:
+        yield Finding("slow", it.text) if it.kind in ("lockup", "stall", "hung task") else it
 
 
 def worst_first(findings: Iterable[Finding]) -> list[Finding]:

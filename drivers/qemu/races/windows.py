@@ -1,5 +1,5 @@
-"""Where a driver has its card down: the accesses of a recording between RXCTRL = 0 and RXCTRL.RXEN, when no frame may be
-given to it, and the tails that were moved all the same."""
+"""Where a driver has its card down: the accesses of a recording between RXCTRL = 0 and RXCTRL.RXEN, when no frame may
+be given to it, and the tails that were moved all the same."""
 
 from __future__ import annotations
 

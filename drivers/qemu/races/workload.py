@@ -1,5 +1,5 @@
-"""What a guest does with a seed: a shell script of what people do to an interface, under traffic both ways. The same seed
-and plan make the same script; races/guest.sh has the words of it."""
+"""What a guest does with a seed: a shell script of what people do to an interface, under traffic both ways. The same
+seed and plan make the same script; races/guest.sh has the words of it."""
 
 from __future__ import annotations
 

@@ -172,7 +172,8 @@ class Bench:
         """busybox, tools, the driver, and each seed's script."""
         tools = self.place.fetched / "tools/root"
         it = Initrd(self.kernel.modules, tools / "bin/busybox")
-        it.files["bin/stty"] = (0o120777, b"busybox")
+        for applet in ("arp", "stty"):
+            it.files[f"bin/{applet}"] = (0o120777, b"busybox")
         for module in ("ixgbe", "ixgbevf"):
             it.add_module(module)
         if self.kernel.module:

@@ -8,10 +8,8 @@ start() {
     carrier
 }
 
-calm() {
-    host mtu 1500
-    sleep 3
-}
+# A host that was reset is waited for: the driver looks every two seconds.
+calm() { sleep 5; }
 
 # The check of a function: numbered frames out; frames of the wire go to the host's address, so pings are the other way.
 exchange() {

@@ -108,7 +108,7 @@ settle() {
 calm() { :; }
 
 # The other end's address, so that the kernel asks for it no more: such a frame isn't a numbered one.
-neighbour() { ip neigh replace 10.0.0.1 lladdr 02:00:00:00:00:01 dev eth0; }
+neighbour() { arp -s 10.0.0.1 02:00:00:00:00:01; }
 
 # The other end tells what has come: the last that it says counts, since a busy machine is late.
 sent() {

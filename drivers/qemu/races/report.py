@@ -2,6 +2,7 @@
 
 from __future__ import annotations
 
+import itertools
 import shutil
 import subprocess
 from collections import Counter
@@ -11,10 +12,12 @@ from xml.etree import ElementTree
 
 from bench import Outcome
 from verdict import KINDS
-from windows import with_tails
+from windows import Window, text_of, with_tails
 
 ROOT = Path(__file__).resolve().parents[3]
-EVENTS = 3000  # of a recording that a page shows
+EVENTS = 3000  # of a recording that a page shows; of one time that the card was down:
+EVENTS_DOWN = 12_000
+BEHIND = 60  # lines behind it
 
 
 def said(repeated: bool | None) -> str:
@@ -71,6 +74,24 @@ def draw(record: Path, events: int = EVENTS) -> Path | None:
     return page
 
 
+def draw_down(record: Path, window: Window) -> None:
+    """The page down.html of one time that the card was down, and down.nic, the recording until then."""
+    last = window.accesses[-1].line + BEHIND
+    cut = record.with_name("down.nic")
+    with open(record, encoding="latin-1") as lines, open(cut, "w", encoding="latin-1") as to:
+        to.writelines(itertools.islice(lines, last))
+    draw(cut, min(EVENTS_DOWN, last - window.accesses[0].line + 2 * BEHIND))
+
+
+def keep_record(record: Path) -> None:
+    """What a recording shows, beside it."""
+    found = with_tails(record)
+    record.with_name("down.txt").write_text(text_of(found))
+    if found:
+        draw_down(record, found[-1])
+    draw(record)
+
+
 def keep_failure(it: Outcome, workload: str, out: Path) -> Path:
     """What is known of a failure, in a folder of its own."""
     number, folder = 1, out / f"{it.kernel}-{it.driver}-{it.seed}"
@@ -86,6 +107,5 @@ def keep_failure(it: Outcome, workload: str, out: Path) -> Path:
     if it.record and it.record.exists():
         record = folder / "record.nic"
         shutil.move(it.record, record)
-        (folder / "down.txt").write_text(with_tails(record))
-        draw(record)
+        keep_record(record)
     return folder

@@ -122,10 +122,14 @@ def line_of(it: Access) -> str:
     return f"{it.line:8} {it.way} {it.name} {it.word:08x}" + (f"  <- {it.mark}" if it.mark else "")
 
 
-def with_tails(record: Path, most: int = 3) -> str:
-    """The last times that the card was down and a tail was moved."""
+def with_tails(record: Path) -> list[Window]:
+    """The times that the card was down and a tail was moved."""
     with open(record, encoding="latin-1") as lines:
-        found = [it for it in windows(lines) if it.tails]
+        return [it for it in windows(lines) if it.tails]
+
+
+def text_of(found: list[Window], most: int = 3) -> str:
+    """The last of them."""
     text = f"{len(found)} times the card was down and a frame was given to it\n"
     for window in found[-most:]:
         text += "\n" + "\n".join(told(window)) + "\n"

@@ -63,8 +63,8 @@ HOST: Sequence[Operation] = (
     says("down_up"), says("blink 300000"),
 )  # fmt: skip
 FUNCTION: Sequence[Operation] = (
-    rings, mtu, burst, blink, says("promiscuous"), says("down_up"), says("host again"), says("host down_up"),
-    says("host mtu 2000"), says("host mtu 1500"), says("blink 300000"),
+    rings, mtu, burst, blink, says("promiscuous"), says("down_up"), says("host again"), says("host down_up"), rings,
+    says("down_up"), says("blink 300000"),
 )  # fmt: skip
 
 

@@ -69,7 +69,7 @@ class Outcome:
     told: str = field(default="", repr=False)
     why: str = field(default="", repr=False)
     record: Path | None = None
-    is_repeated: bool | None = None  # by itself in a fresh guest; None: it wasn't tried
+    again: Outcome | None = None  # what came of it by itself, in a fresh guest; None: it wasn't tried
 
     @property
     def is_fatal(self) -> bool:

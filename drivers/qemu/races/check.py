@@ -4,6 +4,7 @@ should be."""
 
 from __future__ import annotations
 
+import dataclasses
 import gzip
 import sys
 import tempfile
@@ -113,9 +114,15 @@ def recordings() -> None:
 
 
 def reports(folder: Path) -> None:
-    bad = Outcome("linux-6.1", "ixgbe", 3, [Finding("lockup", "a"), Finding("fault", "b")], 4, 1.5, is_repeated=False)
+    bad = Outcome("linux-6.1", "ixgbe", 3, [Finding("lockup", "a"), Finding("fault", "b")], 4, 1.5)
     good = Outcome("linux-6.1", "ixgbe", 4, [Finding("slow", "c")], 4, 1.0)
-    assert line(bad).endswith("lockup: a; fault: b; not again when alone") and line(good).endswith("s: ok (slow: c)")
+    assert line(bad).endswith("s: lockup: a; fault: b") and line(good).endswith("s: ok (slow: c)")
+    for second, text in (
+        (bad, "the same when alone"), (good, "not again when alone: ok (slow: c)"),
+        (Outcome("", "", 3, [Finding("kernel", "d"), Finding("lockup", "a")], 4, 1.5),
+         "again when alone: kernel: d; lockup: a"),
+    ):  # fmt: skip
+        assert line(dataclasses.replace(bad, again=second)).endswith(f"b; {text}"), text
     assert "| linux-6.1 | ixgbe | 2 | 8 | 1 | 1 | 1 | 1 |" in table([bad, good]), table([bad, good])
     junit([bad, good], folder / "junit.xml")
     assert 'tests="2" failures="1"' in (folder / "junit.xml").read_text()

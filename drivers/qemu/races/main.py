@@ -109,7 +109,7 @@ class Search:
         """Notes what came of a seed, and whether it is tried again."""
         with self.lock:
             if task.first:
-                task.first.is_repeated = any(it.kind == task.first.verdict for it in outcome.findings)
+                task.first.again = outcome
                 self.note(task.first)
             elif outcome.fails and self.is_tried_again(outcome):
                 print(f"{line(outcome)}; again, alone", flush=True)

@@ -20,17 +20,25 @@ EVENTS_DOWN = 12_000
 BEHIND = 60  # lines behind it
 
 
-def said(repeated: bool | None) -> str:
-    return {None: "", True: "; again when alone", False: "; not again when alone"}[repeated]
+def said(it: Outcome) -> str:
+    """All that was found in one try."""
+    findings = "; ".join(f"{finding.kind}: {finding.text}" for finding in it.findings)
+    return findings if it.fails else "ok" + (f" ({findings})" if findings else "")
+
+
+def again(it: Outcome) -> str:
+    """What came of the second try: the same verdict, another, or none."""
+    if it.again is None:
+        return ""
+    if it.again.verdict == it.verdict:
+        return "; the same when alone"
+    repeated = any(finding.kind == it.verdict for finding in it.again.findings)
+    return f"; {'again' if repeated else 'not again'} when alone: {said(it.again)}"
 
 
 def line(it: Outcome) -> str:
     """What is said of a seed."""
-    findings = "; ".join(f"{finding.kind}: {finding.text}" for finding in it.findings)
-    findings = findings if it.fails else "ok" + (f" ({findings})" if findings else "")
-    return f"{it.kernel} {it.driver} seed {it.seed}: {it.rounds} rounds in {it.seconds:.0f} s: {findings}" + said(
-        it.is_repeated
-    )
+    return f"{it.kernel} {it.driver} seed {it.seed}: {it.rounds} rounds in {it.seconds:.0f} s: {said(it)}{again(it)}"
 
 
 def table(outcomes: Sequence[Outcome]) -> str:

@@ -77,7 +77,7 @@ class Outcome:
 
     @property
     def fails(self) -> bool:
-        return any(it.kind not in NOTES for it in self.findings)
+        return any(it.kind not in NOTES[self.driver] for it in self.findings)
 
     @property
     def verdict(self) -> str:
@@ -223,7 +223,7 @@ class Bench:
                           time.time() - began, lines)
         if outcome.fails:
             outcome.why = "\n".join(self.server.ask("why") or ["the device waits for nothing"])
-            outcome.told = self.server.told.read_text()
+            outcome.told = "\n".join([self.server.told.read_text(), *self.server.ask("counts"), ""])
         self.server.ask("seed off")
         return outcome
 

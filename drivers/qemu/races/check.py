@@ -119,7 +119,7 @@ def reports(folder: Path) -> None:
     assert line(bad).endswith("s: lockup: a; fault: b") and line(good).endswith("s: ok (slow: c)")
     for second, text in (
         (bad, "the same when alone"), (good, "not again when alone: ok (slow: c)"),
-        (Outcome("", "", 3, [Finding("kernel", "d"), Finding("lockup", "a")], 4, 1.5),
+        (Outcome("", "ixgbe", 3, [Finding("kernel", "d"), Finding("lockup", "a")], 4, 1.5),
          "again when alone: kernel: d; lockup: a"),
     ):  # fmt: skip
         assert line(dataclasses.replace(bad, again=second)).endswith(f"b; {text}"), text

@@ -112,6 +112,8 @@ neighbour() { arp -s 10.0.0.1 02:00:00:00:00:01; }
 
 # The other end tells what has come: the last that it says counts, since a busy machine is late.
 sent() {
+    grep eth0 /proc/net/dev
+    ethtool -S eth0 | grep -E "[1-9]" | grep -E "tx|rx_(missed|errors|no)|drop|restart|busy"
     for n in 1 3; do
         sleep $n
         echo "@control came"

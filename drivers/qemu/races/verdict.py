@@ -37,8 +37,9 @@ KINDS = {
     "slow": "a processor or a process was stuck for seconds, and went on",
 }
 FATAL = frozenset(list(KINDS)[: list(KINDS).index("frames") + 1])
-# What isn't a failure: a busy machine does it too.
-NOTES = frozenset(["slow"])
+# What isn't a failure, by driver: a busy machine does it too, and a host that is reset does it to its functions, which
+# can't know of it before they are told.
+NOTES = {"ixgbe": frozenset(["slow"]), "ixgbevf": frozenset(["slow", "driver", "reset", "tail outside", "tail off"])}
 
 SPOKEN: Sequence[tuple[str, str]] = (
     ("lockup", r"BUG: soft lockup|hard LOCKUP"),

@@ -103,10 +103,8 @@ static void begin(struct offload_queue *it, uint64_t second)
                                    .l4_type = CONTEXT_L4_TYPE(context[1]),
                                    .l4_length = CONTEXT_L4_LENGTH(context[1]),
                                    .mss = CONTEXT_MSS(context[1])};
-    if (it->job.is_large) {
-        it->job.sums_l4 = true;
+    if (it->job.is_large)
         it->job.sums_ip |= CONTEXT_IS_IPV4(context[1]);
-    }
     it->length = 0;
 }
 
@@ -216,10 +214,10 @@ static void sum_ip(const struct offload_job *job, uint8_t *frame, size_t length)
 /* The driver has left the sum of the pseudo header in the field; `more` is what of that follows from the length. */
 static void sum_l4(const struct offload_job *job, uint8_t *frame, size_t length, uint32_t more)
 {
-    static const uint8_t places[] = {[UDP] = 6, [TCP] = 16, [SCTP] = 8};
+    static const uint8_t places[] = {[UDP] = 6, [TCP] = 16, [SCTP] = 8}, ends[] = {[UDP] = 8, [TCP] = 18, [SCTP] = 12};
     size_t at = (size_t)job->mac_length + job->ip_length;
     uint8_t *l4 = frame + at;
-    if (job->l4_type > SCTP || at > length || length - at < places[job->l4_type] + 4u)
+    if (job->l4_type > SCTP || at > length || length - at < ends[job->l4_type])
         return;
     uint8_t *field = l4 + places[job->l4_type];
     if (job->l4_type == SCTP) {

@@ -1,6 +1,7 @@
 /* Does to descriptors what the device and the server do: reads lines, and prints the frames that go on the wire.
 
      context FIRST SECOND          a context descriptor, both halves in hex
+     forget                        the queue is reset
      data SECOND LEGACY BYTES      a data descriptor: its second half as the driver wrote it, in the advanced form or
                                    (LEGACY 1) in the legacy one; and its bytes
    After each descriptor with EOP the frames follow, a line of hex each, then a line with a dot. */
@@ -34,6 +35,12 @@ static size_t bytes_of(const char *text, uint8_t *bytes)
     for (; sscanf(text, "%2x", &byte) == 1; text += 2)
         bytes[count++] = (uint8_t)byte;
     return count;
+}
+
+static void forget(void)
+{
+    offload_forget(offload, 3);
+    frame_length = 0;
 }
 
 static void take_data(uint64_t second, bool is_legacy, const char *text)
@@ -72,6 +79,8 @@ int main(void)
             offload_context(offload, 3, first, second);
         else if (sscanf(line, "data %" SCNx64 " %d %n", &second, &is_legacy, &at) == 2)
             take_data(second, is_legacy != 0, line + at);
+        else if (strcmp(line, "forget\n") == 0)
+            forget();
         else
             CHECK(!"a line isn't known");
     }

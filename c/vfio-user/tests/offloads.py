@@ -63,8 +63,8 @@ class Packet:
     def pseudo(self, l4_bytes: int) -> bytes:
         return self.addresses + struct.pack(">II", l4_bytes, self.protocol)
 
-    def segment(self, payload: bytes, offset: int, is_first: bool, is_last: bool) -> bytes:
-        """The header and bytes of layer 4, checksummed."""
+    def segment(self, payload: bytes, offset: int, is_first: bool, is_last: bool, summed: bool) -> bytes:
+        """The header and bytes of layer 4, checksummed if that is asked for."""
         head, length = bytearray(self.l4), len(self.l4) + len(payload)
         if self.protocol == TCP:
             sequence = (struct.unpack_from(">I", head, 4)[0] + offset) & 0xFFFFFFFF
@@ -74,6 +74,8 @@ class Packet:
         if self.protocol == UDP:
             struct.pack_into(">H", head, 4, length)
         data = bytes(head) + payload
+        if not summed:
+            return self.with_partial_sum(bytes(head), length) + payload
         if self.protocol == SCTP:
             return data[:8] + struct.pack("<I", crc32c(data)) + data[12:]
         at = 16 if self.protocol == TCP else 6
@@ -82,14 +84,21 @@ class Packet:
             value = 0xFFFF
         return data[:at] + struct.pack(">H", value) + data[at + 2 :]
 
-    def frames(self, mss: int, tag: int | None) -> list[bytes]:
+    def with_partial_sum(self, head: bytes, length: int) -> bytes:
+        """A header as a driver gives it: with the sum of the pseudo header, for so many bytes."""
+        if self.protocol == SCTP:
+            return head
+        at = 16 if self.protocol == TCP else 6
+        return head[:at] + struct.pack(">H", 0xFFFF - checksum(self.pseudo(length))) + head[at + 2 :]
+
+    def frames(self, mss: int, tag: int | None, sums_ip: bool, sums_l4: bool) -> list[bytes]:
         """The frames that are to go out; mss 0: one."""
         step, found = mss or max(1, len(self.payload)), []
         for number, offset in enumerate(range(0, max(1, len(self.payload)), step)):
             part = self.payload[offset : offset + step]
             is_last = offset + step >= len(self.payload)
-            data = self.segment(part, offset, number == 0, is_last)
-            frame = self.ethernet + self.ip(len(data), number, True) + data
+            data = self.segment(part, offset, number == 0, is_last, sums_l4)
+            frame = self.ethernet + self.ip(len(data), number, sums_ip) + data
             found.append(frame if tag is None else frame[:12] + struct.pack(">HH", 0x8100, tag) + frame[12:])
         return found
 
@@ -99,10 +108,8 @@ class Packet:
         head = bytearray(self.l4)
         if self.protocol == UDP:
             struct.pack_into(">H", head, 4, length)
-        if self.protocol != SCTP:
-            partial = 0xFFFF - checksum(self.pseudo(0 if is_large else length))
-            struct.pack_into(">H", head, 16 if self.protocol == TCP else 6, partial)
-        return self.ethernet + self.ip(length, 0, False) + bytes(head) + self.payload
+        given = self.with_partial_sum(bytes(head), 0 if is_large else length)
+        return self.ethernet + self.ip(length, 0, False) + given + self.payload
 
 
 def some_packet(chance: random.Random, is_large: bool) -> Packet:
@@ -123,7 +130,7 @@ def some_packet(chance: random.Random, is_large: bool) -> Packet:
         l4[8:12] = b"\0\0\0\0"
     most = 60000 if is_large else 1300
     ethernet = mac + tagged + (b"\x08\x00" if is_ipv4 else b"\x86\xdd")
-    payload = chance.randbytes(chance.randrange(1 if is_large else 0, most))
+    payload = chance.randbytes(chance.randrange(1 if is_large else 0, chance.choice([2, 40, most])))
     addresses = chance.randbytes(8 if is_ipv4 else 32)
     return Packet(ethernet, is_ipv4, options, protocol, addresses, chance.getrandbits(16), bytes(l4), payload)
 
@@ -146,17 +153,24 @@ def advanced(chance: random.Random) -> tuple[list[str], list[bytes]]:
     index, mss = chance.randrange(2), chance.randrange(200, 9000) if is_large else 0
     ip_bytes = (20 if packet.is_ipv4 else 40) + len(packet.options)
     first = ip_bytes | len(packet.ethernet) << 9 | (tag or 0) << 16
-    second = CONTEXT | DEXT | (packet.is_ipv4 and is_large) << 10 | TYPES[packet.protocol] << 11 | index << 36
+    # a large send has its sums made: IPv4's where the context or the data descriptor says so, the others always
+    asks_ip, asks_l4 = packet.is_ipv4 and chance.random() < 0.7, chance.random() < 0.7
+    says_ipv4 = packet.is_ipv4 and is_large and chance.random() < 0.8
+    sums_ip, sums_l4 = asks_ip or says_ipv4, asks_l4 or is_large
+    second = CONTEXT | DEXT | says_ipv4 << 10 | TYPES[packet.protocol] << 11 | index << 36
     second |= len(packet.l4) << 40 | mss << 48 if is_large else 0
     lines = [f"context {first:x} {second:x}"]
+    if chance.random() < 0.5:  # and the other one, which isn't this packet's
+        other = CONTEXT | DEXT | (1 - index) << 36 | chance.getrandbits(36) & 0x3C00
+        lines.append(f"context {chance.getrandbits(32):x} {other | chance.getrandbits(24) << 40:x}")
     common = DATA | DEXT | index << 36 | (VLE if tag is not None else 0) | (TSE if is_large else 0)
-    common |= (2 | (1 if packet.is_ipv4 else 0)) << 40
+    common |= (asks_l4 << 1 | asks_ip) << 40
     given = packet.as_given(is_large)
     parts = pieces(chance, given, len(given) - len(packet.payload) if is_large else 1)
     for number, part in enumerate(parts):
         end = EOP | RS if number == len(parts) - 1 else 0
         lines.append(f"data {common | end | len(part):x} 0 {part.hex()}")
-    return lines, packet.frames(mss, tag)
+    return lines, packet.frames(mss, tag, sums_ip, sums_l4)
 
 
 def legacy(chance: random.Random) -> tuple[list[str], list[bytes]]:
@@ -175,6 +189,19 @@ def legacy(chance: random.Random) -> tuple[list[str], list[bytes]]:
     return [f"data {second:x} 1 {frame.hex()}"], [bytes(wanted)]
 
 
+def given_up(chance: random.Random) -> tuple[list[str], list[bytes]]:
+    """A packet whose queue is reset before its last descriptor, and a plain one."""
+    lines, _ = advanced(chance)
+    last, frame = plain(chance)
+    return [*(it for it in lines if not ends(it)), "forget", *last], frame
+
+
+def ends(line: str) -> bool:
+    """Whether this is a packet's last descriptor."""
+    words = line.split()
+    return words[0] == "data" and int(words[1], 16) & EOP != 0
+
+
 def plain(chance: random.Random) -> tuple[list[str], list[bytes]]:
     """A frame for which nothing is asked."""
     frame = chance.randbytes(chance.randrange(60, 1514))
@@ -185,7 +212,7 @@ def main(words: list[str]) -> int:
     program, seed, count = words[0], int(words[1]), int(words[2])
     chance, lines, wanted = random.Random(seed), [], []
     for _ in range(count):
-        made, frames = chance.choice([advanced, advanced, advanced, legacy, plain])(chance)
+        made, frames = chance.choice([advanced, advanced, advanced, legacy, plain, given_up])(chance)
         lines += made
         wanted += [*(frame.hex() for frame in frames), "."]
     ran = subprocess.run([program], input="\n".join(lines) + "\n", capture_output=True, text=True, check=False)

@@ -1,0 +1,121 @@
+/* The program itself, with a socket that it is given as a file: files PROGRAM. It must end as its page says. */
+#define _GNU_SOURCE
+#include <fcntl.h>
+#include <signal.h>
+#include <stdlib.h>
+#include <string.h>
+#include <sys/mman.h>
+#include <sys/prctl.h>
+#include <sys/socket.h>
+#include <sys/un.h>
+#include <sys/wait.h>
+#include <unistd.h>
+
+#include "../../tests/check.h"
+#include "peer/peer.h"
+
+#define FILE_NUMBER 9 /* which the socket has in the program */
+#define WORD "--fd=9"
+
+static const char *program;
+
+/* Starts the program with these words and the file; what it tells goes nowhere. */
+static pid_t start(const char *const *words, int file)
+{
+    pid_t child = fork();
+    CHECK(child >= 0);
+    if (child)
+        return child;
+    int nowhere = open("/dev/null", O_WRONLY);
+    prctl(PR_SET_PDEATHSIG, SIGKILL);
+    if (dup2(nowhere, 1) < 0 || dup2(nowhere, 2) < 0 || (file >= 0 && dup2(file, FILE_NUMBER) < 0))
+        _exit(100);
+    execv(program, (char *const *)(uintptr_t)words);
+    _exit(101);
+}
+
+static int status_of(pid_t child)
+{
+    int status = 0;
+    CHECK(waitpid(child, &status, 0) == child && WIFEXITED(status));
+    return WEXITSTATUS(status);
+}
+
+static void looks_like_the_card(struct peer *it)
+{
+    CHECK(peer_version(it) == 0 && peer_config(it, 0, 4) == 0x10F78086);
+}
+
+/* A client's socket: when the client has gone, the program ends. */
+static void connected(void)
+{
+    static const char *const words[] = {"server", WORD, NULL};
+    int ends[2];
+    CHECK(socketpair(AF_UNIX, SOCK_STREAM | SOCK_CLOEXEC, 0, ends) == 0);
+    pid_t child = start(words, ends[1]);
+    struct peer peer = {.file = ends[0]};
+    close(ends[1]);
+    looks_like_the_card(&peer);
+    peer_close(&peer);
+    CHECK(status_of(child) == 0);
+}
+
+/* A socket that listens: clients come and go, until SIGTERM; its name stays, which somebody else gave it. */
+static void listening(void)
+{
+    static const char *const words[] = {"server", WORD, "--quiet", NULL};
+    struct sockaddr_un name = {.sun_family = AF_UNIX};
+    struct peer peer;
+    snprintf(name.sun_path, sizeof name.sun_path, "/tmp/nic82599-test.%ld.file", (long)getpid());
+    int listener = socket(AF_UNIX, SOCK_STREAM | SOCK_CLOEXEC, 0);
+    CHECK(bind(listener, (struct sockaddr *)&name, sizeof name) == 0 && listen(listener, 4) == 0);
+    pid_t child = start(words, listener);
+    close(listener);
+    for (int time = 0; time < 3; time++) {
+        peer_open(&peer, name.sun_path);
+        looks_like_the_card(&peer);
+        peer_close(&peer);
+    }
+    kill(child, SIGTERM);
+    CHECK(status_of(child) == 0 && access(name.sun_path, F_OK) == 0 && unlink(name.sun_path) == 0);
+}
+
+static void other_words(void)
+{
+    static const struct {
+        const char *words[4];
+        bool has_file;
+        int status;
+    } cases[] = {
+        {{"server", WORD}, true, 2},
+        {{"server", WORD}, false, 2},
+        {{"server", "--fd=x"}, false, 3},
+        {{"server", "--fd=-1"}, false, 3},
+        {{"server", WORD, WORD "9"}, true, 2},
+        {{"server"}, false, 3},
+        {{"server", "--version"}, false, 0},
+        {{"server", "--help"}, false, 0},
+        {{"server", "help"}, false, 3},
+        {{"server", WORD, "--functions=1"}, true, 3},
+        {{"server", WORD, "--socket-path=x"}, true, 3},
+    };
+    int file = memfd_create("no socket", MFD_CLOEXEC);
+    for (size_t i = 0; i < sizeof cases / sizeof *cases; i++) {
+        int status = status_of(start(cases[i].words, cases[i].has_file ? file : -1));
+        if (status != cases[i].status)
+            fprintf(stderr, "case %zu: status %d\n", i, status);
+        CHECK(status == cases[i].status);
+    }
+    close(file);
+}
+
+int main(int count, char **words)
+{
+    CHECK(count == 2);
+    program = words[1];
+    connected();
+    listening();
+    other_words();
+    printf("files: passed\n");
+    return 0;
+}

@@ -43,6 +43,14 @@ static void forget(void)
     frame_length = 0;
 }
 
+/* Of a large send the device gets a short frame with the last descriptor, and nothing to send before. */
+static void check_stand_in(uint64_t second, size_t length)
+{
+    bool is_last = (second & NIC_TXD_EOP) != 0;
+    CHECK((second & NIC_TXD_DTYP) == NIC_TXD_DTYP_IS(is_last ? 3 : 2));
+    CHECK(is_last ? length > 0 && length <= OFFLOAD_STAND_IN : length == 0);
+}
+
 static void take_data(uint64_t second, bool is_legacy, const char *text)
 {
     static uint8_t bytes[LINE_MOST / 2];
@@ -53,8 +61,11 @@ static void take_data(uint64_t second, bool is_legacy, const char *text)
     if (is_legacy)
         second = legacy_transmit(second, &sum, &tag);
     CHECK((second & NIC_TXD_DTALEN) == length);
+    bool is_large = (second & NIC_TXD_TSE) != 0;
     second = offload_data(offload, 3, second, bytes, &length, is_legacy ? &sum : NULL, tag);
     CHECK((second & (NIC_TXD_POPTS | NIC_TXD_TSE | NIC_TXD_VLE)) == 0 && second & NIC_TXD_DEXT);
+    if (is_large)
+        check_stand_in(second, length);
     if ((second & NIC_TXD_DTYP) == NIC_TXD_DTYP_IS(3)) {
         CHECK((second & NIC_TXD_DTALEN) == length && frame_length + length <= sizeof frame);
         memcpy(frame + frame_length, bytes, length);

@@ -173,20 +173,32 @@ def advanced(chance: random.Random) -> tuple[list[str], list[bytes]]:
     return lines, packet.frames(mss, tag, sums_ip, sums_l4)
 
 
+def too_large(chance: random.Random) -> tuple[list[str], list[bytes]]:
+    """A large send of more bytes than the card takes: nothing goes out."""
+    lines, _ = advanced(chance)
+    while not any(int(it.split()[1], 16) & TSE for it in lines if it.startswith("data")):
+        lines, _ = advanced(chance)
+    (last,) = [it for it in lines if ends(it)]
+    more = f"data {DATA | DEXT | TSE | 16000:x} 0 {chance.randbytes(16000).hex()}"
+    return [*(it for it in lines if it != last), *[more] * 17, last], []
+
+
 def legacy(chance: random.Random) -> tuple[list[str], list[bytes]]:
-    """A legacy descriptor with a checksum and a tag, or neither."""
+    """Legacy descriptors of a frame, the last of them with a checksum and a tag, or neither."""
     frame = bytearray(chance.randbytes(chance.randrange(60, 1514)))
-    second = EOP | RS | len(frame)
-    wanted = bytearray(frame)
+    end, wanted = EOP | RS, bytearray(frame)
     if chance.random() < 0.6:
         start, at = chance.randrange(14, 40), chance.randrange(14, 56)
-        second |= INSERT_SUM | start << 40 | at << 16
+        end |= INSERT_SUM | start << 40 | at << 16
         struct.pack_into(">H", wanted, at, checksum(bytes(frame[start:])))
     if chance.random() < 0.5:
         tag = chance.getrandbits(16)
-        second |= VLE | tag << 48
+        end |= VLE | tag << 48
         wanted[12:12] = struct.pack(">HH", 0x8100, tag)
-    return [f"data {second:x} 1 {frame.hex()}"], [bytes(wanted)]
+    cut = chance.randrange(len(frame))
+    parts = [part for part in (frame[:cut], frame[cut:]) if part]
+    lines = [f"data {len(it) | (end if it is parts[-1] else 0):x} 1 {it.hex()}" for it in parts]
+    return lines, [bytes(wanted)]
 
 
 def given_up(chance: random.Random) -> tuple[list[str], list[bytes]]:
@@ -212,7 +224,8 @@ def main(words: list[str]) -> int:
     program, seed, count = words[0], int(words[1]), int(words[2])
     chance, lines, wanted = random.Random(seed), [], []
     for _ in range(count):
-        made, frames = chance.choice([advanced, advanced, advanced, legacy, plain, given_up])(chance)
+        kinds = [advanced, advanced, advanced, legacy, plain, given_up]
+        made, frames = (too_large if chance.random() < 0.01 else chance.choice(kinds))(chance)
         lines += made
         wanted += [*(frame.hex() for frame in frames), "."]
     ran = subprocess.run([program], input="\n".join(lines) + "\n", capture_output=True, text=True, check=False)

@@ -299,6 +299,28 @@ def check_no_bytes(folder: Path, expect: Expect) -> None:
     check_tool(["nicdebug", file], "s 3\nwhy\n", 0, ["the frame has 0 bytes"], expect)
 
 
+def check_notes(folder: Path, expect: Expect) -> None:
+    """What a program says of its events stands beside them: in the page, in a part of it, and in the trace."""
+    file = folder / "notes.rec"
+    nic82599.record(file)
+    with nic82599.Nic(0) as nic:
+        nic.lend(1)
+        nic.note("of the ring")
+        nic.write32(0x01000, 0x800)
+        nic.note("first")
+        nic.note("second \u00fc")
+        nic.write32(0x01008, 0x100)
+    nic82599.record(None)
+    for limit in (4_096, 1):
+        run = of_recording(str(file), limit)
+        said = [run.comment(step.pc) for step in run.steps]
+        wanted = ["", "of the ring"] if limit > 1 else ["after the 2 events before"]
+        wanted.append("first; second ??")
+        expect(said == wanted, f"the notes of the last {limit} events are {said}")
+        expect(Data(run).whole()["comments"] == said, "the page has other notes")
+        expect('"note":"first; second ??"' in perfetto.trace(run), "the trace hasn't the note")
+
+
 def check_history(folder: Path, expect: Expect) -> None:
     """A script of a recording with snapshots has what led to its end, and ends before an installed image."""
     file = folder / "history.recording"
@@ -450,7 +472,7 @@ def check_recordings(scripts: dict[Path, int | None], folder: Path, seed: int, e
     check_ends(folder, expect)
     check_refused(folder, expect)
     check_restored(folder, expect)
-    for check in (check_long, check_lent, check_no_bytes, check_history, check_cut, check_opening):
+    for check in (check_long, check_lent, check_no_bytes, check_notes, check_history, check_cut, check_opening):
         check(folder, expect)
     check_hostile(folder, chance, expect)
     print(f"{len(scripts)} scripts, recorded, with seed {seed}")

@@ -163,6 +163,11 @@ bool nic_is_proved(void);
    controllers that it makes itself, if the name has %p. */
 bool nic_record(const char *path);
 
+/* A comment in the recording of this controller, in front of what comes next: what the program knows of it and the
+   events don't say, such as what a block is for. `tools/nicview` shows it beside the next step. It has at most 200
+   bytes; a byte that isn't printable ASCII is written as `?`. DONE, also where the controller isn't recorded. */
+uint8_t nic_note(nic *n, const char *text);
+
 /* --- life --- */
 
 /* Makes a controller as after power-up: `vfs` virtual functions (at most 63), room for `fifo` frames that wait to be

@@ -9,7 +9,7 @@
 #include "catch_up.h"
 #include "recording.h"
 
-enum { MOST_VFS = 63, MOST_BLOCKS = 65536, UNIT = NICD_UNIT, SHOWN = 4, QUEUES = 128 };
+enum { MOST_VFS = 63, MOST_BLOCKS = 65536, UNIT = NICD_UNIT, SHOWN = 4, QUEUES = 128, NOTE_BYTES = 200 };
 
 #define IS_OFF __builtin_expect(!__atomic_load_n(&nicd_is_recording, __ATOMIC_RELAXED), 1)
 /* A handle that was never opened, or that nic_close ended. */
@@ -725,6 +725,31 @@ uint8_t nic_next_step(nic *n, nic_settling *where, nic_told *told)
         settled(it, told);
     nicd_leave(it);
     return status;
+}
+
+/* --- what the program knows --- */
+
+COLD void note(struct recording *it, const char *text)
+{
+    char shown[NOTE_BYTES + 1];
+    size_t length = 0;
+    for (; text[length] && length < NOTE_BYTES; length++)
+        shown[length] = text[length] >= ' ' && text[length] <= '~' ? text[length] : '?';
+    shown[length] = 0;
+    nicd_add(it, "# note: %s\n", shown);
+}
+
+uint8_t nic_note(nic *n, const char *text)
+{
+    if (IS_CLOSED(n))
+        return NIC_CLOSED;
+    if (IS_OFF)
+        return NIC_DONE;
+    struct recording *it = nicd_enter(n);
+    if (it)
+        note(it, text);
+    nicd_leave(it);
+    return NIC_DONE;
 }
 
 /* --- the EEPROM: a script can't install an image, so these too are comments to it --- */

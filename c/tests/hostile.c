@@ -77,6 +77,7 @@ static void closed_steps(nic *n)
     ANSWERS(NIC_CLOSED, nic_int_step(n, 0, &told));
     ANSWERS(NIC_CLOSED, nic_settle(n, 1, &told, 1, &count));
     ANSWERS(NIC_CLOSED, nic_next_step(n, &where, &told));
+    ANSWERS(NIC_CLOSED, nic_note(n, text));
     CHECK(nic_why(n, text, sizeof text) == 0 && !*text && where.at == 9);
     CHECK(count == 0 && told.queue == 0x0707 && told.status == 7 && frame[0] == 2);
 }

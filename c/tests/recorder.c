@@ -64,14 +64,19 @@ static void files(void)
     nic_close(&late);
 }
 
+#define NOTE_50 "01234567890123456789012345678901234567890123456789"
+#define NOTE_200 NOTE_50 NOTE_50 NOTE_50 NOTE_50
+
 /* What no script can tell: snapshots, an image, and calls that are refused. */
 static void beyond_scripts(void)
 {
     nic n;
     nic_kept kept, unknown;
     uint64_t line = 0;
+    static const char long_text[] = NOTE_200 "and more";
     const uint8_t odd[1] = {0}, text[] = "size 64\n";
     ANSWERS(NIC_DONE, nic_open(&n, 0, 4, 2));
+    ANSWERS(NIC_DONE, nic_note(&n, "of a controller that isn't recorded"));
     ANSWERS(NIC_DONE, nic_snapshot(&n, &unknown));
     nic_close(&n);
     CHECK(nic_record(path_of("beyond")));
@@ -83,6 +88,8 @@ static void beyond_scripts(void)
     ANSWERS(NIC_IMAGE_ODD_LENGTH, nic_install_image(&n, odd, 1));
     ANSWERS(NIC_DONE, nic_install_text(&n, text, sizeof text - 1, &line));
     ANSWERS(NIC_NO_BLOCK, nic_lend(&n, 70000));
+    ANSWERS(NIC_DONE, nic_note(&n, "a ring\n\x7F\xC3 # of mine"));
+    ANSWERS(NIC_DONE, nic_note(&n, long_text));
     ANSWERS(NIC_DONE, nic_restore(&n, &unknown));
     nic_drop_snapshot(&unknown);
     nic_close(&n);
@@ -94,6 +101,8 @@ static void beyond_scripts(void)
                                "# an EEPROM image: image: odd length\n"
                                "#: text 73697a652036340a\n"
                                "# lend: no block\n"
+                               "# note: a ring??? # of mine\n"
+                               "# note: " NOTE_200 "\n"
                                "#: restore 0\n"));
 }
 

@@ -321,6 +321,7 @@ _CALLS: dict[str, list[object]] = {
     "nic_int_step": [_NIC, _U8, _AT],
     "nic_settle": [_NIC, _U16, _AT, _SIZE, _AT],
     "nic_next_step": [_NIC, _AT, _AT],
+    "nic_note": [_NIC, ctypes.c_char_p],
     "nic_install_image": [_NIC, _BYTES, _SIZE],
     "nic_install_text": [_NIC, _BYTES, _SIZE, _AT],
     "nic_hash": [_BYTES, _BYTES, _SIZE, _AT],
@@ -874,6 +875,10 @@ class Nic(_Registers, _OneOwner):
     def link(self, up: bool) -> bool:
         """The link goes up or down; False if it was so already."""
         return self._call("nic_link", bool(up)) == statuses.DONE
+
+    def note(self, text: str) -> None:
+        """A comment in the recording of this controller, in front of what comes next; `tools/nicview` shows it."""
+        self._call("nic_note", text.encode())
 
     # --- steps ---
 

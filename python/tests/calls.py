@@ -212,6 +212,12 @@ class Registers(unittest.TestCase):
             with self.assertRaises(ValueError):
                 nic["RXCTRL"] = bad
 
+    def test_note(self) -> None:
+        with nic82599.Nic(0) as nic:
+            nic.note("of nothing that is recorded")
+        with self.assertRaises(nic82599.Closed):
+            nic.note("of a controller that was closed")
+
     def test_why_stray(self) -> None:
         """Which it is: no register, no such function, no pool for it, or no such queue of its pool."""
         nic, none, one = Nic(vfs=40), Nic(), Nic(vfs=1)

@@ -47,6 +47,7 @@ def _told(run: Run, step: Step) -> Event:
     reasons = [reason.text for reason in run.reasons[step.number] if reason.held]
     told = {"step": step.number, "line": run.line(step.pc), "answer": step.answer, "changes": changes, "why": reasons}
     told["niclint"] = run.warnings.get(step.pc, [])
+    told["note"] = run.comment(step.pc) if run.is_recorded else ""
     return {key: value for key, value in told.items() if value not in ("", {}, [])}
 
 

@@ -29,6 +29,8 @@ from .trace import trace as of_text
 # What a line of a recording can be wrong by.
 BAD = (ValueError, KeyError, IndexError, OverflowError, TypeError, NicError)
 EMPTY = ": no bytes"
+# What the program said of what comes next (nic_note).
+NOTE = "# note: "
 # Behind these the steps begin anew.
 RESTARTS = (["restore"], ["image"], ["text"])
 
@@ -187,6 +189,15 @@ class Player:
 # --- the steps that are shown ---
 
 
+def _notes(recording: Recording) -> dict[int, str]:
+    """What the program said of each event, by its number from 0 on: the notes between it and the one before."""
+    told: dict[int, list[str]] = {}
+    for number, line in enumerate(recording.lines, 1):
+        if line.startswith(NOTE):
+            told.setdefault(bisect_right(recording.line_of, number), []).append(line.removeprefix(NOTE))
+    return {event: "; ".join(texts) for event, texts in told.items()}
+
+
 def _shown(recording: Recording) -> tuple[Script, list[str]]:
     """What is shown as a script, and the reply that each instruction had."""
     lines = [line[3:] if line.startswith("#: lend ") else line for line in recording.lines[recording.begin :]]
@@ -289,10 +300,14 @@ def trace(player: Player) -> Trace:
             break
         always |= missed
     bench.begin_debug(script, [step.reply for step in steps])
+    notes, extra = _notes(recording), bool(recording.before)
     for step, reply in zip(steps, replies):
+        at = script.line_of[step.pc] - 1
         if step.reply == reply:  # what was recorded stands where it is another answer
-            at = script.line_of[step.pc] - 1
             script.lines[at] = script.lines[at].partition("#")[0].rstrip()
+        note = notes.get(recording.before + step.pc - extra) if reply != "after" else None
+        if note:
+            script.lines[at] += f"  # {note}"
         player.others += step.reply != reply and reply != "after"
     if recording.before:
         steps[0].lent = [("+", *row) for row in in_rows(lent)]

@@ -90,6 +90,7 @@ extern "C" {
     fn nic_settle(n: *mut RawNic, queues: u16, told: *mut Told, length: usize, count: *mut usize) -> u8;
     fn nic_next_step(n: *mut RawNic, place: *mut Settling, told: *mut Told) -> u8;
     fn nic_why(n: *mut RawNic, text: *mut u8, size: usize) -> usize;
+    fn nic_note(n: *mut RawNic, text: *const c_char) -> u8;
     fn nic_install_image(n: *mut RawNic, bytes: *const u8, length: usize) -> u8;
     fn nic_install_text(n: *mut RawNic, text: *const u8, length: usize, line: *mut u64) -> u8;
     fn nic_hash(key: *const u8, input: *const u8, length: usize, hash: *mut u32) -> u8;
@@ -347,6 +348,12 @@ impl Handle {
     pub(crate) fn why(&self, room: &mut [u8]) -> usize {
         // SAFETY: the controller is open; the room has as many bytes as its length.
         unsafe { nic_why(self.n(), room.as_mut_ptr(), room.len()) }
+    }
+
+    /// A comment in the recording.
+    pub(crate) fn note(&self, text: &CStr) {
+        // SAFETY: the controller is open; the text ends with a zero, and is copied.
+        unsafe { nic_note(self.n(), text.as_ptr()) };
     }
 
     pub(crate) fn install_image(&self, bytes: &[u8]) -> u8 {

@@ -1,6 +1,7 @@
 //! A controller, and its virtual functions.
 
 use std::cell::Cell;
+use std::ffi::CString;
 use std::fmt;
 
 use crate::error::{Absent, Error};
@@ -440,6 +441,12 @@ impl Nic {
         room.truncate(length);
         let text = String::from_utf8_lossy(&room);
         text.trim_end().to_owned()
+    }
+
+    /// A comment in the recording of this controller, in front of what comes next, if it is recorded
+    /// ([`record`](crate::record)). It has at most 200 bytes; one that isn't printable ASCII is written as `?`.
+    pub fn note(&self, text: &str) {
+        self.handle.note(&CString::new(text.replace('\0', "?")).unwrap_or_default());
     }
 
     // --- the EEPROM ---

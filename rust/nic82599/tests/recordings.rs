@@ -13,6 +13,7 @@ fn recordings() {
     record(Some(&path)).unwrap();
     let nic = Nic::open(Sizes::default()).unwrap();
     nic.write(regs::RXCTRL, 1);
+    nic.note("of queue\0 3 \u{fc}");
     nic.read(regs::SRRCTL.at(3));
     assert_eq!(record(Some(Path::new("/nowhere/it"))), Err(Error::NoRecording));
     assert_eq!(record(Some(Path::new("no\0name"))), Err(Error::NoRecording));
@@ -22,5 +23,6 @@ fn recordings() {
     fs::remove_dir_all(&folder).unwrap();
     let lines = text.lines().map(|it| it.split('#').next().unwrap_or("").trim()).filter(|it| !it.is_empty());
     assert_eq!(lines.collect::<Vec<_>>(), ["w 0x03000 0x00000001", "r 0x010d4"], "{text}");
+    assert!(text.contains("\n# note: of queue? 3 ??\nr 0x010d4"), "{text}");
     assert!(text.starts_with("#: nic vfs 0 fifo 64 blocks 256"));
 }

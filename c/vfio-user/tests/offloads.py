@@ -12,7 +12,7 @@ import random
 import struct
 import subprocess
 import sys
-from dataclasses import dataclass
+from dataclasses import dataclass, replace
 
 EOP, RS, DEXT, VLE, TSE = 1 << 24, 1 << 27, 1 << 29, 1 << 30, 1 << 31
 DATA, CONTEXT, INSERT_SUM = 3 << 20, 2 << 20, 1 << 26
@@ -48,6 +48,15 @@ class Packet:
     identification: int
     l4: bytes  # its header, with zeros for length and checksum
     payload: bytes
+    padding: bytes = b""  # behind the packet, of which no sum is made
+
+    def with_sum_of_zero(self) -> Packet:
+        """The same UDP datagram, whose sum is 0, so that the field gets ones."""
+        payload = self.payload[: len(self.payload) // 2 * 2]
+        length = len(self.l4) + len(payload) + 2
+        head = self.l4[:4] + struct.pack(">H", length) + self.l4[6:]
+        rest = checksum(self.pseudo(length) + head + payload)
+        return replace(self, payload=payload + struct.pack(">H", rest))
 
     def ip(self, l4_bytes: int, number: int, summed: bool) -> bytes:
         if not self.is_ipv4:
@@ -98,7 +107,7 @@ class Packet:
             part = self.payload[offset : offset + step]
             is_last = offset + step >= len(self.payload)
             data = self.segment(part, offset, number == 0, is_last, sums_l4)
-            frame = self.ethernet + self.ip(len(data), number, sums_ip) + data
+            frame = self.ethernet + self.ip(len(data), number, sums_ip) + data + self.padding
             found.append(frame if tag is None else frame[:12] + struct.pack(">HH", 0x8100, tag) + frame[12:])
         return found
 
@@ -109,7 +118,7 @@ class Packet:
         if self.protocol == UDP:
             struct.pack_into(">H", head, 4, length)
         given = self.with_partial_sum(bytes(head), 0 if is_large else length)
-        return self.ethernet + self.ip(length, 0, False) + given + self.payload
+        return self.ethernet + self.ip(length, 0, False) + given + self.payload + self.padding
 
 
 def some_packet(chance: random.Random, is_large: bool) -> Packet:
@@ -132,7 +141,10 @@ def some_packet(chance: random.Random, is_large: bool) -> Packet:
     ethernet = mac + tagged + (b"\x08\x00" if is_ipv4 else b"\x86\xdd")
     payload = chance.randbytes(chance.randrange(1 if is_large else 0, chance.choice([2, 40, most])))
     addresses = chance.randbytes(8 if is_ipv4 else 32)
-    return Packet(ethernet, is_ipv4, options, protocol, addresses, chance.getrandbits(16), bytes(l4), payload)
+    padding = b"" if is_large else chance.randbytes(chance.choice([0, 0, 1, 18]))
+    number = chance.getrandbits(16)
+    packet = Packet(ethernet, is_ipv4, options, protocol, addresses, number, bytes(l4), payload, padding)
+    return packet.with_sum_of_zero() if protocol == UDP and chance.random() < 0.1 else packet
 
 
 def pieces(chance: random.Random, data: bytes, least: int) -> list[bytes]:

@@ -72,9 +72,12 @@ static uint32_t to_driver(unsigned int function, uint32_t address, uint32_t word
     return rings_to_driver(the_card->rings, address, word);
 }
 
-static void stepping(bool is_transmit, uint16_t queue)
+static uint64_t waiting(const struct card *it);
+
+static bool stepping(bool is_transmit, uint16_t queue)
 {
-    rings_step(the_card->rings, is_transmit, queue);
+    bool is_due = rings_step(the_card->rings, is_transmit, queue);
+    return is_transmit ? is_due : waiting(the_card) != 0;
 }
 
 static void on_reset(uint16_t queue)
@@ -245,20 +248,29 @@ unsigned int card_receive(struct card *it)
     return waiting(it) ? bus_receive() : 0;
 }
 
-/* A message is due only where a cause and its mask are there, and most of the time none is. */
+/* A message of a function is due only where a cause and its mask are there, and most of the time none is. */
+static bool has_cause(unsigned int function)
+{
+    if (function == BUS_PHYSICAL)
+        return bus_peek(NIC_EICR) & bus_peek(NIC_EIMS);
+    return bus_peek(NIC_PVTEICR(function - 1)) & bus_peek(NIC_PVTEIMS(function - 1));
+}
+
 static bool any_cause(const struct card *it)
 {
-    if (bus_peek(NIC_EICR) & bus_peek(NIC_EIMS))
-        return true;
-    for (unsigned int v = 0; v < it->options.functions; v++)
-        if (bus_peek(NIC_PVTEICR(v)) & bus_peek(NIC_PVTEIMS(v)))
+    for (unsigned int function = 0; function <= it->options.functions; function++)
+        if (has_cause(function))
             return true;
     return false;
 }
 
 unsigned int card_messages(struct card *it)
 {
-    return any_cause(it) ? bus_messages(on_message) : 0;
+    unsigned int all = 0;
+    for (unsigned int function = 0; function <= it->options.functions; function++)
+        while (has_cause(function) && bus_message(function, on_message))
+            all++;
+    return all;
 }
 
 void card_transmit(struct card *it, uint16_t queue)
@@ -435,7 +447,8 @@ bool card_open(struct card *it, const struct card_options *options)
                                         .refused = refused,
                                         .of = it,
                                         .offload = it->offload,
-                                        .has_legacy = options->has_legacy};
+                                        .has_legacy = options->has_legacy,
+                                        .is_recorded = options->is_recorded};
     it->rings = rings_new(&rings);
     bus_send_to(sent);
     return it->rings && (it->offload || !options->has_offloads);

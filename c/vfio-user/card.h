@@ -24,6 +24,7 @@ struct card_options {
     bool has_check; /* each access outside the guest's memory is told with the accesses of registers before it */
     bool has_seed;  /* steps are late by this seed */
     uint64_t seed;
+    bool is_recorded; /* the device is, by nic_record or its variable */
     FILE *trace;
 };
 

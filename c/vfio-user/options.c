@@ -234,5 +234,6 @@ enum options_status options_read(struct options *it, int count, char **words)
         if (!is_known && !read_file_word(it, words[i]) && !read_plain_word(it, words[i]))
             return wrong("what is ", words[i]);
     }
+    it->card.is_recorded = it->record || getenv("NIC82599_RECORD");
     return check(it);
 }

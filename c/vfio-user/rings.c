@@ -1,5 +1,7 @@
 #include "rings.h"
 
+#include <inttypes.h>
+#include <stdio.h>
 #include <stdlib.h>
 #include <string.h>
 
@@ -175,6 +177,31 @@ static void take_place(struct rings *it, enum side side, uint16_t queue, uint32_
         it->counts.blocks_most = it->counts.blocks;
 }
 
+/* ---- recordings ---- */
+
+/* What a recording doesn't say: where the guest has what the device gets at another address. */
+static void note_slot(struct rings *it, enum side side, uint16_t queue, uint32_t slot, uint64_t buffer)
+{
+    const struct ring *ring = &it->rings[side][queue];
+    char text[128];
+    if (!it->options.is_recorded)
+        return;
+    snprintf(text, sizeof text, "guest: %s %u slot %" PRIu32 " at 0x%" PRIx64 ", its buffer at 0x%" PRIx64,
+             side == TRANSMIT ? "tx" : "rx", queue, slot, ring->base + (uint64_t)NIC_DESC_BYTES * slot, buffer);
+    nic_note(it->options.device, text);
+}
+
+static void note_ring(struct rings *it, enum side side, uint16_t queue)
+{
+    const struct ring *ring = &it->rings[side][queue];
+    char text[128];
+    if (!it->options.is_recorded)
+        return;
+    snprintf(text, sizeof text, "guest: the ring of %s %u is at 0x%" PRIx64 ", %" PRIu32 " slots, of function %u",
+             side == TRANSMIT ? "tx" : "rx", queue, ring->base, ring->slots, ring->function);
+    nic_note(it->options.device, text);
+}
+
 /* ---- registers ---- */
 
 static void mark(struct rings *it, uint32_t address, enum part part, enum side side, unsigned int queue)
@@ -225,6 +252,8 @@ static void enable(struct rings *it, enum side side, uint16_t queue, uint32_t wo
 {
     struct ring *ring = &it->rings[side][queue];
     uint32_t control = peek(it, NIC_SRRCTL(queue));
+    if (word & NIC_RXDCTL_ENABLE)
+        note_ring(it, side, queue);
     forget_ahead(ring);
     ring->next_ahead = peek(it, side == TRANSMIT ? NIC_TDH(queue) : NIC_RDH(queue));
     if (side == TRANSMIT)
@@ -404,6 +433,7 @@ static void give_receive(struct rings *it, uint16_t queue)
     lend(it, place, RECEIVE_BLOCKS);
     if (take_slot(it, ring, queue, slot, &descriptor)) {
         ring->buffer = descriptor.first & NIC_RXD_BUFFER;
+        note_slot(it, RECEIVE, queue, slot, ring->buffer);
         descriptor = (nic_desc){bus_of(place), 0};
     }
     put_slot(it, ring, slot, descriptor); /* which points to nothing where the guest's can't be read: a fault */
@@ -446,6 +476,8 @@ static void give_transmit(struct rings *it, uint16_t queue)
         uint64_t type = (descriptor.second & NIC_TXD_DTYP) >> NIC_TXD_DTYP_SHIFT;
         bool is_legacy = it->options.has_legacy && legacy_is_transmit(descriptor.second);
         if (is_legacy || type == 3)
+            note_slot(it, TRANSMIT, queue, slot, descriptor.first);
+        if (is_legacy || type == 3)
             descriptor = data_for_device(it, ring, queue, descriptor);
         else if (it->options.offload && type == 2)
             offload_context(it->options.offload, queue, descriptor.first, descriptor.second);
@@ -453,12 +485,13 @@ static void give_transmit(struct rings *it, uint16_t queue)
     put_slot(it, ring, slot, descriptor);
 }
 
-void rings_step(struct rings *it, bool is_transmit, uint16_t queue)
+bool rings_step(struct rings *it, bool is_transmit, uint16_t queue)
 {
     if (is_transmit)
         give_transmit(it, queue);
     else
         give_receive(it, queue);
+    return !is_transmit || peek(it, NIC_TDH(queue)) != peek(it, NIC_TDT(queue));
 }
 
 void rings_prepare_receive(struct rings *it)

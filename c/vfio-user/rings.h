@@ -35,6 +35,7 @@ struct rings_options {
     void *of;
     struct offload *offload; /* null: descriptors go to the device as they are */
     bool has_legacy;         /* legacy descriptors are advanced ones on the device's side */
+    bool is_recorded;        /* the device's recording gets the guest's addresses as notes */
 };
 
 struct rings_counts {
@@ -61,8 +62,9 @@ void rings_tail(struct rings *it, bool is_transmit, uint16_t queue, uint32_t tai
 void rings_head(struct rings *it, bool is_transmit, uint16_t queue, uint32_t head);
 void rings_reset(struct rings *it, uint16_t queue);
 
-/* Gives the device what its next step of this queue needs: before each transmit step, and behind a receive step. */
-void rings_step(struct rings *it, bool is_transmit, uint16_t queue);
+/* Gives the device what its next step of this queue needs: before each transmit step, and behind a receive step. False:
+   the transmit queue has nothing that could be sent. */
+bool rings_step(struct rings *it, bool is_transmit, uint16_t queue);
 /* The same for each receive queue that was touched: before receive steps. */
 void rings_prepare_receive(struct rings *it);
 

@@ -46,10 +46,11 @@ struct bus_hooks {
     void (*giving)(bool is_transmit, uint16_t queue, uint32_t tail);
     void (*tail)(bool is_transmit, uint16_t queue); /* a tail moved; what it gave away is sent */
     /* for a run that has a memory.h of its own: a word on its way to the device, or read there, by the physical
-       function's address of the register; before a transmit step, or after a receive step wrote; a queue's reset */
+       function's address of the register; before a transmit step, or after a receive step wrote, and whether the
+       device is to be asked (again), false where it would be idle; a queue's reset */
     uint32_t (*to_device)(unsigned int function, uint32_t address, uint32_t word);
     uint32_t (*to_driver)(unsigned int function, uint32_t address, uint32_t word);
-    void (*stepping)(bool is_transmit, uint16_t queue);
+    bool (*stepping)(bool is_transmit, uint16_t queue);
     void (*reset)(uint16_t queue);
 };
 
@@ -141,6 +142,8 @@ bool bus_is_settled(uint16_t queues);
 
 /* Takes the messages of all functions that are due, and hands each over; how many they were. */
 unsigned int bus_messages(void (*message)(unsigned int function, unsigned int vector));
+/* One message of a function, if it is due: whether it was. */
+bool bus_message(unsigned int function, void (*message)(unsigned int function, unsigned int vector));
 
 /* Whether the card's interrupt line is up for a cause that is no queue's: EICR and EIMS have it. */
 bool bus_line(void);

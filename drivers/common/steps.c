@@ -36,8 +36,8 @@ void steps_transmit(uint16_t queue)
 {
     for (;;) {
         nic_told told;
-        if (hooks.stepping)
-            hooks.stepping(true, queue);
+        if (hooks.stepping && !hooks.stepping(true, queue))
+            return;
         uint8_t status = nic_tx_step(bus_device(), queue, &told);
         if (status == NIC_FAULT)
             fault("sending", &told);
@@ -51,7 +51,8 @@ void steps_transmit(uint16_t queue)
     }
 }
 
-static void wrote(const nic_told *told)
+/* Whether there may be more to do. */
+static bool wrote(const nic_told *told)
 {
     memory_to_driver(told->at, told->len);
     memory_to_driver(told->desc, BUS_SLOT);
@@ -61,10 +62,10 @@ static void wrote(const nic_told *told)
         if (last)
             *last ^= 1;
     }
-    if (hooks.stepping)
-        hooks.stepping(false, told->queue);
+    bool has_more = !hooks.stepping || hooks.stepping(false, told->queue);
     if (hooks.filled)
         hooks.filled(told->queue, told->desc, told->end);
+    return has_more;
 }
 
 unsigned int bus_receive(void)
@@ -73,8 +74,9 @@ unsigned int bus_receive(void)
         nic_told told;
         switch (nic_rx_step(bus_device(), &told)) {
         case NIC_WROTE:
-            wrote(&told);
             written++;
+            if (!wrote(&told))
+                return written;
             break;
         case NIC_DROPPED:
             counts.drops++;
@@ -133,18 +135,23 @@ unsigned int bus_least_room(void)
 
 /* ---- interrupts ---- */
 
+bool bus_message(unsigned int function, void (*message)(unsigned int function, unsigned int vector))
+{
+    nic_told told;
+    if (nic_int_step(bus_device(), (uint8_t)function, &told) != NIC_MESSAGE)
+        return false;
+    counts.messages[function]++;
+    counts.vectors[function] |= 1u << told.vector % VECTORS;
+    message(function, told.vector);
+    return true;
+}
+
 unsigned int bus_messages(void (*message)(unsigned int function, unsigned int vector))
 {
     unsigned int all = 0;
-    for (unsigned int function = 0; function <= bus_inside.options.functions; function++) {
-        nic_told told;
-        while (nic_int_step(bus_device(), (uint8_t)function, &told) == NIC_MESSAGE) {
-            counts.messages[function]++;
-            counts.vectors[function] |= 1u << told.vector % VECTORS;
-            message(function, told.vector);
+    for (unsigned int function = 0; function <= bus_inside.options.functions; function++)
+        while (bus_message(function, message))
             all++;
-        }
-    }
     return all;
 }
 

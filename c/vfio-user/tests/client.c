@@ -602,7 +602,16 @@ static void with_a_cut_file(const char *path)
     peer_close(&peer);
 }
 
-int main(void)
+/* A driver's run in a recording, for whoever looks at that. */
+static void recorded(const char *file)
+{
+    static char word[256];
+    static const char *const words[] = {word, NULL};
+    snprintf(word, sizeof word, "--record=%s", file);
+    late(words);
+}
+
+int main(int count, char **own_words)
 {
     static char control_path[100], control_word[140];
     static const char *const words[] = {"--functions=2", "--iommu-check", control_word, NULL};
@@ -611,6 +620,8 @@ int main(void)
     make_ram();
     for (size_t i = 0; i < sizeof seeds / sizeof *seeds; i++)
         late(seeds[i]);
+    if (count > 1)
+        recorded(own_words[1]);
     snprintf(control_path, sizeof control_path, "/tmp/nic82599-test.%ld.control", (long)getpid());
     snprintf(control_word, sizeof control_word, "--control=%s", control_path);
     const char *path = server_start(words);

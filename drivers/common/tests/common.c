@@ -401,10 +401,11 @@ static uint32_t plus_one(unsigned int function, uint32_t address, uint32_t word)
     return address == NIC_LEDCTL ? word + 1 : word;
 }
 
-static void on_stepping(bool is_transmit, uint16_t queue)
+static bool on_stepping(bool is_transmit, uint16_t queue)
 {
     CHECK(is_transmit && queue == QUEUE);
     steps++;
+    return true;
 }
 
 static void on_reset(uint16_t queue)

@@ -42,10 +42,12 @@ static int serve(const char *const *words)
     sigprocmask(SIG_BLOCK, &blocked, &unblocked);
     signal(SIGTERM, on_term);
     signal(SIGPIPE, SIG_IGN);
-    if (!memory_map_guard() || options_read(&it.options, count, all) != OPTIONS_GO || !server_open(&it))
+    if (!memory_map_guard() || options_read(&it.options, count, all) != OPTIONS_GO ||
+        (it.options.record && !nic_record(it.options.record)) || !server_open(&it))
         return 2;
     server_run(&it, &server_ends, &unblocked);
-    tell_counts(&it, stdout);
+    if (!it.options.is_quiet)
+        tell_counts(&it, stdout);
     server_close(&it);
     return 0;
 }

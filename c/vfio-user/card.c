@@ -417,6 +417,8 @@ void card_tell_due(const struct card *it, FILE *to)
         fprintf(to, "rx: at most %" PRIu64 " frames\n", waiting(it));
     if (any_cause(it))
         fprintf(to, "int: EICR %08" PRIx32 ", EIMS %08" PRIx32 "\n", bus_peek(NIC_EICR), bus_peek(NIC_EIMS));
+    if (reads_eeprom())
+        fprintf(to, "eestep: EERD %08" PRIx32 "\n", bus_peek(NIC_EERD));
 }
 
 /* ---- the whole ---- */

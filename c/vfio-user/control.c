@@ -244,7 +244,7 @@ static const struct {
     {"rx", receive, "receive steps until there is nothing to do"},
     {"int", interrupt, "all messages that are due"},
     {"qstep", queue_step, "qstep rx QUEUE, qstep tx QUEUE: the queue is on or off as it was asked"},
-    {"eeprom", eeprom, "the EEPROM answers"},
+    {"eestep", eeprom, "the EEPROM answers"},
     {"peek", peek, "peek ADDRESS: a register's word, without a read's effects"},
     {"help", help, "these lines"},
 };

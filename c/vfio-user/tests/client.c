@@ -353,6 +353,10 @@ static void held(const char *path, const char *control_path)
     CHECK(!(peer_read(&peer, NIC_TXDCTL(1)) & NIC_TXDCTL_ENABLE) && says("qstep tx 1", "done"));
     CHECK(says("qstep tx 1", "idle") && peer_read(&peer, NIC_TXDCTL(1)) & NIC_TXDCTL_ENABLE);
     peer_write(&peer, NIC_TXDCTL(2), NIC_TXDCTL_ENABLE);
+    peer_write(&peer, NIC_EERD, NIC_EERD_START);
+    CHECK(!(peer_read(&peer, NIC_EERD) & NIC_EERD_DONE) && says("due", "eestep: EERD 00000001") &&
+          says("why", "eestep"));
+    CHECK(says("eestep", "done") && says("eestep", "idle") && !says("due", "eestep"));
     CHECK(says("link up", "done") && says("go", "ok") && peer_read(&peer, NIC_TXDCTL(2)) & NIC_TXDCTL_ENABLE);
     /* what was unmapped is outside: a fault, and not what was there before */
     CHECK(peer_unmap(&peer, RAM, RAM_BYTES) == 0);

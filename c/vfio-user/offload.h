@@ -11,7 +11,7 @@
 #include <stddef.h>
 #include <stdint.h>
 
-#include "legacy.h"
+#include "legacy_form.h"
 
 #define OFFLOAD_QUEUES 128
 #define OFFLOAD_CONTEXTS 2

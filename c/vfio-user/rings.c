@@ -560,7 +560,7 @@ static void filled(struct rings *it, uint64_t bus)
         return;
     }
     if (ring->is_legacy) {
-        __atomic_store_n(&to[1], legacy_received(descriptor.second), RELEASE);
+        __atomic_store_n(&to[1], legacy_written_back(descriptor.second), RELEASE);
         return;
     }
     __atomic_store_n(&to[0], descriptor.first, __ATOMIC_RELAXED);

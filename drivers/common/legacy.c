@@ -4,23 +4,13 @@
 #include <string.h>
 
 #include "bus.h"
+#include "legacy_form.h"
 #include "memory.h"
 #include "verdict.h"
 
-enum { ADVANCED = 1, DATA = 3 };
-
-#define TYPE NIC_SRRCTL_DESCTYPE
-/* the second address of the first 16 queues */
+/* the second address of the first 16 queues' SRRCTL */
 #define SRRCTL_ALIAS(queue) (0x02100u + 4 * (queue))
 #define ALIASES 16
-
-/* Of the second half of a transmit descriptor, its low word */
-#define LENGTH 0x0000FFFFu
-#define CHECKSUM 0x04000000u
-#define EXTENSION 0x20000000u /* the advanced form */
-#define TAG 0x40000000u
-#define DATA_TYPE ((uint32_t)DATA << 20)
-#define PAYLOAD_LOW 14 /* of its high word: how much is sent, in the advanced form */
 
 static struct {
     uint64_t sent, received;
@@ -62,15 +52,15 @@ uint32_t legacy_to_device(unsigned int function, uint32_t address, uint32_t word
     (void)function;
     if (queue == BUS_QUEUES)
         return word;
-    legacy.of[queue].is_legacy = !(word & TYPE);
-    return legacy.of[queue].is_legacy ? word | NIC_SRRCTL_DESCTYPE_IS(ADVANCED) : word;
+    legacy.of[queue].is_legacy = legacy_is_receive(word);
+    return legacy.of[queue].is_legacy ? legacy_receive(word) : word;
 }
 
 uint32_t legacy_to_driver(unsigned int function, uint32_t address, uint32_t word)
 {
     unsigned int queue = queue_of(address);
     (void)function;
-    return queue < BUS_QUEUES && legacy.of[queue].is_legacy ? word & ~TYPE : word;
+    return queue < BUS_QUEUES && legacy.of[queue].is_legacy ? word & ~NIC_SRRCTL_DESCTYPE : word;
 }
 
 /* ---- rings ---- */
@@ -91,12 +81,16 @@ static struct ring ring_of(bool is_transmit, uint16_t queue)
     };
 }
 
-static void make_advanced(uint32_t *descriptor)
+static void make_advanced(uint64_t *descriptor)
 {
-    if (descriptor[2] & (EXTENSION | CHECKSUM | TAG))
+    struct legacy_sum sum;
+    uint16_t tag;
+    if (!legacy_is_transmit(descriptor[1]) || descriptor[1] & NIC_TXD_VLE)
         return;
-    descriptor[3] = (descriptor[2] & LENGTH) << PAYLOAD_LOW;
-    descriptor[2] |= DATA_TYPE | EXTENSION;
+    uint64_t advanced = legacy_transmit(descriptor[1], &sum, &tag);
+    if (sum.is_wanted)
+        return;
+    descriptor[1] = advanced;
     legacy.sent++;
 }
 
@@ -123,26 +117,24 @@ void legacy_giving(bool is_transmit, uint16_t queue, uint32_t tail)
         return;
     }
     for (uint32_t slot = ring.tail; slot != tail; slot = (slot + 1) % ring.slots) {
-        uint32_t *descriptor = memory_at(ring.base + (uint64_t)BUS_SLOT * slot, BUS_SLOT);
+        uint64_t *descriptor = memory_at(ring.base + (uint64_t)BUS_SLOT * slot, BUS_SLOT);
         if (descriptor && is_transmit)
             make_advanced(descriptor);
         else if (descriptor)
-            memcpy(&legacy.of[queue].addresses[slot], descriptor, sizeof(uint64_t));
+            legacy.of[queue].addresses[slot] = descriptor[0];
     }
 }
 
 void legacy_filled(uint16_t queue, uint64_t at, bool ends)
 {
-    uint32_t *descriptor = memory_at(at, BUS_SLOT);
+    uint64_t *descriptor = memory_at(at, BUS_SLOT);
     struct ring ring = ring_of(false, queue);
     uint64_t slot = (at - ring.base) / BUS_SLOT;
     (void)ends;
     if (!legacy.of[queue].is_legacy || !descriptor || slot >= legacy.of[queue].slots)
         return;
-    uint32_t status = descriptor[2] & 0xFF, length = descriptor[3] & LENGTH;
-    memcpy(descriptor, &legacy.of[queue].addresses[slot], sizeof(uint64_t));
-    descriptor[2] = length;
-    descriptor[3] = status;
+    descriptor[0] = legacy.of[queue].addresses[slot];
+    descriptor[1] = legacy_written_back(descriptor[1]);
     legacy.received++;
 }
 

@@ -1,7 +1,7 @@
 /* Legacy descriptors, which the bench's device doesn't know, as advanced ones and back. Drivers that use them: iPXE's,
    and others for small systems. The public source is the Intel 82599 10 GbE Controller Datasheet (331520). */
-#ifndef LEGACY_H
-#define LEGACY_H
+#ifndef DRIVERS_LEGACY_FORM_H
+#define DRIVERS_LEGACY_FORM_H
 
 #include <stdbool.h>
 #include <stdint.h>
@@ -18,7 +18,7 @@ bool legacy_is_transmit(uint64_t second);
 uint64_t legacy_transmit(uint64_t second, struct legacy_sum *sum, uint16_t *tag);
 /* The second half that a legacy receive descriptor is written back with, from the advanced one's; the first stays the
    buffer's address. */
-uint64_t legacy_received(uint64_t second);
+uint64_t legacy_written_back(uint64_t second);
 
 /* Whether a queue's SRRCTL asks for legacy descriptors, and what the device is given in its place. */
 bool legacy_is_receive(uint32_t srrctl);

@@ -1,4 +1,4 @@
-#include "legacy.h"
+#include "legacy_form.h"
 
 #include "nic82599.h"
 
@@ -28,7 +28,7 @@ uint64_t legacy_transmit(uint64_t second, struct legacy_sum *sum, uint16_t *tag)
     return (second & KEPT) | NIC_TXD_DTYP_IS(3) | NIC_TXD_DEXT | NIC_TXD_PAYLEN_IS(second & LENGTH);
 }
 
-uint64_t legacy_received(uint64_t second)
+uint64_t legacy_written_back(uint64_t second)
 {
     uint64_t length = (second & NIC_RXWB_PKT_LEN) >> NIC_RXWB_PKT_LEN_SHIFT;
     return length | (second & STATUS) << STATUS_SHIFT;

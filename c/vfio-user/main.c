@@ -5,6 +5,7 @@
 #include <stdio.h>
 #include <string.h>
 
+#include "ask.h"
 #include "server.h"
 #include "strays.h"
 #include "tell.h"
@@ -45,10 +46,14 @@ static bool open_files(struct options *options)
     return options->card.trace != NULL;
 }
 
+#define ASK "--ask="
+
 int main(int count, char **words)
 {
     static struct server server;
     sigset_t unblocked;
+    if (count > 1 && strncmp(words[1], ASK, strlen(ASK)) == 0)
+        return ask(words[1] + strlen(ASK), count - 2, words + 2);
     switch (options_read(&server.options, count, words)) {
     case OPTIONS_END: return 0;
     case OPTIONS_WRONG: return 3;

@@ -13,6 +13,7 @@
 static const char help[] =
     "Usage: " NAME " --socket-path=PATH [OPTION]..\n"
     "       " NAME " --fd=N [OPTION]..\n"
+    "       " NAME " --ask=PATH [REQUEST]..\n"
     "\n"
     "An Intel 82599 for a virtual machine, over vfio-user (QEMU 10.1 and later: -device vfio-user-pci). The guest's\n"
     "memory must be shared: -object memory-backend-memfd,id=ram,size=SIZE,share=on -machine memory-backend=ram.\n"
@@ -41,6 +42,8 @@ static const char help[] =
     "  --trace=FILE           write each access of a register there\n"
     "  --record=FILE          write what the device is asked as a script, for nicview\n"
     "  --quiet                don't tell counts at the end\n"
+    "  --ask=PATH             ask the server whose control socket that is: each word is a request, or each line of\n"
+    "                         standard input\n"
     "  --help, --version      tell this, or the version, and end\n";
 
 /* What is behind NAME= in a word; null: the word is another. */

@@ -26,9 +26,10 @@ static pid_t start(const char *const *words, int file)
     CHECK(child >= 0);
     if (child)
         return child;
-    int nowhere = open("/dev/null", O_WRONLY);
+    int nowhere = open("/dev/null", O_RDWR);
     prctl(PR_SET_PDEATHSIG, SIGKILL);
-    if (dup2(nowhere, 1) < 0 || dup2(nowhere, 2) < 0 || (file >= 0 && dup2(file, FILE_NUMBER) < 0))
+    if (dup2(nowhere, 0) < 0 || dup2(nowhere, 1) < 0 || dup2(nowhere, 2) < 0 ||
+        (file >= 0 && dup2(file, FILE_NUMBER) < 0))
         _exit(100);
     execv(program, (char *const *)(uintptr_t)words);
     _exit(101);
@@ -80,6 +81,28 @@ static void listening(void)
     CHECK(status_of(child) == 0 && access(name.sun_path, F_OK) == 0 && unlink(name.sun_path) == 0);
 }
 
+/* Requests from the command line, of a server and of nobody. */
+static void asked(void)
+{
+    char socket_word[64], control_word[128], ask_word[128];
+    const char *server_words[] = {"server", WORD, control_word, "--quiet", NULL};
+    const char *good[] = {"server", ask_word, "hold", "due", "go", NULL};
+    const char *bad[] = {"server", ask_word, "hold", "hold on", "go", NULL};
+    const char *none[] = {"server", ask_word, NULL}; /* standard input has no line */
+    int ends[2];
+    snprintf(socket_word, sizeof socket_word, "/tmp/nic82599-test.%ld.control", (long)getpid());
+    snprintf(control_word, sizeof control_word, "--control=%s", socket_word);
+    snprintf(ask_word, sizeof ask_word, "--ask=%s", socket_word);
+    CHECK(socketpair(AF_UNIX, SOCK_STREAM | SOCK_CLOEXEC, 0, ends) == 0);
+    pid_t child = start(server_words, ends[1]);
+    struct peer peer = {.file = ends[0]};
+    close(ends[1]);
+    looks_like_the_card(&peer);
+    CHECK(status_of(start(good, -1)) == 0 && status_of(start(bad, -1)) == 1 && status_of(start(none, -1)) == 0);
+    peer_close(&peer);
+    CHECK(status_of(child) == 0 && status_of(start(good, -1)) == 2);
+}
+
 static void other_words(void)
 {
     static const struct {
@@ -115,6 +138,7 @@ int main(int count, char **words)
     program = words[1];
     connected();
     listening();
+    asked();
     other_words();
     printf("files: passed\n");
     return 0;

@@ -244,6 +244,7 @@ REFUSALS = {
     "group": "a handler is of a virtual function that there isn't",
     "nowhere": "a handler is on a task that there isn't",
     "stack": "its stack is below 16,384 bytes",
+    "memory_kind": "its memory isn't of enum nicx_memory",
     "vfs": "there is no such device: ",
     "points": "its points are above 1,000,000",
     "no_end": "it has no bring_up, begin or end",
@@ -268,6 +269,8 @@ WORDS = {
     "--frames 3": "--frames: there is no such option",
     "--nonsense 1": "--nonsense: there is no such option",
     "words": "words: there is no such option",
+    "--memory": "--memory: it wants a word behind it",
+    "--memory week": "--memory: it is weak or strong",
     "--seed 18446744073709551616": "is no number of 0 to",
     "--preemptions 1001": '"1001" is no number of 0 to 1000',
     "--shard": "--shard: it wants a word behind it",
@@ -352,6 +355,84 @@ def check_never(kit: Kit) -> str:
     if counts[0] != counts[1] or not 10 < int(counts[0][0]) < 300:
         raise Wrong(f"distinct schedules: {counts}")
     return f"{len(NEVER)} scenarios of which a part never runs, or all does; {ran([count_program(kit)]).strip()}"
+
+
+# Values that are chosen, and timers: what is told, with the status.
+CHOICES = {
+    "fine": (0, "nothing was found"),
+    "values": (1, "check: a value from 2 on, and one from 1 on"),
+    "all": (1, "check: the last of all"),
+    "inputs": (1, "end: three frames came"),
+    "endless": (1, "endless: no end after 200 points; last came nicx_choose"),
+    "none": (1, "misuse: nicx_choose has 1 to 256 values, and not 0"),
+    "many": (1, "misuse: nicx_choose has 1 to 256 values, and not 257"),
+    "hang": (1, "hang: task chooses made no further point"),
+    "early": (2, "bring_up: nicx_choose is for begin, tasks and handlers"),
+    "late": (1, "misuse: nicx_choose is for begin, tasks and handlers"),
+    "rest": (0, "note: timer other never fired\n.*nothing was found"),
+    "begin": (0, "note: timer other never fired\n.*nothing was found"),
+    "again": (0, "note: timer other never fired\n.*nothing was found"),
+    "twice": (0, "note: timer other never fired\n.*nothing was found"),
+    "bound": (0, "note: timer other never fired\n.*nothing was found"),
+    "never": (0, "note: timer timer never fired\n.*note: timer other never fired"),
+    "disarm": (1, "check: a timer fires that was disarmed"),
+    "sixth": (1, "check: the sixth point"),
+    "first": (1, "check: the first point"),
+    "unknown": (1, "misuse: there is no timer 99"),
+}
+
+# The lines that choose, of the shrunk schedule: the lowest values that fail.
+LOWEST = {"values": ["value 2", "value 1"], "all": ["value 4", "value 2"], "inputs": ["value 2", "value 0"]}
+
+
+def check_choices(kit: Kit) -> str:
+    """Values and timers by each strategy: what is found, how it is shrunk, and that its schedule fails again."""
+    program, out = kit.build(HERE / "tests/choices.c"), kit.folder / "chosen"
+    out.mkdir(exist_ok=True)
+    for mode, (status, wanted) in CHOICES.items():
+        for strategy in ("random", "priorities", "exhaustive"):
+            words = [program, mode, "--quiet", "--jobs", 2, "--hang", 1, "--out", out, "--strategy", strategy]
+            told(ran(words, status), wanted, f"choices {mode}, {strategy}")
+            schedule = out / "choices.schedule"
+            lines = schedule.read_text().splitlines() if status == 1 else []
+            values = [line.partition("#")[0].strip() for line in lines if line.startswith("value ")]
+            if mode in LOWEST and values != LOWEST[mode]:
+                raise Wrong(f"choices {mode}: by {strategy} it isn't shrunk to the lowest values but to {values}")
+            if status == 1 and mode not in ("hang", "endless"):
+                told(ran([program, mode, "--replay", schedule], 1), wanted, f"choices {mode}, again")
+    whole = [program, "fine", "--quiet", "--jobs", 1, "--strategy", "exhaustive", "--preemptions", 0, "--no-sleep"]
+    told(ran(whole), "these are all schedules", "choices fine")
+    (out / "choices.schedule").write_text("scenario choices\ntask chooses\nvalue 5\n")
+    told(ran([program, "fine", "--replay", out / "choices.schedule"], 2), ':3: "value 5" can\'t act here', "a value")
+    return f"{len(CHOICES)} scenarios with values and timers"
+
+
+# --- weak memory ---
+
+
+def check_weak(kit: Kit) -> str:
+    """Litmus tests; a schedule of weak memory says so, and --memory changes it for a scenario."""
+    out = kit.folder / "weakly"
+    out.mkdir(exist_ok=True)
+    said = ran([kit.build(HERE / "tests/weak.c")], timeout=300).strip()
+    program = kit.build(HERE / "corpus/missing_wmb.c")
+    words = [program, "--quiet", "--jobs", 2, "--out", out]
+    ran([*words, "--memory", "strong"])
+    ran(words, 1)
+    schedule = out / "missing_wmb.schedule"
+    lines = schedule.read_text().splitlines()
+    if "memory weak" not in lines or not any(", on its way" in line for line in lines):
+        raise Wrong(f"{schedule} doesn't tell of weak memory")
+    ran([program, "--replay", schedule], 1)
+    ran([program, "--replay", schedule, "--memory", "strong"], 1)
+    schedule.write_text("\n".join(line for line in lines if line != "memory weak") + "\n")
+    told(ran([program, "--replay", schedule], 2), "can't act here|has no \"store|is over|somebody can act", "no weak line")
+    strong = kit.build(HERE / "corpus/length_before_dd.c", "FIXED")
+    words = [strong, "--quiet", "--jobs", 2, "--out", out]
+    ran(words)
+    told(ran([*words, "--memory", "weak"], 1), "FAILED end: a frame has another length than came", "by --memory weak")
+    ran([strong, "--replay", out / "length_before_dd.schedule"], 1)
+    return said
 
 
 SIMPLE = ("length_before_dd", "link_change_lost", "tail_before_descriptor")
@@ -525,6 +606,8 @@ def check_all(kit: Kit, amount: str) -> list[str]:
         check_names(kit),
         check_faults(kit),
         check_never(kit),
+        check_choices(kit),
+        check_weak(kit),
         check_bounds(kit),
         check_shards(kit),
         check_refusals(kit),

@@ -29,6 +29,13 @@ enum nicx_allowed {
     NICX_NOT_LENT = 2 /* a read or write of the driver in memory that isn't lent */
 };
 
+/* What stores of a driver to lent memory, and loads from it, may do (docs/explore.md, "Missing barriers"). */
+enum nicx_memory {
+    NICX_WEAK = 1,         /* they may be late and old, as by --memory weak */
+    NICX_WRITES_ORDER = 2, /* a write of a register comes behind all stores before it, as writel() of Linux does */
+    NICX_READS_ORDER = 4   /* no load behind a read of a register is older than it, as behind readl() of Linux */
+};
+
 typedef struct nicx_scenario {
     const char *name; /* letters, digits, '-' and '_', at most 63: of the files that are written */
 
@@ -57,6 +64,7 @@ typedef struct nicx_scenario {
     uint32_t points;  /* a schedule with more points than this is a failure: it never ends. 0 stands for 2,000 */
     uint32_t stack;   /* bytes of a task's stack, at least 16,384; 0 stands for 65,536 */
     uint32_t allowed; /* of enum nicx_allowed */
+    uint32_t memory;  /* of enum nicx_memory; without NICX_WEAK the others count by --memory weak alone */
 } nicx_scenario;
 
 /* --- in `begin` --- */
@@ -65,6 +73,10 @@ enum {
     NICX_TASKS = 16,    /* at most so many tasks, */
     NICX_HANDLERS = 32, /* handlers, */
     NICX_FRAMES = 256,  /* and frames and changes of the link */
+    NICX_VALUES = 256,  /* values of one choice, at most */
+    NICX_STORES = 8,    /* by weak memory: a processor's stores on their way, at most */
+    NICX_OLDER = 3,     /* by weak memory: a load gives what was before so many changes of its place, at most */
+    NICX_AT_REST = 0,   /* a timer fires when nobody else can act */
     NICX_ANYWHERE = -1, /* a handler interrupts any task, or runs beside all of them */
     NICX_BESIDE = -2    /* it runs beside all of them: a thread of its own */
 };
@@ -80,6 +92,12 @@ int nicx_service(const char *name, void (*function)(void *), void *argument);
    without a handler starts nothing. */
 void nicx_handler(const char *name, uint16_t group, uint8_t vector, void (*function)(void *), void *argument,
                   int where);
+
+/* A timer: what fires starts the function beside all tasks, as a message starts a handler. It counts as one of the
+   handlers, and fires once for each time that it is armed. `within` is NICX_AT_REST, so that it fires when nobody else
+   can act, or a number of points from 1 on: it fires at any of so many behind the one at which it was armed, at the
+   last of them before all others. Answers its number for nicx_arm. */
+int nicx_timer(const char *name, void (*function)(void *), void *argument, uint32_t within);
 
 /* A frame that will come, after those that were named before; its bytes are copied. At most 16,384 bytes. */
 void nicx_frame(const uint8_t *frame, size_t length);
@@ -127,9 +145,30 @@ typedef struct nicx_mutex {
 void nicx_lock(nicx_mutex *lock);
 void nicx_unlock(nicx_mutex *lock);
 
+/* Arms a timer of this number, anew if it is armed: also in `begin`, where it is no point. A number that nicx_timer
+   didn't answer is misuse. */
+void nicx_arm(int timer);
+/* So that it doesn't fire: whether it was armed. A function that it started already isn't waited for. */
+bool nicx_disarm(int timer);
+
+/* Barriers of weak memory; where memory isn't weak they do nothing, and are no points. When nicx_wmb returns all stores
+   of the task's processor before it have reached memory. A load behind nicx_rmb isn't older than it. nicx_mb does both.
+   Locks do too: a lock that is taken is a barrier of loads, and one that is given back is one of stores. */
+void nicx_wmb(void);
+void nicx_rmb(void);
+void nicx_mb(void);
+/* The same without a point, for code that has made one: an atomic operation that releases or acquires. */
+void nicx_release(void);
+void nicx_acquire(void);
+
 /* While they are off no handler starts on this task. Counted, so pairs may be nested. No points. */
 void nicx_interrupts_off(void);
 void nicx_interrupts_on(void);
+
+/* A value below the bound, which is 1 to NICX_VALUES, that is part of the schedule: whether an allocation fails, which
+   input comes. All strategies choose it, and shrinking tries lower ones. It may be called in `begin` too. Nobody acts
+   between this and the call before it. In `bring_up`, `always`, `end` and conditions it is misuse. */
+uint32_t nicx_choose(uint32_t bound);
 
 /* The schedule fails here, with these words; it doesn't return. The words are kept by pointer. */
 void nicx_fail(const char *words);

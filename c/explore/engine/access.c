@@ -6,6 +6,7 @@
 
 #include "engine.h"
 #include "independent.h"
+#include "weak.h"
 #include "words.h"
 
 enum { POLLS = 8, ENABLE = 1 << 25, MOST_WAITS = 100000 };
@@ -156,6 +157,19 @@ static void judge(const struct step *step)
 
 /* --- registers --- */
 
+/* By weak memory a register's access may be a barrier, if the scenario says so. */
+static void order_before(void)
+{
+    if (nicxi.is_weak && nicxi.self && nicxi.scenario->memory & NICX_WRITES_ORDER)
+        nicxi_released(nicxi.self);
+}
+
+static void order_behind(void)
+{
+    if (nicxi.is_weak && nicxi.self && nicxi.scenario->memory & NICX_READS_ORDER)
+        nicxi_acquired(nicxi.self);
+}
+
 uint32_t nicx_read32(uint32_t address)
 {
     if (!nicxi_may_act())
@@ -164,6 +178,7 @@ uint32_t nicx_read32(uint32_t address)
     step->address = address;
     let_others(nicxi.self);
     step->status = nic_read32(&nicxi.device, address, &step->word);
+    order_behind();
     note_poll(step);
     after(step);
     return step->word;
@@ -178,6 +193,7 @@ uint8_t nicx_write32(uint32_t address, uint32_t word)
     step->word = word;
     note_change();
     let_others(nicxi.self);
+    order_before();
     step->status = nic_write32(&nicxi.device, address, word);
     after(step);
     return step->status;
@@ -193,6 +209,7 @@ uint32_t nicx_vf_read32(uint8_t vf, uint32_t offset)
     let_others(nicxi.self);
     note_physical(step);
     step->status = nic_vf_read32(&nicxi.device, vf, offset, &step->word);
+    order_behind();
     note_poll(step);
     after(step);
     return step->word;
@@ -209,12 +226,30 @@ uint8_t nicx_vf_write32(uint8_t vf, uint32_t offset, uint32_t word)
     note_change();
     let_others(nicxi.self);
     note_physical(step);
+    order_before();
     step->status = nic_vf_write32(&nicxi.device, vf, offset, word);
     after(step);
     return step->status;
 }
 
 /* --- memory --- */
+
+static uint8_t load(struct step *step, uint8_t *bytes)
+{
+    if (nicxi.is_weak && nicxi.self)
+        return nicxi_load(step, bytes);
+    return nic_dma_read(&nicxi.device, step->bus, bytes, step->length);
+}
+
+static uint8_t store(struct step *step, const uint8_t *bytes)
+{
+    if (nicxi.is_weak && nicxi.self)
+        return nicxi_store(step, bytes);
+    uint8_t status = nic_dma_write(&nicxi.device, step->bus, bytes, step->length);
+    if (nicxi.is_weak)
+        nicxi_memory_changed(step);
+    return status;
+}
 
 uint8_t nicx_dma_read(uint64_t bus, uint8_t *bytes, size_t length)
 {
@@ -225,7 +260,7 @@ uint8_t nicx_dma_read(uint64_t bus, uint8_t *bytes, size_t length)
     step->length = (uint32_t)length;
     step->address = (uint32_t)bus;
     let_others(nicxi.self);
-    step->status = nic_dma_read(&nicxi.device, bus, bytes, length);
+    step->status = load(step, bytes);
     step->word = length ? bytes[0] : 0;
     note_poll(step);
     after(step);
@@ -242,7 +277,7 @@ uint8_t nicx_dma_write(uint64_t bus, const uint8_t *bytes, size_t length)
     step->length = (uint32_t)length;
     note_change();
     let_others(nicxi.self);
-    step->status = nic_dma_write(&nicxi.device, bus, bytes, length);
+    step->status = store(step, bytes);
     after(step);
     judge(step);
     return step->status;
@@ -275,7 +310,11 @@ static uint8_t move_block(uint8_t kind, uint32_t block)
     step->bus = (uint64_t)block * NIC_BLOCK_BYTES;
     note_change();
     let_others(nicxi.self);
+    if (nicxi.is_weak && nicxi.self)
+        nicxi_released(nicxi.self);
     step->status = kind == STEP_LEND ? nic_lend(&nicxi.device, block) : nic_take(&nicxi.device, block);
+    if (nicxi.is_weak)
+        nicxi_memory_moved(block);
     after(step);
     judge(step);
     return step->status;

@@ -2,6 +2,7 @@
 #include <stdio.h>
 
 #include "engine.h"
+#include "weak.h"
 
 static void add(uint8_t kind, uint16_t of, int on)
 {
@@ -10,7 +11,8 @@ static void add(uint8_t kind, uint16_t of, int on)
     actor->idle = nicxi.is_idle && kind >= BY_RX && kind <= BY_EEPROM;
     actor->of = of;
     actor->on = on;
-    actor->last = actor->offered = actor->since = 0;
+    actor->last = kind == BY_OLDER ? UINT32_MAX : 0; /* where somebody has to act, none acts so by itself */
+    actor->offered = actor->since = 0;
 }
 
 static void add_starts(uint16_t handler)
@@ -22,14 +24,28 @@ static void add_starts(uint16_t handler)
     add(BY_START, handler, where >= 0 ? where : -1);
 }
 
-void nicxi_list_actors(void)
+static void add_threads(void)
 {
-    const nicx_scenario *scenario = nicxi.scenario;
-    nicxi.count = 0;
     for (uint16_t task = 0; task < nicxi.tasks; task++)
         add(BY_THREAD, task, -1);
     for (uint16_t handler = 0; handler < nicxi.handlers; handler++)
         add(BY_THREAD, (uint16_t)(NICX_TASKS + handler), -1);
+}
+
+/* By weak memory: each store of a thread that may be on its way, and how old a load of it may be. */
+static void add_memory(uint16_t thread)
+{
+    for (int place = 0; place < NICX_STORES; place++)
+        add(BY_STORE, thread, place);
+    for (int older = 1; older <= NICX_OLDER; older++)
+        add(BY_OLDER, thread, older);
+}
+
+void nicxi_list_actors(void)
+{
+    const nicx_scenario *scenario = nicxi.scenario;
+    nicxi.count = 0;
+    add_threads();
     for (uint16_t handler = 0; handler < nicxi.handlers; handler++)
         add_starts((uint16_t)(NICX_TASKS + handler));
     add(BY_WIRE, 0, -1);
@@ -44,6 +60,9 @@ void nicxi_list_actors(void)
         add(BY_TX_ENABLE, queue, -1);
     }
     add(BY_EEPROM, 0, -1);
+    for (uint16_t k = 0; nicxi.is_weak && k < NICX_TASKS + nicxi.handlers; k++)
+        if (k < nicxi.tasks || k >= NICX_TASKS)
+            add_memory(k);
 }
 
 static bool holds(const struct thread *thread)
@@ -71,7 +90,7 @@ static bool can_go_on(const struct thread *thread)
 /* A task that has ended has nothing to interrupt: its handlers run all the same. */
 static bool can_start(const struct thread *handler, int on)
 {
-    if (!handler->pending || handler->state != OFF)
+    if (!handler->pending || handler->state != OFF || (handler->is_timer && !handler->within))
         return false;
     if (on < 0)
         return true;
@@ -88,6 +107,8 @@ bool nicxi_can_act(const struct actor *actor)
     case BY_START: return can_start(&nicxi.threads[actor->of], actor->on);
     case BY_WIRE: return nicxi.next_frame < nicxi.frame_count;
     case BY_LINK: return nicxi.next_link < nicxi.link_count;
+    case BY_STORE: return nicxi_can_land(actor);
+    case BY_OLDER: return nicxi_can_be_older(actor);
     default: return !actor->idle;
     }
 }
@@ -221,9 +242,12 @@ bool nicxi_device_step(struct actor *actor, struct step *step)
         step->status = nic_eeprom_step(device, &step->told);
         break;
     case BY_WIRE: arrive(step); return true;
+    case BY_STORE: nicxi_land(actor, step); return true;
     default: change_link(step); return true;
     }
     judge(step);
+    if (nicxi.is_weak && nicxi.phase == RUNNING)
+        nicxi_memory_changed(step);
     return step->status != NIC_IDLE && step->status != NIC_NO_GROUP;
 }
 
@@ -232,7 +256,9 @@ bool nicxi_device_step(struct actor *actor, struct step *step)
 static const char *start_name(const struct actor *actor, char *room, size_t size)
 {
     const char *handler = nicxi.threads[actor->of].name;
-    if (actor->on < 0)
+    if (nicxi.threads[actor->of].is_timer)
+        snprintf(room, size, "fire %s", handler);
+    else if (actor->on < 0)
         snprintf(room, size, "start %s beside", handler);
     else
         snprintf(room, size, "start %s on %s", handler, nicxi.threads[actor->on].name);
@@ -245,8 +271,18 @@ static const char *numbered(const char *word, unsigned number, char *room, size_
     return room;
 }
 
+/* Of a thread's store its place, the oldest 0; of an older load how many changes it is older. */
+static const char *memory_name(const struct actor *actor, char *room, size_t size)
+{
+    snprintf(room, size, "%s %s %d", actor->kind == BY_STORE ? "store" : "older", nicxi.threads[actor->of].name,
+             actor->on);
+    return room;
+}
+
 const char *nicx_actor_name(uint16_t number, char room[96])
 {
+    if (nicxi_is_value(number))
+        return numbered("value", number - VALUES + 0u, room, 96);
     if (number >= nicxi.count)
         return "nobody";
     const struct actor *actor = &nicxi.actors[number];
@@ -255,6 +291,8 @@ const char *nicx_actor_name(uint16_t number, char room[96])
         snprintf(room, 96, "%s %s", actor->of < NICX_TASKS ? "task" : "handler", nicxi.threads[actor->of].name);
         return room;
     case BY_START: return start_name(actor, room, 96);
+    case BY_STORE:
+    case BY_OLDER: return memory_name(actor, room, 96);
     case BY_RX: return "rx";
     case BY_TX: return numbered("tx", actor->of, room, 96);
     case BY_RX_ENABLE: return numbered("qstep rx", actor->of, room, 96);

@@ -156,6 +156,8 @@ static void tell_threads(struct telling *it)
             continue;
         if (k < NICX_TASKS) {
             snprintf(it->line, MOST_LINE, "task %s never came past its first wait", thread->name);
+        } else if (thread->is_timer) {
+            snprintf(it->line, MOST_LINE, "timer %s never fired", thread->name);
         } else if (it->coverage->messages[thread->group] >> thread->vector % 16 & 1) {
             snprintf(it->line, MOST_LINE, "handler %s never started, though its message came", thread->name);
         } else {

@@ -8,13 +8,16 @@
 
 enum {
     MOST_THREADS = NICX_TASKS + NICX_HANDLERS,
-    /* threads, starts of handlers, receive, transmit and enables of queues, messages, EEPROM, arrivals, the link */
-    MOST_ACTORS = MOST_THREADS + NICX_HANDLERS * (NICX_TASKS + 1) + 1 + 3 * 128 + 64 + 3,
+    /* threads, starts of handlers, receive, transmit and enables of queues, messages, EEPROM, arrivals, the link, and
+       by weak memory each thread's stores and older loads */
+    MOST_ACTORS = MOST_THREADS + NICX_HANDLERS * (NICX_TASKS + 1) + 1 + 3 * 128 + 64 + 3 +
+                  MOST_THREADS * (NICX_STORES + NICX_OLDER),
     MOST_POINTS = 1000000,
     USUAL_POINTS = 2000,
     USUAL_STACK = 65536,
     LEAST_STACK = 16384,
     MOST_FRAME = 16384,
+    VALUES = 0x4000, /* an actor's number from here on is a value of nicx_choose */
     NOBODY = 0xFFFF
 };
 
@@ -33,6 +36,8 @@ enum step_kind {
     STEP_LEND,
     STEP_TAKE,
     STEP_START, /* a handler starts */
+    STEP_VALUE, /* nicx_choose */
+    STEP_STORE, /* by weak memory: a store reaches memory */
     STEP_RX,
     STEP_TX,
     STEP_RX_ENABLE,
@@ -48,17 +53,33 @@ struct step {
     uint8_t vf;
     uint8_t status;
     bool waits;        /* before or behind it the thread waits until another acts */
-    uint16_t of;       /* a queue, a group, a frame, a change of the link */
+    bool is_beside;    /* no point of its own: a store that a barrier has reach memory */
+    bool is_kept;      /* by weak memory: a store on its way; a load that gives such stores of its own */
+    uint8_t older;     /* by weak memory: a load of a value before so many changes of it */
+    uint16_t of;       /* a queue, a group, a frame, a change of the link; of a value, a store: a thread */
     uint32_t address;  /* of a register, among a function's own its offset; a block that is lent or taken */
     uint32_t physical; /* of a function's access: the physical function's address, or NO_ADDRESS */
-    uint32_t word;     /* read or written; of a wait, a lock, a start: enum local */
-    uint32_t length;   /* of a memory access */
+    uint32_t word;     /* read or written; of a wait, a lock, a start: enum local; of nicx_choose the value */
+    uint32_t length;   /* of a memory access; of nicx_choose its bound; of a barrier how many stores it sent ahead */
     uint64_t bus;
     nic_told told;
 };
 
 /* Which step of the driver's own a STEP_LOCAL is. */
-enum local { LOCAL_BEGIN, LOCAL_POINT, LOCAL_WAIT, LOCAL_UNTIL, LOCAL_PAUSE, LOCAL_LOCK, LOCAL_UNLOCK };
+enum local {
+    LOCAL_BEGIN,
+    LOCAL_POINT,
+    LOCAL_WAIT,
+    LOCAL_UNTIL,
+    LOCAL_PAUSE,
+    LOCAL_LOCK,
+    LOCAL_UNLOCK,
+    LOCAL_WMB,
+    LOCAL_RMB,
+    LOCAL_MB,
+    LOCAL_ARM,
+    LOCAL_DISARM
+};
 
 enum thread_state {
     OFF,     /* a handler that doesn't run, a task that has ended */
@@ -88,7 +109,11 @@ struct thread {
     bool is_service;
     bool is_void;       /* since it waited it has changed nothing that can be seen */
     uint64_t voided;    /* the changes there were as it last acted without one */
-    bool pending;       /* a handler that is to start */
+    bool pending;       /* a handler that is to start, a timer that is armed */
+    bool is_timer;      /* a handler that no message starts */
+    uint8_t older;      /* by weak memory, of the load that it makes now: before how many changes */
+    uint32_t within;    /* of a timer: by so many points behind the one at which it was armed it fires; 0: at rest */
+    uint32_t due;       /* of one that is armed: the point at which nobody else may act any more */
     int interrupted_by; /* of a task: the handler thread that sits on it, or -1 */
     int on;             /* of a handler: the task that it sits on, or -1 */
     unsigned masked;
@@ -105,13 +130,26 @@ struct thread {
     int where;
 };
 
-enum actor_kind { BY_THREAD, BY_START, BY_RX, BY_TX, BY_RX_ENABLE, BY_TX_ENABLE, BY_INT, BY_EEPROM, BY_WIRE, BY_LINK };
+enum actor_kind {
+    BY_THREAD,
+    BY_START,
+    BY_OLDER, /* a thread goes on with a load that is older than memory */
+    BY_RX,
+    BY_TX,
+    BY_RX_ENABLE,
+    BY_TX_ENABLE,
+    BY_INT,
+    BY_EEPROM,
+    BY_WIRE,
+    BY_LINK,
+    BY_STORE /* a store reaches memory */
+};
 
 struct actor {
     uint8_t kind;
     bool idle;               /* a step of the device that had nothing to do, and nothing came up since */
     uint16_t of;             /* a thread, a queue, a group */
-    int on;                  /* of a start: the task, or -1 */
+    int on;                  /* of a start: the task, or -1; of a store its place; of an older load how old it is */
     uint32_t last;           /* one more than the point at which it acted last; 0 where it didn't */
     uint32_t offered, since; /* the last point at which it could act, and from which on it could without doing so */
 };
@@ -146,7 +184,8 @@ struct engine {
     struct fiber main;
     struct thread *self; /* who runs; null for the engine itself */
     struct thread threads[MOST_THREADS];
-    uint16_t tasks, handlers;
+    uint16_t tasks, handlers, timers;
+    bool is_weak; /* memory is (weak.h) */
     struct actor actors[MOST_ACTORS];
     uint16_t count;
     struct frame frames[NICX_FRAMES];
@@ -166,6 +205,7 @@ struct engine {
     uint64_t acts, changes;
     const nicx_chooser *chooser;
     uint16_t *schedule; /* who acted, point by point */
+    uint16_t last;      /* who acted last: a thread, whatever value it chose, and however old what it read */
     struct step *steps; /* what they did; null where nobody asks for it */
     volatile uint32_t *points;
     uint16_t *own_schedule;
@@ -215,6 +255,19 @@ bool nicxi_may_come(uint16_t actor, const uint16_t *can, uint32_t count);
 bool nicxi_device_step(struct actor *actor, struct step *step);
 /* After this step, these steps of the device may have something to do, and threads that wait look again. */
 void nicxi_wake(const struct step *step);
+
+/* Whether the number of an actor is a value of nicx_choose. */
+static inline bool nicxi_is_value(uint16_t actor)
+{
+    return actor >= VALUES && actor != NOBODY;
+}
+/* How often another one acted than at the point before. */
+uint32_t nicxi_switches(const uint16_t *schedule, uint32_t points);
+uint64_t nicxi_sum_of_values(const uint16_t *schedule, uint32_t points);
+/* Among these, lists the timers that must fire now; their number, or 0 where none must. */
+uint32_t nicxi_list_due(uint16_t *can);
+/* Whether a timer fires when all is at rest. */
+bool nicxi_fires_at_rest(const struct actor *actor);
 
 /* Threads. */
 void nicxi_thread_resume(struct thread *from, struct thread *to);

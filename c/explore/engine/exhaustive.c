@@ -186,7 +186,7 @@ static bool inherit(struct exhaustive *it, const struct node *above, struct node
 /* Who acted longest ago is tried first: so a schedule that makes no further choice is fair. */
 static void sort(uint16_t *can, uint32_t count, bool is_current)
 {
-    for (uint32_t k = is_current + 1u; k < count; k++) {
+    for (uint32_t k = is_current + 1u; k < count && !nicxi_is_value(can[0]); k++) {
         uint16_t actor = can[k];
         uint32_t to = k;
         for (; to > is_current && nicxi.actors[can[to - 1]].last > nicxi.actors[actor].last; to--)
@@ -198,13 +198,13 @@ static void sort(uint16_t *can, uint32_t count, bool is_current)
 /* One that could act and didn't for so long does: else there is no end where two wake each other. */
 static bool is_starved(uint16_t actor)
 {
-    return *nicxi.points > nicxi.actors[actor].since + PATIENCE;
+    return !nicxi_is_value(actor) && *nicxi.points > nicxi.actors[actor].since + PATIENCE;
 }
 
 static void note_offers(const uint16_t *can, uint32_t count)
 {
     uint32_t point = *nicxi.points;
-    for (uint32_t k = 0; k < count; k++) {
+    for (uint32_t k = 0; k < count && !nicxi_is_value(can[0]); k++) {
         struct actor *actor = &nicxi.actors[can[k]];
         if (actor->offered + 1 < point || actor->last == point)
             actor->since = point;
@@ -219,7 +219,7 @@ static struct node *add_node(struct exhaustive *it, const uint16_t *can, uint32_
     node->can = it->can_count;
     node->count = count;
     node->left = above ? left_behind(it, above, above->at) : it->preemptions;
-    node->is_current = above && can[0] == actor_at(it, above, above->at);
+    node->is_current = above && nicxi_goes_on(can);
     node->asleep = it->asleep_count;
     if (!add_can(it, can, count) || (above && !inherit(it, above, node)))
         return NULL;

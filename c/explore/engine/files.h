@@ -24,6 +24,7 @@ struct schedule_file {
     uint32_t *lines; /* of each point, from 1 on */
     uint32_t length;
     uint32_t last; /* the last line */
+    bool is_weak;  /* it is one of weak memory */
 };
 
 /* Reads one: null, or "PATH:LINE: why", kept until the next call. The actors must be listed. */

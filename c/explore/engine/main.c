@@ -9,6 +9,7 @@
 #include "files.h"
 #include "junit.h"
 #include "search.h"
+#include "weak.h"
 #include "words.h"
 
 enum { NOTHING = 0, FAILURE = 1, REFUSED = 2, VACUOUS = 3, MOST_PATH = 1024 };
@@ -24,7 +25,7 @@ static int refuse(const nicx_scenario *scenario, const char *why)
 static void print_point(void *argument, uint16_t actor, const struct step *step)
 {
     uint32_t point = *nicxi.points;
-    if (nicxi.phase != RUNNING)
+    if (actor == NOBODY || step->is_beside)
         return;
     fprintf(argument, "%4" PRIu32 "  ", point - 1);
     nicxi_write_point(argument, actor, step);
@@ -126,7 +127,7 @@ static void write_step(void *argument, uint16_t actor, const struct step *step)
     struct writing *it = argument;
     nicxi_script_step(&it->script, actor, step);
     fflush(it->script.file);
-    if (nicxi.phase != RUNNING)
+    if (actor == NOBODY || step->is_beside)
         return;
     nicxi_write_point(it->schedule, actor, step);
     fflush(it->schedule);
@@ -138,6 +139,7 @@ static void write_files(struct post *post, void *argument)
     struct writing *it = argument;
     struct by_list state;
     const nicx_scenario *scenario = nicxi.scenario;
+    nicxi_give_memory(nicxi.is_weak ? WEAK : STRONG);
     nicx_close();
     nicxi.listener = write_step;
     nicxi.listener_argument = it;
@@ -299,7 +301,9 @@ int nicx_main(int argc, char **argv, const nicx_scenario *scenario)
     fault = options.replay ? NULL : look_at_files(&options, name);
     if (fault)
         return refuse(scenario, fault);
+    nicxi_give_memory((enum given_memory)options.memory);
     fault = nicx_open(scenario);
+    nicxi_give_memory(AS_SCENARIO);
     if (fault)
         return refuse(scenario, fault);
     int status = options.replay ? replay(options.replay) : search(&options, argv[0]);

@@ -8,6 +8,7 @@
 #include <unistd.h>
 
 #include "strategy.h"
+#include "weak.h"
 
 const char nicxi_usage[] =
     "usage: %s [options]\n"
@@ -23,6 +24,8 @@ const char nicxi_usage[] =
     "  --no-sleep         of the exhaustive search: orders of independent steps too\n"
     "  --jobs N           so many processes, 1 to 256 (one for each core)\n"
     "  --shard K/N        of N machines that share this search the K-th, from 1 on; N up to 65,536 (1/1)\n"
+    "  --memory KIND      weak: stores to lent memory may be late, and loads of it old; strong: none is (strong,\n"
+    "                     or what the scenario says)\n"
     "  --hang S           a task that makes no point for S seconds hangs (10)\n"
     "  --out FOLDER       where the files of a failure go (.)\n"
     "  --junit FILE       writes the result as JUnit XML\n"
@@ -133,6 +136,16 @@ static const char *take_preemptions(const char *word, const char *text, struct o
     return take_small(word, text, 0, 1000, &options->preemptions);
 }
 
+static const char *take_memory(const char *word, const char *text, struct options *options)
+{
+    if (!*text)
+        return without_word(word);
+    if (strcmp(text, "weak") != 0 && strcmp(text, "strong") != 0)
+        return refused(word, "it is weak or strong");
+    options->memory = !strcmp(text, "weak") ? WEAK : STRONG;
+    return NULL;
+}
+
 static const char *take_name(const char *word, const char *text, const char **name)
 {
     *name = text;
@@ -159,6 +172,8 @@ static const char *take_value(const char *word, const char *text, struct options
         return take_small(word, text, 1, 256, &options->jobs);
     if (!strcmp(word, "--shard"))
         return take_shard(word, text, options);
+    if (!strcmp(word, "--memory"))
+        return take_memory(word, text, options);
     if (!strcmp(word, "--hang"))
         return take_small(word, text, 1, 86400, &options->hang);
     if (!strcmp(word, "--out"))

@@ -21,6 +21,7 @@ struct options {
     uint32_t shard;       /* of `shards` the one that is searched, from 0 on */
     uint32_t shards;      /* 1 to 65,536 machines that share a search */
     uint32_t hang;        /* seconds without a point after which a task hangs */
+    uint8_t memory;       /* enum given_memory */
     const char *replay;   /* a schedule's file, or null */
     const char *out;      /* a folder that is there */
     const char *junit;    /* a file to write, or null */

@@ -108,9 +108,12 @@ bool nicxi_start(struct post *post, uint32_t hang, void (*work)(struct post *, v
 static void tell_hang(const struct post *post, nicx_result *result)
 {
     char name[96];
-    if (post->at)
+    uint32_t at = post->at;
+    while (at > 1 && nicxi_is_value(post->schedule[at - 1]))
+        at--;
+    if (at)
         snprintf(result->words, sizeof result->words, "%s made no further point: does its loop need nicx_wait?",
-                 nicx_actor_name(post->schedule[post->at - 1], name));
+                 nicx_actor_name(post->schedule[at - 1], name));
     else
         snprintf(result->words, sizeof result->words, "begin makes no end");
 }
@@ -132,8 +135,7 @@ bool nicxi_ended(struct post *post, int status)
     } else {
         snprintf(result->words, sizeof result->words, "the process ended with status %d", WEXITSTATUS(status));
     }
-    for (uint32_t k = 1; k < post->at; k++)
-        result->switches += post->schedule[k] != post->schedule[k - 1];
+    result->switches = nicxi_switches(post->schedule, post->at);
     return post->is_found = true;
 }
 

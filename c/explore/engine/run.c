@@ -8,6 +8,7 @@
 
 #include "engine.h"
 #include "heap.h"
+#include "weak.h"
 
 struct engine nicxi;
 
@@ -46,10 +47,11 @@ bool nicxi_may_act(void)
 void nicxi_told(const struct step *step)
 {
     uint32_t point = *nicxi.points - 1;
-    if (nicxi.phase == RUNNING && nicxi.steps)
+    bool is_point = nicxi.phase == RUNNING || (nicxi.phase == BEGINNING && step->kind == STEP_VALUE);
+    if (is_point && nicxi.steps && !step->is_beside)
         nicxi.steps[point] = *step;
     if (nicxi.listener && nicxi.phase != ENDING)
-        nicxi.listener(nicxi.listener_argument, nicxi.phase == RUNNING ? nicxi.schedule[point] : NOBODY, step);
+        nicxi.listener(nicxi.listener_argument, is_point ? nicxi.schedule[point] : NOBODY, step);
 }
 
 void nicxi_went_on(struct thread *self)
@@ -59,7 +61,19 @@ void nicxi_went_on(struct thread *self)
         self->is_void = true;
         self->seen = nicxi.acts - self->own;
     }
+    if (nicxi.is_weak && self->state != READY)
+        nicxi_acquired(self);
     self->state = READY;
+}
+
+/* Behind the step that was made last, and the values that were chosen since, its thread waits. */
+static void note_wait(void)
+{
+    for (uint32_t k = *nicxi.points; k > 0; k--) {
+        nicxi.steps[k - 1].waits = true;
+        if (!nicxi_is_value(nicxi.schedule[k - 1]))
+            break;
+    }
 }
 
 /* A thread came to its next point. One that waits again and has changed nothing that can be seen may have changed the
@@ -67,8 +81,8 @@ void nicxi_went_on(struct thread *self)
  */
 static void note_act(struct thread *self)
 {
-    if (nicxi.steps && *nicxi.points)
-        nicxi.steps[*nicxi.points - 1].waits |= self->state == WAITING || self->state == PAUSED;
+    if (nicxi.steps && (self->state == WAITING || self->state == PAUSED))
+        note_wait();
     if (self->is_void) {
         if ((self->state != WAITING && self->state != PAUSED) || self->voided == nicxi.changes)
             return;
@@ -94,16 +108,23 @@ static void look(void)
 
 /* --- choosing --- */
 
+/* Where nobody else can act threads that paused go on, and timers fire. */
+static bool comes_at_rest(const struct actor *actor)
+{
+    if (actor->kind == BY_START)
+        return nicxi_fires_at_rest(actor);
+    return actor->kind == BY_THREAD && nicxi.threads[actor->of].state == PAUSED &&
+           nicxi.threads[actor->of].interrupted_by < 0;
+}
+
 /* Who acted last stands first, where it may go on. */
 static uint32_t list_able(bool paused)
 {
     uint32_t count = 0;
-    uint16_t last = *nicxi.points ? nicxi.schedule[*nicxi.points - 1] : (uint16_t)NOBODY;
+    uint16_t last = nicxi.last;
     for (uint16_t k = 0; k < nicxi.count; k++) {
         const struct actor *actor = &nicxi.actors[k];
-        bool can = paused ? actor->kind == BY_THREAD && nicxi.threads[actor->of].state == PAUSED &&
-                                nicxi.threads[actor->of].interrupted_by < 0
-                          : nicxi_can_act(actor);
+        bool can = paused ? comes_at_rest(actor) : nicxi_can_act(actor);
         if (!can)
             continue;
         if (k == last && count) {
@@ -118,7 +139,7 @@ static uint32_t list_able(bool paused)
 
 bool nicxi_goes_on(const uint16_t *can)
 {
-    return *nicxi.points && nicxi.schedule[*nicxi.points - 1] == can[0];
+    return nicxi.last == can[0];
 }
 
 static bool is_of_device(uint16_t number)
@@ -129,23 +150,32 @@ static bool is_of_device(uint16_t number)
 bool nicxi_may_be_idle(const uint16_t *can, uint32_t count)
 {
     for (uint32_t k = 0; k < count; k++)
-        if (!is_of_device(can[k]))
+        if (nicxi_is_value(can[k]) || !is_of_device(can[k]))
             return false;
     return true;
 }
 
 bool nicxi_may_come(uint16_t actor, const uint16_t *can, uint32_t count)
 {
-    return nicxi.actors[actor].kind == BY_THREAD && nicxi.threads[nicxi.actors[actor].of].state == PAUSED &&
-           nicxi_may_be_idle(can, count);
+    return !nicxi_is_value(actor) && comes_at_rest(&nicxi.actors[actor]) && nicxi_may_be_idle(can, count);
+}
+
+/* The thread that goes on with an older load is the one that acted. */
+static uint16_t who(uint16_t number)
+{
+    const struct actor *actor = &nicxi.actors[number];
+    if (actor->kind != BY_OLDER)
+        return number;
+    return actor->of < NICX_TASKS ? actor->of : (uint16_t)(actor->of - NICX_TASKS + nicxi.tasks);
 }
 
 static void note(uint16_t number)
 {
     uint32_t points = *nicxi.points;
-    if (points && nicxi.schedule[points - 1] != number)
+    if (nicxi.last != NOBODY && nicxi.last != number)
         nicxi.switches++;
     nicxi.schedule[points] = number;
+    nicxi.last = who(number);
     *nicxi.points = points + 1;
 }
 
@@ -154,11 +184,13 @@ static bool device_acts(uint16_t number)
 {
     struct step step = {0};
     struct actor *actor = &nicxi.actors[number];
+    uint16_t last = nicxi.last;
+    uint32_t switches = nicxi.switches;
     note(number);
     if (!nicxi_device_step(actor, &step)) {
-        uint32_t points = --*nicxi.points;
-        if (points && nicxi.schedule[points - 1] != number)
-            nicxi.switches--;
+        --*nicxi.points;
+        nicxi.last = last;
+        nicxi.switches = switches;
         actor->idle = true;
         return false;
     }
@@ -188,7 +220,7 @@ static bool is_endless(void)
     if (*nicxi.points < nicxi.most_points)
         return false;
     char room[96];
-    uint16_t last = nicxi.schedule[*nicxi.points - 1];
+    uint16_t last = nicxi.last;
     nicxi_failed(NICX_ENDLESS, "no end after %u points; last came %s%s", (unsigned)nicxi.most_points,
                  nicx_actor_name(last, room),
                  nicxi.actors[last].kind == BY_THREAD ? ": does its loop need nicx_wait?" : "");
@@ -198,10 +230,13 @@ static bool is_endless(void)
 /* Whoever acts next and isn't the device, or NOBODY where the schedule is over. */
 static uint16_t choose(void)
 {
-    while (!nicxi.result.outcome && !is_endless()) {
+    while (!nicxi.result.outcome && !nicxi.is_cut && !is_endless()) {
         uint32_t count = list_able(false);
         if (nicxi.result.outcome)
             break;
+        uint32_t due = nicxi.timers ? nicxi_list_due(nicxi.can) : 0;
+        if (due)
+            count = due;
         if (!count && !is_at_rest())
             continue;
         if (!count)
@@ -219,7 +254,7 @@ static uint16_t choose(void)
             continue;
         }
         note(number);
-        nicxi.actors[number].last = *nicxi.points;
+        nicxi.actors[nicxi.last].last = *nicxi.points;
         return number;
     }
     return NOBODY;
@@ -237,6 +272,8 @@ static void start_handler(const struct actor *actor)
         nicxi.threads[actor->on].interrupted_by = actor->of;
     else
         handler->on = -1;
+    if (nicxi.is_weak)
+        nicxi_acquired(handler);
     if (!nicxi_thread_prepare(handler))
         nicxi_failed(NICX_MISUSE, "there is no memory for a stack");
     nicxi_told(&handler->next);
@@ -257,6 +294,7 @@ void nicxi_next(struct thread *self)
     if (number != NOBODY) {
         const struct actor *actor = &nicxi.actors[number];
         struct thread *thread = &nicxi.threads[actor->of];
+        thread->older = actor->kind == BY_OLDER ? (uint8_t)actor->on : 0;
         if (actor->kind == BY_START)
             start_handler(actor);
         else if (thread->stack == PARKED)
@@ -290,7 +328,11 @@ static void begin_threads(void)
         nicxi_forget_polls(&thread->polls);
         thread->locks = 0;
         thread->next.waits = false;
-        thread->pending = thread->is_void = false;
+        thread->pending = thread->pending && thread->is_timer;
+        thread->is_void = false;
+        thread->older = 0;
+        if (nicxi.is_weak)
+            nicxi_acquired(thread);
         thread->next.kind = STEP_LOCAL;
         thread->next.word = LOCAL_BEGIN;
         if (is_task && !nicxi_thread_prepare(thread))
@@ -309,7 +351,8 @@ static void reset(void)
     nicxi.asker = NULL;
     nicxi.result.outcome = NICX_FINE;
     nicxi.result.words[0] = 0;
-    nicxi.tasks = nicxi.handlers = 0;
+    nicxi.last = NOBODY;
+    nicxi.tasks = nicxi.handlers = nicxi.timers = 0;
     nicxi.frame_count = nicxi.next_frame = 0;
     nicxi.link_count = nicxi.next_link = 0;
     nicxi.let_in = nicxi.oldest = 0;
@@ -351,11 +394,13 @@ void nicx_run(const nicx_chooser *chooser, nicx_result *result)
     nicxi.main.bottom = NULL;
     reset();
     nicxi_back();
+    if (nicxi.is_weak)
+        nicxi_weak_back();
     nicxi.phase = BEGINNING;
+    nicxi.chooser = chooser;
     nicxi.scenario->begin();
     nicxi_list_actors();
     begin_threads();
-    nicxi.chooser = chooser;
     nicxi.phase = RUNNING;
     nicxi_next(NULL);
     judge_end();

@@ -5,6 +5,7 @@
 
 #include "engine.h"
 #include "heap.h"
+#include "weak.h"
 
 static bool is_name(const char *name)
 {
@@ -40,6 +41,7 @@ static struct thread *name_thread(int number, const char *name, void (*function)
     thread->name = name;
     thread->function = function;
     thread->argument = argument;
+    thread->is_timer = thread->pending = false;
     return thread;
 }
 
@@ -63,17 +65,38 @@ int nicx_service(const char *name, void (*function)(void *), void *argument)
     return add_task(name, function, argument, true);
 }
 
-void nicx_handler(const char *name, uint16_t group, uint8_t vector, void (*function)(void *), void *argument, int where)
+static struct thread *add_handler(const char *name, void (*function)(void *), void *argument, int where)
 {
     if (nicxi.phase != BEGINNING || nicxi.handlers == NICX_HANDLERS || where < NICX_BESIDE || where >= NICX_TASKS) {
-        nicxi_failed(NICX_MISUSE, "handlers are named in begin, at most %d, behind the tasks", NICX_HANDLERS);
-        return;
+        nicxi_failed(NICX_MISUSE, "handlers and timers are named in begin, at most %d, behind the tasks",
+                     NICX_HANDLERS);
+        return NULL;
     }
     struct thread *handler = name_thread(NICX_TASKS + nicxi.handlers++, name, function, argument);
     handler->is_service = false;
+    handler->where = where;
+    return handler;
+}
+
+void nicx_handler(const char *name, uint16_t group, uint8_t vector, void (*function)(void *), void *argument, int where)
+{
+    struct thread *handler = add_handler(name, function, argument, where);
+    if (!handler)
+        return;
     handler->group = group;
     handler->vector = vector;
-    handler->where = where;
+}
+
+int nicx_timer(const char *name, void (*function)(void *), void *argument, uint32_t within)
+{
+    struct thread *timer = add_handler(name, function, argument, NICX_BESIDE);
+    if (!timer)
+        return 0;
+    timer->group = NOBODY;
+    timer->is_timer = true;
+    timer->within = within;
+    nicxi.timers++;
+    return (int)(timer - nicxi.threads);
 }
 
 void nicx_frame(const uint8_t *bytes, size_t length)
@@ -115,6 +138,8 @@ static const char *fault_of(const nicx_scenario *scenario)
         return "its points are above 1,000,000";
     if (scenario->stack && scenario->stack < LEAST_STACK)
         return "its stack is below 16,384 bytes";
+    if (scenario->memory > (NICX_WEAK | NICX_WRITES_ORDER | NICX_READS_ORDER))
+        return "its memory isn't of enum nicx_memory";
     return NULL;
 }
 
@@ -153,14 +178,14 @@ static bool is_idle(void)
 static const char *try_begin(void)
 {
     nicxi.phase = BEGINNING;
-    nicxi.tasks = nicxi.handlers = 0;
+    nicxi.tasks = nicxi.handlers = nicxi.timers = 0;
     nicxi.scenario->begin();
     if (nicxi.result.outcome)
         return nicxi.result.words;
     for (int k = NICX_TASKS; k < NICX_TASKS + nicxi.handlers; k++) {
         if (nicxi.threads[k].where >= nicxi.tasks)
             return "a handler is on a task that there isn't";
-        if (nicxi.threads[k].group > nicxi.scenario->vfs)
+        if (!nicxi.threads[k].is_timer && nicxi.threads[k].group > nicxi.scenario->vfs)
             return "a handler is of a virtual function that there isn't";
     }
     nicxi.is_idle = false;
@@ -198,6 +223,8 @@ const char *nicx_open(const nicx_scenario *scenario)
     nicxi_heap_open();
     fault = bring_up();
     if (!fault)
+        fault = nicxi_weak_open();
+    if (!fault)
         fault = try_begin();
     return fault ? closed_for(fault) : NULL;
 }
@@ -205,6 +232,7 @@ const char *nicx_open(const nicx_scenario *scenario)
 void nicx_close(void)
 {
     nicxi_threads_close();
+    nicxi_weak_close();
     nic_drop_snapshot(&nicxi.kept);
     nic_close(&nicxi.device);
     nicxi_heap_close();

@@ -4,6 +4,7 @@
 #include <string.h>
 
 #include "files.h"
+#include "weak.h"
 #include "words.h"
 
 enum { MOST_LINE = 512 };
@@ -15,6 +16,8 @@ void nicxi_write_head(FILE *file, const struct origin *origin)
     fprintf(file, "# %s: %s\n", nicxi_outcome_name(origin->result->outcome), words);
     fprintf(file, "# found by %s of seed %" PRIu64 "; who acts at each point:\n", origin->where, origin->seed);
     fprintf(file, "scenario %s\n", nicxi.scenario->name);
+    if (nicxi.is_weak)
+        fprintf(file, "memory weak\n");
 }
 
 void nicxi_write_point(FILE *file, uint16_t actor, const struct step *step)
@@ -42,6 +45,9 @@ static void trim(char *line)
 static uint16_t actor_of(const char *words)
 {
     char name[96];
+    for (uint16_t k = VALUES; !strncmp(words, "value ", 6) && k < VALUES + NICX_VALUES; k++)
+        if (!strcmp(nicx_actor_name(k, name), words))
+            return k;
     for (uint16_t k = 0; k < nicxi.count; k++)
         if (!strcmp(nicx_actor_name(k, name), words))
             return k;
@@ -81,6 +87,12 @@ static const char *take(struct schedule_file *file, const char *words, uint32_t 
         snprintf(why, sizeof why, "it is a schedule of scenario %s, and this is %s", words + 9, nicxi.scenario->name);
         return why;
     }
+    if (!file->length && !strcmp(words, "memory weak")) {
+        file->is_weak = true;
+        return nicxi_change_memory(true);
+    }
+    if (!file->length && !file->is_weak)
+        nicxi_change_memory(false);
     uint16_t actor = actor_of(words);
     if (actor == NOBODY) {
         snprintf(why, sizeof why, "the scenario has no \"%s\"", words);

@@ -184,13 +184,22 @@ void nicxi_script_step(struct script *script, uint16_t actor, const struct step 
     char text[32];
     switch (step->kind) {
     case STEP_LOCAL:
+    case STEP_VALUE:
     case STEP_START: own_step(script, actor, step); break;
     case STEP_READ:
     case STEP_WRITE:
     case STEP_VF_READ:
     case STEP_VF_WRITE: access_registers(script, actor, step); break;
-    case STEP_PEEK: peek(script, actor, step); break;
-    case STEP_POKE: poke(script, actor, step); break;
+    case STEP_PEEK:
+    case STEP_POKE:
+        if (step->is_kept || step->older)
+            own_step(script, actor, step); /* of what memory is the device hears nothing */
+        else if (step->kind == STEP_PEEK)
+            peek(script, actor, step);
+        else
+            poke(script, actor, step);
+        break;
+    case STEP_STORE: poke(script, actor, step); break;
     case STEP_LEND:
     case STEP_TAKE:
         snprintf(text, sizeof text, "%s %" PRIu32, step->kind == STEP_LEND ? "lend" : "unlend", step->address);

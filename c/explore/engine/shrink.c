@@ -77,7 +77,9 @@ static bool is_better(const struct shrinking *it)
     const nicx_result *new = &it->post->result, *old = &it->best->result;
     if (!is_the_same(new, old))
         return false;
-    return new->switches < old->switches || (new->switches == old->switches &&new->points < old->points);
+    if (new->switches != old->switches || new->points != old->points)
+        return new->switches < old->switches || (new->switches == old->switches &&new->points < old->points);
+    return nicxi_sum_of_values(it->post->schedule, it->post->at) < nicxi_sum_of_values(it->best->schedule, old->points);
 }
 
 static bool is_over(const struct shrinking *it)
@@ -175,6 +177,24 @@ static bool try_stretches(struct shrinking *it)
     return any;
 }
 
+/* Values are lowered: to 0, to a half, by one. */
+static bool try_values(struct shrinking *it)
+{
+    bool any = false;
+    for (uint32_t at = 0; at < it->best->result.points && !is_over(it); at++) {
+        for (uint32_t way = 0; way < 3; way++) {
+            uint16_t actor = it->best->schedule[at];
+            if (!nicxi_is_value(actor) || actor == VALUES)
+                break;
+            it->length = 0;
+            take_range(it, 0, it->best->result.points);
+            it->list[at] = way == 0 ? VALUES : (uint16_t)(way == 1 ? VALUES + (actor - VALUES) / 2 : actor - 1);
+            any |= attempt(it);
+        }
+    }
+    return any;
+}
+
 static void follow_to_the_letter(struct post *post, void *argument)
 {
     const struct failure *failure = argument;
@@ -213,6 +233,7 @@ uint32_t nicxi_shrink(const struct options *options, struct failure *failure)
     while (goes_on) {
         goes_on = try_beginnings(&it);
         goes_on = try_stretches(&it) || goes_on;
+        goes_on = try_values(&it) || goes_on;
     }
     if (it.post)
         nicxi_free_posts(it.post, 1);

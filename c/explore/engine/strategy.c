@@ -30,7 +30,7 @@ static uint32_t highest(const struct by_priority *state, const uint16_t *can, ui
 static uint32_t choose_by_priority(void *argument, const uint16_t *can, uint32_t count)
 {
     struct by_priority *state = argument;
-    if (*nicxi.points >= nicxi.most_points / 2)
+    if (nicxi_is_value(can[0]) || *nicxi.points >= nicxi.most_points / 2)
         return chance_below(&state->chance, count);
     uint32_t best = highest(state, can, count);
     for (uint32_t k = 0; k + 1 < state->depth; k++)
@@ -104,9 +104,20 @@ static uint32_t choose_to_the_letter(void *argument, const uint16_t *can, uint32
     return is_first ? k : count;
 }
 
+/* The list's value if it comes next there, as far as there are as many; else 0. */
+static uint32_t value_of_list(struct by_list *state, uint32_t count)
+{
+    if (state->at == state->length || !nicxi_is_value(state->list[state->at]))
+        return 0;
+    uint32_t value = state->list[state->at++] - VALUES + 0u;
+    return value < count ? value : count - 1;
+}
+
 static uint32_t choose_by_list(void *argument, const uint16_t *can, uint32_t count)
 {
     struct by_list *state = argument;
+    if (nicxi_is_value(can[0]))
+        return value_of_list(state, count);
     while (state->at < state->length) {
         uint16_t wanted = state->list[state->at];
         uint32_t k = place_of(wanted, can, count);

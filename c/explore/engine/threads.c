@@ -2,6 +2,7 @@
 #include <string.h>
 
 #include "engine.h"
+#include "weak.h"
 
 static const char *name_of(const nicx_mutex *lock)
 {
@@ -174,6 +175,8 @@ void nicx_unlock(nicx_mutex *lock)
         nicxi_failed(NICX_MISUSE, "%s unlocks %s, which it doesn't hold", self->name, name_of(lock));
         nicxi_leave();
     }
+    if (nicxi.is_weak)
+        nicxi_released(self);
     lock->kept = 0;
     note_unlock(self, lock);
 }

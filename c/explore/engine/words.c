@@ -39,10 +39,33 @@ const char *nicxi_reply(const struct step *step, char room[MOST_WORDS])
     return told_words(step, room);
 }
 
-static const char *local_words(uint32_t local)
+/* A barrier with the stores that it sent ahead; a timer with its name. */
+static const char *local_words(const struct step *step, char *room)
 {
-    static const char *const words[] = {"begins", "a point", "waited", "waited until", "paused", "locks", "unlocks"};
-    return local < sizeof words / sizeof *words ? words[local] : "";
+    static const char *const words[] = {"begins",  "a point", "waited", "waited until", "paused", "locks",
+                                        "unlocks", "wmb",     "rmb",    "mb",           "arms",   "disarms"};
+    const char *first = step->word < sizeof words / sizeof *words ? words[step->word] : "";
+    if (step->word == LOCAL_ARM || step->word == LOCAL_DISARM)
+        snprintf(room, MOST_WORDS, "%s %s", first, nicxi.threads[step->of].name);
+    else if ((step->word == LOCAL_WMB || step->word == LOCAL_MB) && step->length)
+        snprintf(room, MOST_WORDS, "%s, %u store%s ahead of it", first, step->length, step->length > 1 ? "s" : "");
+    else
+        return first;
+    return room;
+}
+
+/* An access of lent memory: by weak memory it may be late, or of its own stores, or of what memory was. */
+static const char *memory_words(const struct step *step, const char *stray, char *room)
+{
+    const char *late = !step->is_kept ? "" : step->kind == STEP_POKE ? ", on its way" : ", its own stores in it";
+    int length = snprintf(room, MOST_WORDS, "%s 0x%05llx, %u bytes%s%s", step->kind == STEP_PEEK ? "peek" : "poke",
+                          (unsigned long long)step->bus, step->length, stray, late);
+    if (step->kind == STEP_PEEK && step->older)
+        snprintf(room + length, MOST_WORDS - (size_t)length, ", as before %s",
+                 step->older == 1   ? "the last change"
+                 : step->older == 2 ? "the last two changes"
+                                    : "the last three changes");
+    return room;
 }
 
 /* An access of a register, by its name. */
@@ -68,16 +91,22 @@ static const char *access_words(const struct step *step, const char *stray, char
 const char *nicxi_words(const struct step *step, char room[MOST_WORDS])
 {
     const char *stray = step->status == NIC_STRAY ? " (stray)" : step->status == NIC_NOT_LENT ? " (not lent)" : "";
-    unsigned long long bus = step->bus;
     switch (step->kind) {
-    case STEP_LOCAL: return local_words(step->word);
+    case STEP_LOCAL: return local_words(step, room);
     case STEP_START: return "starts";
     case STEP_READ:
     case STEP_WRITE:
     case STEP_VF_READ:
     case STEP_VF_WRITE: return access_words(step, stray, room);
-    case STEP_PEEK: snprintf(room, MOST_WORDS, "peek 0x%05llx, %u bytes%s", bus, step->length, stray); return room;
-    case STEP_POKE: snprintf(room, MOST_WORDS, "poke 0x%05llx, %u bytes%s", bus, step->length, stray); return room;
+    case STEP_PEEK:
+    case STEP_POKE: return memory_words(step, stray, room);
+    case STEP_STORE:
+        snprintf(room, MOST_WORDS, "0x%05llx, %u bytes reach memory", (unsigned long long)step->bus, step->length);
+        return room;
+    case STEP_VALUE:
+        snprintf(room, MOST_WORDS, "of %u, %s", step->length,
+                 step->of == NOBODY ? "in begin" : nicxi.threads[step->of].name);
+        return room;
     case STEP_LEND: snprintf(room, MOST_WORDS, "lend %u%s", step->address, stray); return room;
     case STEP_TAKE: snprintf(room, MOST_WORDS, "unlend %u%s", step->address, stray); return room;
     case STEP_LINK: return step->word ? "link up" : "link down";

@@ -249,6 +249,8 @@ int main(int argc, char **argv)
         scenario.queues = 0;
     if (is("stack"))
         scenario.stack = 4096;
+    if (is("memory_kind"))
+        scenario.memory = 8;
     if (is("vfs"))
         scenario.vfs = 64;
     if (is("points"))

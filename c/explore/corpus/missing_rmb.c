@@ -1,0 +1,66 @@
+/* The bytes of a frame are read behind its DD, and no barrier stands between: the processor read them before, when the
+   buffer had the bytes of another frame. */
+#include "card.h"
+
+enum { FRAMES = 2 };
+
+static struct {
+    unsigned next;
+    uint8_t number[FRAMES];
+} driver;
+
+static const char *bring_up(void)
+{
+    lend_blocks(FRAMES);
+    bring_up_receive(FRAMES);
+    for (unsigned k = 0; k < FRAMES; k++)
+        fill_buffer(k, 0xFF);
+    return NULL;
+}
+
+static void poll(void *unused)
+{
+    (void)unused;
+    while (driver.next < FRAMES) {
+        if (!is_done(RX_RING, driver.next, RX_DONE)) {
+            nicx_wait();
+            continue;
+        }
+#ifdef FIXED
+        nicx_rmb();
+#endif
+        nicx_dma_read(buffer(driver.next) + FRAME - 1, &driver.number[driver.next], 1);
+        driver.next++;
+    }
+}
+
+static void begin(void)
+{
+    memset(&driver, 0, sizeof driver);
+    nicx_task("poll", poll, NULL);
+    frames_come(FRAMES);
+}
+
+static const char *end(void)
+{
+    for (unsigned k = 0; k < FRAMES; k++)
+        if (driver.number[k] != k)
+            return "a frame has other bytes than came";
+    return NULL;
+}
+
+static const nicx_scenario scenario = {
+    .name = "missing_rmb",
+    .fifo = 64,
+    .blocks = 16,
+    .queues = 1,
+    .memory = NICX_WEAK,
+    .bring_up = bring_up,
+    .begin = begin,
+    .end = end,
+};
+
+int main(int argc, char **argv)
+{
+    return nicx_main(argc, argv, &scenario);
+}

@@ -1,0 +1,52 @@
+/* A descriptor and the tail behind it, and no barrier between: the write of the tail overtakes the store of the
+   descriptor, and the device takes the slot as it was. */
+#include "card.h"
+
+enum { FRAMES = 2 };
+
+static const char *bring_up(void)
+{
+    lend_blocks(FRAMES);
+    bring_up_transmit();
+    for (unsigned k = 0; k < FRAMES; k++)
+        fill_buffer(k, k);
+    return NULL;
+}
+
+static void send(void *unused)
+{
+    (void)unused;
+    for (unsigned k = 0; k < FRAMES; k++) {
+        put_transmit(k, k, EOP_RS);
+#ifdef FIXED
+        nicx_wmb();
+#endif
+        nicx_write32(NIC_TDT(0), k + 1);
+    }
+}
+
+static void begin(void)
+{
+    nicx_task("send", send, NULL);
+}
+
+static const char *end(void)
+{
+    return went_out(FRAMES);
+}
+
+static const nicx_scenario scenario = {
+    .name = "missing_wmb",
+    .fifo = 64,
+    .blocks = 16,
+    .queues = 1,
+    .memory = NICX_WEAK,
+    .bring_up = bring_up,
+    .begin = begin,
+    .end = end,
+};
+
+int main(int argc, char **argv)
+{
+    return nicx_main(argc, argv, &scenario);
+}

@@ -1,0 +1,52 @@
+/* Barriers of the driver's own. Where memory isn't weak they are nothing, and no points. */
+#include "weak.h"
+
+static bool is_barrier_here(void)
+{
+    return nicxi_may_act() && nicxi.self && nicxi.is_weak;
+}
+
+static void stand_at(enum local local, bool releases, bool acquires)
+{
+    if (!is_barrier_here())
+        return;
+    struct thread *self = nicxi.self;
+    self->next.kind = STEP_LOCAL;
+    self->next.word = (uint32_t)local;
+    nicxi_next(self);
+    nicxi_went_on(self);
+    self->next.length = releases ? nicxi_released(self) : 0;
+    if (acquires)
+        nicxi_acquired(self);
+    if (self->next.length)
+        self->is_void = false;
+    nicxi_told(&self->next);
+}
+
+void nicx_wmb(void)
+{
+    stand_at(LOCAL_WMB, true, false);
+}
+
+void nicx_rmb(void)
+{
+    stand_at(LOCAL_RMB, false, true);
+}
+
+void nicx_mb(void)
+{
+    stand_at(LOCAL_MB, true, true);
+}
+
+/* For what is a point by itself: an atomic operation, a lock of another kind. */
+void nicx_release(void)
+{
+    if (is_barrier_here())
+        nicxi_released(nicxi.self);
+}
+
+void nicx_acquire(void)
+{
+    if (is_barrier_here())
+        nicxi_acquired(nicxi.self);
+}

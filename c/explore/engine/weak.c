@@ -1,0 +1,398 @@
+#include "weak.h"
+
+#include <stdlib.h>
+#include <string.h>
+
+enum { SEEN = 16 };
+
+/* A store on its way. */
+struct store {
+    uint64_t bus;
+    uint32_t length, room;
+    uint8_t *bytes;
+};
+
+/* What a processor knows of a place: no load of it gives what it was before this time. */
+struct seen {
+    uint64_t bus;
+    uint32_t length, time;
+};
+
+struct processor {
+    struct store stores[NICX_STORES]; /* the oldest first */
+    uint32_t count;
+    uint32_t floor; /* no load gives what memory was before this time */
+    struct seen seen[SEEN];
+    uint32_t seen_count, next;
+};
+
+/* A change of memory: what it overwrote lies in `old`, from `at` on. All changes of one step have one time. */
+struct change {
+    uint64_t bus;
+    uint32_t length, time;
+    size_t at;
+};
+
+static struct {
+    struct processor processors[MOST_THREADS];
+    uint8_t *memory; /* the copy, as bus addresses have it */
+    uint64_t size;
+    struct change *changes;
+    size_t count, room;
+    uint8_t *old;
+    size_t used, old_room;
+    uint32_t time;
+} weak;
+
+static enum given_memory given_memory;
+
+void nicxi_give_memory(enum given_memory given)
+{
+    given_memory = given;
+}
+
+static bool overlap(uint64_t a, uint64_t a_length, uint64_t b, uint64_t b_length)
+{
+    return a < b + b_length && b < a + a_length;
+}
+
+static struct processor *processor_of(const struct thread *thread)
+{
+    return &weak.processors[thread->on >= 0 ? thread->on : (int)(thread - nicxi.threads)];
+}
+
+/* --- the copy of memory --- */
+
+static const char *copy_memory(void)
+{
+    weak.size = (uint64_t)nicxi.scenario->blocks * NIC_BLOCK_BYTES;
+    weak.memory = calloc(1, weak.size ? weak.size : 1);
+    if (!weak.memory)
+        return "there is no memory for a copy of the device's";
+    for (uint64_t at = 0; at < weak.size; at += NIC_BLOCK_BYTES)
+        nic_dma_read(&nicxi.device, at, weak.memory + at, NIC_BLOCK_BYTES);
+    return NULL;
+}
+
+const char *nicxi_weak_open(void)
+{
+    nicxi.is_weak = given_memory == WEAK || (given_memory == AS_SCENARIO && nicxi.scenario->memory & NICX_WEAK);
+    return nicxi.is_weak ? copy_memory() : NULL;
+}
+
+void nicxi_weak_close(void)
+{
+    for (int k = 0; k < MOST_THREADS; k++)
+        for (int j = 0; j < NICX_STORES; j++)
+            free(weak.processors[k].stores[j].bytes);
+    free(weak.memory);
+    free(weak.changes);
+    free(weak.old);
+    memset(&weak, 0, sizeof weak);
+}
+
+const char *nicxi_change_memory(bool is_weak)
+{
+    if (nicxi.is_weak == is_weak)
+        return NULL;
+    nicxi_weak_close();
+    nicxi_back();
+    nicxi.is_weak = is_weak;
+    const char *fault = is_weak ? copy_memory() : NULL;
+    nicxi_list_actors();
+    return fault;
+}
+
+/* The copy is what the bring-up left; nothing is on its way. */
+void nicxi_weak_back(void)
+{
+    while (weak.count) {
+        const struct change *change = &weak.changes[--weak.count];
+        memcpy(weak.memory + change->bus, weak.old + change->at, change->length);
+    }
+    weak.used = 0;
+    weak.time = 0;
+    for (int k = 0; k < MOST_THREADS; k++)
+        weak.processors[k].count = weak.processors[k].floor = weak.processors[k].seen_count = 0;
+}
+
+bool nicxi_weak_is_exact(void)
+{
+    uint8_t bytes[NIC_BLOCK_BYTES];
+    for (uint64_t at = 0; at < weak.size; at += NIC_BLOCK_BYTES)
+        if (nic_dma_read(&nicxi.device, at, bytes, sizeof bytes) == NIC_DONE &&
+            memcmp(bytes, weak.memory + at, sizeof bytes) != 0)
+            return false;
+    return true;
+}
+
+/* --- changes --- */
+
+static bool has_room(size_t length)
+{
+    if (weak.count == weak.room) {
+        size_t room = 2 * weak.room + 64;
+        struct change *changes = realloc(weak.changes, room * sizeof *changes);
+        if (!changes)
+            return false;
+        weak.changes = changes;
+        weak.room = room;
+    }
+    if (weak.used + length > weak.old_room) {
+        size_t room = 2 * (weak.used + length);
+        uint8_t *old = realloc(weak.old, room);
+        if (!old)
+            return false;
+        weak.old = old;
+        weak.old_room = room;
+    }
+    return true;
+}
+
+/* Memory may be another one there: a value that is written once more is no change. */
+static void changed(uint64_t bus, uint64_t length)
+{
+    if (!length || bus >= weak.size || length > weak.size - bus)
+        return;
+    if (!has_room(length)) {
+        nicxi_failed(NICX_MISUSE, "there is no memory to keep what memory was");
+        return;
+    }
+    uint8_t *old = weak.old + weak.used, *now = weak.memory + bus;
+    memcpy(old, now, length);
+    if (nic_dma_read(&nicxi.device, bus, now, length) != NIC_DONE || !memcmp(old, now, length))
+        return;
+    struct change change = {bus, (uint32_t)length, weak.time, weak.used};
+    weak.changes[weak.count++] = change;
+    weak.used += length;
+}
+
+/* The device tells where it wrote. */
+void nicxi_memory_changed(const struct step *step)
+{
+    weak.time++;
+    if (step->kind == STEP_POKE || step->kind == STEP_STORE) {
+        changed(step->bus, step->length);
+    } else if (step->kind == STEP_RX && step->status == NIC_WROTE) {
+        changed(step->told.at, step->told.len);
+        changed(step->told.desc, NIC_DESC_BYTES);
+    } else if (step->kind == STEP_TX && step->told.back) {
+        uint64_t left = NIC_BLOCK_BYTES - step->told.at % NIC_BLOCK_BYTES; /* a head is shorter than a descriptor */
+        changed(step->told.at, left < NIC_DESC_BYTES ? left : NIC_DESC_BYTES);
+    }
+}
+
+void nicxi_memory_moved(uint32_t block)
+{
+    weak.time++;
+    changed((uint64_t)block * NIC_BLOCK_BYTES, NIC_BLOCK_BYTES);
+    for (int k = 0; k < MOST_THREADS; k++)
+        weak.processors[k].floor = weak.time;
+}
+
+/* --- what a processor may still see --- */
+
+static uint32_t floor_of(const struct processor *it, uint64_t bus, uint32_t length)
+{
+    uint32_t floor = it->floor;
+    for (uint32_t k = 0; k < it->seen_count; k++)
+        if (it->seen[k].time > floor && overlap(it->seen[k].bus, it->seen[k].length, bus, length))
+            floor = it->seen[k].time;
+    return floor;
+}
+
+/* A place that has no room pushes out another one, which counts for all places then: loads are less old by that. */
+static void note_seen(struct processor *it, uint64_t bus, uint32_t length, uint32_t time)
+{
+    uint32_t k = 0;
+    while (k < it->seen_count && (it->seen[k].bus != bus || it->seen[k].length != length))
+        k++;
+    if (k == SEEN) {
+        k = it->next;
+        it->next = (k + 1) % SEEN;
+        if (it->floor < it->seen[k].time)
+            it->floor = it->seen[k].time;
+    } else if (k == it->seen_count) {
+        it->seen_count++;
+        it->next = 0;
+    }
+    struct seen seen = {bus, length, time};
+    it->seen[k] = seen;
+}
+
+static bool gives_own(const struct processor *it, uint64_t bus, uint32_t length)
+{
+    for (uint32_t k = 0; k < it->count; k++)
+        if (overlap(it->stores[k].bus, it->stores[k].length, bus, length))
+            return true;
+    return false;
+}
+
+/* The time before so many changes of a place, as far back as its loads may go; false where there are fewer. */
+static bool time_before(const struct processor *it, uint64_t bus, uint32_t length, uint32_t older, uint32_t *time)
+{
+    uint32_t floor = floor_of(it, bus, length), last = 0;
+    for (size_t k = weak.count; k > 0 && weak.changes[k - 1].time > floor; k--) {
+        const struct change *change = &weak.changes[k - 1];
+        if (change->time == last || !overlap(change->bus, change->length, bus, length))
+            continue;
+        last = change->time;
+        *time = last - 1;
+        if (!--older)
+            return true;
+    }
+    return false;
+}
+
+bool nicxi_can_be_older(const struct actor *actor)
+{
+    const struct thread *thread = &nicxi.threads[actor->of];
+    uint32_t time;
+    if (thread->state != READY || thread->interrupted_by >= 0 || thread->next.kind != STEP_PEEK)
+        return false;
+    const struct processor *it = processor_of(thread);
+    const struct step *load = &thread->next;
+    return !gives_own(it, load->bus, load->length) &&
+           time_before(it, load->bus, load->length, (uint32_t)actor->on, &time);
+}
+
+/* --- loads and stores --- */
+
+/* Puts the part that two ranges share in its place. */
+static void lay_over(uint8_t *bytes, uint64_t bus, uint64_t length, const uint8_t *other, uint64_t at, uint64_t many)
+{
+    uint64_t from = bus > at ? bus : at, end = bus + length < at + many ? bus + length : at + many;
+    if (from < end)
+        memcpy(bytes + (from - bus), other + (from - at), end - from);
+}
+
+uint8_t nicxi_load(struct step *step, uint8_t *bytes)
+{
+    struct processor *it = processor_of(nicxi.self);
+    uint32_t time = weak.time;
+    step->is_kept = false;
+    step->older = nicxi.self->older;
+    uint8_t status = nic_dma_read(&nicxi.device, step->bus, bytes, step->length);
+    if (status != NIC_DONE)
+        return status;
+    if (step->older && !time_before(it, step->bus, step->length, step->older, &time))
+        step->older = 0;
+    for (size_t k = weak.count; step->older && k > 0 && weak.changes[k - 1].time > time; k--) {
+        const struct change *change = &weak.changes[k - 1];
+        lay_over(bytes, step->bus, step->length, weak.old + change->at, change->bus, change->length);
+    }
+    for (uint32_t k = 0; k < it->count; k++) {
+        const struct store *store = &it->stores[k];
+        step->is_kept |= overlap(store->bus, store->length, step->bus, step->length);
+        lay_over(bytes, step->bus, step->length, store->bytes, store->bus, store->length);
+    }
+    note_seen(it, step->bus, step->length, time);
+    return status;
+}
+
+/* A store of a processor reaches memory; its place in the list is free again. */
+static void land(struct processor *it, uint32_t place, struct step *step)
+{
+    struct store store = it->stores[place];
+    step->kind = STEP_STORE;
+    step->of = (uint16_t)(it - weak.processors);
+    step->bus = store.bus;
+    step->length = store.length;
+    step->status = nic_dma_write(&nicxi.device, store.bus, store.bytes, store.length);
+    memmove(&it->stores[place], &it->stores[place + 1], (it->count - place - 1) * sizeof store);
+    it->stores[--it->count] = store;
+    nicxi_memory_changed(step);
+    note_seen(it, store.bus, store.length, weak.time);
+    if (step->status == NIC_NOT_LENT && !(nicxi.scenario->allowed & NICX_NOT_LENT))
+        nicxi_failed(NICX_MEMORY, "a store of %s reaches 0x%llx, which isn't lent any more",
+                     nicxi.threads[step->of].name, (unsigned long long)store.bus);
+}
+
+/* The oldest one is sent ahead, beside the step of who does so. */
+static void land_oldest(struct processor *it)
+{
+    struct step step = {0};
+    step.is_beside = true;
+    land(it, 0, &step);
+    nicxi_told(&step);
+}
+
+static bool keep_bytes(struct store *store, const uint8_t *bytes, uint32_t length)
+{
+    if (store->room < length) {
+        uint8_t *room = realloc(store->bytes, length);
+        if (!room)
+            return false;
+        store->bytes = room;
+        store->room = length;
+    }
+    memcpy(store->bytes, bytes, length);
+    return true;
+}
+
+/* Whether it is lent is known at once: that is the driver's fault where it isn't. */
+static uint8_t status_of(uint64_t bus, uint64_t length)
+{
+    uint8_t bytes[NIC_BLOCK_BYTES];
+    uint8_t status = NIC_DONE;
+    for (uint64_t at = 0; at < length && status == NIC_DONE; at += sizeof bytes)
+        status = nic_dma_read(&nicxi.device, bus + at, bytes, length - at < sizeof bytes ? length - at : sizeof bytes);
+    return status;
+}
+
+uint8_t nicxi_store(struct step *step, const uint8_t *bytes)
+{
+    struct processor *it = processor_of(nicxi.self);
+    uint8_t status = status_of(step->bus, step->length);
+    step->is_kept = false;
+    if (status != NIC_DONE || !step->length)
+        return status;
+    if (it->count == NICX_STORES)
+        land_oldest(it);
+    struct store *store = &it->stores[it->count];
+    if (!keep_bytes(store, bytes, step->length)) {
+        nicxi_failed(NICX_MISUSE, "there is no memory for a store on its way");
+        return status;
+    }
+    store->bus = step->bus;
+    store->length = step->length;
+    it->count++;
+    step->is_kept = true;
+    return status;
+}
+
+/* --- stores that reach memory by themselves --- */
+
+/* Stores to one place stay in their order. */
+bool nicxi_can_land(const struct actor *actor)
+{
+    const struct processor *it = &weak.processors[actor->of];
+    uint32_t place = (uint32_t)actor->on;
+    if (place >= it->count)
+        return false;
+    for (uint32_t k = 0; k < place; k++)
+        if (overlap(it->stores[k].bus, it->stores[k].length, it->stores[place].bus, it->stores[place].length))
+            return false;
+    return true;
+}
+
+void nicxi_land(const struct actor *actor, struct step *step)
+{
+    land(&weak.processors[actor->of], (uint32_t)actor->on, step);
+}
+
+/* --- barriers --- */
+
+uint32_t nicxi_released(const struct thread *thread)
+{
+    struct processor *it = processor_of(thread);
+    uint32_t count = it->count;
+    while (it->count)
+        land_oldest(it);
+    return count;
+}
+
+void nicxi_acquired(const struct thread *thread)
+{
+    processor_of(thread)->floor = weak.time;
+}

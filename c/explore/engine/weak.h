@@ -1,0 +1,47 @@
+/* Weak memory: a processor's stores to lent memory are on their way for a while, and reach it in any order that keeps
+   those of one place; its loads may give what memory was before its last changes. A barrier sends stores ahead, or has
+   loads behind it be no older than it. A task or a handler beside is a processor; a handler on a task is on its
+   processor. Which store reaches memory when, and how old a load is, are choices of the schedule as all others are.
+
+   The engine keeps a copy of lent memory and what each change of it overwrote, so that older values are known. All that
+   changes memory while a schedule is made goes through here. */
+#ifndef NICX_WEAK_H
+#define NICX_WEAK_H
+
+#include "engine.h"
+
+enum given_memory { AS_SCENARIO, STRONG, WEAK };
+
+/* What --memory or a schedule's file says, which the scenarios opened from now on have. */
+void nicxi_give_memory(enum given_memory given);
+/* The same for the scenario that is open: null, or why it can't be. */
+const char *nicxi_change_memory(bool is_weak);
+
+/* With the bring-up: null, or why it can't be. At the end; and for each schedule. */
+const char *nicxi_weak_open(void);
+void nicxi_weak_close(void);
+void nicxi_weak_back(void);
+
+/* An access of a thread, or of none, of which bus and length are in the step: its status. */
+uint8_t nicxi_store(struct step *step, const uint8_t *bytes);
+uint8_t nicxi_load(struct step *step, uint8_t *bytes);
+
+/* How many stores of the thread's processor were on their way; none is any more. */
+uint32_t nicxi_released(const struct thread *thread);
+/* The loads of the thread's processor aren't older than this any more. */
+void nicxi_acquired(const struct thread *thread);
+/* A block was lent or taken back: no processor's loads are older than that. */
+void nicxi_memory_moved(uint32_t block);
+
+/* A step of the device or of no thread changed memory. */
+void nicxi_memory_changed(const struct step *step);
+
+/* Whether an actor may act: a store that reaches memory, an older load. */
+bool nicxi_can_land(const struct actor *actor);
+bool nicxi_can_be_older(const struct actor *actor);
+void nicxi_land(const struct actor *actor, struct step *step);
+
+/* Whether the copy is what memory is: else something changed it that nobody told. */
+bool nicxi_weak_is_exact(void);
+
+#endif

@@ -1,0 +1,106 @@
+/* Two take back what went out: who sends does so before a frame, and a cleaner behind an interrupt. Nothing keeps them
+   apart, so both give the same buffer back. */
+#include "card.h"
+
+enum { FRAMES = 3, POOL = 2 };
+
+static struct {
+    nicx_mutex lock;
+    bool scheduled;
+    unsigned clean, tail;
+    uint8_t buffer_in[SLOTS];
+    uint8_t unused[2 * SLOTS];
+    unsigned free;
+} driver;
+
+static const char *bring_up(void)
+{
+    lend_blocks(POOL);
+    bring_up_transmit();
+    nicx_write32(NIC_GPIE, NIC_GPIE_MULTIPLE_MSIX);
+    nicx_write32(NIC_IVAR(0), NIC_IVAR_INT_ALLOC_1_IS(5) | NIC_IVAR_INT_ALLOC_VAL_1);
+    nicx_write32(NIC_EIAC, CAUSE);
+    nicx_write32(NIC_EIMS, CAUSE);
+    return NULL;
+}
+
+static void clean(void)
+{
+#ifdef FIXED
+    nicx_lock(&driver.lock);
+#endif
+    for (unsigned slot = driver.clean; slot != driver.tail && is_done(TX_RING, slot, TX_DONE);) {
+        driver.unused[driver.free++] = driver.buffer_in[slot];
+        slot = driver.clean = (slot + 1) % SLOTS;
+    }
+#ifdef FIXED
+    nicx_unlock(&driver.lock);
+#endif
+}
+
+static bool has_buffer(void *unused)
+{
+    (void)unused;
+    return driver.free > 0;
+}
+
+static void send(void *unused)
+{
+    (void)unused;
+    for (unsigned k = 0; k < FRAMES; k++) {
+        clean();
+        nicx_wait_until(has_buffer, NULL);
+        uint8_t number = driver.unused[--driver.free];
+        fill_buffer(number, k);
+        put_transmit(driver.tail, number, EOP_RS);
+        driver.buffer_in[driver.tail] = number;
+        driver.tail = (driver.tail + 1) % SLOTS;
+        nicx_write32(NIC_TDT(0), driver.tail);
+    }
+}
+
+static void isr(void *unused)
+{
+    (void)unused;
+    driver.scheduled = true;
+}
+
+static void cleaner(void *unused)
+{
+    (void)unused;
+    for (;;) {
+        nicx_wait_until(nicx_is_set, &driver.scheduled);
+        driver.scheduled = false;
+        clean();
+    }
+}
+
+static void begin(void)
+{
+    memset(&driver, 0, sizeof driver);
+    for (uint8_t k = 0; k < POOL; k++)
+        driver.unused[driver.free++] = k;
+    nicx_task("send", send, NULL);
+    nicx_service("cleaner", cleaner, NULL);
+    nicx_handler("isr", 0, 5, isr, NULL, NICX_BESIDE);
+}
+
+static const char *end(void)
+{
+    return driver.free > POOL ? "a buffer was given back twice" : went_out(FRAMES);
+}
+
+static const nicx_scenario scenario = {
+    .name = "double_cleaner",
+    .fifo = 64,
+    .blocks = 16,
+    .queues = 1,
+    .bring_up = bring_up,
+    .begin = begin,
+    .end = end,
+};
+
+int main(int argc, char **argv)
+{
+    return nicx_main(argc, argv, &scenario);
+}

@@ -1,0 +1,71 @@
+/* A queue that is asked to go on is off for a while yet. Who doesn't wait for the bit, and stops the queue later only
+   if it reads as on, leaves a queue that goes on behind that, and has its buffers written. */
+#include "card.h"
+
+enum { FRAMES = 1, POSTED = 2 };
+
+static const char *bring_up(void)
+{
+    lend_blocks(POSTED);
+    bring_up_receive(POSTED);
+    nicx_write32(NIC_RXDCTL(0), 0);
+    nicx_settle();
+    return NULL;
+}
+
+static bool is_on(void)
+{
+    return nicx_read32(NIC_RXDCTL(0)) & ENABLE;
+}
+
+static void start(void)
+{
+    nicx_write32(NIC_RXDCTL(0), ENABLE);
+#ifdef FIXED
+    while (!is_on())
+        nicx_wait();
+#endif
+}
+
+static void stop(void)
+{
+    if (is_on())
+        nicx_write32(NIC_RXDCTL(0), 0);
+    while (is_on())
+        nicx_wait();
+    for (unsigned k = 0; k < POSTED; k++)
+        nicx_take((uint32_t)(buffer(k) / NIC_BLOCK_BYTES));
+}
+
+static void start_and_stop(void *unused)
+{
+    (void)unused;
+    start();
+    stop();
+}
+
+static void begin(void)
+{
+    nicx_task("start_and_stop", start_and_stop, NULL);
+    frames_come(FRAMES);
+}
+
+static const char *end(void)
+{
+    return NULL;
+}
+
+static const nicx_scenario scenario = {
+    .name = "enable_not_awaited",
+    .fifo = 64,
+    .blocks = 16,
+    .queues = 1,
+    .bring_up = bring_up,
+    .begin = begin,
+    .end = end,
+};
+
+int main(int argc, char **argv)
+{
+    return nicx_main(argc, argv, &scenario);
+}

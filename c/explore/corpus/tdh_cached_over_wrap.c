@@ -1,0 +1,111 @@
+/* A cleaner reads TDH, and takes the lock then. Meanwhile another one may have cleaned beyond that head: the old head
+   lies behind it, and to come there the cleaner goes once around, over slots that are outstanding. */
+#include "card.h"
+
+enum { FRAMES = 4, POOL = 3 };
+
+static struct {
+    nicx_mutex lock;
+    bool scheduled;
+    unsigned clean, tail, free;
+} driver;
+
+static const char *bring_up(void)
+{
+    lend_blocks(POOL);
+    bring_up_transmit();
+    nicx_write32(NIC_GPIE, NIC_GPIE_MULTIPLE_MSIX);
+    nicx_write32(NIC_IVAR(0), NIC_IVAR_INT_ALLOC_1_IS(5) | NIC_IVAR_INT_ALLOC_VAL_1);
+    nicx_write32(NIC_EIAC, CAUSE);
+    nicx_write32(NIC_EIMS, CAUSE);
+    return NULL;
+}
+
+static void clean_to(unsigned head)
+{
+    while (driver.clean != head) {
+        driver.clean = (driver.clean + 1) % SLOTS;
+        driver.free++;
+    }
+}
+
+static void clean(void)
+{
+#ifndef FIXED
+    unsigned head = nicx_read32(NIC_TDH(0));
+    nicx_lock(&driver.lock);
+#else
+    nicx_lock(&driver.lock);
+    unsigned head = nicx_read32(NIC_TDH(0));
+#endif
+    clean_to(head);
+    nicx_unlock(&driver.lock);
+}
+
+static bool has_room(void *unused)
+{
+    (void)unused;
+    return driver.free > 0;
+}
+
+/* Buffers are used in turn: one is used again once it was given back. */
+static void send(void *unused)
+{
+    (void)unused;
+    for (unsigned k = 0; k < FRAMES; k++) {
+        clean();
+        nicx_wait_until(has_room, NULL);
+        fill_buffer(k % POOL, k);
+        put_transmit(driver.tail, k % POOL, EOP_RS);
+        nicx_lock(&driver.lock);
+        driver.free--;
+        driver.tail = (driver.tail + 1) % SLOTS;
+        nicx_write32(NIC_TDT(0), driver.tail);
+        nicx_unlock(&driver.lock);
+    }
+}
+
+static void isr(void *unused)
+{
+    (void)unused;
+    driver.scheduled = true;
+}
+
+static void cleaner(void *unused)
+{
+    (void)unused;
+    for (;;) {
+        nicx_wait_until(nicx_is_set, &driver.scheduled);
+        driver.scheduled = false;
+        clean();
+    }
+}
+
+static void begin(void)
+{
+    memset(&driver, 0, sizeof driver);
+    driver.free = POOL;
+    nicx_task("send", send, NULL);
+    nicx_service("cleaner", cleaner, NULL);
+    nicx_handler("isr", 0, 5, isr, NULL, NICX_BESIDE);
+}
+
+static const char *end(void)
+{
+    return driver.free > POOL ? "a slot was cleaned that is outstanding" : went_out(FRAMES);
+}
+
+static const nicx_scenario scenario = {
+    .name = "tdh_cached_over_wrap",
+    .fifo = 64,
+    .blocks = 16,
+    .queues = 1,
+    .bring_up = bring_up,
+    .begin = begin,
+    .end = end,
+};
+
+int main(int argc, char **argv)
+{
+    return nicx_main(argc, argv, &scenario);
+}

@@ -1,0 +1,99 @@
+/* A watchdog that sees no progress starts the ring anew, and who sends is amid a frame then: its descriptor goes to the
+   slot that it knew, behind a tail that is another one. */
+#include "card.h"
+
+enum { FRAMES = 2, SOON = 8 };
+
+static struct {
+    nicx_mutex lock;
+    unsigned tail, resets;
+    int watchdog;
+} driver;
+
+static const char *bring_up(void)
+{
+    lend_blocks(FRAMES);
+    bring_up_transmit();
+    for (unsigned k = 0; k < FRAMES; k++)
+        fill_buffer(k, k);
+    return NULL;
+}
+
+static void set_enable(uint32_t wanted)
+{
+    nicx_write32(NIC_TXDCTL(0), wanted);
+    while ((nicx_read32(NIC_TXDCTL(0)) & ENABLE) != wanted)
+        nicx_wait();
+}
+
+/* What went out went out; the frames that didn't go out are at the front then. */
+static void start_anew(void)
+{
+    set_enable(0);
+    unsigned head = nicx_read32(NIC_TDH(0)), left = driver.tail - head;
+    for (unsigned k = 0; k < left; k++)
+        put_transmit(k, head + k, EOP_RS);
+    nicx_write32(NIC_TDH(0), 0);
+    nicx_write32(NIC_TDT(0), 0);
+    set_enable(ENABLE);
+    driver.tail = left;
+    nicx_write32(NIC_TDT(0), left);
+}
+
+/* It looks once, when time is up. */
+static void watch(void *unused)
+{
+    (void)unused;
+#ifdef FIXED
+    nicx_lock(&driver.lock);
+#endif
+    if (driver.tail && nicx_read32(NIC_TDH(0)) == 0) {
+        driver.resets++;
+        start_anew();
+    }
+#ifdef FIXED
+    nicx_unlock(&driver.lock);
+#endif
+}
+
+static void send(void *unused)
+{
+    (void)unused;
+    for (unsigned k = 0; k < FRAMES; k++) {
+        nicx_lock(&driver.lock);
+        unsigned slot = driver.tail;
+        put_transmit(slot, k, EOP_RS);
+        driver.tail = slot + 1;
+        nicx_write32(NIC_TDT(0), slot + 1);
+        if (!k)
+            nicx_arm(driver.watchdog);
+        nicx_unlock(&driver.lock);
+    }
+}
+
+static void begin(void)
+{
+    memset(&driver, 0, sizeof driver);
+    nicx_task("send", send, NULL);
+    driver.watchdog = nicx_timer("watchdog", watch, NULL, SOON);
+}
+
+static const char *end(void)
+{
+    return went_out(FRAMES);
+}
+
+static const nicx_scenario scenario = {
+    .name = "watchdog_amid_send",
+    .fifo = 64,
+    .blocks = 16,
+    .queues = 1,
+    .bring_up = bring_up,
+    .begin = begin,
+    .end = end,
+};
+
+int main(int argc, char **argv)
+{
+    return nicx_main(argc, argv, &scenario);
+}

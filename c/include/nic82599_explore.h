@@ -178,6 +178,54 @@ static inline void nicx_check(bool holds, const char *words)
         nicx_fail(words);
 }
 
+/* --- a kit for scenarios --- */
+
+/* A descriptor by one access, at one point: two nicx_put64 are two. Zeros are read where it isn't lent. */
+uint8_t nicx_put_desc(uint64_t ring, uint32_t slot, nic_desc d);
+nic_desc nicx_get_desc(uint64_t ring, uint32_t slot);
+
+enum { NICX_TCP = 6, NICX_UDP = 17, NICX_MAILBOX = 16 };
+#define NICX_TORN UINT32_MAX
+
+/* A flow over IPv4: of addresses and, by NICX_TCP or NICX_UDP, of ports. */
+typedef struct nicx_flow {
+    uint32_t from, to;
+    uint16_t from_port, to_port;
+    uint8_t protocol;
+} nicx_flow;
+
+/* Makes a frame of 60 to 16,384 bytes that tells its number in each of its bytes behind the header; false for another
+   length. One of a flow has 60 to 1,518 bytes, and right checksums. */
+bool nicx_numbered_frame(uint8_t *frame, size_t length, uint32_t number);
+bool nicx_flow_frame(uint8_t *frame, size_t length, const nicx_flow *flow, uint32_t number);
+/* The number of such a frame, which is below NICX_TORN; NICX_TORN where a byte is of another frame, or of none. */
+uint32_t nicx_frame_number(const uint8_t *frame, size_t length);
+/* In `begin`: names so many numbered frames, at most NICX_FRAMES, the first of number 0. Another length is misuse. */
+void nicx_frames(uint32_t count, size_t length);
+
+/* The hash of receive side scaling (Toeplitz) over at most 36 bytes; that of a flow, 0 where none is made, and the queue
+   of its frames, by MRQC, RSSRK and RETA as they are now: with bits 3:0 of MRQC other than 1 that is 0. No points. */
+uint32_t nicx_hash(const uint8_t key[40], const uint8_t *bytes, size_t length);
+uint32_t nicx_rss_hash(const nicx_flow *flow);
+uint16_t nicx_rss_queue(const nicx_flow *flow);
+
+/* The mailbox of a virtual function, as the function's driver keeps it: {.vf = 3}. What a read takes with it is kept. */
+typedef struct nicx_mailbox {
+    uint8_t vf;
+    uint32_t seen;
+} nicx_mailbox;
+
+/* Both sides of a mailbox, as their drivers do it. Who sends takes the mailbox first, and waits for it, writes at most
+   NICX_MAILBOX words, and tells the other side. `receives` asks whether something was told: then it takes the mailbox,
+   reads, and acknowledges. `is_acked` asks whether what was sent has been acknowledged. Of the host (PFMBICR) and of the
+   function each of these is told once. */
+void nicx_function_sends(nicx_mailbox *mailbox, const uint32_t *words, uint32_t count);
+bool nicx_function_receives(nicx_mailbox *mailbox, uint32_t *words, uint32_t count);
+bool nicx_function_is_acked(nicx_mailbox *mailbox);
+void nicx_host_sends(uint8_t vf, const uint32_t *words, uint32_t count);
+bool nicx_host_receives(uint8_t vf, uint32_t *words, uint32_t count);
+bool nicx_host_is_acked(uint8_t vf);
+
 /* --- in `bring_up` and `end` --- */
 
 /* The controller, for calls that the explorer needn't know of: without effects, or in `end`. nic_lend_memory is misuse

@@ -1,0 +1,186 @@
+/* The kit: frames of flows come into the queue that it tells, with the hash that it tells, and whole; a host and a
+   function tell each other words by mailboxes, under any order of steps. */
+#include <stdio.h>
+#include <string.h>
+
+#include "card.h"
+
+enum { QUEUES = 4, FLOWS = 12, LONG = 1500, WORDS = 3 };
+
+static nicx_flow flows[FLOWS];
+static unsigned got;
+static nicx_mailbox mailbox;
+static bool asked, answered;
+
+static uint64_t ring(unsigned queue)
+{
+    return 0x0800 + 0x80 * (uint64_t)queue;
+}
+
+static uint64_t buffer_of(unsigned queue, unsigned slot)
+{
+    return NIC_BLOCK_BYTES * (uint64_t)(2 + SLOTS * queue + slot);
+}
+
+/* Some of TCP, of UDP and of neither, each with numbers of its own. */
+static void name_flows(void)
+{
+    static const uint8_t protocols[] = {NICX_TCP, NICX_UDP, 1};
+    for (uint32_t k = 0; k < FLOWS; k++) {
+        nicx_flow flow = {0x0A000001 + 77 * k, 0x0A0000FF, (uint16_t)(1000 + 13 * k), 80, protocols[k % 3]};
+        flows[k] = flow;
+    }
+}
+
+static void bring_up_queue(unsigned queue)
+{
+    nicx_write32(NIC_RDBAL(queue), (uint32_t)ring(queue));
+    nicx_write32(NIC_RDLEN(queue), 16 * SLOTS);
+    nicx_write32(NIC_SRRCTL(queue), NIC_SRRCTL_DESCTYPE_IS(1) | NIC_SRRCTL_BSIZEPACKET_IS(2));
+    nicx_write32(NIC_RXDCTL(queue), ENABLE);
+    nicx_settle();
+    for (unsigned slot = 0; slot < SLOTS - 1; slot++)
+        nicx_put_desc(ring(queue), slot, nic_rx_desc(buffer_of(queue, slot)));
+    nicx_write32(NIC_RDT(queue), SLOTS - 1);
+}
+
+static const char *bring_up(void)
+{
+    nicx_lend_all();
+    nicx_write32(NIC_GCR_EXT, 3);
+    nicx_write32(NIC_CTRL_EXT, 0x4000);
+    nicx_vf_read32(0, NIC_VFMAILBOX);
+    nicx_write32(NIC_RXCTRL, NIC_RXCTRL_RXEN);
+    nicx_write32(NIC_FCTRL, NIC_FCTRL_UPE);
+    nicx_write32(NIC_MRQC, NIC_MRQC_MRQE_IS(1) | NIC_MRQC_TCPIPV4 | NIC_MRQC_UDPIPV4 | NIC_MRQC_IPV4);
+    nicx_write32(NIC_RXCSUM, 1u << 13);
+    for (uint32_t k = 0; k < NIC_RSSRK_COUNT; k++)
+        nicx_write32(NIC_RSSRK(k), 0x9E3779B9u * (k + 1));
+    for (uint32_t k = 0; k < NIC_RETA_COUNT; k++)
+        nicx_write32(NIC_RETA(k), 0x03020100);
+    for (unsigned queue = 0; queue < QUEUES; queue++)
+        bring_up_queue(queue);
+    name_flows();
+    return NULL;
+}
+
+/* Of each frame that lies in a ring: its number, its queue, its hash. */
+static void take_all(void *unused)
+{
+    (void)unused;
+    while (got < FLOWS) {
+        bool any = false;
+        for (unsigned queue = 0, slot = 0; queue < QUEUES; slot = (slot + 1) % SLOTS, queue += !slot) {
+            uint8_t frame[LONG];
+            nic_desc d = nicx_get_desc(ring(queue), slot);
+            if (!nic_rx_is_done(d))
+                continue;
+            uint32_t length = nic_rx_length(d);
+            nicx_dma_read(buffer_of(queue, slot), frame, length);
+            uint32_t number = nicx_frame_number(frame, length);
+            nicx_check(number < FLOWS, "a frame has no number");
+            nicx_check(nicx_rss_queue(&flows[number]) == queue, "a frame came into another queue");
+            nicx_check(nicx_rss_hash(&flows[number]) == nic_rx_hash(d), "a frame has another hash");
+            nicx_put_desc(ring(queue), slot, nic_rx_desc(0));
+            got++;
+            any = true;
+        }
+        if (!any)
+            nicx_wait();
+    }
+}
+
+/* --- the mailbox: a question, its acknowledgement, the answer and its acknowledgement --- */
+
+static void function(void *unused)
+{
+    static const uint32_t question[WORDS] = {1, 2, 3};
+    uint32_t answer[WORDS] = {0};
+    (void)unused;
+    nicx_function_sends(&mailbox, question, WORDS);
+    while (!nicx_function_is_acked(&mailbox))
+        nicx_wait();
+    while (!nicx_function_receives(&mailbox, answer, WORDS))
+        nicx_wait();
+    answered = answer[0] == 2 && answer[1] == 4 && answer[2] == 6;
+}
+
+static void host(void *unused)
+{
+    uint32_t words[WORDS] = {0};
+    (void)unused;
+    while (!nicx_host_receives(0, words, WORDS))
+        nicx_wait();
+    asked = words[0] == 1 && words[1] == 2 && words[2] == 3;
+    for (unsigned k = 0; k < WORDS; k++)
+        words[k] *= 2;
+    nicx_host_sends(0, words, WORDS);
+    while (!nicx_host_is_acked(0))
+        nicx_wait();
+}
+
+static void begin(void)
+{
+    uint8_t frame[LONG];
+    got = 0;
+    asked = answered = false;
+    memset(&mailbox, 0, sizeof mailbox);
+    nicx_task("takes", take_all, NULL);
+    nicx_task("function", function, NULL);
+    nicx_task("host", host, NULL);
+    for (uint32_t k = 0; k < FLOWS; k++) {
+        size_t length = 60 + (k * 131) % (LONG - 60);
+        nicx_check(nicx_flow_frame(frame, length, &flows[k], k), "no frame of a flow");
+        nicx_frame(frame, length);
+    }
+}
+
+static const char *end(void)
+{
+    return got != FLOWS ? "a frame is lost" : asked && answered ? NULL : "the mailbox has other words";
+}
+
+/* --- frames by number, without a device --- */
+
+static int check_numbers(void)
+{
+    static uint8_t frame[16385];
+    static const uint8_t key[40] = {0x6d, 0x5a, 0x56, 0xda, 0x25, 0x5b, 0x0e, 0xc2, 0x41, 0x67, 0x25, 0x3d, 0x43, 0xa3,
+                                    0x8f, 0xb0, 0xd0, 0xca, 0x2b, 0xcb, 0xae, 0x7b, 0x30, 0xb4, 0x77, 0xcb, 0x2d, 0xa3,
+                                    0x80, 0x30, 0xf2, 0x0c, 0x6a, 0x42, 0xb7, 0x3b, 0xbe, 0xac, 0x01, 0xfa};
+    static const uint8_t tuple[12] = {66,  9,  149,       187,         161,       142,
+                                      100, 80, 2794 >> 8, 2794 & 0xFF, 1766 >> 8, 1766 & 0xFF};
+    const nicx_flow flow = {1, 2, 3, 4, NICX_UDP};
+    if (nicx_numbered_frame(frame, 59, 1) || nicx_numbered_frame(frame, 16385, 1) ||
+        nicx_flow_frame(frame, 1519, &flow, 1))
+        return 1;
+    for (uint32_t number = 0; number < 100000; number += 4321) {
+        size_t length = 60 + number % 16000;
+        if (!nicx_numbered_frame(frame, length, number) || nicx_frame_number(frame, length) != number)
+            return 2;
+        frame[14 + number % (length - 14)] ^= 1;
+        if (nicx_frame_number(frame, length) == number)
+            return 3;
+    }
+    /* the key and the tuple that Microsoft's documents of the hash have, with what they give */
+    return nicx_hash(key, tuple, 12) == 0x51ccc178 && nicx_hash(key, tuple, 8) == 0x323e8fc2 ? 0 : 4;
+}
+
+int main(int argc, char **argv)
+{
+    const nicx_scenario scenario = {
+        .name = "kit",
+        .vfs = 1,
+        .fifo = 64,
+        .blocks = 2 + QUEUES * SLOTS,
+        .queues = QUEUES,
+        .points = 20000,
+        .bring_up = bring_up,
+        .begin = begin,
+        .end = end,
+    };
+    int fault = check_numbers();
+    if (fault)
+        printf("kit: check %d of numbered frames\n", fault);
+    return fault ? 1 : nicx_main(argc, argv, &scenario);
+}

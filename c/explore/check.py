@@ -537,11 +537,39 @@ def check_orders(kit: Kit, states: int) -> str:
     return ran([kit.build(HERE / "tests/orders.c"), states, 1], timeout=900).strip().splitlines()[-1]
 
 
+# Of the driver: a host's or a function's, its tasks apart by what the scenario says, or by what they are told to touch.
+SLEEPING = ("", "vf", "apart", "vf apart", "told", "vf told", "vf weak")
+
+
 def check_sleeping(kit: Kit, scenarios: int) -> str:
     """With sleep sets the exhaustive search comes to the same ends as without."""
     program = kit.build(HERE / "tests/sleeping.c")
-    host = ran([program, scenarios, 1], timeout=900).strip()
-    return f"{host}; of a function: {ran([program, scenarios, 1, 'vf'], timeout=900).strip()}"
+    said = {mode: ran([program, scenarios, 1, *mode.split()], timeout=900).strip() for mode in SLEEPING}
+    return "; ".join(f"{mode or 'host'}: {line}" for mode, line in said.items())
+
+
+def check_apart(kit: Kit) -> str:
+    """Of a scenario that says that it is race-free fewer schedules are made, with the same verdict."""
+    program, out = kit.build(HERE / "tests/apart.c"), kit.folder / "apart-found"
+    out.mkdir(exist_ok=True)
+    counts = []
+    words = ["--quiet", "--jobs", 1, "--strategy", "exhaustive", "--preemptions", "any", "--out", out]
+    for mode in ("fine", "free"):
+        said = ran([program, mode, *words])
+        told(said, "these are all schedules", f"apart {mode}")
+        counts.append(int(re.findall(r": (\d+) schedules", said)[0]))
+        told(ran([program, mode.replace("fine", "bug").replace("free", "bug-free"), *words], 1), "didn't go out", mode)
+    if counts[1] * 3 > counts[0]:
+        raise Wrong(f"apart: {counts[0]} schedules, and {counts[1]} where it is race-free")
+    return f"{counts[0]} schedules, {counts[1]} where the scenario is race-free"
+
+
+def check_kit(kit: Kit) -> str:
+    """The kit's flows, frames and mailboxes."""
+    out = kit.folder / "kit-found"
+    out.mkdir(exist_ok=True)
+    ran([kit.build(HERE / "tests/kit.c"), "--quiet", "--jobs", 2, "--runs", 300, "--strict", "--out", out])
+    return "the kit's flows and mailboxes"
 
 
 # --- other threads of the process ---
@@ -594,7 +622,7 @@ def sanitized_explorer(folder: Path, compiler: str, flags: list[str]) -> Path:
 # beside another thread.
 AMOUNTS = {
     "few": (300, 4, 500, 1, 4, 5),  # under the sanitizers
-    "plain": (1_000, 12, 3_000, 1, 1, 20),
+    "plain": (1_000, 16, 3_000, 1, 1, 20),
     "full": (10_000, 100, 100_000, 2, 1, 200),
 }
 
@@ -608,11 +636,13 @@ def check_all(kit: Kit, amount: str) -> list[str]:
         check_never(kit),
         check_choices(kit),
         check_weak(kit),
+        check_kit(kit),
         check_bounds(kit),
         check_shards(kit),
         check_refusals(kit),
         check_orders(kit, states),
         check_sleeping(kit, scenarios),
+        check_apart(kit),
         check_corpus(kit, runs, preemptions, each),
         check_outside(kit, runs, each),
         check_examples(kit, runs),

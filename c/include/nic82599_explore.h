@@ -65,6 +65,9 @@ typedef struct nicx_scenario {
     uint32_t stack;   /* bytes of a task's stack, at least 16,384; 0 stands for 65,536 */
     uint32_t allowed; /* of enum nicx_allowed */
     uint32_t memory;  /* of enum nicx_memory; without NICX_WEAK the others count by --memory weak alone */
+    bool race_free;   /* memory of the driver's own that two tasks or handlers touch is touched under a nicx_mutex that
+                         both take, and by no condition. Then the exhaustive search leaves out orders of their steps that
+                         touch different things of the device. Where this isn't so it may miss a failure */
 } nicx_scenario;
 
 /* --- in `begin` --- */

@@ -52,16 +52,17 @@ struct step {
     uint8_t kind;
     uint8_t vf;
     uint8_t status;
-    bool waits;        /* before or behind it the thread waits until another acts */
-    bool is_beside;    /* no point of its own: a store that a barrier has reach memory */
-    bool is_kept;      /* by weak memory: a store on its way; a load that gives such stores of its own */
-    uint8_t older;     /* by weak memory: a load of a value before so many changes of it */
-    uint16_t of;       /* a queue, a group, a frame, a change of the link; of a value, a store: a thread */
-    uint32_t address;  /* of a register, among a function's own its offset; a block that is lent or taken */
-    uint32_t physical; /* of a function's access: the physical function's address, or NO_ADDRESS */
-    uint32_t word;     /* read or written; of a wait, a lock, a start: enum local; of nicx_choose the value */
-    uint32_t length;   /* of a memory access; of nicx_choose its bound; of a barrier how many stores it sent ahead */
-    uint64_t bus;
+    bool waits;          /* before or behind it the thread waits until another acts */
+    bool is_beside;      /* no point of its own: a store that a barrier has reach memory */
+    bool is_kept;        /* by weak memory: a store on its way; a load that gives such stores of its own */
+    uint8_t older;       /* by weak memory: a load of a value before so many changes of it */
+    uint16_t of;         /* a queue, a group, a frame, a change of the link; of a value, a store: a thread */
+    uint32_t address;    /* of a register, among a function's own its offset; a block that is lent or taken */
+    uint32_t physical;   /* of a function's access: the physical function's address, or NO_ADDRESS */
+    uint32_t word;       /* read or written; of a wait, a lock, a start: enum local; of nicx_choose the value */
+    uint32_t length;     /* of a memory access; of nicx_choose its bound; of a barrier how many stores it sent ahead */
+    uint64_t bus;        /* of a memory access; of a lock, which */
+    uint64_t touched[2]; /* the driver's own memory that it read, and wrote: a bit for each of 64 parts of all places */
     nic_told told;
 };
 
@@ -185,7 +186,8 @@ struct engine {
     struct thread *self; /* who runs; null for the engine itself */
     struct thread threads[MOST_THREADS];
     uint16_t tasks, handlers, timers;
-    bool is_weak; /* memory is (weak.h) */
+    bool is_weak;      /* memory is (weak.h) */
+    bool knows_memory; /* each access of the driver's own memory is told (nicxi_touched) */
     struct actor actors[MOST_ACTORS];
     uint16_t count;
     struct frame frames[NICX_FRAMES];
@@ -268,6 +270,9 @@ uint64_t nicxi_sum_of_values(const uint16_t *schedule, uint32_t points);
 uint32_t nicxi_list_due(uint16_t *can);
 /* Whether a timer fires when all is at rest. */
 bool nicxi_fires_at_rest(const struct actor *actor);
+
+/* The thread that runs accesses memory of the driver's own; told of all accesses, since `knows_memory` says so. */
+void nicxi_touched(const void *place, size_t size, bool writes);
 
 /* Threads. */
 void nicxi_thread_resume(struct thread *from, struct thread *to);

@@ -4,11 +4,12 @@
    one of the two leaves alone. What a step looks at is told by its definition, and by the laws on what it does; that is
    no law of its own, so c/explore/tests/orders.c makes both orders of each row's steps from states by chance.
 
-   Steps are meant that do something, each with what it answered. What has no row isn't independent: two steps of the
-   driver, since both may touch the driver's own memory; and steps that count or raise causes, as two of receiving and
-   transmitting do. An access of a virtual function is the physical function's at the address that its offset stands for
-   (`dev: vf_access_is_the_physical_functions`), by the mode in GCR_EXT, which no step of the device and no frame
-   changes (`dev: other_events_keep_settings`). */
+   Steps are meant that do something, each with what it answered. What has no row isn't independent: steps that count or
+   raise causes, as two of receiving and transmitting do. Two steps of the driver are independent only if they touch no
+   memory of its own that the other one changes: the search knows that where the driver's accesses are told
+   (nicxi_touched), or the scenario says that it is race-free. An access of a virtual function is the physical function's
+   at the address that its offset stands for (`dev: vf_access_is_the_physical_functions`), by the mode in GCR_EXT, which
+   no step of the device and no frame changes (`dev: other_events_keep_settings`). */
 #include "independent.h"
 
 /* --- of which side of a queue a register is --- */
@@ -166,255 +167,169 @@ static bool is_of_a_function(const struct step *a, const struct step *b)
     return a->of != 0;
 }
 
-static bool share_a_block(uint64_t a, uint64_t a_length, uint64_t b, uint64_t b_length)
+static bool overlap(uint64_t a, uint64_t a_length, uint64_t b, uint64_t b_length)
 {
-    if (!a_length || !b_length)
-        return false;
-    uint64_t a_first = a / NIC_BLOCK_BYTES, a_last = (a + a_length - 1) / NIC_BLOCK_BYTES;
-    uint64_t b_first = b / NIC_BLOCK_BYTES, b_last = (b + b_length - 1) / NIC_BLOCK_BYTES;
-    return a_first <= b_last && b_first <= a_last;
+    return a < b + b_length && b < a + a_length;
 }
 
-/* A step of the device writes memory where it tells so. */
-static bool writes_other_blocks(const struct step *a, const struct step *b)
+/* A step of the device writes memory where it tells so: a frame's bytes and its descriptor, a descriptor or a head. */
+static bool writes_elsewhere(const struct step *a, const struct step *b)
 {
     const nic_told *told = &b->told;
     if (b->status == NIC_WROTE)
-        return !share_a_block(a->bus, a->length, told->desc, 16) &&
-               !share_a_block(a->bus, a->length, told->at, told->len);
-    return !told->back || !share_a_block(a->bus, a->length, told->at, 16);
+        return !overlap(a->bus, a->length, told->desc, NIC_DESC_BYTES) &&
+               !overlap(a->bus, a->length, told->at, told->len);
+    return !told->back || !overlap(a->bus, a->length, told->at, NIC_DESC_BYTES);
+}
+
+/* And what a frame that was written had read is its descriptor. */
+static bool wrote_elsewhere(const struct step *a, const struct step *b)
+{
+    return b->status == NIC_WROTE && writes_elsewhere(a, b);
+}
+
+/* --- two steps of the driver: what they ask of the device, and their locks --- */
+
+static bool are_other_bytes(const struct step *a, const struct step *b)
+{
+    return !overlap(a->bus, a->length, b->bus, b->length);
+}
+
+static bool is_read(const struct step *step)
+{
+    return step->kind == STEP_READ || step->kind == STEP_VF_READ;
+}
+
+enum { NOWHERE = -1, INTERRUPTS = 256, WORDS_OF_MAILBOX = 512 };
+
+/* What a register's access stays within: a side of a queue, the physical function's interrupts, a word of a mailbox's
+   memory. */
+static int part_of(const struct step *step)
+{
+    uint32_t address = address_of(step);
+    if (address >= 0x00800 && address < 0x00A00)
+        return INTERRUPTS;
+    if (address >= MAILBOX_MEMORY && address < MAILBOX_MEMORY + 4 * WORDS * FUNCTIONS)
+        return WORDS_OF_MAILBOX + (int)(address - MAILBOX_MEMORY) / 4;
+    return side_of_register(address);
+}
+
+static bool are_other_parts(const struct step *a, const struct step *b)
+{
+    int part = part_of(a), other = part_of(b);
+    return part != NOWHERE && other != NOWHERE && part != other;
+}
+
+/* Of a queue's side and of a mailbox's memory a read changes nothing. */
+static bool are_reads_of_a_part(const struct step *a, const struct step *b)
+{
+    return is_read(a) && is_read(b) && part_of(a) == part_of(b) && part_of(a) != NOWHERE && part_of(a) != INTERRUPTS;
+}
+
+static bool is_lock(const struct step *step)
+{
+    return step->word == LOCAL_LOCK || step->word == LOCAL_UNLOCK;
+}
+
+static bool is_simple(const struct step *step)
+{
+    return step->kind != STEP_LOCAL || step->word == LOCAL_BEGIN || step->word == LOCAL_POINT || is_lock(step);
+}
+
+static bool are_other_locks(const struct step *a, const struct step *b)
+{
+    return is_simple(a) && is_simple(b) && !(b->kind == STEP_LOCAL && is_lock(a) && is_lock(b) && a->bus == b->bus);
 }
 
 /* --- the table --- */
 
-struct row {
-    uint8_t a, b;
-    condition *holds; /* null: always */
-    const char *name, *law;
+#define BY(kind) (1u << STEP_##kind)
+
+enum {
+    READS = BY(READ) | BY(VF_READ),
+    WRITES = BY(WRITE) | BY(VF_WRITE),
+    FUNCTIONS_OWN = BY(VF_READ) | BY(VF_WRITE),
+    MEMORY = BY(PEEK) | BY(POKE),
+    ENABLES = BY(RX_ENABLE) | BY(TX_ENABLE),
+    FROM_LINK = BY(ARRIVE) | BY(LINK),
+    OTHERS = BY(INT) | BY(EEPROM) | FROM_LINK,
+    DEVICE = BY(RX) | BY(TX) | ENABLES | OTHERS,
+    DRIVER = BY(LOCAL) | READS | WRITES | MEMORY
 };
 
-static const struct row rows[] = {
-    /* the driver's own steps, of which the device hears nothing */
-    {STEP_LOCAL, STEP_RX, NULL, "own step, rx", "no event: the device isn't asked"},
-    {STEP_LOCAL, STEP_TX, NULL, "own step, tx", "no event: the device isn't asked"},
-    {STEP_LOCAL, STEP_RX_ENABLE, NULL, "own step, qstep rx", "no event: the device isn't asked"},
-    {STEP_LOCAL, STEP_TX_ENABLE, NULL, "own step, qstep tx", "no event: the device isn't asked"},
-    {STEP_LOCAL, STEP_INT, NULL, "own step, int", "no event: the device isn't asked"},
-    {STEP_LOCAL, STEP_EEPROM, NULL, "own step, eestep", "no event: the device isn't asked"},
-    {STEP_LOCAL, STEP_ARRIVE, NULL, "own step, arrive", "no event: the device isn't asked"},
-    {STEP_LOCAL, STEP_LINK, NULL, "own step, link", "no event: the device isn't asked"},
-    /* reads of memory, which change nothing */
-    {STEP_PEEK, STEP_RX, writes_other_blocks, "peek, rx in other blocks",
+/* A step of one of the kinds `a` and one of the kinds `b`. */
+static const struct row {
+    uint32_t a, b;
+    condition *holds; /* null: always */
+    const char *name, *law;
+} rows[] = {
+    {BY(LOCAL) | BY(VALUE), DEVICE, NULL, "own step, step of the device", "no event: the device isn't asked"},
+    /* accesses of memory */
+    {BY(PEEK), BY(RX) | BY(TX), writes_elsewhere, "peek, rx or tx that writes elsewhere",
+     "dev: memory_call_leaves_the_rest, receiving_leaves_the_rest, transmitting_leaves_the_rest (blocks)"},
+    {BY(POKE), BY(RX), wrote_elsewhere, "poke, rx that writes elsewhere",
      "dev: memory_call_leaves_the_rest, receiving_leaves_the_rest (blocks)"},
-    {STEP_PEEK, STEP_TX, writes_other_blocks, "peek, tx in other blocks",
-     "dev: memory_call_leaves_the_rest, transmitting_leaves_the_rest (blocks)"},
-    {STEP_PEEK, STEP_RX_ENABLE, NULL, "peek, qstep rx",
+    {MEMORY, ENABLES, NULL, "peek or poke, qstep",
      "dev: memory_call_leaves_the_rest, switching_leaves_the_rest (memory)"},
-    {STEP_PEEK, STEP_TX_ENABLE, NULL, "peek, qstep tx",
-     "dev: memory_call_leaves_the_rest, switching_leaves_the_rest (memory)"},
-    {STEP_PEEK, STEP_INT, NULL, "peek, int", "dev: memory_call_leaves_the_rest, message_leaves_the_rest (memory)"},
-    {STEP_PEEK, STEP_EEPROM, NULL, "peek, eestep",
-     "dev: memory_call_leaves_the_rest, eeprom_step_gives_the_word (rest)"},
-    {STEP_PEEK, STEP_ARRIVE, NULL, "peek, arrive",
-     "dev: memory_call_leaves_the_rest, arrival_leaves_the_rest (memory)"},
-    {STEP_PEEK, STEP_LINK, NULL, "peek, link", "dev: memory_call_leaves_the_rest, link_leaves_the_rest (link, memory)"},
-    /* writes of memory, beside steps that look at none */
-    {STEP_POKE, STEP_RX_ENABLE, NULL, "poke, qstep rx",
-     "dev: memory_call_leaves_the_rest, switching_leaves_the_rest (memory)"},
-    {STEP_POKE, STEP_TX_ENABLE, NULL, "poke, qstep tx",
-     "dev: memory_call_leaves_the_rest, switching_leaves_the_rest (memory)"},
-    {STEP_POKE, STEP_INT, NULL, "poke, int", "dev: memory_call_leaves_the_rest, message_leaves_the_rest (memory)"},
-    {STEP_POKE, STEP_EEPROM, NULL, "poke, eestep",
-     "dev: memory_call_leaves_the_rest, eeprom_step_gives_the_word (rest)"},
-    {STEP_POKE, STEP_ARRIVE, NULL, "poke, arrive",
-     "dev: memory_call_leaves_the_rest, arrival_leaves_the_rest (memory)"},
-    {STEP_POKE, STEP_LINK, NULL, "poke, link", "dev: memory_call_leaves_the_rest, link_leaves_the_rest (link, memory)"},
-    /* reads of a queue's registers, which change nothing */
-    {STEP_READ, STEP_RX, are_other_sides, "read of a side, rx of another",
-     "dev: read_changes_nothing, receiving_leaves_the_rest (rest)"},
-    {STEP_READ, STEP_TX, are_other_sides, "read of a side, tx of another",
-     "dev: read_changes_nothing, transmitting_leaves_the_rest (rest)"},
-    {STEP_READ, STEP_RX_ENABLE, are_other_sides, "read of a side, qstep rx of another",
-     "dev: read_changes_nothing, switching_leaves_the_rest (sides)"},
-    {STEP_READ, STEP_TX_ENABLE, are_other_sides, "read of a side, qstep tx of another",
-     "dev: read_changes_nothing, switching_leaves_the_rest (sides)"},
-    {STEP_READ, STEP_INT, is_of_some_side, "read of a side, int",
-     "dev: read_changes_nothing, message_leaves_the_rest (queues)"},
-    {STEP_READ, STEP_EEPROM, is_of_some_side, "read of a side, eestep",
-     "dev: read_changes_nothing, eeprom_step_gives_the_word (rest)"},
-    {STEP_READ, STEP_ARRIVE, is_of_some_side, "read of a side, arrive",
-     "dev: read_changes_nothing, arrival_leaves_the_rest (queues)"},
-    {STEP_READ, STEP_LINK, is_of_some_side, "read of a side, link",
-     "dev: read_changes_nothing, link_leaves_the_rest (link, queues)"},
-    /* writes of a queue's registers, which change nothing but that side */
-    {STEP_WRITE, STEP_RX, are_other_sides, "write of a side, rx of another",
-     "dev: access_leaves_the_rest (write), receiving_leaves_the_rest (rest)"},
-    {STEP_WRITE, STEP_TX, are_other_sides, "write of a side, tx of another",
-     "dev: access_leaves_the_rest (write), transmitting_leaves_the_rest (rest)"},
-    {STEP_WRITE, STEP_RX_ENABLE, are_other_sides, "write of a side, qstep rx of another",
-     "dev: access_leaves_the_rest (write), switching_leaves_the_rest (sides)"},
-    {STEP_WRITE, STEP_TX_ENABLE, are_other_sides, "write of a side, qstep tx of another",
-     "dev: access_leaves_the_rest (write), switching_leaves_the_rest (sides)"},
-    {STEP_WRITE, STEP_INT, is_of_some_side, "write of a side, int",
-     "dev: access_leaves_the_rest (write), message_leaves_the_rest (queues)"},
-    {STEP_WRITE, STEP_EEPROM, is_of_some_side, "write of a side, eestep",
-     "dev: access_leaves_the_rest (write), eeprom_step_gives_the_word (rest)"},
-    {STEP_WRITE, STEP_ARRIVE, is_of_some_side, "write of a side, arrive",
-     "dev: access_leaves_the_rest (write), arrival_leaves_the_rest (queues)"},
-    {STEP_WRITE, STEP_LINK, is_of_some_side, "write of a side, link",
-     "dev: access_leaves_the_rest (write), link_leaves_the_rest (link, queues)"},
-    /* accesses of a virtual function, of its queues' registers: as the physical function's */
-    {STEP_VF_READ, STEP_RX, are_other_sides, "function's read of a side, rx of another",
-     "dev: vf_access_is_the_physical_functions, read_changes_nothing, receiving_leaves_the_rest (rest)"},
-    {STEP_VF_READ, STEP_TX, are_other_sides, "function's read of a side, tx of another",
-     "dev: vf_access_is_the_physical_functions, read_changes_nothing, transmitting_leaves_the_rest (rest)"},
-    {STEP_VF_READ, STEP_RX_ENABLE, are_other_sides, "function's read of a side, qstep rx of another",
-     "dev: vf_access_is_the_physical_functions, read_changes_nothing, switching_leaves_the_rest (sides)"},
-    {STEP_VF_READ, STEP_TX_ENABLE, are_other_sides, "function's read of a side, qstep tx of another",
-     "dev: vf_access_is_the_physical_functions, read_changes_nothing, switching_leaves_the_rest (sides)"},
-    {STEP_VF_READ, STEP_INT, is_of_some_side, "function's read of a side, int",
-     "dev: vf_access_is_the_physical_functions, read_changes_nothing, message_leaves_the_rest (queues)"},
-    {STEP_VF_READ, STEP_EEPROM, is_of_some_side, "function's read of a side, eestep",
-     "dev: vf_access_is_the_physical_functions, read_changes_nothing, eeprom_step_gives_the_word (rest)"},
-    {STEP_VF_READ, STEP_ARRIVE, is_of_some_side, "function's read of a side, arrive",
-     "dev: vf_access_is_the_physical_functions, read_changes_nothing, arrival_leaves_the_rest (queues)"},
-    {STEP_VF_READ, STEP_LINK, is_of_some_side, "function's read of a side, link",
-     "dev: vf_access_is_the_physical_functions, read_changes_nothing, link_leaves_the_rest (link, queues)"},
-    {STEP_VF_WRITE, STEP_RX, are_other_sides, "function's write of a side, rx of another",
-     "dev: vf_access_is_the_physical_functions, access_leaves_the_rest (write), receiving_leaves_the_rest (rest)"},
-    {STEP_VF_WRITE, STEP_TX, are_other_sides, "function's write of a side, tx of another",
-     "dev: vf_access_is_the_physical_functions, access_leaves_the_rest (write), transmitting_leaves_the_rest (rest)"},
-    {STEP_VF_WRITE, STEP_RX_ENABLE, are_other_sides, "function's write of a side, qstep rx of another",
-     "dev: vf_access_is_the_physical_functions, access_leaves_the_rest (write), switching_leaves_the_rest (sides)"},
-    {STEP_VF_WRITE, STEP_TX_ENABLE, are_other_sides, "function's write of a side, qstep tx of another",
-     "dev: vf_access_is_the_physical_functions, access_leaves_the_rest (write), switching_leaves_the_rest (sides)"},
-    {STEP_VF_WRITE, STEP_INT, is_of_some_side, "function's write of a side, int",
-     "dev: vf_access_is_the_physical_functions, access_leaves_the_rest (write), message_leaves_the_rest (queues)"},
-    {STEP_VF_WRITE, STEP_EEPROM, is_of_some_side, "function's write of a side, eestep",
-     "dev: vf_access_is_the_physical_functions, access_leaves_the_rest (write), eeprom_step_gives_the_word (rest)"},
-    {STEP_VF_WRITE, STEP_ARRIVE, is_of_some_side, "function's write of a side, arrive",
-     "dev: vf_access_is_the_physical_functions, access_leaves_the_rest (write), arrival_leaves_the_rest (queues)"},
-    {STEP_VF_WRITE, STEP_LINK, is_of_some_side, "function's write of a side, link",
-     "dev: vf_access_is_the_physical_functions, access_leaves_the_rest (write), link_leaves_the_rest (link, queues)"},
-    /* of its mailbox's memory, which no step of the device looks at */
-    {STEP_VF_READ, STEP_RX, is_mailbox_memory, "function's read of VFMBMEM, rx",
-     "dev: vf_stays_in_its_pool (changes), event_stays_within_its_reach; reg: accesses_stay_with_their_owner"},
-    {STEP_VF_READ, STEP_TX, is_mailbox_memory, "function's read of VFMBMEM, tx",
-     "dev: vf_stays_in_its_pool (changes), event_stays_within_its_reach; reg: accesses_stay_with_their_owner"},
-    {STEP_VF_READ, STEP_RX_ENABLE, is_mailbox_memory, "function's read of VFMBMEM, qstep rx",
-     "dev: vf_stays_in_its_pool (changes), event_stays_within_its_reach; reg: accesses_stay_with_their_owner"},
-    {STEP_VF_READ, STEP_TX_ENABLE, is_mailbox_memory, "function's read of VFMBMEM, qstep tx",
-     "dev: vf_stays_in_its_pool (changes), event_stays_within_its_reach; reg: accesses_stay_with_their_owner"},
-    {STEP_VF_READ, STEP_INT, is_mailbox_memory, "function's read of VFMBMEM, int",
-     "dev: vf_stays_in_its_pool (changes), event_stays_within_its_reach; reg: accesses_stay_with_their_owner"},
-    {STEP_VF_READ, STEP_EEPROM, is_mailbox_memory, "function's read of VFMBMEM, eestep",
-     "dev: vf_stays_in_its_pool (changes), eeprom_step_gives_the_word (rest); reg: accesses_stay_with_their_owner"},
-    {STEP_VF_READ, STEP_ARRIVE, is_mailbox_memory, "function's read of VFMBMEM, arrive",
-     "dev: vf_stays_in_its_pool (changes), event_stays_within_its_reach; reg: accesses_stay_with_their_owner"},
-    {STEP_VF_READ, STEP_LINK, is_mailbox_memory, "function's read of VFMBMEM, link",
-     "dev: vf_stays_in_its_pool (changes), event_stays_within_its_reach; reg: accesses_stay_with_their_owner"},
-    {STEP_VF_WRITE, STEP_RX, is_mailbox_memory, "function's write of VFMBMEM, rx",
-     "dev: vf_stays_in_its_pool (changes), event_stays_within_its_reach; reg: accesses_stay_with_their_owner"},
-    {STEP_VF_WRITE, STEP_TX, is_mailbox_memory, "function's write of VFMBMEM, tx",
-     "dev: vf_stays_in_its_pool (changes), event_stays_within_its_reach; reg: accesses_stay_with_their_owner"},
-    {STEP_VF_WRITE, STEP_RX_ENABLE, is_mailbox_memory, "function's write of VFMBMEM, qstep rx",
-     "dev: vf_stays_in_its_pool (changes), event_stays_within_its_reach; reg: accesses_stay_with_their_owner"},
-    {STEP_VF_WRITE, STEP_TX_ENABLE, is_mailbox_memory, "function's write of VFMBMEM, qstep tx",
-     "dev: vf_stays_in_its_pool (changes), event_stays_within_its_reach; reg: accesses_stay_with_their_owner"},
-    {STEP_VF_WRITE, STEP_INT, is_mailbox_memory, "function's write of VFMBMEM, int",
-     "dev: vf_stays_in_its_pool (changes), event_stays_within_its_reach; reg: accesses_stay_with_their_owner"},
-    {STEP_VF_WRITE, STEP_EEPROM, is_mailbox_memory, "function's write of VFMBMEM, eestep",
-     "dev: vf_stays_in_its_pool (changes), eeprom_step_gives_the_word (rest); reg: accesses_stay_with_their_owner"},
-    {STEP_VF_WRITE, STEP_ARRIVE, is_mailbox_memory, "function's write of VFMBMEM, arrive",
-     "dev: vf_stays_in_its_pool (changes), event_stays_within_its_reach; reg: accesses_stay_with_their_owner"},
-    {STEP_VF_WRITE, STEP_LINK, is_mailbox_memory, "function's write of VFMBMEM, link",
-     "dev: vf_stays_in_its_pool (changes), event_stays_within_its_reach; reg: accesses_stay_with_their_owner"},
-    /* of its mailbox: a write may raise a cause of the physical function */
-    {STEP_VF_READ, STEP_RX, is_mailbox, "function's read of VFMAILBOX, rx",
-     "dev: vf_stays_in_its_pool (changes), event_stays_within_its_reach"},
-    {STEP_VF_READ, STEP_TX, is_mailbox, "function's read of VFMAILBOX, tx",
-     "dev: vf_stays_in_its_pool (changes), event_stays_within_its_reach"},
-    {STEP_VF_READ, STEP_RX_ENABLE, is_mailbox, "function's read of VFMAILBOX, qstep rx",
-     "dev: vf_stays_in_its_pool (changes), event_stays_within_its_reach"},
-    {STEP_VF_READ, STEP_TX_ENABLE, is_mailbox, "function's read of VFMAILBOX, qstep tx",
-     "dev: vf_stays_in_its_pool (changes), event_stays_within_its_reach"},
-    {STEP_VF_READ, STEP_INT, is_mailbox, "function's read of VFMAILBOX, int",
-     "dev: vf_stays_in_its_pool (changes), event_stays_within_its_reach"},
-    {STEP_VF_READ, STEP_EEPROM, is_mailbox, "function's read of VFMAILBOX, eestep",
-     "dev: vf_stays_in_its_pool (changes), eeprom_step_gives_the_word (rest)"},
-    {STEP_VF_READ, STEP_ARRIVE, is_mailbox, "function's read of VFMAILBOX, arrive",
-     "dev: vf_stays_in_its_pool (changes), event_stays_within_its_reach"},
-    {STEP_VF_READ, STEP_LINK, is_mailbox, "function's read of VFMAILBOX, link",
-     "dev: vf_stays_in_its_pool (changes), event_stays_within_its_reach"},
-    {STEP_VF_WRITE, STEP_RX_ENABLE, is_mailbox, "function's write of VFMAILBOX, qstep rx",
-     "dev: vf_stays_in_its_pool (changes), switching_leaves_the_rest (groups)"},
-    {STEP_VF_WRITE, STEP_TX_ENABLE, is_mailbox, "function's write of VFMAILBOX, qstep tx",
-     "dev: vf_stays_in_its_pool (changes), switching_leaves_the_rest (groups)"},
-    {STEP_VF_WRITE, STEP_EEPROM, is_mailbox, "function's write of VFMAILBOX, eestep",
-     "dev: vf_stays_in_its_pool (changes), eeprom_step_gives_the_word (rest)"},
+    {MEMORY, OTHERS, NULL, "peek or poke, int, eestep, arrive or link",
+     "dev: memory_call_leaves_the_rest, message_leaves_the_rest (memory), eeprom_step_gives_the_word (rest), "
+     "arrival_leaves_the_rest (memory), link_leaves_the_rest (link, memory)"},
+    /* of a queue's registers: a read changes nothing, a write nothing but that side. A function's access is the physical
+       function's (dev: vf_access_is_the_physical_functions) */
+    {READS, BY(RX) | BY(TX) | ENABLES, are_other_sides, "read of a side, rx, tx or qstep of another",
+     "dev: read_changes_nothing, receiving_leaves_the_rest (rest), transmitting_leaves_the_rest (rest), "
+     "switching_leaves_the_rest (sides)"},
+    {WRITES, BY(RX) | BY(TX) | ENABLES, are_other_sides, "write of a side, rx, tx or qstep of another",
+     "dev: access_leaves_the_rest (write), receiving_leaves_the_rest (rest), transmitting_leaves_the_rest (rest), "
+     "switching_leaves_the_rest (sides)"},
+    {READS | WRITES, OTHERS, is_of_some_side, "access of a side, int, eestep, arrive or link",
+     "dev: read_changes_nothing, access_leaves_the_rest (write), message_leaves_the_rest (queues), "
+     "eeprom_step_gives_the_word (rest), arrival_leaves_the_rest (queues), link_leaves_the_rest (link, queues)"},
+    /* of a function's mailbox: no step of the device looks at its memory; a write may raise a cause */
+    {FUNCTIONS_OWN, DEVICE, is_mailbox_memory, "function's access of VFMBMEM, step of the device",
+     "dev: vf_stays_in_its_pool (changes), event_stays_within_its_reach, eeprom_step_gives_the_word (rest); reg: "
+     "accesses_stay_with_their_owner"},
+    {BY(VF_READ), DEVICE, is_mailbox, "function's read of VFMAILBOX, step of the device",
+     "dev: vf_stays_in_its_pool (changes), event_stays_within_its_reach, eeprom_step_gives_the_word (rest)"},
+    {BY(VF_WRITE), ENABLES | BY(EEPROM), is_mailbox, "function's write of VFMAILBOX, qstep or eestep",
+     "dev: vf_stays_in_its_pool (changes), switching_leaves_the_rest (groups), eeprom_step_gives_the_word (rest)"},
     /* of its interrupts, which frames that are received or sent may raise */
-    {STEP_VF_READ, STEP_RX_ENABLE, is_of_functions_group, "function's read of its interrupts, qstep rx",
-     "dev: vf_stays_in_its_pool (changes), switching_leaves_the_rest (groups)"},
-    {STEP_VF_READ, STEP_TX_ENABLE, is_of_functions_group, "function's read of its interrupts, qstep tx",
-     "dev: vf_stays_in_its_pool (changes), switching_leaves_the_rest (groups)"},
-    {STEP_VF_READ, STEP_INT, is_of_other_group, "function's read of its interrupts, int of another group",
+    {FUNCTIONS_OWN, ENABLES | BY(EEPROM) | FROM_LINK, is_of_functions_group,
+     "function's access of its interrupts, qstep, eestep, arrive or link",
+     "dev: vf_stays_in_its_pool (changes), switching_leaves_the_rest (groups), eeprom_step_gives_the_word (rest), "
+     "arrival_leaves_the_rest (groups), link_leaves_the_rest (link, groups)"},
+    {FUNCTIONS_OWN, BY(INT), is_of_other_group, "function's access of its interrupts, int of another group",
      "dev: vf_stays_in_its_pool (changes), message_leaves_the_rest (groups)"},
-    {STEP_VF_READ, STEP_EEPROM, is_of_functions_group, "function's read of its interrupts, eestep",
-     "dev: vf_stays_in_its_pool (changes), eeprom_step_gives_the_word (rest)"},
-    {STEP_VF_READ, STEP_ARRIVE, is_of_functions_group, "function's read of its interrupts, arrive",
-     "dev: vf_stays_in_its_pool (changes), arrival_leaves_the_rest (groups)"},
-    {STEP_VF_READ, STEP_LINK, is_of_functions_group, "function's read of its interrupts, link",
-     "dev: vf_stays_in_its_pool (changes), link_leaves_the_rest (link, groups)"},
-    {STEP_VF_WRITE, STEP_RX_ENABLE, is_of_functions_group, "function's write of its interrupts, qstep rx",
-     "dev: vf_stays_in_its_pool (changes), switching_leaves_the_rest (groups)"},
-    {STEP_VF_WRITE, STEP_TX_ENABLE, is_of_functions_group, "function's write of its interrupts, qstep tx",
-     "dev: vf_stays_in_its_pool (changes), switching_leaves_the_rest (groups)"},
-    {STEP_VF_WRITE, STEP_INT, is_of_other_group, "function's write of its interrupts, int of another group",
-     "dev: vf_stays_in_its_pool (changes), message_leaves_the_rest (groups)"},
-    {STEP_VF_WRITE, STEP_EEPROM, is_of_functions_group, "function's write of its interrupts, eestep",
-     "dev: vf_stays_in_its_pool (changes), eeprom_step_gives_the_word (rest)"},
-    {STEP_VF_WRITE, STEP_ARRIVE, is_of_functions_group, "function's write of its interrupts, arrive",
-     "dev: vf_stays_in_its_pool (changes), arrival_leaves_the_rest (groups)"},
-    {STEP_VF_WRITE, STEP_LINK, is_of_functions_group, "function's write of its interrupts, link",
-     "dev: vf_stays_in_its_pool (changes), link_leaves_the_rest (link, groups)"},
     /* steps of the device */
-    {STEP_INT, STEP_INT, are_other_groups, "int of two groups",
-     "dev: message_leaves_the_rest (groups), due_bit_is_told"},
-    {STEP_INT, STEP_RX_ENABLE, NULL, "int, qstep rx",
-     "dev: message_leaves_the_rest (queues), switching_leaves_the_rest (groups)"},
-    {STEP_INT, STEP_TX_ENABLE, NULL, "int, qstep tx",
-     "dev: message_leaves_the_rest (queues), switching_leaves_the_rest (groups)"},
-    {STEP_INT, STEP_EEPROM, NULL, "int, eestep", "dev: message_leaves_the_rest, eeprom_step_gives_the_word (rest)"},
-    {STEP_INT, STEP_ARRIVE, is_of_a_function, "int of a function, arrive",
-     "dev: message_leaves_the_rest, arrival_leaves_the_rest (groups)"},
-    {STEP_INT, STEP_LINK, is_of_a_function, "int of a function, link",
-     "dev: message_leaves_the_rest, link_leaves_the_rest (link, groups)"},
-    {STEP_TX_ENABLE, STEP_TX_ENABLE, are_other_sides, "qstep tx of two queues",
+    {BY(INT), BY(INT), are_other_groups, "int of two groups", "dev: message_leaves_the_rest (groups), due_bit_is_told"},
+    {BY(INT), ENABLES | BY(EEPROM), NULL, "int, qstep or eestep",
+     "dev: message_leaves_the_rest (queues), switching_leaves_the_rest (groups), eeprom_step_gives_the_word (rest)"},
+    {BY(INT), FROM_LINK, is_of_a_function, "int of a function, arrive or link",
+     "dev: message_leaves_the_rest, arrival_leaves_the_rest (groups), link_leaves_the_rest (link, groups)"},
+    {BY(TX_ENABLE), BY(TX_ENABLE), are_other_sides, "qstep tx of two queues",
      "dev: switching_leaves_the_rest (sides); reg: switched_side_is_as_wanted"},
-    {STEP_TX_ENABLE, STEP_RX_ENABLE, NULL, "qstep tx, qstep rx",
+    {BY(TX_ENABLE), BY(RX_ENABLE), NULL, "qstep tx, qstep rx",
      "dev: switching_leaves_the_rest (sides); reg: switched_side_is_as_wanted"},
-    {STEP_TX_ENABLE, STEP_RX, NULL, "qstep tx, rx",
-     "dev: switching_leaves_the_rest (sides), receiving_leaves_the_rest (rest)"},
-    {STEP_TX_ENABLE, STEP_TX, are_other_sides, "qstep tx, tx of another queue",
+    {BY(TX_ENABLE), BY(RX) | FROM_LINK, NULL, "qstep tx, rx, arrive or link",
+     "dev: switching_leaves_the_rest (sides), receiving_leaves_the_rest (rest), arrival_leaves_the_rest (queues), "
+     "link_leaves_the_rest (link, queues)"},
+    {BY(TX_ENABLE), BY(TX), are_other_sides, "qstep tx, tx of another queue",
      "dev: switching_leaves_the_rest (sides), transmitting_leaves_the_rest (rest)"},
-    {STEP_TX_ENABLE, STEP_ARRIVE, NULL, "qstep tx, arrive",
-     "dev: switching_leaves_the_rest, arrival_leaves_the_rest (queues)"},
-    {STEP_TX_ENABLE, STEP_LINK, NULL, "qstep tx, link",
-     "dev: switching_leaves_the_rest, link_leaves_the_rest (link, queues)"},
-    {STEP_RX_ENABLE, STEP_TX, NULL, "qstep rx, tx",
-     "dev: switching_leaves_the_rest (sides), transmitting_leaves_the_rest (rest)"},
-    {STEP_RX_ENABLE, STEP_LINK, NULL, "qstep rx, link",
-     "dev: switching_leaves_the_rest, link_leaves_the_rest (link, queues)"},
-    {STEP_EEPROM, STEP_RX, NULL, "eestep, rx", "dev: eeprom_step_gives_the_word (rest), event_stays_within_its_reach"},
-    {STEP_EEPROM, STEP_TX, NULL, "eestep, tx", "dev: eeprom_step_gives_the_word (rest), event_stays_within_its_reach"},
-    {STEP_EEPROM, STEP_RX_ENABLE, NULL, "eestep, qstep rx",
+    {BY(RX_ENABLE), BY(TX) | BY(LINK), NULL, "qstep rx, tx or link",
+     "dev: switching_leaves_the_rest (sides), transmitting_leaves_the_rest (rest), link_leaves_the_rest (link, "
+     "queues)"},
+    {BY(EEPROM), BY(RX) | BY(TX) | ENABLES | FROM_LINK, NULL, "eestep, another step but int",
      "dev: eeprom_step_gives_the_word (rest), event_stays_within_its_reach"},
-    {STEP_EEPROM, STEP_TX_ENABLE, NULL, "eestep, qstep tx",
-     "dev: eeprom_step_gives_the_word (rest), event_stays_within_its_reach"},
-    {STEP_EEPROM, STEP_ARRIVE, NULL, "eestep, arrive",
-     "dev: eeprom_step_gives_the_word (rest), event_stays_within_its_reach"},
-    {STEP_EEPROM, STEP_LINK, NULL, "eestep, link",
-     "dev: eeprom_step_gives_the_word (rest), event_stays_within_its_reach"},
+    /* two steps of the driver, where its own memory keeps them apart */
+    {BY(LOCAL), DRIVER, are_other_locks, "own step, step of the driver", "no event: the device isn't asked"},
+    {READS | WRITES, MEMORY, NULL, "access of a register, peek or poke",
+     "dev: memory_call_leaves_the_rest, access_leaves_the_rest (write), read_changes_nothing"},
+    {BY(PEEK), BY(PEEK), NULL, "two peeks", "dev: memory_call_leaves_the_rest"},
+    {MEMORY, BY(POKE), are_other_bytes, "peek or poke, poke of other bytes", "dev: memory_call_leaves_the_rest"},
+    {READS | WRITES, READS | WRITES, are_other_parts, "accesses of two sides, interrupts or mailbox words",
+     "dev: access_leaves_the_rest (write), vf_access_is_the_physical_functions; reg: accesses_stay_with_their_owner"},
+    {READS, READS, are_reads_of_a_part, "reads of a side or a mailbox word",
+     "dev: read_changes_nothing, vf_access_is_the_physical_functions"},
 };
 
 enum { ROWS = sizeof rows / sizeof *rows };
@@ -422,7 +337,7 @@ enum { ROWS = sizeof rows / sizeof *rows };
 static int row_in_order(const struct step *a, const struct step *b)
 {
     for (int k = 0; k < ROWS; k++)
-        if (rows[k].a == a->kind && rows[k].b == b->kind && (!rows[k].holds || rows[k].holds(a, b)))
+        if (rows[k].a >> a->kind & 1 && rows[k].b >> b->kind & 1 && (!rows[k].holds || rows[k].holds(a, b)))
             return k;
     return -1;
 }
@@ -441,14 +356,44 @@ int nicxi_row_of(const struct step *a, const struct step *b)
     return row >= 0 ? row : row_in_order(b, a);
 }
 
+/* A value that was chosen is a step of the driver's own. */
+static bool is_of_driver(const struct step *step)
+{
+    return step->kind < STEP_STORE;
+}
+
+/* Whether the driver's own memory keeps two of its steps apart: by what each touched, or since the scenario says that
+   it has no race. */
+static bool are_apart(const struct step *a, const struct step *b)
+{
+    if (nicxi.knows_memory)
+        return !(a->touched[1] & (b->touched[0] | b->touched[1])) && !(b->touched[1] & a->touched[0]);
+    return nicxi.scenario->race_free;
+}
+
+/* By weak memory a step that changes memory, or may, makes loads of others older. */
+static bool may_change_memory(const struct step *step)
+{
+    return step->kind == STEP_RX || step->kind == STEP_TX || step->kind == STEP_STORE || is_of_driver(step);
+}
+
 bool nicxi_are_independent(const struct step *a, const struct step *b)
 {
-    return !a->waits && !b->waits && nicxi_row_of(a, b) >= 0;
+    if (a->waits || b->waits || (nicxi.is_weak && may_change_memory(a) && may_change_memory(b)))
+        return false;
+    if (is_of_driver(a) && is_of_driver(b) && !are_apart(a, b))
+        return false;
+    return nicxi_row_of(a, b) >= 0;
 }
 
 int nicxi_rows(void)
 {
     return ROWS;
+}
+
+bool nicxi_row_has(int row, uint8_t a, uint8_t b)
+{
+    return (rows[row].a >> a & 1 && rows[row].b >> b & 1) || (rows[row].a >> b & 1 && rows[row].b >> a & 1);
 }
 
 const char *nicxi_law(int row)

@@ -5,12 +5,14 @@
 #include "engine.h"
 
 /* Two steps that can both be made, as each went from the same state: in both orders they answer the same and lead to
-   the same state. One of them at least is the device's or the link's. */
+   the same state. */
 bool nicxi_are_independent(const struct step *a, const struct step *b);
 
-/* The row of the table that says so, from 0 on, or -1; how many there are, and what a row's law is called. */
+/* The row of the table that says so of the device, from 0 on, or -1; how many there are, whether one is of two kinds of
+   steps, and what a row's law is called. */
 int nicxi_row_of(const struct step *a, const struct step *b);
 int nicxi_rows(void);
+bool nicxi_row_has(int row, uint8_t a, uint8_t b);
 const char *nicxi_law(int row);
 const char *nicxi_row_name(int row);
 

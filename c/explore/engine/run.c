@@ -66,6 +66,17 @@ void nicxi_went_on(struct thread *self)
     self->state = READY;
 }
 
+void nicxi_touched(const void *place, size_t size, bool writes)
+{
+    uint32_t k = *nicxi.points;
+    if (nicxi.phase != RUNNING || !nicxi.steps || !nicxi.self || !k || !size)
+        return;
+    while (k > 1 && nicxi_is_value(nicxi.schedule[k - 1]))
+        k--;
+    for (uintptr_t at = (uintptr_t)place >> 3; at <= ((uintptr_t)place + size - 1) >> 3; at++)
+        nicxi.steps[k - 1].touched[writes] |= UINT64_C(1) << ((uint64_t)at * 0x9E3779B97F4A7C15u >> 58);
+}
+
 /* Behind the step that was made last, and the values that were chosen since, its thread waits. */
 static void note_wait(void)
 {

@@ -1,4 +1,5 @@
 /* Tasks and handlers: their stacks, what they wait for, their locks. */
+#include <stdint.h>
 #include <string.h>
 
 #include "engine.h"
@@ -160,6 +161,7 @@ void nicx_lock(nicx_mutex *lock)
     if (!nicxi_may_act() || !self)
         return;
     self->lock = lock;
+    self->next.bus = (uint64_t)(uintptr_t)lock;
     stand(LOCKED, LOCAL_LOCK);
     lock->kept = nicxi.epoch << 8 | (number_of(self) + 1);
     note_lock(self, lock);
@@ -170,6 +172,7 @@ void nicx_unlock(nicx_mutex *lock)
     struct thread *self = nicxi.self;
     if (!nicxi_may_act() || !self)
         return;
+    self->next.bus = (uint64_t)(uintptr_t)lock;
     stand(READY, LOCAL_UNLOCK);
     if (lock->kept != (nicxi.epoch << 8 | (number_of(self) + 1))) {
         nicxi_failed(NICX_MISUSE, "%s unlocks %s, which it doesn't hold", self->name, name_of(lock));

@@ -1,5 +1,5 @@
-/* `orders STATES SEED`: from so many states by chance, pairs of steps of each row of the table of independent steps are
-   made in both orders. Both must answer the same and lead to the same state: all registers, lent memory, frames. A
+/* `orders STATES SEED`: from so many states by chance, pairs of steps of each row of the table of independent steps, and
+   of each two kinds that it has, are made in both orders. Both must answer the same and lead to the same state: all registers, lent memory, frames. A
    state is first compared by its bytes; where these differ, by all that the calls show. */
 #include <stdio.h>
 #include <stdlib.h>
@@ -9,7 +9,7 @@
 #include "../engine/heap.h"
 #include "../engine/independent.h"
 
-enum { QUEUES = 4, BLOCKS = 12, VFS = 2, FIFO = 6, RING = 128, MOST_ROWS = 256, MOST_OUT = 4096 };
+enum { QUEUES = 4, BLOCKS = 12, VFS = 2, FIFO = 6, RING = 128, MOST_ROWS = 64, MOST_OUT = 4096 };
 
 static const uint32_t addresses[] = {
 #define ADDRESS(address) address,
@@ -21,7 +21,7 @@ enum { ADDRESSES = sizeof addresses / sizeof *addresses };
 
 static nic n;
 static struct chance chance;
-static uint64_t tried[MOST_ROWS];
+static uint64_t tried[MOST_ROWS][STEP_LINK + 1][STEP_LINK + 1];
 
 static uint32_t below(uint32_t bound)
 {
@@ -197,6 +197,14 @@ static uint32_t some_offset(void)
     }
 }
 
+/* Of the physical function's interrupts, or of a mailbox's memory. */
+static uint32_t some_part(void)
+{
+    static const uint32_t interrupts[] = {NIC_EICR, NIC_EICS, NIC_EIAC,    NIC_EIMS,
+                                          NIC_EIMC, NIC_EIAM, NIC_IVAR(0), NIC_GPIE};
+    return below(2) ? interrupts[below(8)] : NIC_PFMBMEM(below(32));
+}
+
 static void pick(struct pick *it, uint8_t kind)
 {
     struct step *step = &it->step;
@@ -214,7 +222,7 @@ static void pick(struct pick *it, uint8_t kind)
         break;
     case STEP_READ:
     case STEP_WRITE:
-        step->address = (below(2) ? NIC_RDBAL(queue) : NIC_TDBAL(queue)) + offsets[below(9)];
+        step->address = below(4) ? (below(2) ? NIC_RDBAL(queue) : NIC_TDBAL(queue)) + offsets[below(9)] : some_part();
         step->word = below(2) ? below(9) : (uint32_t)chance_next(&chance);
         break;
     case STEP_PEEK:
@@ -363,7 +371,7 @@ static void try_pair(const struct pick *left, const struct pick *right, void *ro
     int row = nicxi_row_of(&a.step, &b.step);
     if (row < 0)
         return;
-    tried[row]++;
+    tried[row][a.step.kind][b.step.kind]++;
     in_order(&c, &d);
     size_t size = nicxi_heap_size();
     nicxi_heap_copy(room);
@@ -378,40 +386,48 @@ static void try_pair(const struct pick *left, const struct pick *right, void *ro
         fail(row, "the two orders lead to two states");
 }
 
-/* Each kind of a driver's step beside each of the device's, and each two of the device's. */
+static const uint8_t kinds[] = {STEP_LOCAL,     STEP_READ, STEP_WRITE,  STEP_VF_READ, STEP_VF_WRITE,
+                                STEP_PEEK,      STEP_POKE, STEP_RX,     STEP_TX,      STEP_RX_ENABLE,
+                                STEP_TX_ENABLE, STEP_INT,  STEP_EEPROM, STEP_ARRIVE,  STEP_LINK};
+
+enum { KINDS = sizeof kinds / sizeof *kinds };
+
+/* Two of each two kinds. */
 static void try_all(void *room)
 {
-    static const uint8_t kinds[] = {STEP_LOCAL,    STEP_READ, STEP_WRITE, STEP_VF_READ,
-                                    STEP_VF_WRITE, STEP_PEEK, STEP_POKE};
     struct pick a, b;
-    for (uint8_t right = STEP_RX; right <= STEP_LINK; right++) {
-        for (size_t k = 0; k < sizeof kinds; k++) {
+    for (size_t k = 0; k < KINDS; k++)
+        for (size_t j = k; j < KINDS; j++) {
             pick(&a, kinds[k]);
-            pick(&b, right);
+            pick(&b, kinds[j]);
+            if (k == j && !below(3)) {
+                b.step.address = a.step.address;
+                b.step.vf = a.step.vf;
+            }
             try_pair(&a, &b, room);
         }
-        for (uint8_t left = STEP_RX; left <= right; left++) {
-            pick(&a, left);
-            pick(&b, right);
-            try_pair(&a, &b, room);
-        }
-    }
 }
 
-/* Each row in some of the states at least. */
+/* Each row for each two kinds that it has in some of the states at least. */
 static void tell(unsigned states, bool all)
 {
     uint64_t pairs = 0;
-    unsigned few = 0, least = states / 100;
-    for (int row = 0; row < nicxi_rows(); row++) {
-        pairs += tried[row];
-        few += tried[row] < least;
-        if (all || tried[row] < least)
-            printf("%8llu pairs: %s\n", (unsigned long long)tried[row], nicxi_row_name(row));
-    }
-    printf("%d rows, %llu pairs in both orders\n", nicxi_rows(), (unsigned long long)pairs);
+    unsigned few = 0, cells = 0, least = states / 100;
+    for (int row = 0; row < nicxi_rows(); row++)
+        for (size_t cell = 0; cell < KINDS * KINDS; cell++) {
+            uint8_t a = kinds[cell / KINDS], b = kinds[cell % KINDS];
+            if (a > b || !nicxi_row_has(row, a, b))
+                continue;
+            cells++;
+            pairs += tried[row][a][b];
+            few += tried[row][a][b] < least;
+            if (all || tried[row][a][b] < least)
+                printf("%8llu pairs of kinds %u and %u: %s\n", (unsigned long long)tried[row][a][b], a, b,
+                       nicxi_row_name(row));
+        }
+    printf("%d rows of %u pairs of kinds, %llu pairs in both orders\n", nicxi_rows(), cells, (unsigned long long)pairs);
     if (few) {
-        printf("%u rows were hardly tried\n", few);
+        printf("%u pairs of kinds were hardly tried\n", few);
         exit(1);
     }
 }

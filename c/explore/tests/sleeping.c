@@ -1,6 +1,8 @@
 /* Whether the exhaustive search with sleep sets comes to the same ends as the one without: of scenarios that are mixed
-   by chance, what the driver saw and what the device is at the end of each schedule. `sleeping SCENARIOS SEED [vf]`:
-   with `vf` the queue is a virtual function's, and the driver is its too. */
+   by chance, what the driver saw and what the device is at the end of each schedule. `sleeping SCENARIOS SEED [MODE..]`:
+   by `vf` the queue is a virtual function's, and the driver is its too; by `apart` its tasks share nothing but a lock
+   and what it keeps, and the scenario says that it is race-free; by `told` each access of its memory is told; by `weak`
+   memory is weak. */
 #include <stdio.h>
 #include <stdlib.h>
 #include <string.h>
@@ -14,7 +16,9 @@ enum { MOST_ENDS = 1 << 16, LENGTH = 3, TWO = 2, MOST_RUNS = 12000 };
 
 static struct chance chance;
 static uint8_t doings[TWO][LENGTH];
-static bool has_handler, has_function;
+static bool has_handler, has_function, is_apart, is_told;
+static nicx_mutex lock;
+static uint64_t shared;
 static uint64_t seen[TWO + 1];
 static uint64_t ends[MOST_ENDS];
 static uint32_t end_count;
@@ -26,6 +30,21 @@ static uint64_t mixed(uint64_t sum, uint64_t value)
 }
 
 /* --- a driver by chance; what each of its threads saw, in its order, is its sum --- */
+
+/* The driver's own memory is told as code that is compiled for it does. */
+static void tell(const void *place, size_t size, bool writes)
+{
+    if (is_told)
+        nicxi_touched(place, size, writes);
+}
+
+static void count_in_lock(uint64_t *sum)
+{
+    nicx_lock(&lock);
+    tell(&shared, sizeof shared, true);
+    *sum = mixed(*sum, ++shared);
+    nicx_unlock(&lock);
+}
 
 static void act(unsigned who, uint8_t doing)
 {
@@ -44,6 +63,11 @@ static void act(unsigned who, uint8_t doing)
     case 10: nicx_write32(NIC_RXDCTL(0), who ? ENABLE : 0); break;
     case 11: nicx_wait(); break;
     case 12:
+        if (is_apart) {
+            count_in_lock(sum);
+            break;
+        }
+        tell(&seen[who ^ 1], sizeof *seen, false);
         *sum = mixed(*sum, seen[who ^ 1]);
         nicx_point();
         break;
@@ -55,11 +79,14 @@ static void act(unsigned who, uint8_t doing)
     case 18: nicx_vf_write32(0, NIC_VFMAILBOX, 1); break;
     case 19: nicx_vf_write32(0, NIC_VFRDT(0), 2); break;
     case 20: nicx_vf_write32(0, NIC_VFTDT(0), who + 1); break;
-    default: nicx_vf_write32(0, NIC_VTEIMS, 1); break;
+    case 21: nicx_vf_write32(0, NIC_VTEIMS, 1); break;
+    case 22: nicx_wmb(); break;
+    default: nicx_put64(buffer(0) + 8 * who, who + 1); break;
     }
+    tell(sum, sizeof *sum, true);
 }
 
-enum { OF_HOST = 14, OF_ALL = 22 };
+enum { OF_HOST = 14, OF_ALL = 22, OF_WEAK = 24 };
 
 static const unsigned numbers[TWO] = {0, 1};
 
@@ -73,6 +100,7 @@ static void task(void *argument)
 static void handler(void *unused)
 {
     (void)unused;
+    tell(&seen[TWO], sizeof *seen, true);
     seen[TWO] = mixed(seen[TWO], has_function ? nicx_vf_read32(0, NIC_VTEICR) : nicx_read32(NIC_EICR));
 }
 
@@ -95,6 +123,9 @@ static const char *bring_up(void)
 static void begin(void)
 {
     memset(seen, 0, sizeof seen);
+    memset(&lock, 0, sizeof lock);
+    shared = 0;
+    nicxi.knows_memory = is_told;
     nicx_service("one", task, (void *)(uintptr_t)&numbers[0]);
     nicx_service("two", task, (void *)(uintptr_t)&numbers[1]);
     if (has_handler)
@@ -116,7 +147,7 @@ static const char *end(void)
     }
     nic_peek32(nicx_device(), NIC_EICR, &word);
     nic_get64(nicx_device(), RX_RING + 8, &half);
-    sum = mixed(mixed(sum, word), half);
+    sum = mixed(mixed(sum, word), half + shared);
     if (end_count < MOST_ENDS)
         ends[end_count++] = sum;
     return NULL;
@@ -163,6 +194,15 @@ static uint32_t search(uint32_t preemptions, bool sleeps, uint64_t *sum)
     return runs == MOST_RUNS ? 0 : runs;
 }
 
+/* Often what the two touch together: by weak memory stores and loads, else memory of their own. */
+static uint8_t some_doing(bool is_weak)
+{
+    static const uint8_t memory[] = {3, 6, 13, 22, 23};
+    if (!chance_below(&chance, 3))
+        return is_weak ? memory[chance_below(&chance, sizeof memory)] : 12;
+    return (uint8_t)chance_below(&chance, is_weak ? OF_WEAK : has_function ? OF_ALL : OF_HOST);
+}
+
 int main(int argc, char **argv)
 {
     static nicx_scenario scenario = {
@@ -177,8 +217,16 @@ int main(int argc, char **argv)
     };
     unsigned scenarios = argc > 1 ? (unsigned)strtoul(argv[1], NULL, 10) : 100, compared = 0;
     uint64_t all = 0, fewer = 0;
-    has_function = argc > 3 && !strcmp(argv[3], "vf");
+    bool is_weak = false;
+    for (int k = 3; k < argc; k++) {
+        has_function |= !strcmp(argv[k], "vf");
+        is_apart |= !strcmp(argv[k], "apart");
+        is_told |= !strcmp(argv[k], "told");
+        is_weak |= !strcmp(argv[k], "weak");
+    }
     scenario.vfs = has_function;
+    scenario.race_free = is_apart;
+    scenario.memory = is_weak ? NICX_WEAK : 0;
     if (nicx_open(&scenario))
         return 2;
     for (unsigned k = 0; k < scenarios; k++) {
@@ -187,7 +235,7 @@ int main(int argc, char **argv)
         has_handler = chance_below(&chance, 2);
         for (unsigned who = 0; who < TWO; who++)
             for (unsigned j = 0; j < LENGTH; j++)
-                doings[who][j] = (uint8_t)chance_below(&chance, has_function ? OF_ALL : OF_HOST);
+                doings[who][j] = some_doing(is_weak);
         uint64_t with, without;
         uint32_t bound = bounds[k % 4];
         uint32_t many = search(bound, false, &without), few = search(bound, true, &with);

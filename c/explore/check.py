@@ -55,6 +55,11 @@ def corpus() -> list[Path]:
     return sorted((HERE / "corpus").glob("*.c"))
 
 
+def outside() -> list[Path]:
+    """Drivers that weren't written for the search."""
+    return sorted((HERE / "outside").glob("*.c"))
+
+
 def vfs_of(source: Path) -> int:
     found = re.search(r"\.vfs = (\d+)", source.read_text())
     return int(found[1]) if found else 0
@@ -128,7 +133,7 @@ OUTSIDE = {
 
 def check_outside(kit: Kit, runs: int, each: int = 1) -> str:
     """The same of the drivers that weren't written for the search; each bug is found as the one that it is."""
-    sources = sorted((HERE / "outside").glob("*.c"))
+    sources = outside()
     if [source.stem for source in sources] != list(OUTSIDE):
         raise Wrong(f"outside/ has {', '.join(source.stem for source in sources)}")
     for source in sources[::each]:
@@ -390,7 +395,7 @@ def check_choices(kit: Kit) -> str:
     program, out = kit.build(HERE / "tests/choices.c"), kit.folder / "chosen"
     out.mkdir(exist_ok=True)
     for mode, (status, wanted) in CHOICES.items():
-        for strategy in ("random", "priorities", "exhaustive"):
+        for strategy in STRATEGIES:
             words = [program, mode, "--quiet", "--jobs", 2, "--hang", 1, "--out", out, "--strategy", strategy]
             told(ran(words, status), wanted, f"choices {mode}, {strategy}")
             schedule = out / "choices.schedule"

@@ -51,12 +51,16 @@
 //! the search, and one that was opened before isn't used in them. Other threads of the process open, use and drop
 //! theirs as without a search.
 
+mod kit;
 mod raw;
+
+pub use kit::{frame_number, hash, numbered_frame, Flow, Mailbox, Protocol};
 
 use std::cell::RefCell;
 use std::env;
 use std::fmt;
 use std::marker::PhantomData;
+use std::num::NonZeroU32;
 use std::ops::RangeBounds;
 use std::panic;
 use std::process::ExitCode;
@@ -110,6 +114,19 @@ pub trait Scenario: 'static {
         false
     }
 
+    /// What the driver's stores to lent memory, and its loads from it, may do: they are strong unless this or
+    /// `--memory weak` says so.
+    fn memory(&self) -> MemoryOrder {
+        MemoryOrder::default()
+    }
+
+    /// Whether memory of the driver's own that two tasks or handlers touch is touched under a [`Lock`] that both take,
+    /// and by no condition. Then the exhaustive search leaves out orders of their steps that touch different things of
+    /// the device. Where this isn't so it may miss a failure.
+    fn is_race_free(&self) -> bool {
+        false
+    }
+
     /// The driver's own state, anew for each schedule.
     fn state(&self) -> Self::State;
 
@@ -138,6 +155,17 @@ pub trait Scenario: 'static {
     ///
     /// What is wrong.
     fn end(&self, state: &Self::State, device: &Look<'_>) -> Result<(), String>;
+}
+
+/// How lent memory is, and what of the driver's accesses of registers orders it (docs/explore.md, "Missing barriers").
+#[derive(Clone, Copy, Debug, Default, PartialEq, Eq)]
+pub struct MemoryOrder {
+    /// Stores may be late, and loads old, until a barrier. Without it the others count by `--memory weak` alone.
+    pub is_weak: bool,
+    /// A write of a register comes behind all stores before it, as `writel()` of Linux does.
+    pub writes_order: bool,
+    /// No load behind a read of a register is older than it, as behind `readl()` of Linux.
+    pub reads_order: bool,
 }
 
 /// What a search ended with.
@@ -180,7 +208,10 @@ fn run(scenario: impl Scenario, words: Vec<String>) -> Outcome {
     let allowed = u32::from(scenario.allows_faults()) | u32::from(scenario.allows_not_lent()) << 1;
     let (queues, points, stack, name) =
         (scenario.queues(), scenario.points(), scenario.stack(), scenario.name().to_owned());
-    let settings = raw::Settings { name: &name, vfs, fifo, blocks, queues, points, stack, allowed };
+    let order = scenario.memory();
+    let memory = u32::from(order.is_weak) | u32::from(order.writes_order) << 1 | u32::from(order.reads_order) << 2;
+    let race_free = scenario.is_race_free();
+    let settings = raw::Settings { name: &name, vfs, fifo, blocks, queues, points, stack, allowed, memory, race_free };
     let driven = Driven { state: RefCell::new(Rc::new(scenario.state())), scenario };
     HOOK.call_once(|| {
         let before = panic::take_hook();
@@ -241,6 +272,19 @@ pub enum Where {
     On(Task),
 }
 
+/// When a timer fires that was armed.
+#[derive(Clone, Copy, Debug, PartialEq, Eq)]
+pub enum When {
+    /// When nobody else can act.
+    AtRest,
+    /// At any of so many points behind the one at which it was armed, at the last of them before all others.
+    Within(NonZeroU32),
+}
+
+/// A timer that was named.
+#[derive(Clone, Copy, Debug, PartialEq, Eq)]
+pub struct Timer(i32);
+
 /// A task that was named.
 #[derive(Clone, Copy, Debug, PartialEq, Eq)]
 pub struct Task(i32);
@@ -288,6 +332,26 @@ impl<S: 'static> Begin<S> {
             Where::On(Task(number)) => number,
         };
         raw::handler(name, of.map_or(0, |it| u16::from(it) + 1), vector, at, self.thread(function));
+    }
+
+    /// A timer: what fires starts the function beside all tasks, as a message starts a handler. It fires once for each
+    /// time that it is armed.
+    pub fn timer(&self, name: &str, when: When, function: impl Fn(&Bus, &S) + 'static) -> Timer {
+        let within = match when {
+            When::AtRest => 0,
+            When::Within(points) => points.get(),
+        };
+        Timer(raw::timer(name, within, self.thread(function)))
+    }
+
+    /// Arms a timer from the beginning on.
+    pub fn arm(&self, timer: Timer) {
+        raw::arm(timer.0);
+    }
+
+    /// A value below the bound, 1 to 256, that is part of the schedule: which input comes.
+    pub fn choose(&self, bound: u32) -> u32 {
+        raw::choose(bound)
     }
 
     /// A frame that will come, after those that were named before: at most 16,384 bytes.
@@ -425,6 +489,38 @@ impl Bus {
     pub fn lock<'a>(&self, lock: &'a Lock) -> Guard<'a> {
         lock.raw.lock();
         Guard { lock }
+    }
+
+    /// A barrier of weak memory: when it returns all stores of the task's processor before it have reached memory.
+    /// Where memory isn't weak this and the others do nothing, and are no points.
+    pub fn wmb(&self) {
+        raw::barrier(true, false);
+    }
+
+    /// A load behind it isn't older than it.
+    pub fn rmb(&self) {
+        raw::barrier(false, true);
+    }
+
+    /// Both.
+    pub fn mb(&self) {
+        raw::barrier(true, true);
+    }
+
+    /// A value below the bound, 1 to 256, that is part of the schedule: whether an allocation fails, which input comes.
+    /// All strategies choose it, and shrinking tries lower ones. In [`Scenario::bring_up`] it fails.
+    pub fn choose(&self, bound: u32) -> u32 {
+        raw::choose(bound)
+    }
+
+    /// Arms a timer, anew if it is armed.
+    pub fn arm(&self, timer: Timer) {
+        raw::arm(timer.0);
+    }
+
+    /// So that it doesn't fire: whether it was armed. A function that it started already isn't waited for.
+    pub fn disarm(&self, timer: Timer) -> bool {
+        raw::disarm(timer.0)
     }
 
     /// Does something while no handler starts on this task.

@@ -40,6 +40,25 @@ struct RawScenario {
     points: u32,
     stack: u32,
     allowed: u32,
+    memory: u32,
+    race_free: bool,
+}
+
+/// `struct nicx_flow`.
+#[repr(C)]
+pub(super) struct RawFlow {
+    pub(super) from: u32,
+    pub(super) to: u32,
+    pub(super) from_port: u16,
+    pub(super) to_port: u16,
+    pub(super) protocol: u8,
+}
+
+/// `struct nicx_mailbox`.
+#[repr(C)]
+pub(super) struct RawMailbox {
+    pub(super) vf: u8,
+    pub(super) seen: u32,
 }
 
 /// `struct nicx_mutex`.
@@ -54,6 +73,25 @@ extern "C" {
     fn nicx_task(name: *const c_char, function: Function, argument: *mut c_void) -> c_int;
     fn nicx_service(name: *const c_char, function: Function, argument: *mut c_void) -> c_int;
     fn nicx_handler(name: *const c_char, group: u16, vector: u8, function: Function, argument: *mut c_void, at: c_int);
+    fn nicx_timer(name: *const c_char, function: Function, argument: *mut c_void, within: u32) -> c_int;
+    fn nicx_arm(timer: c_int);
+    fn nicx_disarm(timer: c_int) -> bool;
+    fn nicx_choose(bound: u32) -> u32;
+    fn nicx_wmb();
+    fn nicx_rmb();
+    fn nicx_mb();
+    fn nicx_numbered_frame(frame: *mut u8, length: usize, number: u32) -> bool;
+    fn nicx_flow_frame(frame: *mut u8, length: usize, flow: *const RawFlow, number: u32) -> bool;
+    fn nicx_frame_number(frame: *const u8, length: usize) -> u32;
+    fn nicx_hash(key: *const u8, bytes: *const u8, length: usize) -> u32;
+    fn nicx_rss_hash(flow: *const RawFlow) -> u32;
+    fn nicx_rss_queue(flow: *const RawFlow) -> u16;
+    fn nicx_function_sends(mailbox: *mut RawMailbox, words: *const u32, count: u32);
+    fn nicx_function_receives(mailbox: *mut RawMailbox, words: *mut u32, count: u32) -> bool;
+    fn nicx_function_is_acked(mailbox: *mut RawMailbox) -> bool;
+    fn nicx_host_sends(vf: u8, words: *const u32, count: u32);
+    fn nicx_host_receives(vf: u8, words: *mut u32, count: u32) -> bool;
+    fn nicx_host_is_acked(vf: u8) -> bool;
     fn nicx_frame(frame: *const u8, length: usize);
     fn nicx_link_change(up: bool);
     fn nicx_read32(address: u32) -> u32;
@@ -98,6 +136,8 @@ pub(super) struct Settings<'a> {
     pub(super) points: u32,
     pub(super) stack: u32,
     pub(super) allowed: u32,
+    pub(super) memory: u32,
+    pub(super) race_free: bool,
 }
 
 /// A task or a handler, as the explorer has it by its address.
@@ -284,6 +324,8 @@ pub(super) fn run(driven: &dyn Driven, settings: &Settings<'_>, words: &[String]
         points: settings.points,
         stack: settings.stack,
         allowed: settings.allowed,
+        memory: settings.memory,
+        race_free: settings.race_free,
     };
     // SAFETY: only the lifetime is changed, which `RUNNING` ends before this function returns.
     let driven: &'static dyn Driven = unsafe { mem::transmute::<&dyn Driven, _>(driven) };
@@ -316,6 +358,27 @@ pub(super) fn handler(name: &str, group: u16, vector: u8, at: c_int, function: B
     let (name, argument) = running(|it| (it.name(name), it.thread(function)));
     // SAFETY: name and argument stay until the next schedule begins.
     unsafe { nicx_handler(name, group, vector, go, argument, at) }
+}
+
+pub(super) fn timer(name: &str, within: u32, function: Box<dyn Fn()>) -> c_int {
+    let (name, argument) = running(|it| (it.name(name), it.thread(function)));
+    // SAFETY: name and argument stay until the next schedule begins.
+    unsafe { nicx_timer(name, go, argument, within) }
+}
+
+pub(super) fn arm(timer: c_int) {
+    // SAFETY: it takes no pointer.
+    unsafe { nicx_arm(timer) }
+}
+
+pub(super) fn disarm(timer: c_int) -> bool {
+    // SAFETY: it takes no pointer.
+    unsafe { nicx_disarm(timer) }
+}
+
+pub(super) fn choose(bound: u32) -> u32 {
+    // SAFETY: it takes no pointer.
+    unsafe { nicx_choose(bound) }
 }
 
 pub(super) fn frame(frame: &[u8]) {
@@ -408,6 +471,74 @@ pub(super) fn lend_all() -> u8 {
 pub(super) fn settle() {
     // SAFETY: it takes no pointer.
     unsafe { nicx_settle() }
+}
+
+pub(super) fn barrier(of_stores: bool, of_loads: bool) {
+    // SAFETY: they take no pointer.
+    unsafe {
+        match (of_stores, of_loads) {
+            (true, false) => nicx_wmb(),
+            (false, true) => nicx_rmb(),
+            _ => nicx_mb(),
+        }
+    }
+}
+
+// --- the kit ---
+
+pub(super) fn numbered_frame(frame: &mut [u8], number: u32) -> bool {
+    // SAFETY: the frame has as many bytes as its length.
+    unsafe { nicx_numbered_frame(frame.as_mut_ptr(), frame.len(), number) }
+}
+
+pub(super) fn flow_frame(frame: &mut [u8], flow: &RawFlow, number: u32) -> bool {
+    // SAFETY: the frame has as many bytes as its length, and the flow is borrowed.
+    unsafe { nicx_flow_frame(frame.as_mut_ptr(), frame.len(), flow, number) }
+}
+
+pub(super) fn frame_number(frame: &[u8]) -> u32 {
+    // SAFETY: the frame has as many bytes as its length.
+    unsafe { nicx_frame_number(frame.as_ptr(), frame.len()) }
+}
+
+pub(super) fn hash(key: &[u8; 40], bytes: &[u8]) -> u32 {
+    // SAFETY: the key has 40 bytes, and the others are as many as their length.
+    unsafe { nicx_hash(key.as_ptr(), bytes.as_ptr(), bytes.len()) }
+}
+
+pub(super) fn rss(flow: &RawFlow) -> (u32, u16) {
+    // SAFETY: the flow is borrowed; a `Bus` or a `Look` is at hand, so the explorer's controller is open.
+    unsafe { (nicx_rss_hash(flow), nicx_rss_queue(flow)) }
+}
+
+pub(super) fn function_sends(mailbox: &mut RawMailbox, words: &[u32]) {
+    // SAFETY: the mailbox is borrowed, and the words are as many as their length.
+    unsafe { nicx_function_sends(mailbox, words.as_ptr(), words.len() as u32) }
+}
+
+pub(super) fn function_receives(mailbox: &mut RawMailbox, words: &mut [u32]) -> bool {
+    // SAFETY: as above.
+    unsafe { nicx_function_receives(mailbox, words.as_mut_ptr(), words.len() as u32) }
+}
+
+pub(super) fn function_is_acked(mailbox: &mut RawMailbox) -> bool {
+    // SAFETY: the mailbox is borrowed.
+    unsafe { nicx_function_is_acked(mailbox) }
+}
+
+pub(super) fn host_sends(vf: u8, words: &[u32]) {
+    // SAFETY: the words are as many as their length.
+    unsafe { nicx_host_sends(vf, words.as_ptr(), words.len() as u32) }
+}
+
+pub(super) fn host_receives(vf: u8, words: &mut [u32]) -> bool {
+    // SAFETY: as above.
+    unsafe { nicx_host_receives(vf, words.as_mut_ptr(), words.len() as u32) }
+}
+
+pub(super) fn host_is_acked(vf: u8) -> bool {
+    // SAFETY: it takes no pointer.
+    unsafe { nicx_host_is_acked(vf) }
 }
 
 /// A lock, with its name for reports. It isn't `Sync`, since it has a cell.

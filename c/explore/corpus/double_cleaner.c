@@ -1,5 +1,5 @@
-/* Two take back what went out: who sends does so before a frame, and a cleaner behind an interrupt. Nothing keeps them
-   apart, so both give the same buffer back. */
+/* Who sends and a cleaner give back the same buffer, since nothing keeps them apart. Who sends looks for what went out
+   before each frame, the cleaner behind an interrupt. */
 #include "card.h"
 
 enum { FRAMES = 3, POOL = 2 };

@@ -1,6 +1,5 @@
-/* Two queues, each with its poll, which is scheduled once until it has done its work. A poll that unmasks the causes of
-   all queues unmasks those of the other poll, which works yet: the message that comes finds it scheduled, and is
-   forgotten, and the frame behind it lies in the ring. */
+/* A poll unmasks the causes of all queues, also that of a poll that works yet. The message that comes finds that one
+   scheduled, and is forgotten; the frame behind it lies in the ring. */
 #include "card.h"
 
 enum { QUEUES = 2, PORT_AT = 35, FRAMES = 3, ALL = 3 };

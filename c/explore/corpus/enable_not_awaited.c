@@ -1,5 +1,5 @@
-/* A queue that is asked to go on is off for a while yet. Who doesn't wait for the bit, and stops the queue later only
-   if it reads as on, leaves a queue that goes on behind that, and has its buffers written. */
+/* A queue that was asked to go on, and reads as off for a while yet, goes on behind its stop. Who doesn't wait for the
+   bit, and stops the queue later only if it reads as on, has its buffers written when they are another's. */
 #include "card.h"
 
 enum { FRAMES = 1, POSTED = 2 };

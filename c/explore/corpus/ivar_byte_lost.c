@@ -1,5 +1,5 @@
-/* A register has the vectors of four causes, and two set their own byte of it: each reads it, and writes it with its
-   byte. The byte of one is lost. */
+/* Two set a byte each of one register, each by a read and a write of all of it, and one byte is lost. The register has
+   the vectors of four causes. */
 #include "card.h"
 
 enum { OWN = 2 };

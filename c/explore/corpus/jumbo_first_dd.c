@@ -1,5 +1,5 @@
-/* A jumbo frame lies in several buffers. A driver that takes all of it when the first descriptor is done reads buffers
-   that the device hasn't written yet. */
+/* A frame in several buffers is taken as a whole when the first descriptor is done. The device hasn't written the other
+   buffers yet. */
 #include "card.h"
 
 enum { LENGTH = 3000, PART = 1024, PARTS = 3, FRAMES = 2, POSTED = 7 };

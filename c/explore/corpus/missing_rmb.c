@@ -1,5 +1,5 @@
-/* The bytes of a frame are read behind its DD, and no barrier stands between: the processor read them before, when the
-   buffer had the bytes of another frame. */
+/* The bytes of a frame are read before the bit that says that they are there, since no barrier stands between. They are
+   those of another frame. */
 #include "card.h"
 
 enum { FRAMES = 2 };

@@ -1,5 +1,5 @@
-/* A descriptor and the tail behind it, and no barrier between: the write of the tail overtakes the store of the
-   descriptor, and the device takes the slot as it was. */
+/* The write of a tail overtakes the store of the descriptor behind it, since no barrier stands between. The device
+   takes the slot as it was. */
 #include "card.h"
 
 enum { FRAMES = 2 };

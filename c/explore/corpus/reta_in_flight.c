@@ -1,5 +1,5 @@
-/* A frame's queue is chosen as it comes in. A driver that takes a queue out of RETA, and looks at its ring a last time
-   then, leaves the frames behind that were inside the device. */
+/* A queue that was taken out of RETA gets frames yet that were inside the device. A driver that looks at its ring until
+   it is empty once, and no more, leaves them behind. */
 #include "card.h"
 
 enum { FRAMES = 3, OLD = 1, PORT_AT = 35 };

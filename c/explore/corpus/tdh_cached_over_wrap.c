@@ -1,5 +1,5 @@
-/* A cleaner reads TDH, and takes the lock then. Meanwhile another one may have cleaned beyond that head: the old head
-   lies behind it, and to come there the cleaner goes once around, over slots that are outstanding. */
+/* A head that was read before the lock was taken lies behind what another one has cleaned since. To come to it the
+   cleaner goes once around the ring, over slots that are outstanding. */
 #include "card.h"
 
 enum { FRAMES = 4, POOL = 3 };

@@ -1,5 +1,5 @@
-/* A watchdog that sees no progress starts the ring anew, and who sends is amid a frame then: its descriptor goes to the
-   slot that it knew, behind a tail that is another one. */
+/* A watchdog starts the ring anew while somebody sends, whose descriptor goes to the slot that the old ring had. The
+   watchdog is a timer, and doesn't take the lock that senders have. */
 #include "card.h"
 
 enum { FRAMES = 2, SOON = 8 };

@@ -431,7 +431,7 @@ def check_weak(kit: Kit) -> str:
     ran([program, "--replay", schedule], 1)
     ran([program, "--replay", schedule, "--memory", "strong"], 1)
     schedule.write_text("\n".join(line for line in lines if line != "memory weak") + "\n")
-    told(ran([program, "--replay", schedule], 2), "can't act here|has no \"store|is over|somebody can act", "no weak line")
+    told(ran([program, "--replay", schedule], 2), "can't act here|has no \"store|is over|somebody can", "no weak line")
     strong = kit.build(HERE / "corpus/length_before_dd.c", "FIXED")
     words = [strong, "--quiet", "--jobs", 2, "--out", out]
     ran(words)

@@ -65,8 +65,8 @@ typedef struct nicx_scenario {
     uint32_t stack;   /* bytes of a task's stack, at least 16,384; 0 stands for 65,536 */
     uint32_t allowed; /* of enum nicx_allowed */
     uint32_t memory;  /* of enum nicx_memory; without NICX_WEAK the others count by --memory weak alone */
-    bool race_free;   /* memory of the driver's own that two tasks or handlers touch is touched under a nicx_mutex that
-                         both take, and by no condition. Then the exhaustive search leaves out orders of their steps that
+    bool race_free;   /* what two tasks or handlers touch of the driver's own memory is touched under a nicx_mutex that
+                         both take, and by no condition: so the exhaustive search leaves out orders of their steps that
                          touch different things of the device. Where this isn't so it may miss a failure */
 } nicx_scenario;
 
@@ -206,13 +206,14 @@ uint32_t nicx_frame_number(const uint8_t *frame, size_t length);
 /* In `begin`: names so many numbered frames, at most NICX_FRAMES, the first of number 0. Another length is misuse. */
 void nicx_frames(uint32_t count, size_t length);
 
-/* The hash of receive side scaling (Toeplitz) over at most 36 bytes; that of a flow, 0 where none is made, and the queue
-   of its frames, by MRQC, RSSRK and RETA as they are now: with bits 3:0 of MRQC other than 1 that is 0. No points. */
+/* The hash of receive side scaling (Toeplitz) over at most 36 bytes; that of a flow, 0 where none is made, and the
+   queue of its frames, by MRQC, RSSRK and RETA as they are now: without bits 3:0 of MRQC being 1 that is 0. These are
+   no points. */
 uint32_t nicx_hash(const uint8_t key[40], const uint8_t *bytes, size_t length);
 uint32_t nicx_rss_hash(const nicx_flow *flow);
 uint16_t nicx_rss_queue(const nicx_flow *flow);
 
-/* The mailbox of a virtual function, as the function's driver keeps it: {.vf = 3}. What a read takes with it is kept. */
+/* The mailbox of a virtual function, as the function's driver keeps it: {.vf = 3}. What a read takes with it stays. */
 typedef struct nicx_mailbox {
     uint8_t vf;
     uint32_t seen;
@@ -220,8 +221,7 @@ typedef struct nicx_mailbox {
 
 /* Both sides of a mailbox, as their drivers do it. Who sends takes the mailbox first, and waits for it, writes at most
    NICX_MAILBOX words, and tells the other side. `receives` asks whether something was told: then it takes the mailbox,
-   reads, and acknowledges. `is_acked` asks whether what was sent has been acknowledged. Of the host (PFMBICR) and of the
-   function each of these is told once. */
+   reads, and acknowledges. `is_acked` asks whether what was sent has been acknowledged. Each of these is told once. */
 void nicx_function_sends(nicx_mailbox *mailbox, const uint32_t *words, uint32_t count);
 bool nicx_function_receives(nicx_mailbox *mailbox, uint32_t *words, uint32_t count);
 bool nicx_function_is_acked(nicx_mailbox *mailbox);

@@ -7,9 +7,9 @@
    Steps are meant that do something, each with what it answered. What has no row isn't independent: steps that count or
    raise causes, as two of receiving and transmitting do. Two steps of the driver are independent only if they touch no
    memory of its own that the other one changes: the search knows that where the driver's accesses are told
-   (nicxi_touched), or the scenario says that it is race-free. An access of a virtual function is the physical function's
-   at the address that its offset stands for (`dev: vf_access_is_the_physical_functions`), by the mode in GCR_EXT, which
-   no step of the device and no frame changes (`dev: other_events_keep_settings`). */
+   (nicxi_touched), or the scenario says that it is race-free. An access of a virtual function is that of the physical
+   function at the address that its offset stands for (`dev: vf_access_is_the_physical_functions`), by the mode in
+   GCR_EXT, which no step of the device and no frame changes (`dev: other_events_keep_settings`). */
 #include "independent.h"
 
 /* --- of which side of a queue a register is --- */
@@ -274,8 +274,8 @@ static const struct row {
     {MEMORY, OTHERS, NULL, "peek or poke, int, eestep, arrive or link",
      "dev: memory_call_leaves_the_rest, message_leaves_the_rest (memory), eeprom_step_gives_the_word (rest), "
      "arrival_leaves_the_rest (memory), link_leaves_the_rest (link, memory)"},
-    /* of a queue's registers: a read changes nothing, a write nothing but that side. A function's access is the physical
-       function's (dev: vf_access_is_the_physical_functions) */
+    /* of a queue's registers: a read changes nothing, a write nothing but that side; a function's access is that of the
+       physical one */
     {READS, BY(RX) | BY(TX) | ENABLES, are_other_sides, "read of a side, rx, tx or qstep of another",
      "dev: read_changes_nothing, receiving_leaves_the_rest (rest), transmitting_leaves_the_rest (rest), "
      "switching_leaves_the_rest (sides)"},

@@ -1,5 +1,5 @@
-/* What scenarios have in common: descriptors by one access, frames that tell their number, the queue of a flow, and both
-   sides of a mailbox. All of it by the calls of a driver, so accesses are points as any other. */
+/* What scenarios have in common: descriptors by one access, frames that tell their number, the queue of a flow, and
+   both sides of a mailbox. All of it by the calls of a driver, so accesses are points as any other. */
 #include <string.h>
 
 #include "engine.h"

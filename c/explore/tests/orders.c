@@ -1,6 +1,7 @@
-/* `orders STATES SEED`: from so many states by chance, pairs of steps of each row of the table of independent steps, and
-   of each two kinds that it has, are made in both orders. Both must answer the same and lead to the same state: all registers, lent memory, frames. A
-   state is first compared by its bytes; where these differ, by all that the calls show. */
+/* `orders STATES SEED`: from so many states by chance, pairs of steps of each row of the table of independent steps,
+   and of each two kinds that a row has, are made in both orders. Both must answer the same and lead to the same state:
+   all registers, lent memory, frames. A state is first compared by its bytes; where these differ, by all that the calls
+   show. */
 #include <stdio.h>
 #include <stdlib.h>
 #include <string.h>

@@ -1,5 +1,5 @@
 /* Whether the exhaustive search with sleep sets comes to the same ends as the one without: of scenarios that are mixed
-   by chance, what the driver saw and what the device is at the end of each schedule. `sleeping SCENARIOS SEED [MODE..]`:
+   by chance, what the driver saw and what the device is at the end of each schedule. `sleeping SCENARIOS SEED MODE..`:
    by `vf` the queue is a virtual function's, and the driver is its too; by `apart` its tasks share nothing but a lock
    and what it keeps, and the scenario says that it is race-free; by `told` each access of its memory is told; by `weak`
    memory is weak. */
@@ -203,8 +203,26 @@ static uint8_t some_doing(bool is_weak)
     return (uint8_t)chance_below(&chance, is_weak ? OF_WEAK : has_function ? OF_ALL : OF_HOST);
 }
 
+static void mix(unsigned number, uint64_t seed, bool is_weak)
+{
+    chance = chance_of(seed, number);
+    has_handler = chance_below(&chance, 2);
+    for (unsigned who = 0; who < TWO; who++)
+        for (unsigned j = 0; j < LENGTH; j++)
+            doings[who][j] = some_doing(is_weak);
+}
+
+static bool has_mode(int argc, char **argv, const char *mode)
+{
+    for (int k = 3; k < argc; k++)
+        if (!strcmp(argv[k], mode))
+            return true;
+    return false;
+}
+
 int main(int argc, char **argv)
 {
+    static const uint32_t bounds[] = {0, 1, 2, UNBOUNDED};
     static nicx_scenario scenario = {
         .name = "sleeping",
         .fifo = 64,
@@ -216,36 +234,24 @@ int main(int argc, char **argv)
         .end = end,
     };
     unsigned scenarios = argc > 1 ? (unsigned)strtoul(argv[1], NULL, 10) : 100, compared = 0;
-    uint64_t all = 0, fewer = 0;
-    bool is_weak = false;
-    for (int k = 3; k < argc; k++) {
-        has_function |= !strcmp(argv[k], "vf");
-        is_apart |= !strcmp(argv[k], "apart");
-        is_told |= !strcmp(argv[k], "told");
-        is_weak |= !strcmp(argv[k], "weak");
-    }
-    scenario.vfs = has_function;
-    scenario.race_free = is_apart;
-    scenario.memory = is_weak ? NICX_WEAK : 0;
+    uint64_t seed = argc > 2 ? strtoull(argv[2], NULL, 10) : 1, all = 0, fewer = 0;
+    is_told = has_mode(argc, argv, "told");
+    scenario.vfs = has_function = has_mode(argc, argv, "vf");
+    scenario.race_free = is_apart = has_mode(argc, argv, "apart");
+    scenario.memory = has_mode(argc, argv, "weak") ? NICX_WEAK : 0;
     if (nicx_open(&scenario))
         return 2;
     for (unsigned k = 0; k < scenarios; k++) {
-        static const uint32_t bounds[] = {0, 1, 2, UNBOUNDED};
-        chance = chance_of(argc > 2 ? strtoull(argv[2], NULL, 10) : 1, k);
-        has_handler = chance_below(&chance, 2);
-        for (unsigned who = 0; who < TWO; who++)
-            for (unsigned j = 0; j < LENGTH; j++)
-                doings[who][j] = some_doing(is_weak);
+        mix(k, seed, scenario.memory);
         uint64_t with, without;
-        uint32_t bound = bounds[k % 4];
-        uint32_t many = search(bound, false, &without), few = search(bound, true, &with);
+        uint32_t many = search(bounds[k % 4], false, &without), few = search(bounds[k % 4], true, &with);
         if (!many || !few)
             continue;
         compared++;
         all += many;
         fewer += few;
         if (with != without) {
-            printf("scenario %u, bound %u: other ends with sleep sets than without\n", k, (unsigned)bound);
+            printf("scenario %u, bound %u: other ends with sleep sets than without\n", k, (unsigned)bounds[k % 4]);
             return 1;
         }
     }

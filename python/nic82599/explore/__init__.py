@@ -22,15 +22,21 @@ from .. import BadMemory, Nic, NotLent, address_of, offset_of
 from .coverage import Coverage
 from .engine import POLLS, Choose, Result, Run, Thread
 from .jobs import Found, Over, searched
+from .kit import TCP, UDP, Flow, Mailbox, frame_number, numbered_frame, toeplitz
 from .script import Script, name_of, number_of, offset_name_of
 from .strategy import Exhaustive, by_chance, by_list, by_priority
+from .weak import WeakMemory
 
 __all__ = [
-    "BESIDE", "BadSchedule", "BadWord", "Failure", "Mutex", "Report", "Result", "Scenario", "Search", "Vacuous",
-    "replay", "search",
+    "AT_REST", "BESIDE", "TCP", "UDP", "BadSchedule", "BadWord", "Failure", "Flow", "Mailbox", "Mutex", "Report",
+    "Result", "Scenario", "Search", "Vacuous", "frame_number", "numbered_frame", "replay", "search", "toeplitz",
 ]  # fmt: skip
 
 BESIDE = ""
+AT_REST = 0
+VALUES = 256
+KINDS = ("strong", "weak")
+ORDERS = frozenset({"writes", "reads"})
 NAME = re.compile(r"[A-Za-z0-9_-]{1,63}")
 RESETS = 1 << 26 | 1 << 3  # of CTRL
 STRATEGIES = ("random", "priorities", "mixed", "exhaustive")
@@ -58,12 +64,19 @@ class Scenario:
 
     The sizes are those of `Nic`; queues below `queues` have their enables and transmit steps made. A schedule with more
     than `points` points is a failure. `allowed` may have "faults" (of queues) and "not lent" (the driver's accesses).
+
+    `memory` is "strong" or "weak" (docs/explore.md, "Missing barriers"). `orders` says what of weak memory an access of
+    a register orders: by "writes" a write comes behind all stores before it, by "reads" no load behind a read is older
+    than it.
     """
 
     name = "scenario"
     vfs, fifo, blocks, queues, points = 0, 64, 256, 1, 2_000
     allowed: frozenset[str] = frozenset()
+    memory = "strong"
+    orders: frozenset[str] = frozenset()
     _nic: Nic
+    _is_weak = False
     _run: Run | None = None
     _script: Script | None = None
 
@@ -112,6 +125,21 @@ class Scenario:
         group = 0 if vf is None else vf + 1
         made = Thread(name, function, True, True, group, vector, where)
         self._named(name).threads.append(made)
+
+    def timer(self, name: str, function: Callable[[], object], *, within: int = AT_REST) -> Thread:
+        """A timer, for `arm`: what fires starts the function beside all tasks, once for each time that it is armed. It
+        fires when nobody else can act (AT_REST), or at any of so many points behind the one at which it was armed, at
+        the last of them before all others."""
+        if within < 0:
+            raise ValueError(f"timer {name}: within is AT_REST or a number of points from 1 on, and not {within}")
+        made = Thread(name, function, True, True, -1, 0, BESIDE, within=within)
+        self._named(name).threads.append(made)
+        return made
+
+    def frames(self, count: int, length: int = 60) -> None:
+        """So many numbered frames, the first of number 0."""
+        for number in range(count):
+            self.frame(numbered_frame(length, number))
 
     def frame(self, data: bytes) -> None:
         """A frame that will come, after those that were named before."""
@@ -167,6 +195,7 @@ class Scenario:
         address = address_of(at) if isinstance(at, str) else at
         run = self._point()
         word, stray = self._nic.read32(address)
+        self._order("reads", run)
         is_change = not stray and self._nic.peek32(address) != word
         self._did(run, f"r {name_of(address)} = 0x{word:08x}{' (stray)' * stray}", is_change)
         if self._script:
@@ -179,6 +208,7 @@ class Scenario:
         """Whether a register was there."""
         address = address_of(at) if isinstance(at, str) else at
         run = self._point()
+        self._order("writes", run)
         is_there = self._nic.write32(address, word)
         if run and address == 0 and word & RESETS:
             run.waiting.clear()
@@ -192,6 +222,7 @@ class Scenario:
         run = self._point()
         function = self._nic.vf(vf)
         word, stray = function.read32(offset)
+        self._order("reads", run)
         is_change = not stray and function.peek32(offset) != word
         self._did(run, f"vr {vf} {offset_name_of(offset)} = 0x{word:08x}{' (stray)' * stray}", is_change)
         if self._script:
@@ -203,12 +234,22 @@ class Scenario:
     def vf_write32(self, vf: int, at: int | str, word: int) -> bool:
         offset = offset_of(at) if isinstance(at, str) else at
         run = self._point()
+        self._order("writes", run)
         is_there = self._nic.vf(vf).write32(offset, word)
         self._did(run, f"vw {vf} {offset_name_of(offset)} 0x{word:08x}{'' if is_there else ' (stray)'}")
         if self._script:
             said = f"{self._who(run)}: {offset_name_of(offset)}"
             self._script.line(f"vw {vf} 0x{offset:x} {number_of(word)}", said)
         return is_there
+
+    def _order(self, kind: str, run: Run | None) -> None:
+        """By weak memory an access of a register may be a barrier."""
+        if run is None or run.memory is None or kind not in self.orders:
+            return
+        if kind == "writes":
+            run.release(run.self)
+        else:
+            run.memory.acquired(run.self)
 
     def _refused(self, run: Run | None, what: str, bus: int) -> None:
         """Memory that isn't lent: a failure, unless the scenario allows it; outside of a schedule it raises."""
@@ -229,13 +270,18 @@ class Scenario:
 
     def dma_read(self, bus: int, length: int) -> bytes:
         """Bytes of lent memory; zeros where one of them isn't lent, which is a failure unless that is allowed."""
-        run, data, note = self._point(), None, ""
+        data, note, run = None, "", self._run if self._run and self._run.self else None
+        if run:
+            run.self.load = (bus, length)
+        run = self._point()
         try:
-            data = self._nic.memory.read(bus, length)
+            data, note = self._load(run, bus, length)
         except NotLent:
             note = " (not lent)"
+        if run:
+            run.self.load = None
         self._did(run, f"peek 0x{bus:05x}, {length} bytes{note}", False)
-        if self._script:
+        if self._script and not note.startswith(","):
             self._script.peek(self._who(run), self._nic, bus, length)
         if run:
             run.polled(f"peek {bus}", (data or b"").hex())
@@ -243,15 +289,30 @@ class Scenario:
             self._refused(run, "reads", bus)
         return data if data is not None else bytes(length)
 
+    def _load(self, run: Run | None, bus: int, length: int) -> tuple[bytes, str]:
+        """What is read, and what is said of it. NotLent."""
+        if run is None or run.memory is None:
+            return self._nic.memory.read(bus, length), ""
+        return run.memory.load(run.self, bus, length)
+
+    def _store(self, run: Run | None, bus: int, data: bytes) -> str:
+        """What is said of a store. NotLent."""
+        if run is not None and run.memory is not None:
+            return ", on its way" if run.store(bus, data) else ""
+        self._nic.memory.write(bus, data)
+        if self._run and self._run.memory:
+            self._run.memory.stored(bus, len(data))
+        return ""
+
     def dma_write(self, bus: int, data: bytes) -> bool:
         """Whether all of it is lent, and so written."""
-        run, is_lent = self._point(), True
+        run, is_lent, note = self._point(), True, ""
         try:
-            self._nic.memory.write(bus, data)
+            note = self._store(run, bus, data)
         except NotLent:
-            is_lent = False
-        self._did(run, f"poke 0x{bus:05x}, {len(data)} bytes{'' if is_lent else ' (not lent)'}")
-        if self._script:
+            is_lent, note = False, " (not lent)"
+        self._did(run, f"poke 0x{bus:05x}, {len(data)} bytes{note}")
+        if self._script and not note.startswith(","):
             self._script.poke(self._who(run), self._nic, bus, len(data))
         if not is_lent:
             self._refused(run, "writes", bus)
@@ -263,19 +324,38 @@ class Scenario:
     def put64(self, bus: int, value: int) -> bool:
         return self.dma_write(bus, value.to_bytes(8, "little"))
 
+    def descriptor(self, ring: int, slot: int) -> bytes:
+        """A descriptor by one access, at one point: two `get64` are two. nic82599.descriptors reads it."""
+        return self.dma_read(ring + 16 * slot, 16)
+
+    def put_descriptor(self, ring: int, slot: int, data: bytes) -> bool:
+        """The same written, as nic82599.descriptors packs it."""
+        return self.dma_write(ring + 16 * slot, data)
+
+    def _moved(self, block: int) -> None:
+        """A block is another one: a barrier for all."""
+        if self._run and self._run.memory:
+            self._run.memory.moved(block)
+
     def lend(self, block: int) -> None:
         run = self._point()
+        if run:
+            run.release(run.self)
         self._nic.lend(block)
+        self._moved(block)
         self._did(run, f"lend {block}")
         if self._script:
             self._script.line(f"lend {block}", self._who(run))
 
     def take(self, block: int) -> None:
         run = self._point()
+        if run:
+            run.release(run.self)
         try:
             self._nic.take(block)
         except NotLent:
             self._refused(run, "takes back", 2048 * block)
+        self._moved(block)
         self._did(run, f"unlend {block}")
         if self._script:
             self._script.line(f"unlend {block}", self._who(run))
@@ -304,6 +384,64 @@ class Scenario:
             run.stand("until")
             run.tell("waited until")
 
+    # --- barriers of weak memory: where memory is strong they do nothing, and are no points ---
+
+    def _barrier(self, words: str, of_stores: bool, of_loads: bool) -> None:
+        if self._run is None or self._run.self is None or self._run.memory is None:
+            return
+        run = self._run
+        run.stand()
+        count = run.release(run.self) if of_stores else 0
+        if of_loads:
+            run.memory.acquired(run.self)
+        if count:
+            run.self.is_void = False
+        run.tell(f"{words}, {count} store{'s' * (count > 1)} ahead of it" if count else words)
+
+    def wmb(self) -> None:
+        """When it returns all stores of the task's processor before it have reached memory."""
+        self._barrier("wmb", True, False)
+
+    def rmb(self) -> None:
+        """A load behind it isn't older than it."""
+        self._barrier("rmb", False, True)
+
+    def mb(self) -> None:
+        """Both. A lock that is taken is a barrier of loads, and one that is given back is one of stores."""
+        self._barrier("mb", True, True)
+
+    # --- values and timers ---
+
+    def choose(self, bound: int) -> int:
+        """A value below the bound, 1 to 256, that is part of the schedule: whether an allocation fails, which input
+        comes. All strategies choose it, and shrinking tries lower ones. In `begin`, tasks and handlers."""
+        run = self._run
+        assert run, "choose is for begin, tasks and handlers"
+        if not 1 <= bound <= VALUES:
+            run.failed("misuse", f"a choice has 1 to {VALUES} values, and not {bound}")
+            if run.self is not None:
+                run.stand()
+        return run.choose_value(bound) if bound > 1 else 0
+
+    def _timer_point(self, timer: Thread, words: str) -> None:
+        if self._run is None or timer.within is None or timer not in self._run.threads:
+            raise ValueError(f"{timer!r} is no timer of this schedule")
+        run = self._point()
+        if run:
+            run.self.is_void = False
+            run.tell(f"{words} {timer.name}")
+
+    def arm(self, timer: Thread) -> None:
+        """Arms a timer, anew if it is armed: also in `begin`, where it is no point."""
+        self._timer_point(timer, "arms")
+        timer.pending, timer.due = True, len(self._run.result.points) + (timer.within or 0)
+
+    def disarm(self, timer: Thread) -> bool:
+        """So that it doesn't fire: whether it was armed. A function that it started already isn't waited for."""
+        self._timer_point(timer, "disarms")
+        was_armed, timer.pending = timer.pending, False
+        return was_armed
+
     def lock(self, mutex: Mutex) -> None:
         run = self._run
         if run is None or run.self is None:
@@ -326,6 +464,7 @@ class Scenario:
         if mutex.run is not run or mutex.holder is not thread:
             run.failed("misuse", f"{thread.name} unlocks {mutex.name}, which it doesn't hold")
             run.stand()
+        run.release(thread)
         mutex.holder, thread.is_void = None, False
 
     @contextmanager
@@ -387,12 +526,14 @@ class Report:
 
 def write_schedule(path: Path, scenario: Scenario, result: Result, told: str) -> None:
     lines = [f"# {result.outcome}: {result.words}", f"# {told}; who acts at each point:", f"scenario {scenario.name}"]
+    lines += ["memory weak"] if scenario._is_weak else []
     lines += [f"{name:<24} # {words}" for name, words in result.points]
     path.write_text("\n".join(lines) + "\n")
 
 
-def read_schedule(path: str | Path, scenario: Scenario) -> tuple[list[str], list[int]]:
-    """The actors of a schedule's file, and the line of each. BadSchedule."""
+def read_schedule(path: str | Path, scenario: Scenario) -> tuple[list[str], list[int], str]:
+    """The actors of a schedule's file, the line of each, and what memory is in it. BadSchedule."""
+    memory = "strong"
     names, numbers, has_scenario = [], [], False
     try:
         text = Path(path).read_text()
@@ -406,13 +547,15 @@ def read_schedule(path: str | Path, scenario: Scenario) -> tuple[list[str], list
             raise BadSchedule(f'{path}:{number}: the first line is "scenario NAME"')
         if not has_scenario and words != f"scenario {scenario.name}":
             raise BadSchedule(f"{path}:{number}: it is a schedule of {words}, and this is {scenario.name}")
-        if has_scenario:
+        if has_scenario and words == "memory weak" and not names:
+            memory = "weak"
+        elif has_scenario:
             names.append(words)
             numbers.append(number)
         has_scenario = True
     if not has_scenario:
         raise BadSchedule(f'{path}: it has no line "scenario NAME"')
-    return names, numbers
+    return names, numbers, memory
 
 
 # --- searching ---
@@ -421,8 +564,15 @@ def read_schedule(path: str | Path, scenario: Scenario) -> tuple[list[str], list
 class Search:
     """A scenario whose device is up, to make schedules with. It ends by `close`, or at the end of a `with`."""
 
-    def __init__(self, scenario: Scenario, hang: float = 10, script: Script | None = None) -> None:
+    def __init__(
+        self, scenario: Scenario, hang: float = 10, script: Script | None = None, memory: str | None = None
+    ) -> None:
         self.scenario, self.hang, self.is_cut = scenario, hang, False
+        kind = scenario.memory if memory is None else memory
+        if kind not in KINDS or not ORDERS >= scenario.orders:
+            raise ValueError(f"a scenario's memory is strong or weak, its orders writes and reads: {kind!r}, "
+                             f"{set(scenario.orders)!r}")  # fmt: skip
+        scenario._is_weak = kind == "weak"
         scenario._run, scenario._script = None, script
         if not NAME.fullmatch(scenario.name):
             raise ValueError(f"{scenario.name!r}: a scenario's name has 1 to 63 letters, digits, '-' and '_'")
@@ -432,6 +582,7 @@ class Search:
         scenario._nic.memory._before_lending = scenario._refuse_memory
         scenario.bring_up()
         self.kept = scenario._nic.snapshot()
+        self.memory = WeakMemory(scenario._nic, scenario.blocks) if scenario._is_weak else None
         self.coverage = Coverage()
         self.coverage.look(scenario._nic, scenario.queues)
 
@@ -449,7 +600,7 @@ class Search:
         """Makes one schedule."""
         scenario = self.scenario
         scenario._nic.restore(self.kept)
-        scenario._run = Run(scenario, scenario._nic, choose, self.hang, self.coverage)
+        scenario._run = Run(scenario, scenario._nic, choose, self.hang, self.coverage, self.memory)
         try:
             return scenario._run.make()
         finally:
@@ -472,6 +623,23 @@ class Search:
                 best, at = made, 0
             else:
                 at = end
+        return self._lowered(best, tries)
+
+    def _lowered(self, best: Result, tries: int) -> Result:
+        """The same with lower values: 0, a half, one less."""
+        at = 0
+        while at < len(best.points) and tries > 0:
+            kind, _, value = best.actors[at].partition(" ")
+            lower = [0, int(value) // 2, int(value) - 1] if kind == "value" and int(value) else []
+            for one in lower[:tries]:
+                tries -= 1
+                made = self.run(by_list([*best.actors[:at], f"value {one}", *best.actors[at + 1 :]], False))
+                least = (best.switches, len(best.points), best.values)
+                if made.outcome == best.outcome and (made.switches, len(made.points), made.values) < least:
+                    best = made
+                    break
+            else:
+                at += 1
         return best
 
 
@@ -588,7 +756,7 @@ def write_files(scenario: Scenario, result: Result, told: str, out: Path, hang: 
     path = out / f"{scenario.name}.schedule"
     write_schedule(path, scenario, result, told)
     script = Script(scenario, result)
-    with Search(scenario, hang, script) as searching:
+    with Search(scenario, hang, script, "weak" if scenario._is_weak else "strong") as searching:
         if result.points:
             searching.run(by_list(result.actors, False))
     scenario._script = None
@@ -599,17 +767,20 @@ def write_files(scenario: Scenario, result: Result, told: str, out: Path, hang: 
 def search(
     scenario: Scenario, runs: int | None = 1_000, *, seed: int = 1, strategy: str = "mixed", depth: int | None = None,
     preemptions: int = 2, hang: float = 10, out: str | Path | None = None, shrink: bool = True, jobs: int = 1,
-    strict: bool = False,
+    strict: bool = False, memory: str | None = None,
 ) -> Report:  # fmt: skip
     """Makes so many schedules; Failure at the first that fails, shrunk, and in the folder `out` as NAME.schedule, with
     the device's side of it as NAME.nic. The exhaustive search makes all schedules with at most so many preemptions
     where `runs` is None. So many processes share the work, and the failure is the same however many they are. BadWord
-    where a word can't be taken. Where nothing fails: what never ran is in the report, and `strict` raises Vacuous."""
+    where a word can't be taken. Where nothing fails: what never ran is in the report, and `strict` raises Vacuous.
+    `memory` is strong or weak whatever the scenario says; None: as it says."""
     plan = _checked(_Plan(runs, seed, strategy, depth, preemptions, jobs))
     check_hang(hang)
+    if memory not in (None, *KINDS):
+        raise BadWord(f"memory: {memory!r} is none of {', '.join(KINDS)}")
     if out is not None:
         check_out(out)
-    with Search(scenario, hang) as searching:
+    with Search(scenario, hang, memory=memory) as searching:
         found = plan.search(searching)
         if found is None:
             seen = searching.coverage
@@ -627,8 +798,8 @@ def search(
 def replay(scenario: Scenario, path: str | Path, hang: float = 10) -> Result:
     """Makes the schedule of a file, to the letter. BadSchedule where it doesn't fit the scenario."""
     check_hang(hang)
-    names, numbers = read_schedule(path, scenario)
-    with Search(scenario, hang) as searching:
+    names, numbers, memory = read_schedule(path, scenario)
+    with Search(scenario, hang, memory=memory) as searching:
         result, is_cut = searching.run(by_list(names, True)), searching.is_cut
     at = len(result.points)
     if is_cut or result.actors != names:

@@ -34,6 +34,7 @@ class Coverage:
     schedules: set[int] = field(default_factory=set)
     faults: int = 0
     threads: list[tuple[str, bool, int, int]] = field(default_factory=list)
+    timers: set[str] = field(default_factory=set)
     frames: int = 0
     link_changes: list[bool] = field(default_factory=list)
 
@@ -86,6 +87,7 @@ class Coverage:
         """A schedule was made."""
         self.schedules.add(hash(tuple(run.result.actors)))
         self.threads = [(one.name, one.is_handler, one.group, one.vector) for one in run.threads]
+        self.timers = {one.name for one in run.threads if one.within is not None}
         self.frames, self.link_changes = len(run.frames), list(run.links)
 
     def add(self, other: Coverage) -> None:
@@ -97,6 +99,7 @@ class Coverage:
         self.faults += other.faults
         if other.threads:
             self.threads, self.frames, self.link_changes = other.threads, other.frames, other.link_changes
+            self.timers = other.timers
 
     # --- what never happened ---
 
@@ -108,6 +111,8 @@ class Coverage:
                 continue
             if not is_handler:
                 yield f"task {name} never came past its first wait"
+            elif name in self.timers:
+                yield f"timer {name} never fired"
             elif (group, vector) in self.messages:
                 yield f"handler {name} never started, though its message came"
             else:

@@ -6,20 +6,23 @@ the device's steps itself, and hands over where another thread goes on.
 
 from __future__ import annotations
 
+import re
 import threading
 from collections.abc import Callable
 from dataclasses import dataclass, field
 from typing import TYPE_CHECKING, Any
 
-from .. import Event, Fault, Message, Nic, NicError, NoGroup, OutOfMemory
+from .. import Event, Fault, Message, Nic, NicError, NoGroup, NotLent, OutOfMemory
 from ..printed import printed
 from .coverage import Coverage
+from .weak import OLDER, STORES, WeakMemory
 
 if TYPE_CHECKING:
     from . import Scenario
 
 POLLS = 8
-OWN = ("a point", "waited", "waited until", "paused", "locks", "unlocks")
+OWN = ("a point", "waited", "waited until", "paused", "locks", "unlocks", "wmb", "rmb", "mb")
+ALSO_OWN = re.compile(r"arms |disarms |mb, |wmb, |p(eek|oke) .*(on its way|own stores in it|as before the last)")
 Choose = Callable[["Run", list["Actor"]], "Actor | None"]
 
 
@@ -42,14 +45,20 @@ class Result:
 
     @property
     def switches(self) -> int:
-        """How often another one acted than at the point before."""
-        names = self.actors
+        """How often another one acted than at the point before; a value that is chosen is no act."""
+        names = [name for name in self.actors if not name.startswith("value ")]
         return sum(one != other for one, other in zip(names, names[1:]))
+
+    @property
+    def values(self) -> int:
+        """The sum of the values that were chosen."""
+        return sum(int(name.split()[1]) for name in self.actors if name.startswith("value "))
 
 
 @dataclass(eq=False)
 class Thread:
-    """A task or a handler. `where` is the task that a handler interrupts, None for any or none, or BESIDE."""
+    """A task or a handler. `where` is the task that a handler interrupts, None for any or none, or BESIDE. A timer is a
+    handler with `within`: 0 is at rest. `load` is what a thread loads next, and `older` before how many changes."""
 
     name: str
     function: Callable[[], object]
@@ -66,6 +75,10 @@ class Thread:
     own: int = 0
     masked: int = 0
     pending: bool = False
+    within: int | None = None
+    due: int = 0
+    load: tuple[int, int] | None = None
+    older: int = 0
     is_void: bool = False
     voided: int = -1
     interrupted_by: Thread | None = None
@@ -78,7 +91,8 @@ class Thread:
 
 @dataclass(eq=False)
 class Actor:
-    """Who may act: `thread` goes on, or begins `on` another; else a step of the device, or what comes from the link."""
+    """Who may act: `thread` goes on, or begins `on` another; else a step of the device, or what comes from the link; by
+    weak memory a store of a thread that reaches memory, or a thread whose load is older; or a value that is chosen."""
 
     name: str
     kind: str
@@ -93,10 +107,13 @@ class Run:
     """A schedule of a scenario, whose controller is as its bring-up left it."""
 
     def __init__(
-        self, scenario: Scenario, nic: Nic, choose: Choose, hang: float, coverage: Coverage | None = None
-    ) -> None:
+        self, scenario: Scenario, nic: Nic, choose: Choose, hang: float, coverage: Coverage | None = None,
+        memory: WeakMemory | None = None,
+    ) -> None:  # fmt: skip
         self.scenario, self.nic, self.choose, self.hang = scenario, nic, choose, hang
         self.coverage = Coverage() if coverage is None else coverage
+        self.memory = memory
+        self.last = ""
         self.waiting: list[int] = []  # frames inside the device
         self.result = Result()
         self.threads: list[Thread] = []
@@ -104,6 +121,7 @@ class Run:
         self.links: list[bool] = []
         self.next_frame = self.next_link = self.acts = self.changes = 0
         self.actors: list[Actor] = []
+        self.timers: list[Actor] = []  # those that fire at any point, up to their last
         self.self: Thread | None = None
         self.is_over = self.is_cut = self.is_running = False
         self.main = threading.Lock()
@@ -129,7 +147,8 @@ class Run:
         handlers = [one for one in self.threads if one.is_handler]
         made = [Actor(f"task {one.name}", "thread", one) for one in tasks]
         made += [Actor(f"handler {one.name}", "thread", one) for one in handlers]
-        for one in handlers:
+        made += [Actor(f"fire {one.name}", "start", one) for one in handlers if one.within is not None]
+        for one in (one for one in handlers if one.within is None):
             made += [Actor(f"start {one.name} on {on.name}", "start", one, on) for on in tasks
                      if one.where in (None, on.name)]  # fmt: skip
             if one.where is None or one.where == "":
@@ -141,7 +160,12 @@ class Run:
                  for group in range(self.scenario.vfs + 1)]  # fmt: skip
         for queue in queues:
             made += [Actor(f"qstep {side} {queue}", "device", of=queue) for side in ("rx", "tx")]
-        self.actors = [*made, Actor("eestep", "device")]
+        made.append(Actor("eestep", "device"))
+        for one in (*tasks, *handlers) if self.memory else ():
+            made += [Actor(f"store {one.name} {place}", "store", one, of=place) for place in range(STORES)]
+            made += [Actor(f"older {one.name} {older}", "older", one, of=older) for older in range(1, OLDER + 1)]
+        self.actors = made
+        self.timers = [one for one in made if one.kind == "start" and one.thread.within]
 
     def _can_go_on(self, thread: Thread) -> bool:
         if thread.interrupted_by is not None or thread.state == "off":
@@ -156,7 +180,7 @@ class Run:
         if actor.kind == "thread":
             return self._can_go_on(actor.thread)
         if actor.kind == "start":
-            if not actor.thread.pending or actor.thread.state != "off":
+            if not actor.thread.pending or actor.thread.state != "off" or actor.thread.within == 0:
                 return False
             if actor.on is None:
                 return True
@@ -165,11 +189,13 @@ class Run:
             return actor.on.interrupted_by is None and not actor.on.masked
         if actor.kind == "arrive":
             return self.next_frame < len(self.frames)
+        if actor.kind == "store":
+            return self.memory.can_land(actor.thread, actor.of)
+        if actor.kind == "older":
+            thread = actor.thread
+            can_go_on = thread.state == "ready" and thread.interrupted_by is None
+            return can_go_on and self.memory.time_before(thread, actor.of) is not None
         return self.next_link < len(self.links) if actor.kind == "link" else not actor.is_idle
-
-    @property
-    def last(self) -> str:
-        return self.result.points[-1][0] if self.result.points else ""
 
     def able(self) -> list[Actor]:
         """Who can act, the one that acted last in front."""
@@ -181,7 +207,13 @@ class Run:
 
     def note(self, actor: Actor, words: str) -> None:
         self.result.points.append((actor.name, words))
+        if actor.kind == "value":
+            return
         actor.last = len(self.result.points)
+        self.last = actor.name
+        if actor.kind == "older":  # the thread is the one that acted
+            own = next(one for one in self.actors if one.kind == "thread" and one.thread is actor.thread)
+            own.last, self.last = actor.last, own.name
 
     def changed(self) -> None:
         """The device isn't as it was: each of its steps may have something to do."""
@@ -236,12 +268,16 @@ class Run:
         """A step of the device or from the link; False where there was nothing to do, and nothing is noted."""
         if actor.kind in ("arrive", "link"):
             words = self._from_link(actor)
+        elif actor.kind == "store":
+            words = self._land(actor)
         else:
             event = self.device_event(actor)
             if event is None:
                 actor.is_idle = True
                 return False
             words = printed(event)
+            if self.memory:
+                self.memory.stepped(event)
             self.coverage.step(self, actor, event)
             self._judge(event)
         self.note(actor, words)
@@ -250,6 +286,19 @@ class Run:
         self.changed()
         self.look()
         return True
+
+    def _land(self, actor: Actor) -> str:
+        """A store reaches memory."""
+        bus, data = self.memory.processors[actor.thread.name].stores[actor.of]
+        try:
+            self.memory.land(actor.thread, actor.of)
+        except NotLent:
+            if "not lent" not in self.scenario.allowed:
+                words = f"a store of {actor.thread.name} reaches 0x{bus:x}, which isn't lent any more"
+                self.failed("memory", words)
+        if self.scenario._script:
+            self.scenario._script.poke(actor.name, self.nic, bus, len(data))
+        return f"0x{bus:05x}, {len(data)} bytes reach memory"
 
     def _judge(self, event: Event | bool) -> None:
         if isinstance(event, Message):
@@ -273,24 +322,52 @@ class Run:
 
     def next_actor(self) -> Actor | None:
         """Whoever acts next and isn't the device, or None where the schedule is over."""
-        while self.result.outcome == "fine":
+        while self.result.outcome == "fine" and not self.is_cut:
             if len(self.result.points) >= self.scenario.points:
                 self.failed("endless", f"no end after {self.scenario.points} points; last came {self.last}")
                 break
-            can = self.able()
+            can = (self.timers and self._due()) or self.able()
             if not can:
                 if not self._is_at_rest():
                     continue
-                paused = (one for one in self.actors if one.kind == "thread" and one.thread.state == "paused")
-                can = [one for one in paused if one.thread.interrupted_by is None]
+                can = [one for one in self.actors if self.comes_at_rest(one)]
             actor = self.choose(self, can) if can else None
             if actor is None:
                 self.is_cut = bool(can)
                 break
-            if actor.kind in ("thread", "start"):
+            if actor.kind in ("thread", "start", "older"):
                 return actor
             self.device_acts(actor)
         return None
+
+    def comes_at_rest(self, actor: Actor) -> bool:
+        """Where nobody else can act threads that paused go on, and timers fire."""
+        thread = actor.thread
+        if actor.kind == "start":
+            return thread.within == 0 and thread.pending and thread.state == "off"
+        return actor.kind == "thread" and thread.state == "paused" and thread.interrupted_by is None
+
+    def _due(self) -> list[Actor]:
+        """The timers that must fire now."""
+        points = len(self.result.points)
+        return [one for one in self.timers if self.can_act(one) and points >= one.thread.due]
+
+    def choose_value(self, bound: int) -> int:
+        """A value below the bound, which is a point at which nobody else can act."""
+        if len(self.result.points) >= self.scenario.points:
+            self.failed("endless", f"no end after {self.scenario.points} points; last came a choice of a value")
+        can = [Actor(f"value {k}", "value", of=k) for k in range(bound)]
+        actor = self.choose(self, can) if self.result.outcome == "fine" else None
+        if actor is None:
+            self.is_cut = self.result.outcome == "fine"
+            if self.self is not None:
+                self.stand()
+            return 0
+        words = f"of {bound}, {self.self.name if self.self else 'in begin'}"
+        self.note(actor, words)
+        if self.scenario._script:
+            self.scenario._script.own(actor.name, words)
+        return actor.of
 
     # --- threads ---
 
@@ -330,6 +407,8 @@ class Run:
         handler.pending, handler.next, handler.on = False, "starts", None
         if actor.on is not None and actor.on.state != "off":
             handler.on, actor.on.interrupted_by = actor.on, handler
+        if self.memory:
+            self.memory.acquired(handler)
 
     def _hand_over(self, thread: Thread | None) -> bool:
         """Lets others act; True where this thread itself goes on at once. Behind a thread that ended nothing waits."""
@@ -339,13 +418,14 @@ class Run:
             self.main.release()
             return False
         words = "starts" if actor.kind == "start" else "begins" if actor.thread.next == "begins" else ""
+        actor.thread.older = actor.of if actor.kind == "older" else 0
         if actor.kind == "start":
             self._start_handler(actor)
         self.note(actor, words)
         if words and self.scenario._script:
             self.scenario._script.own(actor.name, words)
         self.coverage.goes_on(actor.thread)
-        if actor.kind == "thread" and actor.thread is thread:
+        if actor.kind in ("thread", "older") and actor.thread is thread:
             return True
         self.self = actor.thread
         actor.thread.baton.release()
@@ -376,14 +456,36 @@ class Run:
             raise Over
         if state in ("waiting", "paused"):
             thread.is_void, thread.seen = True, self.acts - thread.own
+        if self.memory and state != "ready":
+            self.memory.acquired(thread)
         self.self, thread.state = thread, "ready"
 
     def tell(self, words: str) -> None:
         """What the thread that runs did at the point at which it stood."""
-        if words in OWN and self.self is not None and self.scenario._script:
-            self.scenario._script.own(self.last, words)
+        if (words in OWN or ALSO_OWN.match(words)) and self.self is not None and self.scenario._script:
+            self.scenario._script.own(self.result.points[-1][0], words)
         if self.self is not None and self.result.points:
             self.result.points[-1] = (self.result.points[-1][0], words)
+
+    def store(self, bus: int, data: bytes) -> bool:
+        """Whether a store is on its way; the oldest of too many reaches memory. NotLent."""
+        is_full = self.memory.is_full(self.self)
+        oldest = self.memory.oldest(self.self) if is_full else None
+        is_kept = self.memory.store(self.self, bus, data)
+        if oldest and self.scenario._script:
+            self.scenario._script.poke(f"store {self.self.name} 0", self.nic, *oldest)
+        return is_kept
+
+    def release(self, thread: Thread) -> int:
+        """The stores that were on their way reach memory: how many."""
+        try:
+            landed = self.memory.released(thread) if self.memory else []
+        except NotLent:
+            self.failed("memory", f"a store of {thread.name} reaches memory that isn't lent any more")
+            self.stand()
+        for bus, length in landed if self.scenario._script else ():
+            self.scenario._script.poke(f"store {thread.name} 0", self.nic, bus, length)
+        return len(landed)
 
     def polled(self, what: str, got: str) -> None:
         """A loop that reads the same over and over is taken to wait."""
@@ -430,10 +532,14 @@ class Run:
         """Makes the schedule."""
         self.main.acquire()
         self.is_running = True
+        if self.memory:
+            self.memory.back()
         self.scenario.begin()
         self._check_begun()
         self.list_actors()
         for thread in self.threads:
+            if self.memory:
+                self.memory.acquired(thread)
             if not thread.is_handler:
                 self._prepare(thread)
         try:

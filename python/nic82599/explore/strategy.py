@@ -24,6 +24,8 @@ def by_priority(seed: int, number: int, depth: int, length: int) -> Choose:
     priority: dict[Actor, float] = {}
 
     def choose(run: Run, can: list[Actor]) -> Actor:
+        if can[0].kind == "value":
+            return can[chance.randrange(len(can))]
         if not priority:
             priority.update(zip(chance.sample(run.actors, len(run.actors)), range(depth, depth + len(run.actors))))
         if len(run.result.points) >= run.scenario.points // 2:
@@ -50,13 +52,20 @@ def by_list(names: Sequence[str], is_strict: bool) -> Choose:
             if at < len(names) and names[at] in by_name:
                 return by_name[names[at]]
             idle = [one for one in can if one.kind == "device"]
+            if can[0].kind == "value":
+                return None
             # (a step that has nothing to do isn't offered again; an actor may come when none of these is left)
             return idle[0] if len(idle) == len(can) else None
+        if can[0].kind == "value":
+            is_next = at < len(names) and names[at].startswith("value ")
+            at += is_next
+            return can[min(int(names[at - 1].split()[1]), len(can) - 1) if is_next else 0]
         while at < len(names):
             at += 1
             if names[at - 1] in by_name:
                 return by_name[names[at - 1]]
-        return can[0] if can[0].name == run.last else min(can, key=lambda one: one.last)
+        usual = [one for one in can if one.kind != "older"] or can
+        return can[0] if can[0].name == run.last else min(usual, key=lambda one: one.last)
 
     return choose
 

@@ -1,4 +1,4 @@
-//! The search's weak memory, its choices and timers, and its kit: what C's tests try in full is found and told from Rust.
+//! The search's weak memory, its choices and timers, and its kit: what C's tests try in full is found from Rust too.
 
 use std::cell::{Cell, RefCell};
 use std::num::NonZeroU32;

@@ -2,7 +2,8 @@
 
 use super::{raw, Begin, Bus};
 
-/// A frame of 60 to 16,384 bytes that tells its number in each of its bytes behind the header; `None` for another length.
+/// A frame of 60 to 16,384 bytes that tells its number in each of its bytes behind the header; `None` for another
+/// length.
 pub fn numbered_frame(length: usize, number: u32) -> Option<Vec<u8>> {
     let mut frame = vec![0; length];
     raw::numbered_frame(&mut frame, number).then(|| frame)
@@ -71,8 +72,8 @@ impl<S: 'static> Begin<S> {
 }
 
 impl Bus {
-    /// The hash of a flow, 0 where none is made, and the queue of its frames, by MRQC, RSSRK and RETA as they are now: with
-    /// bits 3:0 of MRQC other than 1 the queue is 0. No points.
+    /// The hash of a flow, 0 where none is made, and the queue of its frames, by MRQC, RSSRK and RETA as they are now:
+    /// with bits 3:0 of MRQC other than 1 the queue is 0. No points.
     pub fn rss(&self, flow: &Flow) -> (u32, u16) {
         raw::rss(&flow.raw())
     }

@@ -1,0 +1,211 @@
+"""A kit for scenarios, as the explorer in C has it: frames that tell their number, flows, and both sides of a mailbox."""
+
+from __future__ import annotations
+
+import struct
+from dataclasses import dataclass
+from typing import TYPE_CHECKING
+
+from .. import Nic, address_of
+
+if TYPE_CHECKING:
+    from . import Scenario
+
+__all__ = ["TCP", "UDP", "Flow", "Mailbox", "frame_number", "numbered_frame", "toeplitz"]
+
+TCP, UDP = 6, 17
+LEAST, MOST, MOST_FLOW, WORDS = 60, 16_384, 1_518, 16
+ADDRESSES = bytes([2, 0, 0, 0, 0, 1, 2, 0, 0, 0, 0, 2])
+OWN_TYPE, IPV4 = b"\x88\xb5", b"\x08\x00"
+ETHERNET, IP = 14, 20
+HEADERS = {TCP: 20, UDP: 8}
+REQ, ACK, VFU, PFU, PFSTS, PFACK, TOLD = 1, 2, 4, 8, 16, 32, 0xF0
+
+
+def _filling(number: int, first: int, end: int) -> bytes:
+    """The bytes behind the number differ from frame to frame, and from place to place."""
+    return bytes((number * 37 + place * 11 + 1) & 0xFF for place in range(first, end))
+
+
+def _numbered(head: bytes, length: int, number: int) -> bytes:
+    return head + struct.pack(">I", number) + _filling(number, len(head) + 4, length)
+
+
+def numbered_frame(length: int, number: int) -> bytes:
+    """A frame that tells its number in each of its bytes behind the header. ValueError for a length below 60 or above
+    16,384."""
+    if not LEAST <= length <= MOST:
+        raise ValueError(f"a numbered frame has {LEAST} to {MOST} bytes, and not {length}")
+    return _numbered(ADDRESSES + OWN_TYPE, length, number)
+
+
+def _place(frame: bytes) -> int | None:
+    if len(frame) < LEAST or frame[:12] != ADDRESSES:
+        return None
+    if frame[12:14] == OWN_TYPE:
+        return ETHERNET
+    return ETHERNET + IP + HEADERS.get(frame[23], 0) if frame[12:14] == IPV4 else None
+
+
+def frame_number(frame: bytes) -> int | None:
+    """The number of such a frame, or of one of a flow; None where a byte is of another frame, or of none."""
+    at = _place(frame)
+    if at is None:
+        return None
+    number = struct.unpack_from(">I", frame, at)[0]
+    return number if frame[at + 4 :] == _filling(number, at + 4, len(frame)) else None
+
+
+def _checksum(data: bytes) -> int:
+    data += bytes(len(data) % 2)
+    total = sum(struct.unpack(f">{len(data) // 2}H", data))
+    while total >> 16:
+        total = (total & 0xFFFF) + (total >> 16)
+    return ~total & 0xFFFF
+
+
+def toeplitz(key: bytes, data: bytes) -> int:
+    """The hash of receive side scaling over at most 36 bytes, with a key of 40. ValueError."""
+    if len(key) != 40 or len(data) > 36:
+        raise ValueError(f"the hash has a key of 40 bytes over at most 36, and not {len(key)} over {len(data)}")
+    bits, whole, found = 8 * len(data), int.from_bytes(key, "big"), 0
+    value = int.from_bytes(data, "big")
+    for place in range(bits):
+        if value >> (bits - 1 - place) & 1:
+            found ^= whole >> (320 - 32 - place) & 0xFFFF_FFFF
+    return found
+
+
+def _peek(nic: Nic, name: str) -> int:
+    return nic.peek32(address_of(name)) or 0
+
+
+@dataclass(frozen=True)
+class Flow:
+    """A flow over IPv4: of addresses and, by TCP or UDP, of ports."""
+
+    source: int
+    destination: int
+    source_port: int = 0
+    destination_port: int = 0
+    protocol: int = TCP
+
+    def _transport(self, payload: bytes) -> bytes:
+        ports = struct.pack(">HH", self.source_port, self.destination_port)
+        length = HEADERS.get(self.protocol, 0) + len(payload)
+        pseudo = struct.pack(">IIHH", self.source, self.destination, self.protocol, length)
+        if self.protocol == TCP:
+            head = ports + bytes(8) + b"\x50\x10" + bytes(2)
+            return head + struct.pack(">HH", _checksum(pseudo + head + bytes(4) + payload), 0) + payload
+        if self.protocol == UDP:
+            head = ports + struct.pack(">H", length)
+            return head + struct.pack(">H", _checksum(pseudo + head + bytes(2) + payload)) + payload
+        return payload
+
+    def frame(self, length: int, number: int) -> bytes:
+        """A frame of it with its number, and right checksums. ValueError for a length below 60 or above 1,518."""
+        if not LEAST <= length <= MOST_FLOW:
+            raise ValueError(f"a frame of a flow has {LEAST} to {MOST_FLOW} bytes, and not {length}")
+        head = ETHERNET + IP + HEADERS.get(self.protocol, 0)
+        payload = struct.pack(">I", number) + _filling(number, head + 4, length)
+        ip = struct.pack(">BBHHHBB", 0x45, 0, length - ETHERNET, 0, 0, 64, self.protocol)
+        addresses = struct.pack(">II", self.source, self.destination)
+        ip += struct.pack(">H", _checksum(ip + bytes(2) + addresses)) + addresses
+        return ADDRESSES + IPV4 + ip + self._transport(payload)
+
+    def _hashed(self, nic: Nic) -> bytes:
+        """What is hashed of it, as MRQC is now: nothing where no hash is made."""
+        mrqc = _peek(nic, "MRQC")
+        addresses = struct.pack(">II", self.source, self.destination)
+        if (self.protocol == TCP and mrqc >> 16 & 1) or (self.protocol == UDP and mrqc >> 22 & 1):
+            return addresses + struct.pack(">HH", self.source_port, self.destination_port)
+        return addresses if mrqc >> 17 & 1 else b""
+
+    def rss(self, nic: Nic) -> tuple[int, int]:
+        """Its hash, 0 where none is made, and the queue of its frames, by MRQC, RSSRK and RETA as they are now: with bits
+        3:0 of MRQC other than 1 the queue is 0."""
+        key = b"".join(_peek(nic, f"RSSRK[{k}]").to_bytes(4, "little") for k in range(10))
+        data = self._hashed(nic)
+        found = toeplitz(key, data) if data else 0
+        entry = found & 127
+        if _peek(nic, "MRQC") & 15 != 1:
+            return found, 0
+        return found, _peek(nic, f"RETA[{entry // 4}]") >> 8 * (entry % 4) & 15
+
+
+class Mailbox:
+    """Both sides of the mailbox of a virtual function, as their drivers do it. Who sends takes the mailbox first, and
+    waits for it, writes at most 16 words, and tells the other side. `receives` asks whether something was told, which is
+    told once: then it takes the mailbox, reads so many words, and acknowledges; else it gives None. `is_acked` asks
+    whether what was sent has been acknowledged, which is told once too. Make one in `begin`."""
+
+    def __init__(self, scenario: Scenario, vf: int) -> None:
+        self.scenario, self.vf, self.seen = scenario, vf, 0
+
+    def _function_looks(self) -> int:
+        word = self.scenario.vf_read32(self.vf, "VFMAILBOX")
+        self.seen |= word & TOLD
+        return word
+
+    def _function_takes(self) -> None:
+        while True:
+            self.scenario.vf_write32(self.vf, "VFMAILBOX", VFU)
+            if self._function_looks() & VFU:
+                return
+            self.scenario.wait()
+
+    def _has_come(self, bit: int) -> bool:
+        if not self.seen & bit:
+            self._function_looks()
+        has, self.seen = bool(self.seen & bit), self.seen & ~bit
+        return has
+
+    def function_sends(self, *words: int) -> None:
+        self._function_takes()
+        for place, word in enumerate(words[:WORDS]):
+            self.scenario.vf_write32(self.vf, f"VFMBMEM[{place}]", word)
+        self.scenario.vf_write32(self.vf, "VFMAILBOX", REQ)
+
+    def function_receives(self, count: int) -> list[int] | None:
+        if not self._has_come(PFSTS):
+            return None
+        self._function_takes()
+        words = [self.scenario.vf_read32(self.vf, f"VFMBMEM[{place}]") for place in range(min(count, WORDS))]
+        self.scenario.vf_write32(self.vf, "VFMAILBOX", ACK)
+        return words
+
+    def function_is_acked(self) -> bool:
+        return self._has_come(PFACK)
+
+    def _host_takes(self) -> None:
+        while True:
+            self.scenario.write32(f"PFMAILBOX[{self.vf}]", PFU)
+            if self.scenario.read32(f"PFMAILBOX[{self.vf}]") & PFU:
+                return
+            self.scenario.wait()
+
+    def _has_come_from(self, bit: int) -> bool:
+        """Sixteen functions have a register of their requests and acknowledgements, cleared by ones."""
+        own, register = bit << self.vf % 16, f"PFMBICR[{self.vf // 16}]"
+        if not self.scenario.read32(register) & own:
+            return False
+        self.scenario.write32(register, own)
+        return True
+
+    def host_sends(self, *words: int) -> None:
+        self._host_takes()
+        for place, word in enumerate(words[:WORDS]):
+            self.scenario.write32(f"PFMBMEM[{WORDS * self.vf + place}]", word)
+        self.scenario.write32(f"PFMAILBOX[{self.vf}]", 1)
+
+    def host_receives(self, count: int) -> list[int] | None:
+        if not self._has_come_from(1):
+            return None
+        self._host_takes()
+        at = WORDS * self.vf
+        words = [self.scenario.read32(f"PFMBMEM[{at + place}]") for place in range(min(count, WORDS))]
+        self.scenario.write32(f"PFMAILBOX[{self.vf}]", ACK)
+        return words
+
+    def host_is_acked(self) -> bool:
+        return self._has_come_from(1 << 16)

@@ -113,11 +113,12 @@ def check_pair(kit: Kit, source: Path, runs: int) -> tuple[str, Path, Path]:
 
 
 def check_corpus(kit: Kit, runs: int, preemptions: int, each: int = 1) -> str:
-    """Each bug is found by a strategy, and its twin passes so many schedules by chance and the exhaustive search. Of
-    the drivers each n-th is tried."""
+    """Each bug is found by a strategy, and its twin passes so many schedules by chance, and ten times as many of the
+    exhaustive search where it has as many. Of the drivers each n-th is tried."""
     for source in corpus()[::each]:
         _, right, out = check_pair(kit, source, runs)
-        ran([right, "--quiet", "--jobs", 2, "--strategy", "exhaustive", "--preemptions", preemptions, "--out", out])
+        words = ["--strategy", "exhaustive", "--preemptions", preemptions, "--runs", 10 * runs]
+        ran([right, "--quiet", "--jobs", 2, *words, "--out", out])
     return f"{len(corpus()[::each])} bugs found, and their twins pass"
 
 

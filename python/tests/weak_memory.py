@@ -28,7 +28,6 @@ from nic82599.explore import (  # noqa: E402
     numbered_frame,
     replay,
     search,
-    toeplitz,
 )
 from nic82599.explore.strategy import Exhaustive  # noqa: E402
 
@@ -304,7 +303,6 @@ class Kit(unittest.TestCase):
             self.assertIsNone(frame_number(frame[:-1] + bytes([frame[-1] ^ 1])))
         self.assertRaises(ValueError, numbered_frame, 59, 0)
         self.assertRaises(ValueError, Flow(1, 2).frame, 1_519, 0)
-        self.assertRaises(ValueError, toeplitz, bytes(39), b"")
 
     def test_queue(self) -> None:
         """Frames of flows come into the queue that is told, with the hash that is told."""

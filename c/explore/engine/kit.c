@@ -158,17 +158,6 @@ void nicx_frames(uint32_t count, size_t length)
 
 /* --- the queue of a flow --- */
 
-uint32_t nicx_hash(const uint8_t key[40], const uint8_t *bytes, size_t length)
-{
-    uint32_t hash = 0, window = (uint32_t)key[0] << 24 | (uint32_t)key[1] << 16 | (uint32_t)key[2] << 8 | key[3];
-    for (size_t k = 0; k < 8 * length && k < 8 * 36; k++) {
-        if (bytes[k / 8] >> (7 - k % 8) & 1)
-            hash ^= window;
-        window = window << 1 | (key[4 + k / 8] >> (7 - k % 8) & 1);
-    }
-    return hash;
-}
-
 static uint32_t peek(uint32_t address)
 {
     uint32_t word = 0;
@@ -189,13 +178,16 @@ static size_t hashed_bytes(const nicx_flow *flow)
 uint32_t nicx_rss_hash(const nicx_flow *flow)
 {
     uint8_t key[4 * NIC_RSSRK_COUNT], tuple[12];
+    uint32_t hash = 0;
     for (uint32_t k = 0; k < sizeof key; k++)
         key[k] = (uint8_t)(peek(NIC_RSSRK(k / 4)) >> 8 * (k % 4));
     put32(tuple, flow->from);
     put32(tuple + 4, flow->to);
     put16(tuple + 8, flow->from_port);
     put16(tuple + 10, flow->to_port);
-    return nicx_hash(key, tuple, hashed_bytes(flow));
+    nicxi.is_changed = true; /* the library's memory may be */
+    nic_hash(key, tuple, hashed_bytes(flow), &hash);
+    return hash;
 }
 
 uint16_t nicx_rss_queue(const nicx_flow *flow)

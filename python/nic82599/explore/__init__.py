@@ -22,14 +22,14 @@ from .. import BadMemory, Nic, NotLent, address_of, offset_of
 from .coverage import Coverage
 from .engine import POLLS, Choose, Result, Run, Thread
 from .jobs import Found, Over, searched
-from .kit import TCP, UDP, Flow, Mailbox, frame_number, numbered_frame, toeplitz
+from .kit import TCP, UDP, Flow, Mailbox, frame_number, numbered_frame
 from .script import Script, name_of, number_of, offset_name_of
 from .strategy import Exhaustive, by_chance, by_list, by_priority
 from .weak import WeakMemory
 
 __all__ = [
     "AT_REST", "BESIDE", "TCP", "UDP", "BadSchedule", "BadWord", "Failure", "Flow", "Mailbox", "Mutex", "Report",
-    "Result", "Scenario", "Search", "Vacuous", "frame_number", "numbered_frame", "replay", "search", "toeplitz",
+    "Result", "Scenario", "Search", "Vacuous", "frame_number", "numbered_frame", "replay", "search",
 ]  # fmt: skip
 
 BESIDE = ""

@@ -1,4 +1,4 @@
-"""A kit for scenarios, as the explorer in C has it: frames that tell their number, flows, and both sides of a mailbox."""
+"""A kit for scenarios, as the explorer in C has it: frames that tell their number, flows, both sides of a mailbox."""
 
 from __future__ import annotations
 
@@ -6,12 +6,12 @@ import struct
 from dataclasses import dataclass
 from typing import TYPE_CHECKING
 
-from .. import Nic, address_of
+from .. import Nic, address_of, rss_hash
 
 if TYPE_CHECKING:
     from . import Scenario
 
-__all__ = ["TCP", "UDP", "Flow", "Mailbox", "frame_number", "numbered_frame", "toeplitz"]
+__all__ = ["TCP", "UDP", "Flow", "Mailbox", "frame_number", "numbered_frame"]
 
 TCP, UDP = 6, 17
 LEAST, MOST, MOST_FLOW, WORDS = 60, 16_384, 1_518, 16
@@ -64,18 +64,6 @@ def _checksum(data: bytes) -> int:
     return ~total & 0xFFFF
 
 
-def toeplitz(key: bytes, data: bytes) -> int:
-    """The hash of receive side scaling over at most 36 bytes, with a key of 40. ValueError."""
-    if len(key) != 40 or len(data) > 36:
-        raise ValueError(f"the hash has a key of 40 bytes over at most 36, and not {len(key)} over {len(data)}")
-    bits, whole, found = 8 * len(data), int.from_bytes(key, "big"), 0
-    value = int.from_bytes(data, "big")
-    for place in range(bits):
-        if value >> (bits - 1 - place) & 1:
-            found ^= whole >> (320 - 32 - place) & 0xFFFF_FFFF
-    return found
-
-
 def _peek(nic: Nic, name: str) -> int:
     return nic.peek32(address_of(name)) or 0
 
@@ -122,11 +110,11 @@ class Flow:
         return addresses if mrqc >> 17 & 1 else b""
 
     def rss(self, nic: Nic) -> tuple[int, int]:
-        """Its hash, 0 where none is made, and the queue of its frames, by MRQC, RSSRK and RETA as they are now: with bits
-        3:0 of MRQC other than 1 the queue is 0."""
+        """Its hash, 0 where none is made, and the queue of its frames, by MRQC, RSSRK and RETA as they are now: if bits
+        3:0 of MRQC aren't 1 the queue is 0."""
         key = b"".join(_peek(nic, f"RSSRK[{k}]").to_bytes(4, "little") for k in range(10))
         data = self._hashed(nic)
-        found = toeplitz(key, data) if data else 0
+        found = rss_hash(key, data) if data else 0
         entry = found & 127
         if _peek(nic, "MRQC") & 15 != 1:
             return found, 0
@@ -135,8 +123,8 @@ class Flow:
 
 class Mailbox:
     """Both sides of the mailbox of a virtual function, as their drivers do it. Who sends takes the mailbox first, and
-    waits for it, writes at most 16 words, and tells the other side. `receives` asks whether something was told, which is
-    told once: then it takes the mailbox, reads so many words, and acknowledges; else it gives None. `is_acked` asks
+    waits for it, writes at most 16 words, and tells the other side. `receives` asks whether something was told, which
+    is told once: then it takes the mailbox, reads so many words, and acknowledges; else it gives None. `is_acked` asks
     whether what was sent has been acknowledged, which is told once too. Make one in `begin`."""
 
     def __init__(self, scenario: Scenario, vf: int) -> None:

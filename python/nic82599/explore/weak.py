@@ -1,8 +1,8 @@
 """Weak memory, as the explorer in C has it (docs/explore.md, "Missing barriers").
 
 A processor's stores to lent memory are on their way for a while, and reach it in any order that keeps those of one
-place; its loads may give what memory was before its last changes. A task, or a handler beside, is a processor; a handler
-on a task is on its processor.
+place; its loads may give what memory was before its last changes. A task, or a handler beside, is a processor; a
+handler on a task is on its processor.
 """
 
 from __future__ import annotations

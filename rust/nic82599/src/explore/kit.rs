@@ -14,11 +14,6 @@ pub fn frame_number(frame: &[u8]) -> Option<u32> {
     Some(raw::frame_number(frame)).filter(|it| *it != u32::MAX)
 }
 
-/// The hash of receive side scaling (Toeplitz) over at most 36 bytes.
-pub fn hash(key: &[u8; 40], bytes: &[u8]) -> u32 {
-    raw::hash(key, bytes)
-}
-
 /// What a flow is of.
 #[derive(Clone, Copy, Debug, PartialEq, Eq)]
 pub enum Protocol {

@@ -54,7 +54,7 @@
 mod kit;
 mod raw;
 
-pub use kit::{frame_number, hash, numbered_frame, Flow, Mailbox, Protocol};
+pub use kit::{frame_number, numbered_frame, Flow, Mailbox, Protocol};
 
 use std::cell::RefCell;
 use std::env;

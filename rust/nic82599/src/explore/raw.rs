@@ -83,7 +83,6 @@ extern "C" {
     fn nicx_numbered_frame(frame: *mut u8, length: usize, number: u32) -> bool;
     fn nicx_flow_frame(frame: *mut u8, length: usize, flow: *const RawFlow, number: u32) -> bool;
     fn nicx_frame_number(frame: *const u8, length: usize) -> u32;
-    fn nicx_hash(key: *const u8, bytes: *const u8, length: usize) -> u32;
     fn nicx_rss_hash(flow: *const RawFlow) -> u32;
     fn nicx_rss_queue(flow: *const RawFlow) -> u16;
     fn nicx_function_sends(mailbox: *mut RawMailbox, words: *const u32, count: u32);
@@ -499,11 +498,6 @@ pub(super) fn flow_frame(frame: &mut [u8], flow: &RawFlow, number: u32) -> bool 
 pub(super) fn frame_number(frame: &[u8]) -> u32 {
     // SAFETY: the frame has as many bytes as its length.
     unsafe { nicx_frame_number(frame.as_ptr(), frame.len()) }
-}
-
-pub(super) fn hash(key: &[u8; 40], bytes: &[u8]) -> u32 {
-    // SAFETY: the key has 40 bytes, and the others are as many as their length.
-    unsafe { nicx_hash(key.as_ptr(), bytes.as_ptr(), bytes.len()) }
 }
 
 pub(super) fn rss(flow: &RawFlow) -> (u32, u16) {

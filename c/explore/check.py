@@ -397,7 +397,8 @@ def check_choices(kit: Kit) -> str:
     out.mkdir(exist_ok=True)
     for mode, (status, wanted) in CHOICES.items():
         for strategy in STRATEGIES:
-            words = [program, mode, "--quiet", "--jobs", 2, "--hang", 1, "--out", out, "--strategy", strategy]
+            words = [program, mode, "--quiet", "--jobs", 2, "--hang", 2, "--out", out, "--strategy", strategy]
+            words += ["--runs", 2000]
             told(ran(words, status), wanted, f"choices {mode}, {strategy}")
             schedule = out / "choices.schedule"
             lines = schedule.read_text().splitlines() if status == 1 else []

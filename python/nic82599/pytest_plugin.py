@@ -9,8 +9,8 @@ at the end of a `with`. pytest's own option `-p no:nic82599` leaves the plugin o
         return Poll()                  # a nic82599.explore.Scenario
 
 The words of the marker are those of `nic82599.explore.search`: runs, seed, strategy, depth, preemptions, hang, shrink,
-jobs, strict. What of a scenario never ran is a warning and a property in JUnit XML, and by `strict` a failure. A
-failure is told with its schedule. With --nic-out FOLDER the schedule goes into a file there, NAME.schedule, which
+jobs, strict, memory. What of a scenario never ran is a warning and a property in JUnit XML, and by `strict` a failure.
+A failure is told with its schedule. With --nic-out FOLDER the schedule goes into a file there, NAME.schedule, which
 --nic-replay FILE makes once in place of the search; tests of other scenarios are skipped then. Beside it is NAME.nic,
 the device's side of it, which nicview draws. --nic-jobs N has N processes search each scenario. A word of the marker
 that can't be taken fails its test; one of the options ends pytest, with status 4.
@@ -33,7 +33,7 @@ from .explore import BadSchedule, BadWord, Failure, Report, Scenario, Vacuous, c
 if TYPE_CHECKING:
     from pluggy import Result
 
-WORDS = ("runs", "seed", "strategy", "depth", "preemptions", "hang", "shrink", "jobs", "strict")
+WORDS = ("runs", "seed", "strategy", "depth", "preemptions", "hang", "shrink", "jobs", "strict", "memory")
 
 
 def pytest_addoption(parser: pytest.Parser) -> None:

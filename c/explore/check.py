@@ -388,7 +388,7 @@ CHOICES = {
 }
 
 # The lines that choose, of the shrunk schedule: the lowest values that fail.
-LOWEST = {"values": ["value 2", "value 1"], "all": ["value 4", "value 2"], "inputs": ["value 2", "value 0"]}
+LOWEST = {"values": ["value 2", "value 1"], "all": ["value 4", "value 2"], "inputs": ["value 2"]}
 
 
 def check_choices(kit: Kit) -> str:

@@ -129,7 +129,11 @@ static void begin(void)
         frames_come(frames);
         chosen[0] = frames;
     }
-    nicx_task("chooses", is("values") || is("all") || is("fine") ? choose_two : choose_much, NULL);
+    nicx_task("chooses",
+              is("inputs")                              ? read_often
+              : is("values") || is("all") || is("fine") ? choose_two
+                                                        : choose_much,
+              NULL);
     nicx_task("reads", read_often, NULL);
 }
 

@@ -122,6 +122,7 @@ class Relay(Guest):
                 self.add(f"control: {answer}")
         except Wrong:
             self.add("control: the server has ended")
+        self.send(": answered")
 
     @property
     def has_ended(self) -> bool:

@@ -6,17 +6,21 @@ start() {
     ip link set eth0 up
     neighbour
     carrier
+    answers && echo "@search answers at first" || echo "@search doesn't answer at first"
 }
 
-# A host that was reset is waited for: the driver looks every two seconds.
-calm() { sleep 5; }
+# A host that was reset spreads frames over more queues than the function has, and is waited for: the driver looks every
+# two seconds.
+calm() {
+    host ethtool -X eth0 equal 1
+    sleep 5
+}
 
 # The check of a function: numbered frames out; frames of the wire go to the host's address, so pings are the other way.
 exchange() {
     doing exchange
     neighbour
-    echo "@control expect 300 1400 02:00:00:00:00:55"
-    usleep 300000
+    control expect 300 1400 02:00:00:00:00:55
     frames send eth0 300 1400
     sent
 }

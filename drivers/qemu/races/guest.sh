@@ -8,6 +8,12 @@ doing() {
     echo "$step $*" >/tmp/doing
 }
 
+# control WORDS..: a request to the server, which is answered before the guest goes on.
+control() {
+    echo "@control $*"
+    read -r -t 20 _
+}
+
 rings() {
     doing rings "$@"
     ethtool -G eth0 rx "$1" tx "$2"
@@ -22,13 +28,13 @@ mtu() {
 }
 burst() {
     doing burst "$@"
-    echo "@control frames $1 $2"
+    control frames "$1" "$2"
 }
 blink() {
     doing blink "$@"
-    echo "@control link down"
+    control link down
     usleep "$1"
-    echo "@control link up"
+    control link up
 }
 again() {
     doing again
@@ -70,7 +76,7 @@ traffic() {
 
 begin() {
     doing begin "$1"
-    echo "@control seed $1"
+    control seed "$1"
     traffic
 }
 
@@ -89,7 +95,7 @@ answers() {
 settle() {
     doing settle
     rm /tmp/pids
-    echo "@control link up"
+    control link up
     ip link set eth0 up
     mtu 1500
     rings 512 512
@@ -113,11 +119,10 @@ neighbour() { arp -s 10.0.0.1 02:00:00:00:00:01; }
 # The other end tells what has come: the last that it says counts, since a busy machine is late.
 sent() {
     grep eth0 /proc/net/dev
-    ethtool -S eth0 | grep -E "[1-9]" | grep -E "tx|rx_(missed|errors|no)|drop|restart|busy"
+    ethtool -S eth0 | grep -E "^ *(tx|rx)_[a-z_]*: [1-9]"
     for n in 1 3; do
         sleep $n
-        echo "@control came"
-        usleep 200000
+        control came
     done
 }
 
@@ -125,14 +130,14 @@ sent() {
 exchange() {
     doing exchange
     neighbour
-    echo "@control expect 300 1400"
-    usleep 300000
+    control expect 300 1400
     frames send eth0 300 1400
     sent
+    rm -f /tmp/received
     frames receive eth0 300 1400 20 >/tmp/received &
     receiver=$!
-    while ! grep -q ready /tmp/received; do usleep 50000; done
-    echo "@control frames 300 1400"
+    while ! grep -q ready /tmp/received 2>/dev/null; do usleep 50000; done
+    control frames 300 1400
     wait $receiver
     cat /tmp/received
 }

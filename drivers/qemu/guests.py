@@ -2,7 +2,7 @@
 """Boots guests of QEMU with a card of nic82599-vfio-user, and compares what they and the server tell.
 
     guests.py FETCHED OUT SERVER [--quick | --only NAME .. | --turn | --kernel PATH ..]
-    guests.py --list
+    guests.py --list | --needs [the same words]
 
 drivers/qemu/run calls it, and says what the words mean. A guest's script is a part of its initial file system; a line
 "@control WORDS" that it prints is a request to the server's control socket, whose answer stands in the guest's log.
@@ -10,9 +10,11 @@ drivers/qemu/run calls it, and says what the words mean. A guest's script is a p
 
 from __future__ import annotations
 
+import atexit
 import os
 import re
 import shutil
+import signal
 import socket
 import subprocess
 import sys
@@ -23,6 +25,7 @@ from collections.abc import Callable, Iterator, Sequence
 from contextlib import contextmanager
 from dataclasses import dataclass, field
 from pathlib import Path
+from typing import Any, Protocol
 
 sys.dont_write_bytecode = True
 from initrd import Initrd  # noqa: E402
@@ -36,6 +39,40 @@ class Wrong(Exception):
     """A run isn't as it should be."""
 
 
+# ---- processes end with this one ----
+
+processes: list[subprocess.Popen[bytes]] = []
+
+
+def started(words: Sequence[str | Path], **how: Any) -> subprocess.Popen[bytes]:
+    """A process that is ended when this one ends, whatever ends it."""
+    process = subprocess.Popen(words, **how)
+    processes.append(process)
+    return process
+
+
+def end_all() -> None:
+    """QEMU sets the terminal right when it is told to end."""
+    for process in processes:
+        if process.poll() is None:
+            process.terminate()
+    for process in processes:
+        try:
+            process.wait(timeout=5)
+        except subprocess.TimeoutExpired:
+            process.kill()
+            process.wait()
+
+
+def end_on_signals() -> None:
+    """SIGTERM, SIGHUP and SIGINT end this process by the way that ends the others."""
+    for number in (signal.SIGTERM, signal.SIGHUP, signal.SIGINT):
+        signal.signal(number, lambda got, _: sys.exit(128 + got))
+
+
+# ---- what runs ----
+
+
 @dataclass
 class Place:
     """Where things are."""
@@ -44,6 +81,7 @@ class Place:
     out: Path
     program: Path
     folder: Path = field(default_factory=lambda: Path(tempfile.mkdtemp(prefix="nic82599-guests.")))
+    is_kept: bool = field(default=False, init=False)  # a run was wrong, so its logs stay
 
     def qemu(self, name: str) -> list[str]:
         """QEMU by its own loader and libraries, which this machine hasn't installed."""
@@ -56,6 +94,11 @@ class Place:
             words += ["-L", str(root / "usr/share" / share)]
         return words
 
+    def forget(self) -> None:
+        """Removes what was written, unless it is to be looked at."""
+        if not self.is_kept:
+            shutil.rmtree(self.folder, ignore_errors=True)
+
     def kernel(self, name: str) -> Path:
         root = self.fetched / name / "root"
         return next(it for it in [*root.glob("boot/vmlinuz-*"), *root.glob("usr/lib/modules/*/vmlinuz")])
@@ -63,6 +106,13 @@ class Place:
     def modules(self, name: str) -> Path:
         root = self.fetched / name / "root"
         return next(it for it in [*root.glob("usr/lib/modules/*"), *root.glob("lib/modules/*")])
+
+
+def begin(place: Place) -> None:
+    """However this process ends, others end with it, and behind them their folder goes."""
+    atexit.register(place.forget)
+    atexit.register(end_all)
+    end_on_signals()
 
 
 LOADER = "ld-linux-x86-64.so.2"
@@ -76,7 +126,7 @@ class Server:
         self.path, self.told = self.folder / "card", self.folder / "told"
         given = [f"--socket-path={self.path}", f"--control={self.folder}/control", *words]
         with open(self.told, "wb") as told:
-            self.process = subprocess.Popen([place.program, *given], stdout=told, stderr=subprocess.STDOUT)
+            self.process = started([place.program, *given], stdout=told, stderr=subprocess.STDOUT)
         self.socket = socket.socket(socket.AF_UNIX)
         for _ in range(200):
             try:
@@ -108,18 +158,26 @@ class Server:
         return told
 
 
+class Peer(Protocol):
+    """Whom a guest's requests go to: a server, or another that answers as its control socket does."""
+
+    folder: Path
+
+    def ask(self, words: str) -> list[str]: ...
+
+
 class Guest:
     """A running guest. Its lines are kept with their times, and those that are requests are passed on."""
 
-    def __init__(self, words: Sequence[str], server: Server, log: Path) -> None:
+    def __init__(self, words: Sequence[str], server: Peer, log: Path) -> None:
         self.server, self.lines, self.began, self.log = server, list[str](), time.time(), log
-        self.process = subprocess.Popen(
-            words, stdin=subprocess.DEVNULL, stdout=subprocess.PIPE, stderr=subprocess.STDOUT
-        )
+        self.times: list[float] = []
+        self.process = started(words, stdin=subprocess.DEVNULL, stdout=subprocess.PIPE, stderr=subprocess.STDOUT)
         self.reader = threading.Thread(target=self.read, daemon=True)
         self.reader.start()
 
     def add(self, line: str) -> None:
+        self.times.append(time.time() - self.began)
         self.lines.append(line)
         with open(self.log, "a", encoding="utf-8") as log:
             log.write(f"{time.time() - self.began:7.2f} {line}\n")
@@ -134,22 +192,27 @@ class Guest:
                     self.add(f"control: {answer}")
 
     def wait_for(self, text: str, seconds: float = SECONDS) -> None:
+        """Waits for a line with this text: what came until the guest was over is looked at once more."""
         end = time.time() + seconds
-        while not any(text in it for it in self.lines):
-            if time.time() > end or (self.process.poll() is not None and not self.reader.is_alive()):
+        is_over = False
+        while not any(text in it for it in list(self.lines)):
+            if is_over:
                 raise Wrong(f"the guest doesn't say {text!r}; its last lines: {self.lines[-12:]}")
             time.sleep(0.05)
+            is_over = time.time() > end or not self.reader.is_alive()
 
     def end(self) -> str:
-        """Waits until it ends by itself; all its lines."""
+        """Waits until its script is over (a guest that switches itself off may cut its last lines); all its lines."""
         try:
-            self.process.wait(timeout=max(1, self.began + SECONDS - time.time()))
-        except subprocess.TimeoutExpired:
-            raise Wrong(f"the guest doesn't end; its last lines: {self.lines[-12:]}") from None
+            self.wait_for("guest: end at", max(1, self.began + SECONDS - time.time()))
         finally:
             self.kill()
         self.reader.join(5)
         return "\n".join(self.lines)
+
+    def when(self, text: str) -> float:
+        """Seconds from its start to the first line with this text."""
+        return next(at for at, line in zip(self.times, self.lines) if text in line)
 
     def kill(self) -> None:
         if self.process.poll() is None:
@@ -177,6 +240,12 @@ def port() -> list[str]:
     return ["-device", "pcie-root-port,id=rp,chassis=1"]
 
 
+def machine_words(place: Place, memory_size: str, processors: int) -> list[str]:
+    """The words for an x86 machine without anything else."""
+    return [*place.qemu("qemu-system-x86_64"), "-machine", "q35,accel=tcg,memory-backend=ram", *QUIET,
+            *memory(memory_size), "-cpu", "max", "-smp", str(processors)]
+
+
 QUIET = ["-nographic", "-nodefaults", "-serial", "stdio", "-monitor", "none", "-no-reboot"]
 
 
@@ -191,23 +260,31 @@ class Machine:
     memory: str = "512M"
     append: str = ""
     before: tuple[str, ...] = ()
+    modules: tuple[str, ...] = ("ixgbe", "ixgbevf", "8021q")
+    more: Callable[[Initrd], None] | None = None  # what else its initial file system has
 
-    def start(self, name: str, server: Server, *devices: str) -> Guest:
-        """Boots it with these devices."""
+    def initrd(self, to: Path) -> None:
+        """Writes its initial file system."""
         tools = self.place.fetched / "tools/root"
         initrd = Initrd(self.place.modules(self.kernel), tools / "bin/busybox")
-        for module in ("ixgbe", "ixgbevf", "8021q"):
+        for module in self.modules:
             initrd.add_module(module)
-        initrd.add_program(tools / "sbin/ethtool", [tools / "usr/lib/x86_64-linux-gnu", tools / "lib/x86_64-linux-gnu"])
-        initrd.add_file("bin/frames", (self.place.out / "frames").read_bytes(), 0o755)
+        initrd.add_program(tools / "sbin/ethtool", tools)
+        for name in ("frames", "registers"):
+            initrd.add_file(f"bin/{name}", (self.place.out / name).read_bytes(), 0o755)
         initrd.add_file("script", (LIBRARY + self.script).encode(), 0o644)
+        if self.more:
+            self.more(initrd)
+        initrd.write(to)
+
+    def start(self, name: str, server: Peer, *devices: str) -> Guest:
+        """Boots it with these devices."""
         file = server.folder / f"{name}.initrd"
-        initrd.write(file)
+        self.initrd(file)
         words = [
-            *self.place.qemu("qemu-system-x86_64"), "-machine", "q35,accel=tcg,memory-backend=ram", *QUIET,
-            *memory(self.memory), "-cpu", "max", "-smp", str(self.processors), "-kernel",
-            str(self.place.kernel(self.kernel)), "-initrd", str(file), "-append",
-            f"console=ttyS0 quiet panic=-1 no_timer_check {self.append}", *self.before, *port(), *devices,
+            *machine_words(self.place, self.memory, self.processors), "-kernel", str(self.place.kernel(self.kernel)),
+            "-initrd", str(file), "-append", f"console=ttyS0 quiet panic=-1 no_timer_check {self.append}",
+            *self.before, *port(), *devices,
         ]  # fmt: skip
         return Guest(words, server, server.folder / f"{name}.log")
 
@@ -280,7 +357,7 @@ def ipxe(place: Place) -> str:
     """iPXE's own driver, with legacy descriptors."""
     script = place.folder / "script.ipxe"
     lines = ["#!ipxe", "ifopen net0", "set net0/ip 10.0.0.2", "set net0/netmask 255.255.255.0",
-             "ping --count 4 10.0.0.1", "echo answered", "ifstat", "poweroff"]
+             "ping --count 4 10.0.0.1", "ifstat", "echo all is told", "sleep 600"]
     script.write_text("\n".join(lines) + "\n")
     server = Server(place, "ipxe")
     words = [*place.qemu("qemu-system-x86_64"), "-machine", "q35,accel=tcg,memory-backend=ram", *QUIET, *memory("256M"),
@@ -288,10 +365,11 @@ def ipxe(place: Place) -> str:
              *device(server.path)]
     guest = Guest(words, server, server.folder / "guest.log")
     with running(server, guest):
-        guest.wait_for("seq=4", 60)
+        guest.wait_for("all is told", 120)
         guest.kill()
         told = server.end()
     text = "\n".join(guest.lines)
+    has(text, "iPXE", r"seq=4")
     has(text, "iPXE", r"using 82599")
     has(told, "server", r"^wire: out .*, of them replies 5,")
     has(told, "server", r"^device: received 5 frames in 5 descriptors, .* faults 0$")
@@ -420,6 +498,29 @@ def functions(place: Place) -> str:
     return "sriov_numvfs, ixgbevf in another guest: pings to the wire and to the host, 2000 frames out"
 
 
+def add_testpmd(place: Place) -> Callable[[Initrd], None]:
+    def add(initrd: Initrd) -> None:
+        root = place.fetched / "dpdk/root"
+        initrd.add_program(root / "usr/bin/dpdk-testpmd", root)
+        for name in ("librte_mempool_ring.so.23", "librte_net_ixgbe.so.23"):
+            initrd.add_library(name, root)
+
+    return add
+
+
+def dpdk(place: Place) -> str:
+    """DPDK's testpmd in the guest: Debian's packages, by uio_pci_generic."""
+    script = (HERE / "guest/dpdk.sh").read_text()
+    machine = Machine(place, "kernel-6.1", script, 2, "1G", modules=("uio_pci_generic",), more=add_testpmd(place))
+    text, told = alone(machine)
+    has(text, "server", rf"^control: {FRAMES} of {FRAMES}, twice 0, wrong 0$")
+    has(text, "testpmd", rf"RX-packets: {FRAMES} +RX-dropped: 0 ")
+    has(text, "testpmd", rf"TX-packets: {FRAMES} +TX-dropped: 0 ")
+    clean(told)
+    (package,) = [it for it in (place.fetched / "dpdk/packages").read_text().split() if it.startswith("dpdk-dev_")]
+    return f"testpmd {package.split('_')[1]}, macswap: {FRAMES} frames in and out, each byte"
+
+
 def two_guests(mtu: int) -> Callable[[Place], str]:
     """Two guests back to back, HTTP with checksums and large sends as stock kernels ask for them."""
 
@@ -455,22 +556,50 @@ def turned(place: Place) -> str:
     return "both were told"
 
 
-RUNS: dict[str, Callable[[Place], str]] = {
-    "ipxe": ipxe,
-    "arm64": arm64,
-    "linux-6.1": boots("kernel-6.1"),
-    "linux-6.12": boots("kernel-6.12"),
-    "linux-sid": boots("kernel-sid"),
-    "queues": four_queues,
-    "jumbo": jumbo,
-    "links": links,
-    "removal": removal,
-    "iommu": iommu,
-    "functions": functions,
-    "http": two_guests(1500),
-    "http-9000": two_guests(9000),
+@dataclass
+class Run:
+    """A run, and what beside QEMU has to be fetched for it."""
+
+    run: Callable[[Place], str]
+    needs: tuple[str, ...] = ("tools", "kernel-6.1")
+
+
+RUNS: dict[str, Run] = {
+    "ipxe": Run(ipxe, ()),
+    "arm64": Run(arm64, ("tools-arm64", "kernel-arm64")),
+    "linux-6.1": Run(boots("kernel-6.1")),
+    "linux-6.12": Run(boots("kernel-6.12"), ("tools", "kernel-6.12")),
+    "linux-sid": Run(boots("kernel-sid"), ("tools", "kernel-sid")),
+    "queues": Run(four_queues),
+    "jumbo": Run(jumbo),
+    "links": Run(links),
+    "removal": Run(removal),
+    "iommu": Run(iommu),
+    "functions": Run(functions),
+    "http": Run(two_guests(1500)),
+    "http-9000": Run(two_guests(9000)),
+    "dpdk": Run(dpdk, ("tools", "kernel-6.1", "dpdk")),
 }
+TURN = Run(turned)
 QUICK = ["ipxe", "arm64"]
+
+
+def run_named(name: str) -> Run:
+    return TURN if name == "turn" else RUNS[name]
+
+
+def names_of(words: list[str]) -> list[str]:
+    """The runs that the words ask for."""
+    return {"--quick": QUICK, "--turn": ["turn"], "--only": words[1:]}.get(words[0] if words else "", list(RUNS))
+
+
+def needs_of(words: list[str]) -> list[str]:
+    """What is to be fetched for these words."""
+    if words[:1] == ["--measure"]:
+        return ["qemu", "tools", "kernel-6.1"]
+    if words[:1] in (["--kernel"], ["--disk"]):
+        return ["qemu"]
+    return list(dict.fromkeys(["qemu", *(it for name in names_of(words) for it in run_named(name).needs)]))
 
 
 # ---- an author's own guest ----
@@ -491,11 +620,9 @@ def own(place: Place, words: list[str]) -> int:
     line += ["-drive", f"file={given['--disk']},if=virtio"] if "--disk" in given else []
     line += ["-s", "-S"] if "--gdb" in given else []
     print(f"drivers/qemu/run: the card answers at 10.0.0.1; its control socket is {server.folder}/control", flush=True)
-    try:
-        return subprocess.run([*line, *words[1:]], check=False).returncode
-    finally:
-        print(server.end())
-        shutil.rmtree(place.folder)
+    status = started([*line, *words[1:]]).wait()
+    print(server.end())
+    return status
 
 
 def all_runs(place: Place, names: list[str]) -> int:
@@ -503,32 +630,36 @@ def all_runs(place: Place, names: list[str]) -> int:
     for name in names:
         began = time.time()
         try:
-            said = (turned if name == "turn" else RUNS[name])(place)
+            said = run_named(name).run(place)
             print(f"{name:11} {said} ({time.time() - began:.0f} s)", flush=True)
         except Wrong as fault:
             print(f"{name:11} WRONG: {fault}\n  (logs: {place.folder})", flush=True)
+            place.is_kept = True
             failed += 1
     print("all was as it should be" if not failed else f"{failed} of {len(names)} runs weren't as they should be")
-    if not failed:
-        shutil.rmtree(place.folder)
     return 1 if failed else 0
 
 
+def ask(asks: str, words: list[str]) -> int:
+    """What drivers/qemu/run wants to know."""
+    print(*(RUNS if asks == "--list" else needs_of(words)), sep="\n")
+    return 0
+
+
 def main(words: list[str]) -> int:
-    if words == ["--list"]:
-        print(*RUNS, sep="\n")
-        return 0
-    place = Place(*(Path(it) for it in words[:3]))
-    words = words[3:]
-    if words and words[0] in ("--kernel", "--disk"):
-        return own(place, words)
-    names = {"--quick": QUICK, "--turn": ["turn"], "--only": words[1:]}.get(words[0] if words else "", list(RUNS))
+    asks = words.pop(0) if words[:1] in (["--list"], ["--needs"]) else ""
+    fetched, words = ([], words) if asks else (words[:3], words[3:])
+    names = names_of(words)
     unknown = [it for it in names if it not in RUNS and it != "turn"]
     if unknown or not names:
         print(f"drivers/qemu/run: what is {' '.join(unknown) or '--only of nothing'}? --list tells", file=sys.stderr)
         return 3
+    if asks:
+        return ask(asks, words)
     os.environ["LC_ALL"] = "C.UTF-8"
-    return all_runs(place, names)
+    place = Place(Path(fetched[0]), Path(fetched[1]), Path(fetched[2]))
+    begin(place)
+    return own(place, words) if words[:1] in (["--kernel"], ["--disk"]) else all_runs(place, names)
 
 
 if __name__ == "__main__":

@@ -5,13 +5,17 @@ from __future__ import annotations
 import gzip
 import lzma
 import re
+import subprocess
+from collections.abc import Callable
 from pathlib import Path
 
-FOLDERS = ("bin", "dev", "proc", "sys", "tmp", "lib", "lib64", "lib/x86_64-linux-gnu", "modules", "var", "var/www")
+LIBRARIES = "lib/x86_64-linux-gnu"
+FOLDERS = ("bin", "dev", "proc", "sys", "tmp", "lib", "lib64", LIBRARIES, "modules", "var", "var/www")
+UNPACK: dict[str, Callable[[bytes], bytes]] = {".xz": lzma.decompress, ".gz": gzip.decompress}
 APPLETS = """
 [ ash awk basename cat chmod cut date dd dirname dmesg echo expr false grep gzip head hostname httpd ifconfig insmod
-ip kill ln ls lsmod md5sum mkdir mount ping poweroff printf ps pwd rm rmmod sed seq sh sleep sort sync tail tee test
-time touch tr true uname uniq usleep wc wget xargs
+ip kill ln ls lsmod md5sum mkdir mkfifo mount ping poweroff printf ps pwd rm rmmod sed seq sh sleep sort sync tail tee
+test time touch tr true uname uniq usleep wc wget xargs
 """.split()
 INIT = """#!/bin/sh
 export PATH=/bin
@@ -22,6 +26,7 @@ ip link set lo up
 echo "guest: $(uname -r), init at $(cut -d' ' -f1 /proc/uptime) s"
 sh /script
 echo "guest: end at $(cut -d' ' -f1 /proc/uptime) s"
+sleep 5
 poweroff -f
 """
 
@@ -57,28 +62,40 @@ class Initrd:
         file = self.find_module(name)
         if not file:
             return
-        data = {".xz": lzma.decompress, ".gz": gzip.decompress}.get(file.suffix, bytes)(file.read_bytes())
+        data = UNPACK.get(file.suffix, bytes)(file.read_bytes())
         for line in re.findall(rb"\0depends=([^\0]*)\0", data):
-            for it in filter(None, line.decode().split(",")):
-                self.gather(it, order)
+            for needed in re.findall("[^,]+", line.decode()):
+                self.gather(needed, order)
         plain = file.name.split(".ko")[0] + ".ko"
         if plain not in order:
             order.append(plain)
             self.add_file(f"modules/{plain}", data, 0o644)
 
-    def add_program(self, program: Path, folders: list[Path]) -> None:
-        """A program, and the libraries that it needs, as they lie in these folders."""
+    def add_program(self, program: Path, root: Path) -> None:
+        """A program, and the libraries that it needs, of the packages that are unpacked in a folder."""
         self.add_file(f"bin/{program.name}", program.read_bytes(), 0o755)
-        for folder in folders:
-            for file in folder.glob("*.so*"):
-                if re.match(r"(libc|libm|libmnl|ld-linux-x86-64)\.so\.\d+$", file.name):
-                    self.add_file(f"lib/x86_64-linux-gnu/{file.name}", file.read_bytes(), 0o755)
-        self.files["lib64/ld-linux-x86-64.so.2"] = (0o120777, b"/lib/x86_64-linux-gnu/ld-linux-x86-64.so.2")
+        self.add_needed(program, root)
+        self.files["lib64/ld-linux-x86-64.so.2"] = (0o120777, f"/{LIBRARIES}/ld-linux-x86-64.so.2".encode())
+
+    def add_library(self, name: str, root: Path) -> None:
+        """A library, with those that it needs."""
+        found = [it for it in (root / "usr" / LIBRARIES / name, root / LIBRARIES / name) if it.exists()]
+        if not found:
+            raise FileNotFoundError(f"no {name} in {root}")
+        if f"{LIBRARIES}/{name}" not in self.files:
+            self.add_file(f"{LIBRARIES}/{name}", found[0].read_bytes(), 0o755)
+            self.add_needed(found[0], root)
+
+    def add_needed(self, file: Path, root: Path) -> None:
+        told = subprocess.run(["readelf", "-d", file], capture_output=True, text=True, check=True).stdout
+        for name in re.findall(r"\(NEEDED\).*\[(.*)\]", told):
+            self.add_library(name, root)
 
     def write(self, to: Path) -> None:
         """The archive (cpio, "newc"), compressed."""
         data = bytearray()
-        for number, (name, (mode, content)) in enumerate([*sorted(self.files.items()), ("TRAILER!!!", (0, b""))]):
+        files: list[tuple[str, tuple[int, bytes]]] = [*sorted(self.files.items()), ("TRAILER!!!", (0, b""))]
+        for number, (name, (mode, content)) in enumerate(files):
             fields = (number + 1, mode, 0, 0, 1, 0, len(content), 0, 0, 0, 0, len(name) + 1, 0)
             data += b"070701" + b"".join(b"%08X" % it for it in fields) + name.encode() + b"\0"
             data += bytes(-len(data) % 4)

@@ -10,12 +10,12 @@
 #include <linux/if_packet.h>
 #include <net/ethernet.h>
 #include <net/if.h>
-#include <poll.h>
 #include <stdio.h>
 #include <stdlib.h>
 #include <string.h>
 #include <sys/ioctl.h>
 #include <sys/socket.h>
+#include <sys/time.h>
 #include <time.h>
 #include <unistd.h>
 
@@ -55,46 +55,109 @@ static bool open_interface(struct interface *it, const char *name)
     return bind(it->file, (const struct sockaddr *)&at, sizeof at) == 0;
 }
 
+/* Frames, each behind its length. All are made before the first goes, and compared when the last has come, so that
+   neither takes time in between. */
+struct store {
+    uint8_t *bytes;
+    size_t room, end;
+    unsigned int count;
+    double first, last; /* when they came */
+};
+
+static bool open_store(struct store *it, unsigned int count, unsigned int most)
+{
+    *it = (struct store){.room = (size_t)count * (most + sizeof(uint32_t)) + ROOM};
+    it->bytes = malloc(it->room);
+    if (it->bytes)
+        memset(it->bytes, 0, it->room);
+    return it->bytes != NULL;
+}
+
+/* The frame behind `at`, and its length; `at` moves on. */
+static const uint8_t *next_of(const struct store *it, size_t *at, uint32_t *length)
+{
+    const uint8_t *bytes = it->bytes + *at + sizeof *length;
+    memcpy(length, it->bytes + *at, sizeof *length);
+    *at += sizeof *length + *length;
+    return bytes;
+}
+
+/* A frame was put behind the last one. */
+static void add_to(struct store *it, uint32_t length)
+{
+    memcpy(it->bytes + it->end, &length, sizeof length);
+    it->end += sizeof length + length;
+    it->count++;
+}
+
+static bool send_one(const struct interface *it, const uint8_t *bytes, size_t length)
+{
+    while (send(it->file, bytes, length, 0) < 0) {
+        if (errno != ENOBUFS && errno != EAGAIN)
+            return false;
+        usleep(500);
+    }
+    return true;
+}
+
 static int send_frames(const struct interface *it, unsigned int count, unsigned int most)
 {
     static struct frame frame;
-    double began = now();
+    struct store store;
+    uint32_t length;
+    if (!open_store(&store, count, most))
+        return 2;
     for (unsigned int number = 1; number <= count; number++) {
         frame_make(&frame, number, (uint16_t)most, peer, it->mac);
-        while (send(it->file, frame.bytes, frame.length, 0) < 0) {
-            if (errno != ENOBUFS && errno != EAGAIN)
-                return 1;
-            usleep(500);
-        }
+        memcpy(store.bytes + store.end + sizeof length, frame.bytes, frame.length);
+        add_to(&store, frame.length);
+    }
+    double began = now();
+    for (size_t at = 0; at < store.end;) {
+        const uint8_t *bytes = next_of(&store, &at, &length);
+        if (!send_one(it, bytes, length))
+            return 1;
     }
     printf("frames: sent %u of at most %u bytes in %.3f s\n", count, most, now() - began);
+    free(store.bytes);
     return 0;
+}
+
+/* Takes in one frame of the peer's, or none. */
+static void take(const struct interface *it, struct store *store)
+{
+    struct sockaddr_ll from = {0};
+    socklen_t length = sizeof from;
+    uint8_t *to = store->bytes + store->end + sizeof(uint32_t);
+    ssize_t got = recvfrom(it->file, to, ROOM - sizeof(uint32_t), 0, (struct sockaddr *)&from, &length);
+    if (got <= 0 || from.sll_pkttype == PACKET_OUTGOING || memcmp(to + 6, peer, 6) != 0)
+        return;
+    store->last = now();
+    if (store->count == 0)
+        store->first = store->last;
+    add_to(store, (uint32_t)got);
 }
 
 static int receive_frames(const struct interface *it, unsigned int count, unsigned int most, unsigned int seconds)
 {
-    static uint8_t bytes[ROOM];
     struct numbered numbered;
-    double end = now() + seconds, first = 0, last = 0;
-    if (!numbered_begin(&numbered, count, (uint16_t)most, it->mac, peer))
+    struct timeval patience = {.tv_usec = 100000};
+    struct store store;
+    uint32_t length;
+    if (!open_store(&store, count, most) || !numbered_begin(&numbered, count, (uint16_t)most, it->mac, peer))
         return 2;
+    setsockopt(it->file, SOL_SOCKET, SO_RCVTIMEO, &patience, sizeof patience);
     printf("frames: ready\n");
-    fflush(stdout);
-    while (numbered.good < count && now() < end) {
-        struct pollfd poll_for = {it->file, POLLIN, 0};
-        if (poll(&poll_for, 1, 100) <= 0)
-            continue;
-        struct sockaddr_ll from = {0};
-        socklen_t length = sizeof from;
-        ssize_t got = recvfrom(it->file, bytes, sizeof bytes, 0, (struct sockaddr *)&from, &length);
-        if (got <= 0 || from.sll_pkttype == PACKET_OUTGOING || memcmp(bytes + 6, peer, 6) != 0)
-            continue;
-        last = now();
-        first = first > 0 ? first : last;
-        numbered_take(&numbered, bytes, (size_t)got);
+    double end = now() + seconds;
+    while (store.count < count && now() < end && store.end + ROOM <= store.room)
+        take(it, &store);
+    for (size_t at = 0; at < store.end;) {
+        const uint8_t *bytes = next_of(&store, &at, &length);
+        numbered_take(&numbered, bytes, length);
     }
     printf("frames: received %u of %u of at most %u bytes in %.3f s, twice %u, wrong %u\n", numbered.good, count, most,
-           last - first, numbered.twice, numbered.wrong);
+           store.last - store.first, numbered.twice, numbered.wrong);
+    free(store.bytes);
     return numbered.good == count && !numbered.twice && !numbered.wrong ? 0 : 1;
 }
 
@@ -107,6 +170,8 @@ int main(int count, char **words)
         return 2;
     }
     unsigned int many = (unsigned int)atoi(words[3]), most = (unsigned int)atoi(words[4]);
+    if (most < FRAME_MIN || most > FRAME_JUMBO)
+        return 2;
     if (strcmp(words[1], "send") == 0)
         return send_frames(&interface, many, most);
     return receive_frames(&interface, many, most, count > 5 ? (unsigned int)atoi(words[5]) : 10);

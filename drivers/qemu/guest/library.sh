@@ -20,6 +20,7 @@ carrier() {
 
 # up ADDRESS [MODULE]: the card, with this address.
 up() {
+    echo "guest: loads at $(now) s"
     load "${2:-ixgbe}"
     ip addr add "$1/24" dev eth0
     ip link set eth0 up

@@ -179,7 +179,7 @@ class Bench:
             it.add_module(module)
         if self.kernel.module:
             it.add_file(f"modules/{self.kernel.module.name}", self.kernel.module.read_bytes(), 0o644)
-        it.add_program(tools / "sbin/ethtool", [tools / "usr/lib/x86_64-linux-gnu", tools / "lib/x86_64-linux-gnu"])
+        it.add_program(tools / "sbin/ethtool", tools)
         it.add_file("bin/frames", (self.place.out / "frames").read_bytes(), 0o755)
         begins = (HERE / start).read_text() if start else "start() { up 10.0.0.2; }\n"
         it.add_file("script", f"{WORKLOAD}{begins}start\nobey\n".encode(), 0o644)

@@ -1,0 +1,21 @@
+# rates COUNT MOST: so many frames of 60 to MOST bytes go out, and come in.
+rates() {
+    echo "@control expect $1 $2"
+    usleep 300000
+    frames send eth0 "$1" "$2"
+    sleep 2
+    echo "@control came"
+    usleep 300000
+    frames receive eth0 "$1" "$2" 60 >/tmp/received &
+    while ! grep -q ready /tmp/received; do usleep 50000; done
+    echo "@control frames $1 $2"
+    wait
+    cat /tmp/received
+}
+
+up 10.0.0.2 MODULE
+ping -c 3 10.0.0.1
+registers 0000:01:00.0 8 20000
+registers 0000:01:00.0 MASK 100000 0
+rates 20000 60
+rates 20000 1514

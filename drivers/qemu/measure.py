@@ -1,0 +1,207 @@
+#!/usr/bin/env python3
+"""Measures the card of nic82599-vfio-user beside QEMU's own e1000e and igb: same QEMU, guest, commands and other end.
+
+    measure.py FETCHED OUT SERVER TURNS
+
+drivers/qemu/run --measure calls it. The cards take turns, and of each figure the best of all turns is told, since other
+work on the machine makes each of them only worse. What is printed is a table in Markdown.
+"""
+
+from __future__ import annotations
+
+import os
+import platform
+import re
+import subprocess
+import sys
+import tempfile
+from contextlib import contextmanager
+from collections.abc import Iterator
+from dataclasses import dataclass
+from pathlib import Path
+
+sys.dont_write_bytecode = True
+from guests import HERE, Guest, Machine, Place, Server, Wrong, begin, device, has, running, started  # noqa: E402
+
+MEGABYTES = 32  # that go from one guest to the other
+
+
+@dataclass
+class Card:
+    """A network card: its driver, and a mask register to which a 0 may be written without effect."""
+
+    name: str
+    module: str
+    mask: str
+
+
+CARDS = [Card("82599", "ixgbe", "888"), Card("e1000e", "e1000e", "d8"), Card("igb", "igb", "1528")]
+
+
+@dataclass
+class Figure:
+    """A row of the table: how it is found in a guest's log, and whether more is better."""
+
+    name: str
+    unit: str
+    is_rate: bool
+
+
+FIGURES = [
+    Figure("QEMU's start to carrier", "s", False),
+    Figure("driver's start to carrier", "s", False),
+    Figure("QEMU's start to the first echo reply", "s", False),
+    Figure("reads of a register", "a second", True),
+    Figure("writes of a register", "a second", True),
+    Figure("frames of 60 bytes out", "a second", True),
+    Figure("frames of 60 bytes in", "a second", True),
+    Figure("frames of 60 to 1,514 bytes out", "a second", True),
+    Figure("frames of 60 to 1,514 bytes in", "a second", True),
+    Figure(f"HTTP of {MEGABYTES} MiB, guest to guest", "MB a second", True),
+]
+
+
+class OtherEnd:
+    """The program at the other end of the cable, whose requests are those of the server's control socket."""
+
+    def __init__(self, place: Place) -> None:
+        self.folder = Path(tempfile.mkdtemp(prefix="other.", dir=place.folder))
+        self.path = self.folder / "wire"
+        self.process = started([place.out / "other_end", str(self.path)], stdin=subprocess.PIPE, stdout=subprocess.PIPE)
+
+    def ask(self, words: str) -> list[str]:
+        assert self.process.stdin and self.process.stdout
+        self.process.stdin.write(f"{words}\n".encode())
+        self.process.stdin.flush()
+        lines: list[str] = []
+        for raw in self.process.stdout:
+            lines.append(raw.decode().rstrip())
+            if lines[-1] == "ok" or lines[-1].startswith("error"):
+                break
+        return [it for it in lines if it != "ok"]
+
+    def end(self) -> None:
+        self.process.terminate()
+        self.process.wait()
+
+
+@contextmanager
+def plugged(place: Place, card: Card, name: str, wire: str, mac: str) -> Iterator[list[str]]:
+    """The words for QEMU that give a guest the card; `wire` is stream:PATH or listen:PATH."""
+    way, _, path = wire.partition(":")
+    if card.name == "82599":
+        server = Server(place, name, f"--wire={wire}", f"--mac={mac}")
+        with running(server):
+            yield device(server.path)
+            server.end()
+        return
+    serves = "on" if way == "listen" else "off"
+    yield ["-netdev", f"stream,id=n0,server={serves},addr.type=unix,addr.path={path}",
+           "-device", f"{card.name},bus=rp,netdev=n0,mac={mac}"]
+
+
+MACS = ("02:00:00:00:82:99", "02:00:00:00:82:9a")
+
+
+def seconds_in(text: str, pattern: str) -> float:
+    found = re.search(pattern, text, re.MULTILINE)
+    if not found:
+        raise Wrong(f"no line is like {pattern!r}; the last are:\n" + "\n".join(text.splitlines()[-20:]))
+    return max(1e-6, float(found[1]))
+
+
+def alone(place: Place, card: Card) -> list[float]:
+    """All figures but the last, of one guest."""
+    script = (HERE / "guest/measure.sh").read_text().replace("MODULE", card.module).replace("MASK", card.mask)
+    other = OtherEnd(place)
+    machine = Machine(place, "kernel-6.1", script, modules=(card.module,))
+    with plugged(place, card, "card", f"stream:{other.path}", MACS[0]) as words:
+        guest = machine.start("guest", other, *words)
+        try:
+            text = guest.end()
+        finally:
+            guest.kill()
+    other.end()
+    has(text, "guest", "3 packets received")
+    for end in (r"^control: 20000 of 20000, twice 0, wrong 0", r"^frames: received 20000 of 20000 .* wrong 0$"):
+        if len(re.findall(end, text, re.MULTILINE)) != 2:
+            raise Wrong(f"{card.name}: frames are missing or wrong:\n" + "\n".join(text.splitlines()[-20:]))
+    return [guest.when("guest: carrier at"), *figures_of(text, guest)]
+
+
+def figures_of(text: str, guest: Guest) -> list[float]:
+    loaded, carrier = seconds_in(text, r"^guest: loads at ([\d.]+)"), seconds_in(text, r"^guest: carrier at ([\d.]+)")
+    outs = [float(it) for it in re.findall(r"^control: 20000 of 20000, .* in ([\d.]+) s$", text, re.MULTILINE)]
+    ins = [float(it) for it in re.findall(r"^frames: received 20000 .* in ([\d.]+) s", text, re.MULTILINE)]
+    reads = 20000 / seconds_in(text, r"^registers: 20000 reads in ([\d.]+) s")
+    writes = 100000 / seconds_in(text, r"^registers: 100000 writes in ([\d.]+) s")
+    rates = [20000 / max(1e-6, it) for pair in zip(outs, ins) for it in pair]
+    return [carrier - loaded, guest.when("bytes from 10.0.0.1"), reads, writes, *rates]
+
+
+def between_two(place: Place, card: Card) -> float:
+    """Megabytes a second by HTTP from one guest to another."""
+    folder = Path(tempfile.mkdtemp(prefix="two.", dir=place.folder))
+    scripts = []
+    for name in ("serve", "get"):
+        text = (HERE / f"guest/{name}.sh").read_text().replace("MTU", "1500").replace("count=8", f"count={MEGABYTES}")
+        scripts.append(text.replace("up 10.0.0.2", f"up 10.0.0.2 {card.module}").replace(
+            "up 10.0.0.3", f"up 10.0.0.3 {card.module}"))
+    wire, other = folder / "wire", OtherEnd(place)
+    with plugged(place, card, "left", f"listen:{wire}", MACS[0]) as left, \
+            plugged(place, card, "right", f"stream:{wire}", MACS[1]) as right:
+        machines = [Machine(place, "kernel-6.1", script, modules=(card.module,)) for script in scripts]
+        serving = machines[0].start("serve", other, *left)
+        try:
+            serving.wait_for("SERVES")
+            text = machines[1].start("get", other, *right).end()
+        finally:
+            serving.kill()
+    other.end()
+    has(text, "guest", r"^sums are equal$")
+    minutes, seconds = re.findall(r"^real\s+(\d+)m ([\d.]+)s$", text, re.MULTILINE)[-1]
+    return MEGABYTES * 1.048576 / (60 * int(minutes) + float(seconds))
+
+
+def row(name: str, values: list[str]) -> str:
+    return "| " + " | ".join([name, *values]) + " |"
+
+
+def shown(value: float) -> str:
+    return f"{value:,.0f}" if value >= 100 else f"{value:.1f}" if value >= 10 else f"{value:.2f}"
+
+
+def machine_told() -> str:
+    text = Path("/proc/cpuinfo").read_text()
+    model = re.search(r"^model name\s*: (.*)$", text, re.MULTILINE)
+    load = os.getloadavg()[0]
+    return f"{os.cpu_count()} processors, {model[1] if model else platform.machine()}, load {load:.1f} at the end"
+
+
+def main(words: list[str]) -> int:
+    place = Place(Path(words[0]), Path(words[1]), Path(words[2]))
+    begin(place)
+    best: dict[str, list[float]] = {}
+    try:
+        for turn in range(int(words[3])):
+            for card in CARDS:
+                got = [*alone(place, card), between_two(place, card)]
+                told = ", ".join(shown(it) for it in got)
+                print(f"turn {turn + 1}, {card.name}: {told}", file=sys.stderr, flush=True)
+                old = best.get(card.name, got)
+                best[card.name] = [(max if it.is_rate else min)(a, b) for it, a, b in zip(FIGURES, old, got)]
+    except Wrong as fault:
+        print(f"WRONG: {fault}\n  (logs: {place.folder})")
+        place.is_kept = True
+        return 1
+    print(row(f"{machine_told()}; best of {words[3]}", [it.name for it in CARDS]))
+    print(row("---", ["---:"] * len(CARDS)))
+    for number, figure in enumerate(FIGURES):
+        print(row(f"{figure.name}, {figure.unit}", [shown(best[it.name][number]) for it in CARDS]))
+    print(subprocess.run([place.program.parent / "vfio-user/socket"], capture_output=True, text=True,
+                         check=True).stdout.strip())
+    return 0
+
+
+if __name__ == "__main__":
+    sys.exit(main(sys.argv[1:]))

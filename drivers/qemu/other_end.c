@@ -1,0 +1,134 @@
+/* The other end of the cable, for any network card of QEMU: it listens at a UNIX socket by the format of -netdev
+   stream, answers ARP and ping for 10.0.0.1, and makes and compares frames (drivers/common/frames.h).
+
+     other_end SOCKET
+
+   A line on standard input is a request, with the words of nic82599-vfio-user's control socket:
+     frames COUNT MOST   so many frames of 60 to MOST bytes go to the card
+     expect COUNT MOST   so many are to come from it
+     came                how many have come, and in which time
+   Each answer ends with "ok". It ends when standard input does. */
+#define _POSIX_C_SOURCE 200809L
+#include <stdio.h>
+#include <string.h>
+#include <time.h>
+#include <unistd.h>
+
+#include "respond.h"
+#include "traffic.h"
+#include "wire.h"
+
+#define AHEAD (1u << 20) /* bytes of frames that may wait for the card */
+#define AT_ONCE 64       /* frames before requests have their turn */
+
+#define OWN_ADDRESS 0x0A000001u
+
+static const uint8_t card[6] = {0x02, 0x00, 0x00, 0x00, 0x82, 0x99}, own[6] = {0x02, 0x00, 0x00, 0x00, 0x00, 0x01};
+static struct wire wire;
+static struct traffic traffic;
+static double first, last; /* when the first and the last of the expected frames came */
+
+static double now(void)
+{
+    struct timespec time;
+    clock_gettime(CLOCK_MONOTONIC, &time);
+    return (double)time.tv_sec + (double)time.tv_nsec / 1e9;
+}
+
+static void obey(const char *line)
+{
+    unsigned int count, most;
+    const struct numbered *expected = &traffic.expected;
+    if (sscanf(line, "frames %7u %5u", &count, &most) == 2 && most >= FRAME_MIN && most <= FRAME_JUMBO) {
+        traffic_send(&traffic, count, (uint16_t)most);
+    } else if (sscanf(line, "expect %7u %5u", &count, &most) == 2 && most >= FRAME_MIN && most <= FRAME_JUMBO) {
+        first = last = 0;
+        if (!traffic_expect(&traffic, count, (uint16_t)most, card))
+            puts("error: memory is short");
+    } else if (strcmp(line, "came") == 0) {
+        printf("%u of %u, twice %u, wrong %u, in %.3f s\n", expected->good, expected->count, expected->twice,
+               expected->wrong, last - first);
+    } else {
+        puts("error: frames COUNT MOST, expect COUNT MOST, or came");
+        return;
+    }
+    puts("ok");
+}
+
+/* Requests, as far as they have come; false: standard input has ended. */
+static bool take_requests(void)
+{
+    static char line[256];
+    static size_t length;
+    char bytes[256];
+    ssize_t got = read(STDIN_FILENO, bytes, sizeof bytes);
+    for (ssize_t i = 0; i < got; i++) {
+        if (bytes[i] != '\n') {
+            line[length] = bytes[i];
+            length += length + 1 < sizeof line;
+            continue;
+        }
+        line[length] = 0;
+        obey(line);
+        length = 0;
+    }
+    return got > 0;
+}
+
+static void take_frame(size_t length)
+{
+    static uint8_t reply[WIRE_FRAME_MOST];
+    unsigned int before = traffic.expected.good;
+    size_t answer = respond(wire.frame, length, own, OWN_ADDRESS, reply);
+    if (answer)
+        wire_send(&wire, reply, answer);
+    traffic_take(&traffic, wire.frame, length);
+    if (traffic.expected.good == before)
+        return;
+    last = now();
+    first = before ? first : last;
+}
+
+/* Frames of the card's, some of them: whether there may be more. */
+static bool take_frames(void)
+{
+    for (unsigned int i = 0; i < AT_ONCE; i++) {
+        size_t length = wire_next(&wire, false);
+        if (!length)
+            return false;
+        take_frame(length);
+    }
+    return true;
+}
+
+static void give_frames(void)
+{
+    while (buffer_waiting(&wire.out) < AHEAD && traffic_has_more(&traffic)) {
+        const struct frame *frame = traffic_next(&traffic);
+        wire_send(&wire, frame->bytes, frame->length);
+    }
+}
+
+int main(int count, char **words)
+{
+    struct wire_options options = {.kind = WIRE_LISTEN, .path = words[count > 1]};
+    struct pollfd polls[1 + WIRE_POLLS] = {{.fd = STDIN_FILENO, .events = POLLIN}};
+    bool has_more = false;
+    setvbuf(stdout, NULL, _IOLBF, 0);
+    if (count != 2 || !wire_open(&wire, &options))
+        return 2;
+    traffic_begin(&traffic, card);
+    for (;;) {
+        wire_polls(&wire, polls + 1, true);
+        if (poll(polls, 1 + WIRE_POLLS, has_more ? 0 : -1) < 0)
+            break;
+        if (polls[0].revents && !take_requests())
+            break;
+        wire_serve(&wire, polls + 1);
+        has_more = take_frames();
+        give_frames();
+    }
+    traffic_end(&traffic);
+    wire_close(&wire);
+    return 0;
+}

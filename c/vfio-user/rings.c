@@ -389,14 +389,20 @@ void rings_tail(struct rings *it, bool is_transmit, uint16_t queue, uint32_t tai
     ring->next_ahead = tail;
 }
 
-/* The slot that the device takes next, where it isn't given yet. */
-static bool next_slot(const struct rings *it, enum side side, uint16_t queue, uint32_t *slot)
+/* Of a ring: head and tail meet; the device has its next slot, or can't have it; or that is to be given to it. */
+enum next { NO_SLOT, SLOT_IS_GIVEN, SLOT_TO_GIVE };
+
+/* The slot that the device takes next. */
+static enum next next_slot(const struct rings *it, enum side side, uint16_t queue, uint32_t *slot)
 {
     const struct ring *ring = &it->rings[side][queue];
     uint32_t head = peek(it, side == TRANSMIT ? NIC_TDH(queue) : NIC_RDH(queue));
     uint32_t tail = peek(it, side == TRANSMIT ? NIC_TDT(queue) : NIC_RDT(queue));
     *slot = head;
-    return head != tail && head < ring->slots && tail < ring->slots && !(ring->is_given && ring->slot == head);
+    if (head == tail)
+        return NO_SLOT;
+    bool is_given = ring->is_given && ring->slot == head;
+    return head < ring->slots && tail < ring->slots && !is_given ? SLOT_TO_GIVE : SLOT_IS_GIVEN;
 }
 
 static void put_slot(struct rings *it, struct ring *ring, uint32_t slot, nic_desc descriptor)
@@ -428,7 +434,7 @@ static void give_receive(struct rings *it, uint16_t queue)
     struct ring *ring = &it->rings[RECEIVE][queue];
     nic_desc descriptor = {0};
     uint32_t slot, place = RECEIVE_FIRST + RECEIVE_BLOCKS * queue;
-    if (!next_slot(it, RECEIVE, queue, &slot))
+    if (next_slot(it, RECEIVE, queue, &slot) != SLOT_TO_GIVE)
         return;
     lend(it, place, RECEIVE_BLOCKS);
     if (take_slot(it, ring, queue, slot, &descriptor)) {
@@ -465,13 +471,15 @@ static nic_desc data_for_device(struct rings *it, struct ring *ring, uint16_t qu
     return guest;
 }
 
-static void give_transmit(struct rings *it, uint16_t queue)
+/* False: there is nothing to send. */
+static bool give_transmit(struct rings *it, uint16_t queue)
 {
     struct ring *ring = &it->rings[TRANSMIT][queue];
     nic_desc descriptor = {0, NIC_TXD_DATA | NIC_TXD_EOP | NIC_TXD_DTALEN_IS(1)};
     uint32_t slot;
-    if (!next_slot(it, TRANSMIT, queue, &slot))
-        return;
+    enum next next = next_slot(it, TRANSMIT, queue, &slot);
+    if (next != SLOT_TO_GIVE)
+        return next != NO_SLOT;
     if (take_slot(it, ring, queue, slot, &descriptor)) {
         uint64_t type = (descriptor.second & NIC_TXD_DTYP) >> NIC_TXD_DTYP_SHIFT;
         bool is_legacy = it->options.has_legacy && legacy_is_transmit(descriptor.second);
@@ -483,15 +491,15 @@ static void give_transmit(struct rings *it, uint16_t queue)
             offload_context(it->options.offload, queue, descriptor.first, descriptor.second);
     }
     put_slot(it, ring, slot, descriptor);
+    return true;
 }
 
 bool rings_step(struct rings *it, bool is_transmit, uint16_t queue)
 {
     if (is_transmit)
-        give_transmit(it, queue);
-    else
-        give_receive(it, queue);
-    return !is_transmit || peek(it, NIC_TDH(queue)) != peek(it, NIC_TDT(queue));
+        return give_transmit(it, queue);
+    give_receive(it, queue);
+    return true;
 }
 
 void rings_prepare_receive(struct rings *it)

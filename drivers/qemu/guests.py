@@ -32,7 +32,7 @@ from initrd import Initrd  # noqa: E402
 
 HERE = Path(__file__).resolve().parent
 FRAMES = 2000
-SECONDS = 600  # that a guest may take: it took 15 to 40 on a machine that was busy
+SECONDS = 1800  # that a guest may take: 15 to 40, and on a machine that was ten times too busy 500
 
 
 class Wrong(Exception):

@@ -23,3 +23,4 @@ pub mod WrittenBack
 pub mod TransmitBytes
 pub mod TransmitFaults
 pub mod Reports
+pub mod PoolResets

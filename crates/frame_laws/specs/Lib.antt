@@ -12,3 +12,4 @@ pub mod Types
 pub mod WrittenBack
 pub mod TransmitFaults
 pub mod Reports
+pub mod PoolResets

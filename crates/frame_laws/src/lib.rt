@@ -8,6 +8,7 @@ ghost use Rattle.frame_laws.specs.Arrival.{ArrivingHasAnOrder, FramesJoinLast};
 ghost use Rattle.frame_laws.specs.Faults.{SlotsHaveTheirFaults};
 ghost use Rattle.frame_laws.specs.Link.{LinkChangesRaise, OldestIsCollected};
 ghost use Rattle.frame_laws.specs.Memory.{MemoryCallsAnswer, PokedIsPeeked, LentIsPeeked, TakenIsAsPeeked};
+ghost use Rattle.frame_laws.specs.PoolResets.{PoolResetsDropFrames};
 ghost use Rattle.frame_laws.specs.Queues.{QueuesGoByMrqc};
 ghost use Rattle.frame_laws.specs.Receiving.{ReceivedForAReason, EachReasonIsMet, FramesLeaveAtTheirEnd};
 ghost use Rattle.frame_laws.specs.Receiving.{SlotsAreWrittenAtHead};
@@ -126,6 +127,14 @@ pub fn switching_has_its_reason()
 /// it wrote in part, a transmit side its staged bytes; one that is enabled loses nothing.
 pub fn switched_side_is_as_wanted()
     ensures { SwitchedSideIsAsWanted }
+{}
+
+/// A write of PVFCTRL[v] with bit 26, through either port, drops the frames of the receive list for pool v's queues,
+/// begun or not, and what these queues staged: by GCR_EXT bits 1 to 0 the eight queues from 8v on, the four from 4v on
+/// or the two from 2v on. The frames for all other queues stay in their order, and these keep what they staged. Lent
+/// memory, the frames out and the link are unchanged.
+pub fn pool_resets_drop_their_frames()
+    ensures { PoolResetsDropFrames }
 {}
 
 /// Setting the link to what it is has the reply `Idle` and changes nothing. A change has the reply `Done` and sets bit

@@ -1,5 +1,6 @@
 pub mod Addresses
 pub mod Alone
+pub mod Answered
 pub mod Arriving
 pub mod AutoWords
 pub mod Bits

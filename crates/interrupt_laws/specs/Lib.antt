@@ -1,4 +1,5 @@
 pub mod Accesses
+pub mod Answered
 pub mod Arriving
 pub mod Extended
 pub mod Holding

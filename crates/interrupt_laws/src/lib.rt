@@ -6,6 +6,7 @@
 #![tactic(auto)]
 
 ghost use Rattle.interrupt_laws.specs.Names.{HasLowViews, RegistersHaveAddresses};
+ghost use Rattle.interrupt_laws.specs.Answered.{AccessesAreAnswered};
 ghost use Rattle.interrupt_laws.specs.Arriving.{VfreLetsIntoPools};
 ghost use Rattle.interrupt_laws.specs.Extended.{ExtendedBeginsAtZero, ExtendedKeepsWhatIsWritten};
 ghost use Rattle.interrupt_laws.specs.Lasting.{MasksLast};
@@ -100,6 +101,12 @@ pub fn requests_are_apart()
 /// bit 30.
 pub fn message_steps_tell_what_is_due()
     ensures { MessageStepsTellWhatIsDue }
+{}
+
+/// A read of a register gets the reply `Word`, and a write `Done`, through either port and at each of its addresses and
+/// offsets: also a write that changes nothing, as of a register that is read-only or held.
+pub fn accesses_are_answered()
+    ensures { AccessesAreAnswered }
 {}
 
 /// STATUS reads 0x00080000, or 0 while CTRL bit 2 is 1. LINKS reads 0x70000000 while the link is up, else 0, also right

@@ -1,0 +1,15 @@
+-- How accesses of registers are answered.
+use Rattle.std.proofs.Common.{◌≡◌, refl, ap, sym, subst}
+use Rattle.nic_device.specs.Access.{named_read, named_written}
+use Rattle.nic_device.specs.Step.{step_of}
+use Rattle.nic_device.specs.declared.event.Reply.TheVariants.{Word}
+use Rattle.nic_device.specs.declared.named.Named.{Named}
+use Rattle.interrupt_laws.specs.Answered.{AccessesAreAnswered}
+use Rattle.interrupt_laws.specs.Shown.{word_in}
+
+pub answered : AccessesAreAnswered
+unfolding step_of
+answered s port number view p found = record {
+  read = subst (λ (m : Named). (named_read s m).reply ≡ Word (word_in (named_read s m).reply)) (sym found) refl;
+  written = λ word. ap (λ m. (named_written s m word).reply) found;
+}

@@ -1,0 +1,23 @@
+-- How accesses of registers are answered.
+use Rattle.std.specs.Prelude.{ℕ, ◌≡◌}
+use Rattle.nic_device.specs.RegTable.declared.place.Place.{Place}
+use Rattle.nic_device.specs.Named.{named}
+use Rattle.nic_device.specs.State.{State}
+use Rattle.nic_device.specs.Step.{reply_to}
+use Rattle.nic_device.specs.declared.event.Event.TheVariants as event
+use Rattle.nic_device.specs.declared.event.Port.{Port}
+use Rattle.nic_device.specs.declared.event.Reply.TheVariants.{Word, Done}
+use Rattle.nic_device.specs.declared.named.Named.TheVariants.{Register}
+use Rattle.interrupt_laws.specs.Shown.{word_in}
+
+-- a read gives a word, and a write is done, whatever the register's kind and whatever is written
+pub record AnswersAccesses (s : State) (port : Port) (number : ℕ) : Type 0 where
+  pub read :
+      reply_to s (event.Read port number) ≡ Word (word_in (reply_to s (event.Read port number)))
+  pub written : (word : ℕ) → reply_to s (event.Write port number word) ≡ Done
+
+-- so does each number of each register, by either port
+abbrev pub AccessesAreAnswered : Type 0
+AccessesAreAnswered =
+    (s : State) (port : Port) (number view : ℕ) (p : Place) → named s port number ≡ Register p view →
+    AnswersAccesses s port number

@@ -10,6 +10,7 @@ pub mod MailOthers
 pub mod MailReset
 pub mod Mailbox
 pub mod Offsets
+pub mod Others
 pub mod Rings
 pub mod Settings
 pub mod Table

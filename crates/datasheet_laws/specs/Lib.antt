@@ -5,5 +5,6 @@ pub mod Hash
 pub mod ByKind
 pub mod Mailbox
 pub mod Offsets
+pub mod Others
 pub mod Settings
 pub mod Table

@@ -12,6 +12,7 @@ ghost use Rattle.datasheet_laws.specs.ByKind.{WordsAreStored, RingsAreHeld, Kind
 ghost use Rattle.datasheet_laws.specs.Mailbox.{MailboxesShake, OnesAreCleared, FunctionsRaise, PhysicalRaises};
 ghost use Rattle.datasheet_laws.specs.Mailbox.{PoolResetsLeave, OtherBitsStay};
 ghost use Rattle.datasheet_laws.specs.Offsets.{OffsetsAreListed, OtherOffsetsAreHoles};
+ghost use Rattle.datasheet_laws.specs.Others.{MailboxesLeaveOthers, WritesLeaveOthers};
 ghost use Rattle.datasheet_laws.specs.Settings.{DevicesAreSet, QueuesAreSet, CountersStay};
 ghost use Rattle.datasheet_laws.specs.Table.{RegistersAreListed, HasAliases, HasLowViews, OtherAddressesMeetNone};
 
@@ -54,6 +55,14 @@ pub fn mailboxes_shake()
 /// the mailbox of every other function, reads as before. A read of one leaves the others.
 pub fn mailboxes_keep_other_bits()
     ensures { OtherBitsStay }
+{}
+
+/// A write of PVFMAILBOX[v] changes of all registers PVFMAILBOX[v], PFMBICR[v / 16] and EICR alone, one of PFMAILBOX[v]
+/// PVFMAILBOX[v] and PVTEICR[v], and a read of PVFMAILBOX[v] that register. A write of EERD or of PFMBICR[k], or one of
+/// CTRL that asks for no reset, changes no other register.
+pub fn accesses_leave_other_registers()
+    ensures mailboxes { MailboxesLeaveOthers }
+    ensures writes { WritesLeaveOthers }
 {}
 
 /// A 1 that is written to 0x00710 + 4k, PFMBICR[k], clears its bit there, and no other.

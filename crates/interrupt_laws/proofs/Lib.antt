@@ -10,6 +10,7 @@ pub mod Changes
 pub mod Counters
 pub mod Extended
 pub mod Groups
+pub mod Heads
 pub mod Holding
 pub mod Lasting
 pub mod LastingAccesses

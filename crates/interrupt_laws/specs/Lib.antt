@@ -2,6 +2,7 @@ pub mod Accesses
 pub mod Answered
 pub mod Arriving
 pub mod Extended
+pub mod Heads
 pub mod Holding
 pub mod Lasting
 pub mod Mailbox

@@ -14,6 +14,7 @@ ghost use Rattle.interrupt_laws.specs.Plain.{PlainWriteIsAlone, ArePlain, Timers
 ghost use Rattle.interrupt_laws.specs.Queues.{IvarNamesCauses, PvtivarNamesCauses, MappingsNameCounters, VfteMutesPools};
 ghost use Rattle.interrupt_laws.specs.Status.{StatusTellsOfSteps, LinksTellsTheLink, LinksTellsTheLinkSet};
 ghost use Rattle.interrupt_laws.specs.Steps.{MessageStepsTellWhatIsDue};
+ghost use Rattle.interrupt_laws.specs.Heads.{HeadsMoveOn};
 ghost use Rattle.interrupt_laws.specs.Holding.{FunctionHoldsOn, PhysicalHoldsOn};
 ghost use Rattle.interrupt_laws.specs.Mailbox.{MailboxesAreShared};
 ghost use Rattle.interrupt_laws.specs.Marks.{MarksLast, MessagesMark};
@@ -115,6 +116,13 @@ pub fn status_and_links_are_told()
     ensures status { StatusTellsOfSteps }
     ensures links { LinksTellsTheLink }
     ensures set { LinksTellsTheLinkSet }
+{}
+
+/// A receive step that writes a slot of queue q advances RDH[q], bits 15 to 0, to the next slot: one more, and 0 after
+/// the last of the ring, which has a slot for each 16 bytes of RDLEN[q] bits 19 to 0. A transmit step that is done,
+/// whether or not a frame is sent, does so with TDH[q] and TDLEN[q].
+pub fn heads_move_on()
+    ensures { HeadsMoveOn }
 {}
 
 /// A frame's end on queue q raises the cause that byte 2(q mod 2) of IVAR[q/2] names in EICR, and a report of the queue

@@ -2,7 +2,7 @@
 use Rattle.start_laws.specs.Before.{asks_for, is_asked}
 use Rattle.start_laws.specs.PmdDriver.{Apart.LendsApart, Apart.MayLend, Halves.after_call}
 use Rattle.start_laws.specs.PmdDriver.PmdTx.Sending.{Elsewhere}
-use Rattle.driver_laws.proofs.Prelude.{AllLendApart, Block, Blocks, Bool, Call, Doer, Event, Halves, IsTrue, LeadsApart}
+use Rattle.driver_laws.proofs.Prelude.{AllLendApart, Block, Blocks, Bool, Call, Doer, Event, Halves, LeadsApart}
 use Rattle.driver_laws.proofs.Prelude.{List, Receives, Sends, [], arith, common_steps, eq-eqb, false, refl, true, ℕ}
 use Rattle.driver_laws.proofs.Prelude.{◌&&◌, ◌∷◌, ◌≡◌}
 use Rattle.std.proofs.lemmas.Bool.{or_left, or_right}

@@ -5,7 +5,7 @@ use Rattle.driver_laws.proofs.Prelude.{Entry, FaultsEarly, FaultsFilling, Follow
 use Rattle.driver_laws.proofs.Prelude.{IsLife, IsToldAlone, IsToldBy, IsToldOf, LeadsTo, Life, List, Moment, NoneLent}
 use Rattle.driver_laws.proofs.Prelude.{Numbers, Rings, Rxdctl, Sees, State, Told, Up, WasTold, Watched, WhereUp, []}
 use Rattle.driver_laws.proofs.Prelude.{append-nil, append_assoc, append_cancel_left, arith, calls_joined, calls_of}
-use Rattle.driver_laws.proofs.Prelude.{common_steps, events-append, events_same, false, halves_of, inl, inr, is_own}
+use Rattle.driver_laws.proofs.Prelude.{common_steps, events-append, events_same, false, halves_of, inl, inr}
 use Rattle.driver_laws.proofs.Prelude.{last, leads-append, leads_to, legal-append, legal_same, length, now, own_calls}
 use Rattle.driver_laws.proofs.Prelude.{refl, subst, sym, true, ◌++◌, ◌∙◌, ◌∷◌}
 use Rattle.driver_laws.proofs.Shifted.{access, early_shift, on_shift, rings, shifted, up_behind}

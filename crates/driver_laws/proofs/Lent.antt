@@ -8,7 +8,7 @@ use Rattle.start_laws.specs.Before.{asks_for, is_asked}
 use Rattle.start_laws.{proofs.Healthy.known_along, specs.DeviceLaws.Laws.WritesNoSetting, specs.Ending.IsPlain}
 use Rattle.start_laws.{proofs.Sending.sender_lent, specs.Before.AreShort, specs.Healthy.lent_by as halves_lent_by}
 use Rattle.driver_laws.proofs.Prelude.{All, AllLendApart, AtCalls, AtPort, BeforeLast, Block, Blocks, Bool, Call}
-use Rattle.driver_laws.proofs.Prelude.{Course, Each, EachInOnePlace, Entry, Event, FitsBlocks, Halves, HasAll}
+use Rattle.driver_laws.proofs.Prelude.{Balances, Course, Each, EachInOnePlace, Entry, Event, FitsBlocks, Halves}
 use Rattle.driver_laws.proofs.Prelude.{HasGround, IsAlong, IsFresh, IsKept, IsMade, IsTrue, LentIsOut, List, Memory}
 use Rattle.driver_laws.proofs.Prelude.{NoneLent, Numbers, OnlyLent, OnlyPassLends, OutIsLent, Reply, Rings, Running}
 use Rattle.driver_laws.proofs.Prelude.{Rxdctl, Sees, State, Up, Watched, [], after, among_times, append-nil}
@@ -18,13 +18,13 @@ use Rattle.driver_laws.proofs.Prelude.{has_block, has_lent, inl, inr, is_free, i
 use Rattle.driver_laws.proofs.Prelude.{left, left-setting, lends, lent_by, list_any, memory_after, most_blocks, named}
 use Rattle.driver_laws.proofs.Prelude.{not, or_cases, places_of, plain_keeps, plain_setting, refl, ring_block_among}
 use Rattle.driver_laws.proofs.Prelude.{rules, same_from_push, subst, sym, times-append, times_among, times_in_hand}
-use Rattle.driver_laws.proofs.Prelude.{zero, ℕ, ⊎_elim, ◌++◌, ◌+◌, ◌==◌, ◌∙◌, ◌∷◌, ◌⊎◌}
+use Rattle.driver_laws.proofs.Prelude.{zero, ℕ, ⊎_elim, ◌++◌, ◌+◌, ◌==◌, ◌∙◌, ◌∷◌, ◌≤◌, ◌⊎◌}
 use Rattle.driver_laws.proofs.{Asked.all_asked, Asked.both_true, Laying.LaysTo, Laying.Steps, Laying.StepsOn}
 use Rattle.driver_laws.proofs.{Laying.among, Laying.on_lays, Order.On, Order.agree, Order.along_before}
 use Rattle.driver_laws.proofs.{Order.along_behind, Order.driven, Order.ends, Order.in_parts, Order.last, Order.some_on}
 use Rattle.driver_laws.proofs.{Prelude.IsToldOf, Prelude.Told, Prelude.and_parts, Prelude.ap, Prelude.cases_Bool}
 use Rattle.driver_laws.proofs.{Prelude.common_steps, Prelude.has_begun, Prelude.lent_in, Prelude.suc, Prelude.true}
-use Rattle.driver_laws.proofs.{Prelude.◌&&◌, Prelude.◌≡◌, Prelude.◌≢◌, Told.goes, Told.told_ran}
+use Rattle.driver_laws.proofs.{Prelude.◌&&◌, Prelude.◌≡◌, Told.goes, Told.told_ran}
 use Rattle.driver_laws.{proofs.Order.first, proofs.Told.led, specs.Prelude.Empty, specs.Prelude.Laid, specs.Prelude.Off}
 use Rattle.driver_laws.specs.{Asked.OthersLendNone, Asked.asked_of, Told.now}
 use Rattle.std.proofs.lemmas.{Bool.or_left, Bool.or_right, List.Folds.list_any-append}
@@ -288,25 +288,27 @@ lent_counted : (h : Halves) (n : ℕ) → halves_lent_by h n ≡ some (times_in_
 lent_counted h n = grind (arith, common_steps, ring_block_among, list_any-append, counted (lent h) n)
 
 -- so it counts as lent, beside those that are lent elsewhere
-placed : (f g has : Bool) (t k e : ℕ) → cond f 1 0 + (t + (k + e)) ≡ cond g 1 0
-    → cond has 1 0 ≡ cond (some t) 1 0 + e → cond f 1 0 + k + cond has 1 0 ≡ cond g 1 0
-placed f g has t k e same is = grind (arith, common_steps)
+placed : (f has : Bool) (t k e once : ℕ) → once ≤ 1 → cond f 1 0 + (t + (k + e)) ≡ once
+    → cond has 1 0 ≡ cond (some t) 1 0 + e → cond f 1 0 + k + cond has 1 0 ≡ once
+placed f has t k e once most same is = grind (arith, common_steps)
 
-module _ (a : Numbers) (hand elsewhere : List ℕ) (mem : Memory) (n : ℕ) where
+module _ (a : Numbers) (outside hand elsewhere : List ℕ) (mem : Memory) (n : ℕ) where
   abbrev InPlace : Rings → Type 0
   InPlace z =
-      HasAll a (halted_of z) (hand ++ elsewhere)
+      Balances a outside (halted_of z) (hand ++ elsewhere)
       → cond (has_block mem n) 1 0 ≡ cond (is_out z n) 1 0 + times_in_hand elsewhere n
-      → places_of (arena_of z) ((halted_of z).held ++ hand) mem n ≡ cond (is_free a n) 1 0
+      → places_of (arena_of z) ((halted_of z).held ++ hand) mem n ≡ cond (is_free a n) 1 0 + times_in_hand outside n
 
-  up_in_place : (r : Running) → InPlace (Up r)
-  up_in_place r all same =
+  up_in_place : is_own a n ≡ true → (r : Running) → InPlace (Up r)
+  up_in_place own r has same =
       let t = times_in_hand (lent (halves_of r)) n in
+      let most : cond (is_free a n) 1 0 + times_in_hand outside n ≤ 1 =
+      subst (λ (b : Bool). cond (is_free a n) 1 0 + times_in_hand outside n ≤ cond b 1 0) own (has.once n) in
       let counts : cond (has_block mem n) 1 0 ≡ cond (some t) 1 0 + times_in_hand elsewhere n =
       subst (λ (b : Bool). cond (has_block mem n) 1 0 ≡ cond b 1 0 + times_in_hand elsewhere n)
       (lent_counted (halves_of r) n) same in
-      placed (is_free r.arena n) (is_free a n) (has_block mem n) t _ (times_in_hand elsewhere n)
-      (omega (arith, all.each n, times-append)) counts
+      placed (is_free r.arena n) (has_block mem n) t _ (times_in_hand elsewhere n) _ most
+      (omega (arith, has.all.each n, times-append)) counts
 
 -- a block is out, or it is lent elsewhere
 out_or_elsewhere : (has out asked : Bool) (e : ℕ) → (asked ≡ true → has ≡ out) → (out ≡ true → asked ≡ true)
@@ -321,12 +323,12 @@ out_or_elsewhere false true false e same out_asked is = let one : false ≡ true
 out_or_elsewhere false false false e same out_asked is = omega (arith, is)
 
 pub each_in_one_place : EachInOnePlace
-each_in_one_place x y hand elsewhere all n own counts =
+each_in_one_place x y outside hand elsewhere has n own counts =
     let mem = memory_after x.origin x.h in
     let asked = is_asked (calls_of x.w.pass x.h) n in
     let same : asked ≡ true → has_block mem n ≡ is_out (now x).driver.rings n = λ is.
     grind (arith, lent_is_out x y n (both_true (is_own x.a n) asked own is), out_is_lent x y.told n) in
-    subst (InPlace x.a hand elsewhere mem n) (sym (goes x).up)
-    (up_in_place x.a hand elsewhere mem n (goes x).rings) all
+    subst (InPlace x.a outside hand elsewhere mem n) (sym (goes x).up)
+    (up_in_place x.a outside hand elsewhere mem n own (goes x).rings) has
     (out_or_elsewhere (has_block mem n) (is_out (now x).driver.rings n) asked (times_in_hand elsewhere n) same
     (out_is_asked x y.told n) counts)

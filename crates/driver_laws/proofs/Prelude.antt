@@ -1,7 +1,8 @@
 -- The names that the proofs here cite most, passed on from one place. Declares nothing.
 pub use Rattle.start_laws.proofs.DeviceLock.Histories.{events-append, leads-append, legal-append, legal_behind}
 pub use Rattle.start_laws.specs.DeviceLock.Alone.{has_begun, lent_in}
-pub use Rattle.driver_laws.specs.Places.{EachInOnePlace, IsToldAlone, LentIsOut, OutIsLent, is_out, memory_after}
+pub use Rattle.driver_laws.specs.Places.{Balances, EachInOnePlace, IsToldAlone, LentIsOut, OutIsLent, is_out}
+pub use Rattle.driver_laws.specs.Places.{memory_after}
 pub use Rattle.driver_laws.specs.Prelude.{AreMadeOf, BeforeLast, EndsOnceOff, FaultsEarly, FaultsFilling, TakesOnceOff}
 pub use Rattle.driver_laws.specs.Prelude.{AreOn, Ends, HasGround, IsAlong, IsAsking, IsEnding, IsQuiet, IsSilent}
 pub use Rattle.driver_laws.specs.Told.{AllFollow, Drove, Follows, HasNoneOut, IsTold, IsToldOf, Moment, Told, last}
@@ -49,7 +50,7 @@ pub use Rattle.start_laws.specs.Prelude.{Call, Doer, Mode, Port, Rest, Sees, Set
 pub use Rattle.start_laws.specs.Prelude.{DeviceFault, IsReceiveReady, LeavesAloneFrom, asks_pool_reset, packets_if_any}
 pub use Rattle.start_laws.specs.Prelude.{Dir, IsEvent, IsLegal, IsSound, Numbers, Receive, Running, leads_to, reply_to}
 pub use Rattle.start_laws.specs.Prelude.{DrivesApart, DrivesRings, accepted_of, left_handed, most_blocks, ring_blocks}
-pub use Rattle.start_laws.specs.Prelude.{Entry, Halves, HasAll, IsMade, Memory, Packet, Rxdctl, Sender, is_own, pieces}
+pub use Rattle.start_laws.specs.Prelude.{Entry, Halves, IsMade, Memory, Packet, Rxdctl, Sender, is_own, pieces}
 pub use Rattle.start_laws.specs.Prelude.{Event, Piece, Place, Reply, Rings, RowId, Sends, State, after, is_on, row_of}
 pub use Rattle.start_laws.specs.{Along.AtCalls, Before.OnlyPassLends, Beside.OthersHarmless, RingLaws.Laws.IsPrefixOf}
 pub use Rattle.start_laws.specs.{Along.AtEntries, Along.IsKept, Beside.Leads, Ending.Each, Stopping.Asks}

@@ -1,10 +1,10 @@
 -- A driver beside whatever calls its author makes, of whose arena nobody else lends a block that it asks to lend: no
 -- call of its finds the device at fault, and each block is in one place.
-use Rattle.std.specs.Prelude.{if◌then◌else◌, ◌++◌, ◌≡◌, IsTrue, List, ℕ}
-use Rattle.start_laws.specs.{Prelude.Call, Prelude.HasAll, Prelude.arena_of, Prelude.calls_of}
+use Rattle.std.specs.Prelude.{if◌then◌else◌, ◌+◌, ◌++◌, ◌≡◌, IsTrue, List, ℕ}
+use Rattle.start_laws.specs.{Prelude.Call, Prelude.arena_of, Prelude.calls_of}
 use Rattle.start_laws.specs.{Prelude.halted_of, Prelude.has_block, Prelude.is_free, Prelude.is_own, Prelude.places_of}
 use Rattle.start_laws.specs.Prelude.{times_in_hand}
-use Rattle.driver_laws.specs.{Asked.OthersLendNone, Asked.asked_of, Places.lent_elsewhere}
+use Rattle.driver_laws.specs.{Asked.OthersLendNone, Asked.asked_of, Places.Balances, Places.lent_elsewhere}
 use Rattle.driver_laws.specs.{Places.is_out, Places.memory_after, Prelude.BeforeLast, Told.Moment}
 use Rattle.driver_laws.specs.Beside.{Beside, IsToldBeside, now}
 use Rattle.driver_laws.specs.Faultless.{FindsFault, IsFresh, MeetsFault, NoneLent}
@@ -48,14 +48,15 @@ LentIsOut =
     (x : Beside) → IsAloneBeside x → (number : ℕ) → IsTrue (asked_of x.w x.a x.g number) →
     IsTrue (has_block (memory_after x.origin x.h) number) → IsTrue (is_out (now x).driver.rings number)
 
--- and each that was free in the arena that came to the driver is in one place, those among them that were given out of
--- hand and that others lent
+-- and each that was free in the arena that came to the driver, or out of it then, is in one place; those among them that
+-- were out, or were given out of hand, others may have lent
 abbrev pub EachInOnePlace : Type 0
 EachInOnePlace =
-    (x : Beside) → IsAloneBeside x → (hand elsewhere : List ℕ) →
-    HasAll x.a (halted_of (now x).driver.rings) (hand ++ elsewhere) → (number : ℕ) → IsTrue (is_own x.a number) →
+    (x : Beside) → IsAloneBeside x → (outside hand elsewhere : List ℕ) →
+    Balances x.a outside (halted_of (now x).driver.rings) (hand ++ elsewhere) → (number : ℕ) →
+    IsTrue (is_own x.a number) →
     times_in_hand elsewhere number
     ≡ lent_elsewhere (calls_of x.w.pass x.g) (memory_after x.origin x.h) number →
     places_of (arena_of (now x).driver.rings) ((halted_of (now x).driver.rings).held ++ hand)
     (memory_after x.origin x.h) number
-    ≡ (if is_free x.a number then 1 else 0)
+    ≡ (if is_free x.a number then 1 else 0) + times_in_hand outside number

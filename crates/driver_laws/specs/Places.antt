@@ -1,13 +1,14 @@
 -- Where the blocks of a driver are at the device: lent there are those that it has out with its halves, and of its
 -- arena's no others.
-use Rattle.std.specs.Prelude.{if◌then◌else◌, ◌&&◌, ◌++◌, ◌≡◌, Bool, IsTrue, List, ℕ, false, not}
+use Rattle.std.specs.Prelude.{[], if◌then◌else◌, ◌&&◌, ◌+◌, ◌++◌, ◌≡◌, Bool, IsTrue, List, ℕ, false, not}
 use Rattle.start_laws.specs.{Before.is_asked, Healthy.lent_by, Prelude.Call, Prelude.calls_of}
 use Rattle.start_laws.specs.Prelude.{Down, Entry, Halted, HasAll, Memory, Numbers, Rings, State, Up, arena_of}
 use Rattle.start_laws.specs.Prelude.{halted_of, halves_of, has_block, is_free, is_own, leads_to, places_of}
 use Rattle.start_laws.specs.Prelude.{times_in_hand}
 use Rattle.driver_laws.specs.{Asked.OthersLendNone, Asked.asked_of, Faultless.NoneLent, Prelude.BeforeLast}
 use Rattle.driver_laws.specs.Told.{IsToldOf, Told, now}
-use Rattle.start_laws.specs.PmdDriver.Blocks.{KeepsBlocks}
+use Rattle.start_laws.specs.PmdDriver.Blocks.{KeepsBlocks, KeepsEach}
+use Rattle.start_laws.specs.PmdDriver.{Halted.all_out, PmdAccess.Home.AreOut}
 
 -- whether a driver that runs has the block of this number out with a half: it is a ring's own, one that is posted or
 -- about to be, or that of a part of an outstanding packet which is lent
@@ -38,31 +39,42 @@ LentIsOut =
     (x : Told) → IsToldAlone x → (number : ℕ) → IsTrue (asked_of x.w x.a x.h number) →
     IsTrue (has_block (memory_after x.origin x.h) number) → IsTrue (is_out (now x).driver.rings number)
 
--- where a driver has all blocks of an arena but those in hand, it has them so after a call, as its clause `blocks`
--- tells: what was in hand for the call isn't after it, and what the call hands out, or leaves in a list that it was
--- given, is. The order of those in hand says nothing
+-- an arena came to a driver as these of its blocks were out of it, each once: in hand, or lent by others. Each of them,
+-- and each that was free in the arena, is free there, out, or in hand now; and no other is
+pub record Balances (a : Numbers) (outside : List ℕ) (h : Halted) (hand : List ℕ) : Type 0 where
+  pub once : AreOut a outside
+  pub all : KeepsEach a outside h.arena (all_out h ++ hand)
+
+-- so it is as the driver starts, with those in hand that were out of the arena. And so it is after a call, as its
+-- clause `blocks` tells: what was in hand for the call isn't after it, and what the call hands out, or leaves in a list
+-- that it was given, is. The order of those in hand says nothing
 pub record BooksGoOn : Type 0 where
+  pub start :
+      (a : Numbers) (outside : List ℕ) (h : Halted) → AreOut a outside → HasAll a h []
+      → Balances a outside h outside
   pub call :
-      (a : Numbers) (old new : Rings) (given back rest : List ℕ) → KeepsBlocks old given new back
-      → HasAll a (halted_of old) (given ++ rest) → HasAll a (halted_of new) (back ++ rest)
+      (a : Numbers) (outside : List ℕ) (old new : Rings) (given back rest : List ℕ) → KeepsBlocks old given new back
+      → Balances a outside (halted_of old) (given ++ rest) → Balances a outside (halted_of new) (back ++ rest)
   pub order :
-      (a : Numbers) (h : Halted) (hand other : List ℕ)
-      → ((number : ℕ) → times_in_hand hand number ≡ times_in_hand other number) → HasAll a h hand → HasAll a h other
+      (a : Numbers) (outside : List ℕ) (h : Halted) (hand other : List ℕ)
+      → ((number : ℕ) → times_in_hand hand number ≡ times_in_hand other number) → Balances a outside h hand
+      → Balances a outside h other
 
 -- how often a block is lent that these calls don't ask to lend: others had it in hand, and lent it
 abbrev pub lent_elsewhere : List Call → Memory → ℕ → ℕ
 lent_elsewhere calls m number = if has_block m number && not (is_asked calls number) then 1 else 0
 
--- so each block that was free in the arena that came to the driver is in one place: free there, in hand, or lent to the
--- device; and no other block of the arena is in any of them. The blocks of packets that the driver holds are in hand
--- too, whole or not, and those of parts that wait to be lent. Of those that the driver gave out of hand some may be
--- lent elsewhere
+-- so each block that was free in the arena that came to the driver, or out of it then, is in one place: free there, in
+-- hand, or lent to the device; and no other block of the arena is in any of them. The blocks of packets that the driver
+-- holds are in hand too, whole or not, and those of parts that wait to be lent. Of those that were out of the arena, or
+-- that the driver gave out of hand, some may be lent elsewhere
 abbrev pub EachInOnePlace : Type 0
 EachInOnePlace =
-    (x : Told) → IsToldAlone x → (hand elsewhere : List ℕ) →
-    HasAll x.a (halted_of (now x).driver.rings) (hand ++ elsewhere) → (number : ℕ) → IsTrue (is_own x.a number) →
+    (x : Told) → IsToldAlone x → (outside hand elsewhere : List ℕ) →
+    Balances x.a outside (halted_of (now x).driver.rings) (hand ++ elsewhere) → (number : ℕ) →
+    IsTrue (is_own x.a number) →
     times_in_hand elsewhere number
     ≡ lent_elsewhere (calls_of x.w.pass x.h) (memory_after x.origin x.h) number →
     places_of (arena_of (now x).driver.rings) ((halted_of (now x).driver.rings).held ++ hand)
     (memory_after x.origin x.h) number
-    ≡ (if is_free x.a number then 1 else 0)
+    ≡ (if is_free x.a number then 1 else 0) + times_in_hand outside number

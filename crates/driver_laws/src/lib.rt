@@ -95,17 +95,18 @@ pub fn no_start_finds_the_device_at_fault()
 /// Over a legal history of any sound device that leaves the queue alone, where a `start` answered a driver and its
 /// calls came since: each block that the driver has out with a half is lent at the device. Where of its arena's blocks
 /// those that its pass asks to lend weren't lent just before its first access, and no other pass lends any of them,
-/// each of them that is lent there is out with a half. So each that was free in the arena as it came is in one place:
-/// free there, in hand, or lent to the device; those that the driver gave out of hand others may have lent.
+/// each of them that is lent there is out with a half. So each that was free in the arena as it came, or out of it then,
+/// as one in hand is, is in one place: free there, in hand, or lent to the device. Those that were out, or that the
+/// driver gave out of hand, others may have lent.
 pub fn blocks_out_are_lent_at_the_device()
     ensures lent { OutIsLent }
     ensures known { LentIsOut }
     ensures once { EachInOnePlace }
 {}
 
-/// Where a driver has all blocks of an arena but those in hand, as where it starts with none in hand, it has them so
-/// after each of its calls, as their clause `blocks` tells, with those in hand that the call handed out, and without
-/// those that it was given.
+/// Where some blocks of an arena are in hand as a driver starts with it, the driver has all blocks but these; and where
+/// it has all but those in hand, so it has after each of its calls, as their clause `blocks` tells, with those in hand
+/// that the call handed out, and without those that it was given, be it of those that were in hand as it started.
 pub fn calls_keep_the_books()
     ensures { BooksGoOn }
 {}

@@ -1,4 +1,4 @@
-ghost use Rattle.std.specs.Prelude.{◌≡◌, ◌≢◌, ◌≤◌, ◌↔◌, ℕ, IsTrue, IsErrAnd, IfOk, IfErr};
+ghost use Rattle.std.specs.Prelude.{◌≡◌, ◌≢◌, ◌≤◌, ◌↔◌, ℕ, IsTrue, IsErrAnd, IfOk, IfErr, OnOk, None, Some};
 ghost use Rattle.nic_device.specs.State.{new_state};
 ghost use Rattle.device_lock.specs.Alone.{LeavesAlone};
 ghost use Rattle.device_lock.specs.Closing.{Answers, AreAll, Closes, Differs, IsMissing, IsSurplus};
@@ -9,6 +9,7 @@ use crate::alone::{Watched, left_alone};
 use crate::compare::{are_all, lowest_mismatch, lowest_missing};
 use crate::entry::Entry;
 use crate::fault::CloseFault;
+use crate::locked::Locked;
 use crate::pass::Pass;
 use crate::positions::positions;
 use crate::shared::{CloseRefused, Shared};
@@ -109,6 +110,40 @@ impl<const VFS: u8, const FIFO: u16> Unlocked<VFS, FIFO> {
     }
 }
 
+impl<const VFS: u8, const FIFO: u16> Locked<VFS, FIFO> {
+    /// Closes what lay under the lock of a bench of this number that has so many passes, at most 64.
+    ///
+    /// Where these passes don't close it, why, as `Unlocked::refusal` says, and what lay there: the same device,
+    /// history and limit.
+    pub fn close(
+        self,
+        bench: u64,
+        count: u8,
+        passes: &[Pass],
+    ) -> Result<Closed<VFS, FIFO>, (CloseFault, Self)>
+        requires { count ≤ 64 }
+        ensures closes { OnOk result (Answers bench count self.entry.history passes.now None) }
+        ensures refused { IfErr result (λ refused.
+            Answers bench count self.entry.history passes.now (Some refused.0)) }
+        ensures closed { IfOk result (λ closed. closed ≡ record {
+          device = self.entry.device;
+          history = self.entry.history;
+          passes = count;
+        }) }
+        ensures kept { IfErr result (λ refused. refused.1 ≡ self.entry) }
+        ensures legal { IsLegal (new_state VFS FIFO) self.entry.history }
+    {
+        let unlocked = self.unlock();
+        match unlocked.refusal(bench, count, passes) {
+            None => Ok(Closed {
+                unlocked,
+                passes: count,
+            }),
+            Some(fault) => Err((fault, unlocked.lock())),
+        }
+    }
+}
+
 impl<const VFS: u8, const FIFO: u16> Shared<VFS, FIFO> {
     /// Closes a shared device with its passes. It waits for nobody.
     ///
@@ -134,16 +169,12 @@ impl<const VFS: u8, const FIFO: u16> Shared<VFS, FIFO> {
             bench,
             passes: count,
         } = self;
-        let unlocked = lock.into_inner().unlock();
-        match unlocked.refusal(bench, count, passes.as_slice()) {
-            None => Ok(Closed {
-                unlocked,
-                passes: count,
-            }),
-            Some(fault) => Err(CloseRefused {
+        match lock.into_inner().close(bench, count, passes.as_slice()) {
+            Ok(closed) => Ok(closed),
+            Err((fault, locked)) => Err(CloseRefused {
                 fault,
                 shared: Shared {
-                    lock: Mutex::new(unlocked.lock()),
+                    lock: Mutex::new(locked),
                     bench,
                     passes: count,
                 },

@@ -1,16 +1,17 @@
 -- What a ring that is filled lends was free before it was begun.
-use Rattle.std.proofs.Common.{◌≡◌, ◌≢◌, ℕ, ◌⊎◌, inl, inr, true, false, List, [], ◌∷◌, Result, Ok, Err, IfErr, sym, subst}
+use Rattle.std.proofs.Common.{◌≡◌, ◌≢◌, ◌<◌, ◌+◌, ℕ, ◌⊎◌, inl, inr, true, false, List, [], ◌∷◌, Result, Ok, Err, IfErr, sym, subst}
 use Rattle.std.proofs.lemmas.Bool.{cases_eq}
-use Rattle.pmd_access.specs.NicDevice.DmaArena.Numbers.{Numbers, is_free, with_free}
+use Rattle.pmd_access.specs.NicDevice.DmaArena.Numbers.{Numbers, free_count, is_free, with_free}
 use Rattle.pmd_access.proofs.NicDevice.DmaArena.Arenas.{is_own-of_free, is_free-with_free_other}
 use Rattle.pmd_access.specs.DeviceLock.declared.entry.Call.{Call}
 use Rattle.pmd_access.specs.Home.{IsDrawn}
-use Rattle.pmd_rx.specs.Filling.{PostsSome}
+use Rattle.pmd_rx.specs.Filling.{PostsSome, StopsFilling}
 use Rattle.pmd_rx.specs.Plays.{PlaysFrom}
 use Rattle.pmd_rx.specs.Receive.{Receive}
 use Rattle.pmd_rx.specs.Keeping.{Keeps}
 use Rattle.pmd_rx.specs.Wrong.{IsFault, FailsBy}
 use Rattle.pmd_access.specs.declared.fault.PmdFault.{PmdFault}
+use Rattle.pmd_access.specs.declared.fault.PmdFault.TheVariants as fault
 use Rattle.pmd_rx.proofs.Failing.{fails_of, fault_after, fault_in}
 use Rattle.pmd_rx.proofs.Playing.{plays_both, plays_in}
 
@@ -56,3 +57,21 @@ pub all_fail_then : {A : Type 0} (r : Result A PmdFault) (a b d : Numbers) (old 
     → IfErr r (λ f. FailsBy f old a v new d x)
 all_fail_then (Ok o) a b d old mid new v w x plays keeps is = tt
 all_fail_then (Err f) a b d old mid new v w x plays keeps is = fails_then f a b d old mid new v w x plays keeps is
+
+-- calls that post some blocks, and then the one that fails
+pub stops_filling : (f : PmdFault) (count : ℕ) (a b d : Numbers) (old mid new : List Call) (v w x : Receive)
+    → count + 1 < v.layout.size → PlaysFrom a old v mid w → PostsSome count a v b w → PlaysFrom b mid w new x
+    → FailsBy f mid b w new d x → (f ≡ fault.NoBuffer → free_count b ≡ 0) → StopsFilling f old a v new d x
+stops_filling f count a b d old mid new v w x few plays posts more fails none = record {
+  count = count;
+  few = few;
+  mid = mid;
+  arena = b;
+  ring = w;
+  plays = plays.plays;
+  free = plays.free;
+  posts = posts;
+  fails = fails;
+  made = posts_then count a b old mid new v w x plays posts more;
+  none = none;
+}

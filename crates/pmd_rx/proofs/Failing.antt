@@ -91,16 +91,8 @@ fault_of (fault.Call refusal) old new a b v w enough is = is
 
 -- the same of a result
 
-pub ok_same : {A E : Type 0} {x y : A} → (let r : Result A E = Ok x in r) ≡ Ok y → x ≡ y
-ok_same is = cc
-
 pub err_same : {A E : Type 0} {x y : E} → (let r : Result A E = Err x in r) ≡ Err y → x ≡ y
 err_same is = cc
-
-pub faults_after : {A : Type 0} (r : Result A PmdFault) (arena : Numbers) (a b d : List Call) (v w x : Receive)
-    → PlaysFrom arena a v b w → IfErr r (λ f. IsFault f arena b w d x) → IfErr r (λ f. IsFault f arena a v d x)
-faults_after (Ok o) arena a b d v w x plays is = tt
-faults_after (Err f) arena a b d v w x plays is = fault_after f arena a b d v w x plays is
 
 pub fails_all : {A : Type 0} (r : Result A PmdFault) (old new : List Call) (a b : Numbers) (v w : Receive)
     → IfErr r (λ f. IsFault f a old v new w) → IfErr r (λ f. FailsBy f old a v new b w)

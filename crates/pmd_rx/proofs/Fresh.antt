@@ -11,7 +11,7 @@ use Rattle.pmd_access.specs.Slots.{ring_blocks, is_ring_block}
 use Rattle.pmd_access.proofs.Outside.{times_at, times-append, out_free}
 use Rattle.pmd_access.proofs.Rings.{ring_block_times}
 use Rattle.pmd_rx.specs.Keeping.{blocks_out}
-use Rattle.pmd_rx.specs.Receive.{Receive, MayLend, reach}
+use Rattle.pmd_rx.specs.Receive.{Receive, CanLend, LendsNext, MayLend, reach}
 use Rattle.pmd_rx.proofs.Keeping.{times_out}
 
 -- a block that isn't out is none of those that are
@@ -43,6 +43,11 @@ may_lend a v b free out low room whole =
       room = room;
       whole = whole;
     }
+
+pub lends_own : (a : Numbers) (v : Receive) (b : Block) → CanLend v.stage v.seen → is_free a b.number ≡ true
+    → AreOut a (blocks_out v) → b.number < 65536 → length (reach v).blocks + 1 < v.layout.size
+    → length b.bytes ≡ 2048 → LendsNext v b
+lends_own a v b can free out low room whole = record { stage = can; may = may_lend a v b free out low room whole }
 
 -- a block that was taken and comes back
 pub own_after : (a b : Numbers) (n m : ℕ) → is_free a n ≡ true → b ≡ with_free a n false → m ≡ n → is_own b m ≡ true

@@ -1,6 +1,6 @@
 -- What the steps of a refill lead to: a packet that waits becomes whole.
 use Rattle.std.proofs.Common.{◌≡◌, ℕ, ◌+◌, ◌<◌, ◌≤◌, true, false, List, [], ◌∷◌, ◌++◌, length, Result, Ok, Err, OnOk, OnErr, refl, sym, ap, subst, ◌∙◌, arith}
-use Rattle.std.proofs.lemmas.List.{append-nil, length-append, length_push}
+use Rattle.std.proofs.lemmas.List.{append-nil, length-append}
 use Rattle.pmd_access.specs.NicDevice.DmaArena.Block.{Block}
 use Rattle.pmd_access.specs.NicDevice.DmaArena.Numbers.{Numbers, free_count, is_free, with_free}
 use Rattle.pmd_access.proofs.NicDevice.DmaArena.Arenas.{free_count_taken}
@@ -27,16 +27,6 @@ pub named_same : {E : Type 0} (r : Result Unit E) (v w : Receive) → OnOk r (w 
 named_same (Ok o) v w is same = ap (λ (y : Receive). y.handed) is
 named_same (Err e) v w is same = ap (λ (y : Receive). y.handed) same
 
-pub err_whole : {E : Type 0} (r : Result Unit E) (v w x : Receive) → w.whole ≡ v.whole → OnErr r (x ≡ w)
-    → OnErr r (x.whole ≡ v.whole)
-err_whole (Ok o) v w x same then = tt
-err_whole (Err e) v w x same then = ap (λ (y : Receive). y.whole) then ∙ same
-
-pub err_after : {E : Type 0} (r : Result Unit E) (v w x : Receive) → w.whole ≡ v.whole → OnErr r (x.whole ≡ w.whole)
-    → OnErr r (x.whole ≡ v.whole)
-err_after (Ok o) v w x same then = tt
-err_after (Err e) v w x same then = then ∙ same
-
 -- a driver that runs has room for the block that it owes
 pub owes_room : (v : Receive) → IsRunning v → v.stage ≡ Owes → length (reach v).blocks + 1 < v.layout.size
 owes_room v runs owes =
@@ -47,6 +37,10 @@ owes_room v runs owes =
 -- a part that is seen wants a free block
 pub owed_some : (v : Receive) (a : Numbers) → 0 < length v.seen → wanted v ≤ free_count a → free_count a ≡ 0 → ⊥
 owed_some v a some free none = omega (arith, some, free, none)
+
+-- so does one that is owed
+pub owed_here : (v : Receive) (a : Numbers) → v.stage ≡ Owes → wanted v ≤ free_count a → free_count a ≡ 0 → ⊥
+owed_here v a owes free none = omega (arith, free, none, ap owed owes)
 
 -- after a name that is made while a part is held: one round less, and the packet waits, or it is whole
 
@@ -179,6 +173,3 @@ still_both a b d v w x p q = record {
 
 pub more_behind : (v w x : Receive) → w.whole ≡ v.whole → OneMore w x → OneMore v x
 more_behind v w x same (p, is) = (p, is ∙ ap (λ (ps : List Packet). ps ++ p ∷ []) same)
-
-pub one_longer : (v w : Receive) → OneMore v w → length w.whole ≡ length v.whole + 1
-one_longer v w (p, is) = ap (λ (ps : List Packet). length ps) is ∙ length_push v.whole p

@@ -74,10 +74,6 @@ keeps_both a b d v w x out p q = record {
 pub keeps_to : (a b : Numbers) (v w x : Receive) (out : List ℕ) → x ≡ w → Keeps a v b w out → Keeps a v b x out
 keeps_to a b v w x out same keeps = subst (λ (y : Receive). Keeps a v b y out) (sym same) keeps
 
-pub keeps_still : (a b : Numbers) (v w : Receive) → b ≡ a → w ≡ v → Keeps a v b w []
-keeps_still a b v w home same =
-    subst (λ (d : Numbers). Keeps a v d w []) (sym home) (keeps_to a a v v w [] same (keeps_none a v))
-
 -- a look
 
 abbrev saw_as : Receive → List ℕ → Bool → Receive

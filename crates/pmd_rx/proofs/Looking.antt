@@ -110,11 +110,6 @@ one_more old new v w p = rw p.left (length_push v.seen (told_by p.bytes))
 
 -- the same of a result
 
-module _ (r : Result Look PmdFault) (old new : List Call) (v w : Receive)
-    (looked : IfOk r (λ l. IsLook l old v new w)) where
-  pub looked_at : (l : Look) → r ≡ Ok l → IsLook l old v new w
-  looked_at l is = subst (λ (x : Result Look PmdFault). IfOk x (λ m. IsLook m old v new w)) is looked
-
 pub looks_play : (a : Numbers) (r : Result Look PmdFault) (old new : List Call) (v w : Receive) → v.stage ≡ Looks
     → length v.seen < length v.layout.blocks → IfOk r (λ l. IsLook l old v new w) → OnErr r (w ≡ v)
     → IfErr r (λ f. IsRefused f old new) → PlaysFrom a old v new w

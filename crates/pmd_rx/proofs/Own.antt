@@ -1,5 +1,5 @@
 -- Taking a part's block, and posting a fresh one.
-use Rattle.std.proofs.Common.{◌≡◌, ℕ, true, List, Some, None, Result, Ok, Err, IfErr, OnOk, OnErr, refl, sym, subst, inl, inr}
+use Rattle.std.proofs.Common.{◌≡◌, ◌<◌, ◌∙◌, ℕ, true, List, length, Some, None, Result, Ok, Err, IfErr, OnOk, OnErr, refl, sym, subst, inl, inr}
 use Rattle.pmd_access.specs.NicDevice.DmaArena.Block.{Block}
 use Rattle.pmd_access.specs.NicDevice.DmaArena.Numbers.{Numbers, is_free}
 use Rattle.pmd_access.specs.NicDevice.declared.event.Event.{Event}
@@ -10,11 +10,16 @@ use Rattle.pmd_access.specs.Accesses.{IsTaken, IsLent}
 use Rattle.pmd_access.specs.declared.fault.PmdFault.{PmdFault}
 use Rattle.pmd_access.specs.declared.fault.PmdFault.TheVariants as fault
 use Rattle.pmd_rx.specs.Plays.{PlaysFrom}
-use Rattle.pmd_rx.specs.Receive.{Receive, IsOwn, TakesNext, LendsNext, MovesNext, HasLent, took, lent_one, names, moved, tail_after, descriptor_at, vacant, reach, naming, fresh_of}
+use Rattle.pmd_rx.specs.Receive.{Receive, IsOwn, TakesNext, block_at, LendsNext, MovesNext, HasLent, took, lent_one, names, moved, tail_after, descriptor_at, vacant, reach, naming, fresh_of}
 use Rattle.pmd_rx.specs.Shown.{IsNamed, IsUnnamed, IsTailWritten, IsUnwritten}
 use Rattle.pmd_rx.specs.Wrong.{AsksNext, EndsWrong, IsFault}
+use Rattle.pmd_rx.specs.declared.ring.Stage.TheVariants.{Takes}
 use Rattle.pmd_rx.proofs.Failing.{wrong_here}
 use Rattle.pmd_rx.proofs.Playing.{plays_adds, plays_some}
+
+pub takes_own : (v : Receive) (n m : ℕ) → v.stage ≡ Takes → 0 < length v.seen → n ≡ m → m ≡ block_at v.layout 0
+    → TakesNext v n
+takes_own v n m stage some same block = record { stage = stage; block = same ∙ block; some = some }
 
 module _ (arena : Numbers) (v : Receive) where
   pub take_asks : (n : ℕ) → TakesNext v n → AsksNext arena v

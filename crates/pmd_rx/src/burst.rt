@@ -5,11 +5,12 @@ ghost use Rattle.pmd_access.specs.NicDevice.DmaArena.Numbers.{Numbers};
 ghost use Rattle.pmd_access.specs.Begun.{BeganAs};
 ghost use Rattle.pmd_access.specs.Home.{AreOut};
 ghost use Rattle.pmd_access.specs.Packet.{kept_of};
+ghost use Rattle.pmd_rx.specs.Acts.{ActsAlone, Gathers, goes_on};
 ghost use Rattle.pmd_rx.specs.Burst.{IsBurst};
 ghost use Rattle.pmd_rx.specs.Keeping.{Keeps, IsRunning, blocks_out, handed_blocks};
 ghost use Rattle.pmd_rx.specs.Plays.{PlaysFrom, LooksInVain};
 ghost use Rattle.pmd_rx.specs.Shown.{OneMore};
-ghost use Rattle.pmd_rx.specs.Wrong.{AsksNext, FailsBy, IsFault, PacketWaits};
+ghost use Rattle.pmd_rx.specs.Wrong.{AsksNext, FailsBy, PacketWaits};
 ghost use Rattle.pmd_access.specs.Refusals.{CanFail};
 
 use crate::ring::ReceiveRing;
@@ -27,20 +28,11 @@ impl ReceiveRing {
     ) -> Result<bool, PmdFault>
         requires running { IsRunning self.old }
         requires home { AreOut arena.old (blocks_out self.old) }
-        ensures plays { PlaysFrom arena.old (N.made nic.old) self.old (N.made nic.new) self.new }
+        ensures gathers { Gathers N.made N.began N.refuses result nic.old arena.old self.old nic.new arena.new self.new }
         ensures one { result ≡ Ok true → OneMore self.old self.new }
         ensures none { result ≡ Ok false → self.old.whole ≡ []
             → LooksInVain (N.made nic.old) self.old (N.made nic.new) self.new }
-        ensures same { result ≡ Ok false → self.new.whole ≡ self.old.whole }
-        ensures kept { OnErr result (self.new.whole ≡ self.old.whole) }
-        ensures handed { self.new.handed ≡ self.old.handed }
-        ensures fails { IfErr result (λ f.
-            FailsBy f (N.made nic.old) arena.old self.old (N.made nic.new) arena.new self.new) }
         ensures waits { result ≡ Err PmdFault.NoBuffer → PacketWaits self.new.stage }
-        ensures keeps { Keeps arena.old self.old arena.new self.new [] }
-        ensures began { BeganAs N.began nic.old nic.new }
-        ensures refuses { N.refuses nic.new ≡ N.refuses nic.old }
-        ensures refusal { IfErr result (λ f. CanFail (N.refuses nic.new) f) }
     {
         match self.look_whole(alloc, nic) {
             Ok(true) => match self.take_whole(alloc, nic, arena) {
@@ -57,12 +49,7 @@ impl ReceiveRing {
     fn take_more<N: Nic>(&mut self, alloc: Global, nic: &mut N, arena: &mut Arena, most: u16)
         requires running { IsRunning self.old }
         requires home { AreOut arena.old (blocks_out self.old) }
-        ensures plays { PlaysFrom arena.old (N.made nic.old) self.old (N.made nic.new) self.new }
-        ensures more { length self.old.whole ≤ length self.new.whole }
-        ensures handed { self.new.handed ≡ self.old.handed }
-        ensures keeps { Keeps arena.old self.old arena.new self.new [] }
-        ensures began { BeganAs N.began nic.old nic.new }
-        ensures refuses { N.refuses nic.new ≡ N.refuses nic.old }
+        ensures { Gathers N.made N.began N.refuses goes_on nic.old arena.old self.old nic.new arena.new self.new }
     {
         for _packet in 0..most {
             match self.take_next(alloc, nic, arena) {
@@ -84,17 +71,10 @@ impl ReceiveRing {
         requires running { IsRunning self.old }
         requires home { AreOut arena.old (blocks_out self.old) }
         requires some { 0 < most }
-        ensures plays { PlaysFrom arena.old (N.made nic.old) self.old (N.made nic.new) self.new }
+        ensures gathers { Gathers N.made N.began N.refuses result nic.old arena.old self.old nic.new arena.new self.new }
         ensures some { result ≡ Ok true → 0 < length self.new.whole }
         ensures none { result ≡ Ok false → LooksInVain (N.made nic.old) self.old (N.made nic.new) self.new }
-        ensures handed { self.new.handed ≡ self.old.handed }
-        ensures fails { IfErr result (λ f.
-            FailsBy f (N.made nic.old) arena.old self.old (N.made nic.new) arena.new self.new) }
         ensures waits { result ≡ Err PmdFault.NoBuffer → PacketWaits self.new.stage }
-        ensures keeps { Keeps arena.old self.old arena.new self.new [] }
-        ensures began { BeganAs N.began nic.old nic.new }
-        ensures refuses { N.refuses nic.new ≡ N.refuses nic.old }
-        ensures refusal { IfErr result (λ f. CanFail (N.refuses nic.new) f) }
     {
         if self.has_whole() {
             return Ok(true);
@@ -216,14 +196,9 @@ impl ReceiveRing {
         requires running { IsRunning self.old }
         requires some { 0 < length self.old.whole }
         requires most { 0 < most }
-        ensures plays { (a : Numbers) → PlaysFrom a (N.made nic.old) self.old (N.made nic.new) self.new }
+        ensures acts { ActsAlone N.made N.began N.refuses result nic.old self.old nic.new self.new }
         ensures out { (a : Numbers) → IsBurst result most a self.old out.old.items a self.new out.new.items }
         ensures some { result ≢ Ok 0 }
-        ensures fault { (a : Numbers) → IfErr result (λ f.
-            IsFault f a (N.made nic.old) self.old (N.made nic.new) self.new) }
-        ensures began { BeganAs N.began nic.old nic.new }
-        ensures refuses { N.refuses nic.new ≡ N.refuses nic.old }
-        ensures refusal { IfErr result (λ f. CanFail (N.refuses nic.new) f) }
     {
         let count = self.count_whole();
         if out.reserve(count).is_err() {

@@ -1,16 +1,17 @@
 //! What the driver does with its receive ring: calls one after the other, each of which may be the last that is made.
 
-ghost use Rattle.std.specs.Prelude.{ℕ, ◌≡◌, ◌<◌, ◌≤◌, ◌+◌, [], length, true, false, Ok, Err, IfErr, OnOk, OnErr};
+ghost use Rattle.std.specs.Prelude.{ℕ, ◌≡◌, ◌≢◌, ◌<◌, ◌≤◌, ◌+◌, [], length, true, false, Ok, Err, IfErr, OnOk, OnErr};
 ghost use Rattle.pmd_access.specs.NicDevice.DmaArena.Numbers.{Numbers, free_count, is_free, with_free};
 ghost use Rattle.pmd_access.specs.Begun.{BeganAs};
 ghost use Rattle.pmd_access.specs.Home.{AreOut};
+ghost use Rattle.pmd_rx.specs.Acts.{Gathers, GathersAlone};
 ghost use Rattle.pmd_rx.specs.Filling.{Fills, StopsFilling};
 ghost use Rattle.pmd_rx.specs.Keeping.{Keeps, IsRunning, Posts, blocks_out};
 ghost use Rattle.pmd_rx.specs.Plays.{PlaysFrom, LooksInVain};
 ghost use Rattle.pmd_rx.specs.Receive.{no_packet, reach, posts_all, CanLend};
 ghost use Rattle.pmd_rx.specs.Shown.{IsOneLess, OneMore, refilled, rounds};
 ghost use Rattle.pmd_rx.specs.declared.ring.Stage.TheVariants as stage;
-ghost use Rattle.pmd_rx.specs.Wrong.{FailsBy, IsFault, PacketWaits, wanted};
+ghost use Rattle.pmd_rx.specs.Wrong.{FailsBy, PacketWaits, wanted};
 ghost use Rattle.pmd_access.specs.Refusals.{CanFail};
 
 use crate::receive::Look;
@@ -32,29 +33,14 @@ impl ReceiveRing {
         requires stage { CanLend self.old.stage self.old.seen }
         requires room { length (reach self.old).blocks + 1 < self.old.layout.size }
         requires home { AreOut arena.old (blocks_out self.old) }
-        ensures plays { PlaysFrom arena.old (N.made nic.old) self.old (N.made nic.new) self.new }
+        ensures gathers { Gathers N.made N.began N.refuses result nic.old arena.old self.old nic.new arena.new self.new }
         ensures named { OnOk result ((n : ℕ) × (is_free arena.old n ≡ true)
             × (arena.new ≡ with_free arena.old n false) × (self.new ≡ refilled self.old n)) }
-        ensures handed { self.new.handed ≡ self.old.handed }
-        ensures kept { OnErr result (self.new.whole ≡ self.old.whole) }
-        ensures fails { IfErr result (λ f.
-            FailsBy f (N.made nic.old) arena.old self.old (N.made nic.new) arena.new self.new) }
         ensures none { result ≡ Err PmdFault.NoBuffer → free_count arena.old ≡ 0 }
-        ensures keeps { Keeps arena.old self.old arena.new self.new [] }
-        ensures began { BeganAs N.began nic.old nic.new }
-        ensures refuses { N.refuses nic.new ≡ N.refuses nic.old }
-        ensures refusal { IfErr result (λ f. CanFail (N.refuses nic.new) f) }
     {
-        let Some(buf) = arena.take() else {
-            return Err(PmdFault::NoBuffer);
-        };
-        let _whole = buf.bytes();
-        match self.lend_fresh(alloc, nic, buf) {
+        match self.lend_fresh(alloc, nic, arena) {
             Ok(()) => self.name_fresh(alloc, nic),
-            Err((fault, buf)) => {
-                arena.give_back(buf);
-                Err(fault)
-            }
+            Err(fault) => Err(fault),
         }
     }
 }
@@ -69,17 +55,11 @@ impl ReceiveRing {
         nic: &mut N,
     ) -> Result<bool, PmdFault>
         requires running { IsRunning self.old }
-        ensures plays { (a : Numbers) → PlaysFrom a (N.made nic.old) self.old (N.made nic.new) self.new }
+        ensures gathers { GathersAlone N.made N.began N.refuses result nic.old self.old nic.new self.new }
         ensures none { result ≡ Ok false → self.old.whole ≡ []
             → LooksInVain (N.made nic.old) self.old (N.made nic.new) self.new }
         ensures whole { result ≡ Ok true → PacketWaits self.new.stage }
         ensures kept { self.new ≡ record self.old { seen = self.new.seen; stage = self.new.stage } }
-        ensures fault { (a : Numbers) → IfErr result (λ f.
-            IsFault f a (N.made nic.old) self.old (N.made nic.new) self.new) }
-        ensures keeps { (a : Numbers) → Keeps a self.old a self.new [] }
-        ensures began { BeganAs N.began nic.old nic.new }
-        ensures refuses { N.refuses nic.new ≡ N.refuses nic.old }
-        ensures refusal { IfErr result (λ f. CanFail (N.refuses nic.new) f) }
     {
         for _look in 0..self.most_parts() {
             if self.waits() {
@@ -137,16 +117,9 @@ impl ReceiveRing {
         requires stage { PacketWaits self.old.stage }
         requires home { AreOut arena.old (blocks_out self.old) }
         requires free { wanted self.old ≤ free_count arena.old }
-        ensures plays { PlaysFrom arena.old (N.made nic.old) self.old (N.made nic.new) self.new }
+        ensures gathers { Gathers N.made N.began N.refuses result nic.old arena.old self.old nic.new arena.new self.new }
+        ensures enough { result ≢ Err PmdFault.NoBuffer }
         ensures more { OnOk result (IsOneLess arena.old self.old arena.new self.new) }
-        ensures handed { self.new.handed ≡ self.old.handed }
-        ensures kept { OnErr result (self.new.whole ≡ self.old.whole) }
-        ensures fault { IfErr result (λ f.
-            IsFault f arena.old (N.made nic.old) self.old (N.made nic.new) self.new) }
-        ensures keeps { Keeps arena.old self.old arena.new self.new [] }
-        ensures began { BeganAs N.began nic.old nic.new }
-        ensures refuses { N.refuses nic.new ≡ N.refuses nic.old }
-        ensures refusal { IfErr result (λ f. CanFail (N.refuses nic.new) f) }
     {
         match self.stage {
             Stage::Looks => unreachable!(),
@@ -172,17 +145,9 @@ impl ReceiveRing {
         requires running { IsRunning self.old }
         requires stage { PacketWaits self.old.stage }
         requires home { AreOut arena.old (blocks_out self.old) }
-        ensures plays { PlaysFrom arena.old (N.made nic.old) self.old (N.made nic.new) self.new }
+        ensures gathers { Gathers N.made N.began N.refuses result nic.old arena.old self.old nic.new arena.new self.new }
         ensures one { OnOk result (OneMore self.old self.new) }
-        ensures handed { self.new.handed ≡ self.old.handed }
-        ensures kept { OnErr result (self.new.whole ≡ self.old.whole) }
-        ensures fails { IfErr result (λ f.
-            FailsBy f (N.made nic.old) arena.old self.old (N.made nic.new) arena.new self.new) }
         ensures same { result ≡ Err PmdFault.NoBuffer → self.new ≡ self.old }
-        ensures keeps { Keeps arena.old self.old arena.new self.new [] }
-        ensures began { BeganAs N.began nic.old nic.new }
-        ensures refuses { N.refuses nic.new ≡ N.refuses nic.old }
-        ensures refusal { IfErr result (λ f. CanFail (N.refuses nic.new) f) }
     {
         if (arena.free_blocks() as usize) < self.wanted() {
             return Err(PmdFault::NoBuffer);
@@ -255,15 +220,8 @@ impl ReceiveRing {
     fn post_named<N: Nic>(&mut self, alloc: Global, nic: &mut N) -> Result<(), PmdFault>
         requires some { 0 < length self.old.named }
         requires none { (self.old.whole ≡ []) × (self.old.held ≡ no_packet) }
-        ensures plays { (a : Numbers) → PlaysFrom a (N.made nic.old) self.old (N.made nic.new) self.new }
+        ensures gathers { GathersAlone N.made N.began N.refuses result nic.old self.old nic.new self.new }
         ensures moved { OnOk result (self.new ≡ posts_all self.old) }
-        ensures keeps { (a : Numbers) → Keeps a self.old a self.new [] }
-        ensures handed { self.new.handed ≡ self.old.handed }
-        ensures fault { (a : Numbers) → IfErr result (λ f.
-            IsFault f a (N.made nic.old) self.old (N.made nic.new) self.new) }
-        ensures began { BeganAs N.began nic.old nic.new }
-        ensures refuses { N.refuses nic.new ≡ N.refuses nic.old }
-        ensures refusal { IfErr result (λ f. CanFail (N.refuses nic.new) f) }
     {
         let mut none = VecDeque::new(alloc);
         let answer = self.post_all(alloc, nic, &mut none);

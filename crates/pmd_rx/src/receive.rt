@@ -1,24 +1,22 @@
 //! The receive side of the driver: one step for each of its calls, from one stage to the next.
 
-ghost use Rattle.std.specs.Prelude.{◌≡◌, ◌<◌, ◌≤◌, ◌+◌, ◌*◌, ◌++◌, length, IsFalse, if◌then◌else◌, Ok, true, false, IfOk, IfErr, OnOk, OnErr, OnSome, IfSome, [], min, vec_len};
+ghost use Rattle.std.specs.Prelude.{ℕ, ◌≡◌, ◌<◌, ◌≤◌, ◌+◌, ◌*◌, ◌++◌, length, IsFalse, if◌then◌else◌, Ok, Err, true, false, IfOk, IfErr, OnOk, OnErr, OnSome, IfSome, [], min, vec_len};
 ghost use Rattle.std.specs.Vec.{vec_capacity};
 ghost use Rattle.std.specs.VecDeque.{deque_len, deque_capacity};
-ghost use Rattle.pmd_access.specs.NicDevice.DmaArena.Numbers.{Numbers, is_free};
+ghost use Rattle.pmd_access.specs.NicDevice.DmaArena.Numbers.{free_count, is_free, with_free};
 ghost use Rattle.pmd_access.specs.NicDevice.DmaRing.Receive.{is_done, ends_packet};
-ghost use Rattle.pmd_rx.specs.Plays.{PlaysFrom};
-ghost use Rattle.pmd_rx.specs.Receive.{took, lent_one, names, if_any, records_of, is_part, descriptor_at, slot_at, block_at, vacant, reach, naming, MayLend, CanLend, HasLent};
-ghost use Rattle.pmd_rx.specs.Wrong.{EndsWrong, IsFault};
-ghost use Rattle.pmd_rx.specs.Keeping.{Keeps};
-ghost use Rattle.pmd_rx.specs.Shown.{LooksOnce, IsLook, IsRefused, IsNamed, IsUnnamed};
+ghost use Rattle.pmd_access.specs.Home.{AreOut};
+ghost use Rattle.pmd_rx.specs.Acts.{Asks, Gathers, GathersAlone};
+ghost use Rattle.pmd_rx.specs.Keeping.{blocks_out};
+ghost use Rattle.pmd_rx.specs.Receive.{took, lent_one, names, if_any, records_of, is_part, descriptor_at, slot_at, block_at, vacant, reach, naming, CanLend, HasLent};
+ghost use Rattle.pmd_rx.specs.Shown.{IsLook, IsRefused, IsNamed, IsUnnamed};
 ghost use Rattle.pmd_rx.specs.declared.ring.Stage.TheVariants as stage;
-ghost use Rattle.pmd_access.specs.Begun.{BeganAs};
-ghost use Rattle.pmd_access.specs.Refusals.{CanFail};
 
 use crate::ring::{ReceiveRing, Stage, Told, no_packet};
 use pmd_access::{
-    BLOCK_BYTES, Buf, CallFault, Nic, Packet, PmdFault, Record, descriptor_address, first_half,
-    is_last, is_written_back, lend, next_slot, of_halves, peek, poke, posted_word, reported_hash,
-    reported_length, reported_rss, second_half, slot_after, take,
+    Arena, BLOCK_BYTES, Buf, CallFault, Nic, Packet, PmdFault, Record, descriptor_address,
+    first_half, is_last, is_written_back, lend, next_slot, of_halves, peek, poke, posted_word,
+    reported_hash, reported_length, reported_rss, second_half, slot_after, take,
 };
 use std::alloc::Global;
 use std::collections::VecDeque;
@@ -69,32 +67,10 @@ impl ReceiveRing {
     pub(crate) fn look<N: Nic>(&mut self, alloc: Global, nic: &mut N) -> Result<Look, PmdFault>
         requires some { length self.old.seen < length self.old.layout.blocks }
         requires stage { self.old.stage ≡ stage.Looks }
-        ensures plays { (a : Numbers) → PlaysFrom a (N.made nic.old) self.old (N.made nic.new) self.new }
-        ensures nothing { result ≡ Ok Look.Nothing → LooksOnce (N.made nic.old) self.old (N.made nic.new) self.new }
-        ensures part { result ≡ Ok Look.Part → length self.new.seen ≡ length self.old.seen + 1 }
-        ensures wrong { result ≡ Ok Look.Wrong
-            → (a : Numbers) → EndsWrong a (N.made nic.old) self.old (N.made nic.new) self.new }
-        ensures fault { (a : Numbers) → IfErr result (λ f.
-            IsFault f a (N.made nic.old) self.old (N.made nic.new) self.new) }
-        ensures kept { self.new ≡ record self.old { seen = self.new.seen; stage = self.new.stage } }
-        ensures keeps { (a : Numbers) → Keeps a self.old a self.new [] }
-        ensures began { BeganAs N.began nic.old nic.new }
-        ensures refuses { N.refuses nic.new ≡ N.refuses nic.old }
-        ensures refusal { IfErr result (λ f. CanFail (N.refuses nic.new) f) }
-    {
-        self.peek_next(alloc, nic)
-    }
-
-    /// The same, by what is made.
-    fn peek_next<N: Nic>(&mut self, alloc: Global, nic: &mut N) -> Result<Look, PmdFault>
-        requires some { length self.old.seen < length self.old.layout.blocks }
-        requires stage { self.old.stage ≡ stage.Looks }
+        ensures asks { Asks N.began N.refuses result nic.old nic.new }
         ensures looked { IfOk result (λ look. IsLook look (N.made nic.old) self.old (N.made nic.new) self.new) }
         ensures unseen { OnErr result (self.new ≡ self.old) }
         ensures refused { IfErr result (λ f. IsRefused f (N.made nic.old) (N.made nic.new)) }
-        ensures began { BeganAs N.began nic.old nic.new }
-        ensures refuses { N.refuses nic.new ≡ N.refuses nic.old }
-        ensures refusal { IfErr result (λ f. CanFail (N.refuses nic.new) f) }
     {
         if self.seen.reserve(1).is_err() {
             return Err(PmdFault::Call(CallFault::OutOfMemory(())));
@@ -124,18 +100,10 @@ impl ReceiveRing {
     pub(crate) fn take_part<N: Nic>(&mut self, alloc: Global, nic: &mut N) -> Result<(), PmdFault>
         requires stage { self.old.stage ≡ stage.Takes }
         requires some { 0 < length self.old.seen }
-        ensures plays { (a : Numbers) → PlaysFrom a (N.made nic.old) self.old (N.made nic.new) self.new }
-        ensures handed { self.new.handed ≡ self.old.handed }
+        ensures gathers { GathersAlone N.made N.began N.refuses result nic.old self.old nic.new self.new }
         ensures whole { self.new.whole ≡ self.old.whole }
         ensures taken { OnOk result ((self.new.stage ≡ stage.Owes)
             × (length self.new.seen + 1 ≡ length self.old.seen) × (0 < length self.new.held.bufs)) }
-        ensures kept { OnErr result (self.new ≡ self.old) }
-        ensures fault { (a : Numbers) → IfErr result (λ f.
-            IsFault f a (N.made nic.old) self.old (N.made nic.new) self.new) }
-        ensures keeps { (a : Numbers) → Keeps a self.old a self.new [] }
-        ensures began { BeganAs N.began nic.old nic.new }
-        ensures refuses { N.refuses nic.new ≡ N.refuses nic.old }
-        ensures refusal { IfErr result (λ f. CanFail (N.refuses nic.new) f) }
     {
         let block = self.next_block();
         match take(alloc, nic, block) {
@@ -184,36 +152,41 @@ impl ReceiveRing {
         slot_after(self.size, self.next, after)
     }
 
-    /// Lends a fresh block. It comes back where it can't be lent.
+    /// Lends a fresh block of the arena.
     ///
-    /// `DeviceFault` where one of its number is lent already.
+    /// `NoBuffer` where no block is free: nothing is made. `DeviceFault` where one of its number is lent already.
     pub(crate) fn lend_fresh<N: Nic>(
         &mut self,
         alloc: Global,
         nic: &mut N,
-        buf: Buf,
-    ) -> Result<(), (PmdFault, Buf)>
+        arena: &mut Arena,
+    ) -> Result<(), PmdFault>
         requires stage { CanLend self.old.stage self.old.seen }
-        requires fresh { MayLend (reach self.old) buf }
-        ensures plays { (a : Numbers) → is_free a buf.number ≡ true
-            → PlaysFrom a (N.made nic.old) self.old (N.made nic.new) self.new }
-        ensures lent { OnOk result (self.new ≡ lent_one self.old buf.number) }
-        ensures kept { OnErr result (self.new ≡ self.old) }
-        ensures back { IfErr result (λ refused. refused.1.number ≡ buf.number) }
-        ensures fault { (a : Numbers) → is_free a buf.number ≡ true → IfErr result (λ refused.
-            IsFault refused.0 a (N.made nic.old) self.old (N.made nic.new) self.new) }
-        ensures began { BeganAs N.began nic.old nic.new }
-        ensures refuses { N.refuses nic.new ≡ N.refuses nic.old }
-        ensures refusal { IfErr result (λ refused. CanFail (N.refuses nic.new) refused.0) }
+        requires room { length (reach self.old).blocks + 1 < self.old.layout.size }
+        requires home { AreOut arena.old (blocks_out self.old) }
+        ensures gathers { Gathers N.made N.began N.refuses result nic.old arena.old self.old nic.new arena.new self.new }
+        ensures lent { OnOk result ((n : ℕ) × (is_free arena.old n ≡ true)
+            × (arena.new ≡ with_free arena.old n false) × (self.new ≡ lent_one self.old n)) }
+        ensures none { result ≡ Err PmdFault.NoBuffer → free_count arena.old ≡ 0 }
     {
+        let Some(buf) = arena.take() else {
+            return Err(PmdFault::NoBuffer);
+        };
+        let _whole = buf.bytes();
         let block = buf.block();
         match lend(alloc, nic, buf) {
             Ok(None) => {
                 self.keep_lent(block);
                 Ok(())
             }
-            Ok(Some(buf)) => Err((PmdFault::DeviceFault, buf)),
-            Err((fault, buf)) => Err((PmdFault::Call(fault), buf)),
+            Ok(Some(buf)) => {
+                arena.give_back(buf);
+                Err(PmdFault::DeviceFault)
+            }
+            Err((fault, buf)) => {
+                arena.give_back(buf);
+                Err(PmdFault::Call(fault))
+            }
         }
     }
 
@@ -234,29 +207,11 @@ impl ReceiveRing {
     /// the block's number or the packet's record.
     pub(crate) fn name_fresh<N: Nic>(&mut self, alloc: Global, nic: &mut N) -> Result<(), PmdFault>
         requires { HasLent self.old.stage }
-        ensures plays { (a : Numbers) → PlaysFrom a (N.made nic.old) self.old (N.made nic.new) self.new }
-        ensures named { OnOk result (self.new ≡ names self.old) }
-        ensures kept { OnErr result (self.new ≡ self.old) }
-        ensures fault { (a : Numbers) → IfErr result (λ f.
-            IsFault f a (N.made nic.old) self.old (N.made nic.new) self.new) }
-        ensures keeps { (a : Numbers) → Keeps a self.old a self.new [] }
-        ensures began { BeganAs N.began nic.old nic.new }
-        ensures refuses { N.refuses nic.new ≡ N.refuses nic.old }
-        ensures refusal { IfErr result (λ f. CanFail (N.refuses nic.new) f) }
-    {
-        self.poke_name(alloc, nic)
-    }
-
-    /// The same, by what is made.
-    fn poke_name<N: Nic>(&mut self, alloc: Global, nic: &mut N) -> Result<(), PmdFault>
-        requires { HasLent self.old.stage }
+        ensures asks { Asks N.began N.refuses result nic.old nic.new }
         ensures made { OnOk result (IsNamed (N.made nic.old) (N.made nic.new) self.old true) }
         ensures named { OnOk result (self.new ≡ names self.old) }
         ensures kept { OnErr result (self.new ≡ self.old) }
         ensures failed { IfErr result (λ f. IsUnnamed f (N.made nic.old) (N.made nic.new) self.old) }
-        ensures began { BeganAs N.began nic.old nic.new }
-        ensures refuses { N.refuses nic.new ≡ N.refuses nic.old }
-        ensures refusal { IfErr result (λ f. CanFail (N.refuses nic.new) f) }
     {
         let Stage::Lent(block) = self.stage else {
             unreachable!()

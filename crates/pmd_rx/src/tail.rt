@@ -2,15 +2,11 @@
 
 ghost use Rattle.std.specs.Prelude.{◌≡◌, ◌<◌, ◌≤◌, ◌+◌, ◌++◌, ◌∷◌, [], length, take, true, All, OnOk, OnErr, IfOk, IfErr};
 ghost use Rattle.std.specs.VecDeque.{deque_len, deque_capacity};
-ghost use Rattle.pmd_access.specs.NicDevice.DmaArena.Numbers.{Numbers};
+ghost use Rattle.pmd_rx.specs.Acts.{ActsAlone, Asks};
 ghost use Rattle.pmd_rx.specs.Burst.{HasPart};
 ghost use Rattle.pmd_rx.specs.Keeping.{numbers_of_all};
-ghost use Rattle.pmd_rx.specs.Plays.{PlaysFrom};
 ghost use Rattle.pmd_rx.specs.Receive.{parts_first, posts_one, posts_all};
 ghost use Rattle.pmd_rx.specs.Shown.{HandsOne, HandsAll, IsTailWritten, IsUnwritten};
-ghost use Rattle.pmd_rx.specs.Wrong.{IsFault};
-ghost use Rattle.pmd_access.specs.Begun.{BeganAs};
-ghost use Rattle.pmd_access.specs.Refusals.{CanFail};
 
 use crate::ring::ReceiveRing;
 use pmd_access::{Nic, Packet, PmdFault, write};
@@ -23,12 +19,10 @@ impl ReceiveRing {
     /// `DeviceFault` where the port has no such register.
     fn write_tail<N: Nic>(&self, alloc: Global, nic: &mut N, more: u16) -> Result<(), PmdFault>
         requires { length self.now.layout.blocks + more ≤ self.now.layout.size }
+        ensures asks { Asks N.began N.refuses result nic.old nic.new }
         ensures made { OnOk result (IsTailWritten (N.made nic.old) (N.made nic.new) self.now.layout more true) }
         ensures failed { IfErr result (λ f.
             IsUnwritten f (N.made nic.old) (N.made nic.new) self.now.layout more) }
-        ensures began { BeganAs N.began nic.old nic.new }
-        ensures refuses { N.refuses nic.new ≡ N.refuses nic.old }
-        ensures refusal { IfErr result (λ f. CanFail (N.refuses nic.new) f) }
     {
         let word = u32::from(self.slot(self.posted + more));
         match write(alloc, nic, self.port, self.tail, word) {
@@ -47,14 +41,9 @@ impl ReceiveRing {
         nic: &mut N,
     ) -> Result<Packet, PmdFault>
         requires { 0 < length self.old.whole }
-        ensures plays { (a : Numbers) → PlaysFrom a (N.made nic.old) self.old (N.made nic.new) self.new }
+        ensures acts { ActsAlone N.made N.began N.refuses result nic.old self.old nic.new self.new }
         ensures hands { IfOk result (λ packet. HandsOne self.old self.new packet) }
         ensures kept { OnErr result (self.new ≡ self.old) }
-        ensures fault { (a : Numbers) → IfErr result (λ f.
-            IsFault f a (N.made nic.old) self.old (N.made nic.new) self.new) }
-        ensures began { BeganAs N.began nic.old nic.new }
-        ensures refuses { N.refuses nic.new ≡ N.refuses nic.old }
-        ensures refusal { IfErr result (λ f. CanFail (N.refuses nic.new) f) }
     {
         let parts = self.first_parts();
         match self.write_tail(alloc, nic, parts) {
@@ -102,17 +91,12 @@ impl ReceiveRing {
         requires some { 0 < length self.old.named }
         requires none { length self.old.held.bufs ≡ 0 }
         requires room { length self.old.whole + deque_len out.old ≤ deque_capacity out.old }
-        ensures plays { (a : Numbers) → PlaysFrom a (N.made nic.old) self.old (N.made nic.new) self.new }
+        ensures acts { ActsAlone N.made N.began N.refuses result nic.old self.old nic.new self.new }
         ensures moved { OnOk result (self.new ≡ posts_all self.old) }
         ensures out { OnOk result (out.new.items ≡ out.old.items ++ self.old.whole) }
         ensures hands { OnOk result (HandsAll self.old self.new) }
         ensures kept { OnErr result (self.new ≡ self.old) }
         ensures same { OnErr result (out.new.items ≡ out.old.items) }
-        ensures fault { (a : Numbers) → IfErr result (λ f.
-            IsFault f a (N.made nic.old) self.old (N.made nic.new) self.new) }
-        ensures began { BeganAs N.began nic.old nic.new }
-        ensures refuses { N.refuses nic.new ≡ N.refuses nic.old }
-        ensures refusal { IfErr result (λ f. CanFail (N.refuses nic.new) f) }
     {
         let named = self.named();
         match self.write_tail(alloc, nic, named) {

@@ -2,9 +2,8 @@ use Rattle.std.proofs.Common.{◌∙◌, [], Result, Err, refl, sym, ap, arith}
 use Rattle.pmd_access.specs.declared.fault.PmdFault.{PmdFault}
 use Rattle.std.proofs.lemmas.Result.{err_from_is_err_and}
 use Rattle.pmd_access.proofs.Exchanging.{out_kept}
-use Rattle.pmd_rx.specs.Filling.{StopsFilling}
 use Rattle.pmd_rx.specs.Keeping.{blocks_out}
-use Rattle.pmd_rx.proofs.Earlier.{posts_then}
+use Rattle.pmd_rx.proofs.Earlier.{posts_then, stops_filling}
 use Rattle.pmd_rx.proofs.Failing.{err_same}
 use Rattle.pmd_rx.proofs.Filling.{posts_none, posts_more, posts_none_seen, posts_stage, posts_idle, posts_handed, posts_room, filled_runs, short_of}
 use Rattle.pmd_rx.proofs.Keeping.{keeps_none, keeps_both}
@@ -74,45 +73,23 @@ returns-in_err-post-clause-handed g c =
 pub returns-in_err-post-clause-fails : goal.returns-in_err-post-clause-fails
 returns-in_err-post-clause-fails g c =
     let p = err_from_is_err_and c.from_residual.result c.from_residual.ensures.1 in
-    let stops : StopsFilling c.in_err-post.field-0.0 (g.N.Nic.made c.args.nic.now) c.args.arena.now c.args.self.now
-    (g.N.Nic.made c.post.new.nic) c.post.new.arena c.post.new.self = record {
-      count = c.loop-count._count;
-      few = omega (arith, c.loop-count-test.true, c.spare_slots-slots.ensures.all);
-      mid = g.N.Nic.made c.loop-count.nic;
-      arena = c.loop-count.arena;
-      ring = c.loop-count.self;
-      plays = c.loop-count.invariant.plays.plays;
-      free = c.loop-count.invariant.plays.free;
-      posts = c.loop-count.invariant.posts;
-      fails = c.in_err-post.ensures.fails;
-      made = posts_then c.loop-count._count c.args.arena.now c.loop-count.arena (g.N.Nic.made c.args.nic.now)
-          (g.N.Nic.made c.loop-count.nic) (g.N.Nic.made c.post.new.nic) c.args.self.now c.loop-count.self
-          c.post.new.self c.loop-count.invariant.plays c.loop-count.invariant.posts c.post.ensures.plays;
-      none = λ short.
-          c.in_err-post.ensures.none (ap (λ (f : PmdFault). let r : Result Unit PmdFault = Err f in r) short);
-    } in
+    let stops = stops_filling c.in_err-post.field-0.0 c.loop-count._count c.args.arena.now c.loop-count.arena
+    c.post.new.arena (g.N.Nic.made c.args.nic.now) (g.N.Nic.made c.loop-count.nic) (g.N.Nic.made c.post.new.nic)
+    c.args.self.now c.loop-count.self c.post.new.self
+    (omega (arith, c.loop-count-test.true, c.spare_slots-slots.ensures.all)) c.loop-count.invariant.plays
+    c.loop-count.invariant.posts c.post.ensures.plays c.in_err-post.ensures.fails
+    (λ short. c.in_err-post.ensures.none (ap (λ (f : PmdFault). let r : Result Unit PmdFault = Err f in r) short)) in
     rw (p.1, p.2) stops
 
 pub returns-in_err-post-clause-short : goal.returns-in_err-post-clause-short
 returns-in_err-post-clause-short g c is =
     let p = err_from_is_err_and c.from_residual.result c.from_residual.ensures.1 in
-    let stops : StopsFilling c.in_err-post.field-0.0 (g.N.Nic.made c.args.nic.now) c.args.arena.now c.args.self.now
-    (g.N.Nic.made c.post.new.nic) c.post.new.arena c.post.new.self = record {
-      count = c.loop-count._count;
-      few = omega (arith, c.loop-count-test.true, c.spare_slots-slots.ensures.all);
-      mid = g.N.Nic.made c.loop-count.nic;
-      arena = c.loop-count.arena;
-      ring = c.loop-count.self;
-      plays = c.loop-count.invariant.plays.plays;
-      free = c.loop-count.invariant.plays.free;
-      posts = c.loop-count.invariant.posts;
-      fails = c.in_err-post.ensures.fails;
-      made = posts_then c.loop-count._count c.args.arena.now c.loop-count.arena (g.N.Nic.made c.args.nic.now)
-          (g.N.Nic.made c.loop-count.nic) (g.N.Nic.made c.post.new.nic) c.args.self.now c.loop-count.self
-          c.post.new.self c.loop-count.invariant.plays c.loop-count.invariant.posts c.post.ensures.plays;
-      none = λ short.
-          c.in_err-post.ensures.none (ap (λ (f : PmdFault). let r : Result Unit PmdFault = Err f in r) short);
-    } in
+    let stops = stops_filling c.in_err-post.field-0.0 c.loop-count._count c.args.arena.now c.loop-count.arena
+    c.post.new.arena (g.N.Nic.made c.args.nic.now) (g.N.Nic.made c.loop-count.nic) (g.N.Nic.made c.post.new.nic)
+    c.args.self.now c.loop-count.self c.post.new.self
+    (omega (arith, c.loop-count-test.true, c.spare_slots-slots.ensures.all)) c.loop-count.invariant.plays
+    c.loop-count.invariant.posts c.post.ensures.plays c.in_err-post.ensures.fails
+    (λ short. c.in_err-post.ensures.none (ap (λ (f : PmdFault). let r : Result Unit PmdFault = Err f in r) short)) in
     short_of c.in_err-post.field-0.0 (g.N.Nic.made c.args.nic.now) (g.N.Nic.made c.post.new.nic) c.args.arena.now
     c.post.new.arena c.args.self.now c.post.new.self (sym p.2 ∙ err_same (sym p.1 ∙ is)) stops
 

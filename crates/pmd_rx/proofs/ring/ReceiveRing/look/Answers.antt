@@ -1,43 +1,42 @@
-use Rattle.pmd_rx.specs.declared.receive.Look.TheVariants as look
-use Rattle.pmd_rx.proofs.Looking.{looked_at, looks_play, looks_fail, looks_keep, looks_same, look_wrong, one_more}
+use Rattle.std.proofs.Common.{◌≡◌, ℕ, true, List, [], ◌∷◌, ◌++◌, length, length-take-le, ap, subst, ◌∙◌, arith}
+use Rattle.pmd_rx.specs.Receive.{Receive, Layout, is_part}
+use Rattle.pmd_rx.specs.declared.ring.Told.{Told}
+use Rattle.pmd_rx.proofs.Steady.{seen_steady, posted_few}
 use Rattle.pmd_rx.proofs.ring.ReceiveRing.look.Goals as goal
+use Rattle.pmd_rx.proofs.ring.ReceiveRing.look.Goals.{in-Part, in_default}
 
-pub returns-clause-plays : goal.returns-clause-plays
-returns-clause-plays g c a =
-    looks_play a c.peek_next.result (g.N.Nic.made c.args.nic.now) (g.N.Nic.made c.peek_next.new.nic) c.args.self.now
-    c.peek_next.new.self c.requires.stage c.requires.some c.peek_next.ensures.looked c.peek_next.ensures.unseen
-    c.peek_next.ensures.refused
-
-pub returns-clause-nothing : goal.returns-clause-nothing
-returns-clause-nothing g c is =
-    looked_at c.peek_next.result (g.N.Nic.made c.args.nic.now) (g.N.Nic.made c.peek_next.new.nic) c.args.self.now
-    c.peek_next.new.self c.peek_next.ensures.looked look.Nothing is
-
-pub returns-clause-part : goal.returns-clause-part
-returns-clause-part g c is =
-    let old = g.N.Nic.made c.args.nic.now in
-    let new = g.N.Nic.made c.peek_next.new.nic in
-    one_more old new c.args.self.now c.peek_next.new.self
-    (looked_at c.peek_next.result old new c.args.self.now c.peek_next.new.self c.peek_next.ensures.looked look.Part is)
-
-pub returns-clause-wrong : goal.returns-clause-wrong
-returns-clause-wrong g c is a =
-    let old = g.N.Nic.made c.args.nic.now in
-    let new = g.N.Nic.made c.peek_next.new.nic in
-    look_wrong a old new c.args.self.now c.requires.stage c.requires.some c.peek_next.new.self
-    (looked_at c.peek_next.result old new c.args.self.now c.peek_next.new.self c.peek_next.ensures.looked look.Wrong is)
-
-pub returns-clause-fault : goal.returns-clause-fault
-returns-clause-fault g c a =
-    looks_fail a c.peek_next.result (g.N.Nic.made c.args.nic.now) (g.N.Nic.made c.peek_next.new.nic) c.args.self.now
-    c.peek_next.new.self c.requires.stage c.requires.some c.peek_next.ensures.unseen c.peek_next.ensures.refused
-
-pub returns-clause-kept : goal.returns-clause-kept
-returns-clause-kept g c =
-    looks_same c.peek_next.result (g.N.Nic.made c.args.nic.now) (g.N.Nic.made c.peek_next.new.nic) c.args.self.now
-    c.peek_next.new.self c.peek_next.ensures.looked c.peek_next.ensures.unseen
-
-pub returns-clause-keeps : goal.returns-clause-keeps
-returns-clause-keeps g c a =
-    looks_keep a c.peek_next.result (g.N.Nic.made c.args.nic.now) (g.N.Nic.made c.peek_next.new.nic) c.args.self.now
-    c.peek_next.new.self c.requires.stage c.peek_next.ensures.looked c.peek_next.ensures.unseen
+pub invariant_of-self-then-matches : goal.invariant_of-self-then-matches
+invariant_of-self-then-matches g c =
+    let r = c.self.inside in
+    let l : Layout = record {
+      port = r.port;
+      tail = r.tail;
+      ring = r.ring;
+      size = r.size;
+      most = r.most;
+      next = r.next;
+      blocks = r.slots.items;
+    } in
+    let told : Told = record { first = c.first_half.result; second = c.second_half.result } in
+    let seen : c.len.result ≡ length r.seen.items =
+    omega (arith, c.len.ensures, c.reserve.ensures.len, r.seen.ok.0) in
+    let few = posted_few l r.posted r.seen.items r.held r.whole.items r.stage c.self.invariant.0 in (
+      seen_steady l r.posted r.seen.items c.push_back_reserved.new.self.items r.held r.whole.items r.stage
+          c.stage_after-self-inside.result told c.self.invariant.0
+          (ap (λ (v : Receive). v.stage) c.self.view_is ∙ c.requires.stage)
+          (c.push_back_reserved.ensures.items ∙ ap (λ (ts : List Told). ts ++ told ∷ []) c.reserve.ensures.items)
+          c.stage_after-self-inside.ensures
+          (subst (λ (n : ℕ). is_part r.most n told.second ≡ true) seen
+          (elim c.match-matches.branch [
+            | in-Part w ↦ (c.look_told-look.ensures.part w.in-Part.is).1
+            | in_default w ↦ absurd (let no = w.matches-is in let is = c.if-matches.true in cc)
+          ]))
+          (omega (
+            arith,
+            c.requires.some,
+            ap (λ (v : Receive). length v.seen) c.self.view_is,
+            ap (λ (v : Receive). length v.layout.blocks) c.self.view_is,
+            length-take-le r.posted r.slots.items few,
+          )),
+      c.self.invariant.1,
+    )

@@ -1,21 +1,17 @@
+use Rattle.std.proofs.Common.{List, length, ap, arith}
+use Rattle.pmd_access.specs.declared.packet.Packet.{Packet}
+use Rattle.pmd_rx.proofs.Acting.{gathers_alone}
 use Rattle.pmd_rx.proofs.Moving.{none_keeps, none_handed}
 use Rattle.pmd_rx.proofs.ring.ReceiveRing.post_named.Goals as goal
 
-pub returns-clause-keeps : goal.returns-clause-keeps
-returns-clause-keeps g c a =
-    none_keeps a c.post_all-answer.result c.args.self.now c.post_all-answer.new.self c.requires.none.0
-    c.post_all-answer.ensures.hands c.post_all-answer.ensures.kept
-
-pub returns-clause-handed : goal.returns-clause-handed
-returns-clause-handed g c =
-    none_handed c.post_all-answer.result c.args.self.now c.post_all-answer.new.self c.requires.none.0
-    c.post_all-answer.ensures.hands c.post_all-answer.ensures.kept
+pub returns-clause-gathers : goal.returns-clause-gathers
+returns-clause-gathers g c =
+    let p = c.post_all-answer in
+    let v = c.args.self.now in
+    gathers_alone p.ensures.acts
+    (λ a. none_keeps a p.result v p.new.self c.requires.none.0 p.ensures.hands p.ensures.kept)
+    (none_handed p.result v p.new.self c.requires.none.0 p.ensures.hands p.ensures.kept)
+    (omega (arith, ap (λ (ps : List Packet). length ps) c.requires.none.0))
 
 pub returns-clause-moved : goal.returns-clause-moved
 returns-clause-moved g c = c.post_all-answer.ensures.moved
-
-pub returns-clause-fault : goal.returns-clause-fault
-returns-clause-fault g c a = c.post_all-answer.ensures.fault a
-
-pub returns-clause-refusal : goal.returns-clause-refusal
-returns-clause-refusal g c = c.post_all-answer.ensures.refusal

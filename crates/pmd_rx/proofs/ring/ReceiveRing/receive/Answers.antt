@@ -1,37 +1,59 @@
+use Rattle.std.proofs.Common.{Result, Err, ap}
+use Rattle.pmd_access.specs.declared.fault.PmdFault.{PmdFault}
+use Rattle.pmd_access.specs.declared.packet.Packet.{Packet}
 use Rattle.pmd_access.specs.Bufs.{numbers_of}
-use Rattle.pmd_rx.proofs.Earlier.{plays_then, fails_then}
-use Rattle.pmd_rx.proofs.Failing.{no_short, err_same}
+use Rattle.pmd_rx.proofs.Acting.{acts_then}
+use Rattle.pmd_rx.proofs.Failing.{err_same}
 use Rattle.pmd_rx.proofs.Keeping.{keeps_both}
 use Rattle.pmd_rx.proofs.ring.ReceiveRing.receive.Goals as goal
 
 pub returns-in-Ok-clause-plays : goal.returns-in-Ok-clause-plays
 returns-in-Ok-clause-plays g c =
-    plays_then c.args.arena.now c.gather.new.arena (g.N.Nic.made c.args.nic.now) (g.N.Nic.made c.gather.new.nic)
-    (g.N.Nic.made c.post_one.new.nic) c.args.self.now c.gather.new.self c.post_one.new.self c.gather.ensures.plays
-    c.gather.ensures.keeps (c.post_one.ensures.plays c.gather.new.arena)
+    let next = c.post_one.ensures.acts in
+    (acts_then c.gather.ensures.gathers next.enough (next.acts c.gather.new.arena)).plays
 
 pub returns-in-Ok-clause-keeps : goal.returns-in-Ok-clause-keeps
 returns-in-Ok-clause-keeps g c =
     keeps_both c.args.arena.now c.gather.new.arena c.gather.new.arena c.args.self.now c.gather.new.self
-    c.post_one.new.self (numbers_of c.in-Ok.packet.bufs) c.gather.ensures.keeps
+    c.post_one.new.self (numbers_of c.in-Ok.packet.bufs) c.gather.ensures.gathers.keeps
     (c.in-Ok.ensures.hands.keeps c.gather.new.arena)
 
 pub returns-in-Err-post_one-clause-plays : goal.returns-in-Err-post_one-clause-plays
 returns-in-Err-post_one-clause-plays g c =
-    plays_then c.args.arena.now c.gather.new.arena (g.N.Nic.made c.args.nic.now) (g.N.Nic.made c.gather.new.nic)
-    (g.N.Nic.made c.post_one.new.nic) c.args.self.now c.gather.new.self c.post_one.new.self c.gather.ensures.plays
-    c.gather.ensures.keeps (c.post_one.ensures.plays c.gather.new.arena)
+    let next = c.post_one.ensures.acts in
+    (acts_then c.gather.ensures.gathers next.enough (next.acts c.gather.new.arena)).plays
 
 pub returns-in-Err-post_one-clause-fails : goal.returns-in-Err-post_one-clause-fails
 returns-in-Err-post_one-clause-fails g c =
-    fails_then c.in-Err-post_one.fault c.args.arena.now c.gather.new.arena c.gather.new.arena
-    (g.N.Nic.made c.args.nic.now) (g.N.Nic.made c.gather.new.nic) (g.N.Nic.made c.post_one.new.nic) c.args.self.now
-    c.gather.new.self c.post_one.new.self c.gather.ensures.plays c.gather.ensures.keeps
-    (c.in-Err-post_one.ensures.fault c.gather.new.arena)
+    let next = c.in-Err-post_one.ensures.acts in
+    (acts_then c.gather.ensures.gathers next.enough (next.acts c.gather.new.arena)).fails
 
 pub returns-in-Err-post_one-clause-waits : goal.returns-in-Err-post_one-clause-waits
 returns-in-Err-post_one-clause-waits g c short =
-    absurd
-    (no_short c.in-Err-post_one.fault c.gather.new.arena (g.N.Nic.made c.gather.new.nic)
-    (g.N.Nic.made c.post_one.new.nic) c.gather.new.self c.post_one.new.self
-    (c.in-Err-post_one.ensures.fault c.gather.new.arena) (err_same short))
+    absurd (c.in-Err-post_one.ensures.acts.enough
+    (ap (λ (f : PmdFault). let r : Result Packet PmdFault = Err f in r) (err_same short)))
+
+pub returns-in-Ok-clause-began : goal.returns-in-Ok-clause-began
+returns-in-Ok-clause-began g c =
+    let next = c.post_one.ensures.acts in
+    (acts_then c.gather.ensures.gathers next.enough (next.acts c.gather.new.arena)).asks.began
+
+pub returns-in-Ok-clause-refuses : goal.returns-in-Ok-clause-refuses
+returns-in-Ok-clause-refuses g c =
+    let next = c.post_one.ensures.acts in
+    (acts_then c.gather.ensures.gathers next.enough (next.acts c.gather.new.arena)).asks.refuses
+
+pub returns-in-Err-post_one-clause-began : goal.returns-in-Err-post_one-clause-began
+returns-in-Err-post_one-clause-began g c =
+    let next = c.in-Err-post_one.ensures.acts in
+    (acts_then c.gather.ensures.gathers next.enough (next.acts c.gather.new.arena)).asks.began
+
+pub returns-in-Err-post_one-clause-refuses : goal.returns-in-Err-post_one-clause-refuses
+returns-in-Err-post_one-clause-refuses g c =
+    let next = c.in-Err-post_one.ensures.acts in
+    (acts_then c.gather.ensures.gathers next.enough (next.acts c.gather.new.arena)).asks.refuses
+
+pub returns-in-Err-post_one-clause-refusal : goal.returns-in-Err-post_one-clause-refusal
+returns-in-Err-post_one-clause-refusal g c =
+    let next = c.in-Err-post_one.ensures.acts in
+    (acts_then c.gather.ensures.gathers next.enough (next.acts c.gather.new.arena)).asks.refusal

@@ -1,7 +1,6 @@
 use Rattle.std.proofs.Common.{refl}
+use Rattle.pmd_rx.proofs.Acting.{acts_then}
 use Rattle.pmd_rx.proofs.Bursts.{none_out, burst_after}
-use Rattle.pmd_rx.proofs.Earlier.{plays_then, all_fail_then}
-use Rattle.pmd_rx.proofs.Failing.{never_short}
 use Rattle.pmd_rx.proofs.Keeping.{keeps_none}
 use Rattle.pmd_rx.proofs.Playing.{plays_none}
 use Rattle.pmd_rx.proofs.ring.ReceiveRing.receive_burst.Goals as goal
@@ -16,26 +15,34 @@ returns-then-most-eq0-clause-out g c =
 
 pub returns-in-Ok-true-clause-plays : goal.returns-in-Ok-true-clause-plays
 returns-in-Ok-true-clause-plays g c =
-    plays_then c.args.arena.now c.gather.new.arena (g.N.Nic.made c.args.nic.now) (g.N.Nic.made c.gather.new.nic)
-    (g.N.Nic.made c.post_most.new.nic) c.args.self.now c.gather.new.self c.post_most.new.self c.gather.ensures.plays
-    c.gather.ensures.keeps (c.post_most.ensures.plays c.gather.new.arena)
+    let next = c.post_most.ensures.acts in
+    (acts_then c.gather.ensures.gathers next.enough (next.acts c.gather.new.arena)).plays
 
 pub returns-in-Ok-true-clause-out : goal.returns-in-Ok-true-clause-out
 returns-in-Ok-true-clause-out g c =
     burst_after c.post_most.result c.args.most c.args.arena.now c.gather.new.arena c.args.self.now c.gather.new.self
-    c.post_most.new.self c.args.out.now.items c.post_most.new.out.items c.gather.ensures.handed c.gather.ensures.keeps
-    (c.post_most.ensures.out c.gather.new.arena)
+    c.post_most.new.self c.args.out.now.items c.post_most.new.out.items c.gather.ensures.gathers.handed
+    c.gather.ensures.gathers.keeps (c.post_most.ensures.out c.gather.new.arena)
 
 pub returns-in-Ok-true-clause-fails : goal.returns-in-Ok-true-clause-fails
 returns-in-Ok-true-clause-fails g c =
-    all_fail_then c.post_most.result c.args.arena.now c.gather.new.arena c.gather.new.arena
-    (g.N.Nic.made c.args.nic.now) (g.N.Nic.made c.gather.new.nic) (g.N.Nic.made c.post_most.new.nic) c.args.self.now
-    c.gather.new.self c.post_most.new.self c.gather.ensures.plays c.gather.ensures.keeps
-    (c.post_most.ensures.fault c.gather.new.arena)
+    let next = c.post_most.ensures.acts in
+    (acts_then c.gather.ensures.gathers next.enough (next.acts c.gather.new.arena)).fails
 
 pub returns-in-Ok-true-clause-waits : goal.returns-in-Ok-true-clause-waits
-returns-in-Ok-true-clause-waits g c short =
-    absurd
-    (never_short c.post_most.result c.gather.new.arena (g.N.Nic.made c.gather.new.nic)
-    (g.N.Nic.made c.post_most.new.nic) c.gather.new.self c.post_most.new.self
-    (c.post_most.ensures.fault c.gather.new.arena) short)
+returns-in-Ok-true-clause-waits g c short = absurd (c.post_most.ensures.acts.enough short)
+
+pub returns-in-Ok-true-clause-began : goal.returns-in-Ok-true-clause-began
+returns-in-Ok-true-clause-began g c =
+    let next = c.post_most.ensures.acts in
+    (acts_then c.gather.ensures.gathers next.enough (next.acts c.gather.new.arena)).asks.began
+
+pub returns-in-Ok-true-clause-refuses : goal.returns-in-Ok-true-clause-refuses
+returns-in-Ok-true-clause-refuses g c =
+    let next = c.post_most.ensures.acts in
+    (acts_then c.gather.ensures.gathers next.enough (next.acts c.gather.new.arena)).asks.refuses
+
+pub returns-in-Ok-true-clause-refusal : goal.returns-in-Ok-true-clause-refusal
+returns-in-Ok-true-clause-refusal g c =
+    let next = c.post_most.ensures.acts in
+    (acts_then c.gather.ensures.gathers next.enough (next.acts c.gather.new.arena)).asks.refusal

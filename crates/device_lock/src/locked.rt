@@ -77,7 +77,7 @@ impl<const VFS: u8, const FIFO: u16> Model for Locked<VFS, FIFO> {
 
 impl<const VFS: u8, const FIFO: u16> Locked<VFS, FIFO> {
     /// A new device with no history, which may have so many entries.
-    pub(crate) fn new(alloc: Global, limit: u32) -> Result<Self, AllocError>
+    pub fn new(alloc: Global, limit: u32) -> Result<Self, AllocError>
         requires device { (VFS ≤ 63) × (0 < FIFO) × (FIFO ≤ 4096) }
         requires limit { limit ≤ 1000000 }
         ensures { IfOk result (λ locked. locked ≡ opened VFS FIFO limit) }
@@ -255,7 +255,7 @@ impl<const VFS: u8, const FIFO: u16> Locked<VFS, FIFO> {
     }
 
     /// The parts with one entry for each event, as the owner of a device that is no longer shared has them.
-    pub(crate) fn unlock(self) -> Unlocked<VFS, FIFO>
+    pub fn unlock(self) -> Unlocked<VFS, FIFO>
         ensures { result ≡ self.entry }
     {
         let Locked {

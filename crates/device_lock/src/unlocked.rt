@@ -81,7 +81,7 @@ impl<const VFS: u8, const FIFO: u16> Unlocked<VFS, FIFO> {
     }
 
     /// Takes the device out. The history is dropped.
-    pub(crate) fn into_device(self) -> Device
+    pub fn into_device(self) -> Device
         ensures { result ≡ self.entry.device }
     {
         let Unlocked {

@@ -4,8 +4,8 @@ use crate::devices::{frame, number_of, to_lend};
 use crate::outcome::{done, none, put, some};
 use crate::sums::{START, end_device, with, with_event};
 use crate::trial::{Trial, tried};
-use device_lock::{CallFault, Closed, NewFault, Pass, Shared};
-use nic_device::{Arena, Event, Port};
+use device_lock::{CallFault, Closed, Entry, Locked, NewFault, Pass, Shared};
+use nic_device::{Arena, Event, Port, Reply};
 use std::alloc::Global;
 use std::process::Abort;
 use std::sync::Wait;
@@ -23,11 +23,14 @@ pub struct Opened {
     pub arena: Arena,
 }
 
+/// Registers, by address and word, that accept frames.
+const ACCEPTING: [(u32, u32); 2] = [(0x03000, 1), (0x05080, 0x700)];
+
 /// A shared device that accepts frames.
 pub fn open_bench<R: Abort + Wait>(rt: &R, alloc: Global) -> Opened {
     let (bench, mut passes) = done(rt, Bench::new(alloc, 7, 1, 100));
     let mut pass = some(rt, passes.pop());
-    for (address, word) in [(0x03000, 1), (0x05080, 0x700)] {
+    for (address, word) in ACCEPTING {
         let event = Event::Write(Port::Pf, address, word);
         let _number = number_of(rt, done(rt, bench.call(rt, alloc, &mut pass, event)));
     }
@@ -43,9 +46,9 @@ pub fn closed<R: Abort>(rt: &R, alloc: Global, bench: Bench, pass: Pass) -> Clos
 }
 
 /// How many entries a history has, and how many of them lent a block or let a frame arrive.
-pub fn with_history(sum: u64, closed: &Closed<0, 64>) -> u64 {
-    let mut sum = with(sum, closed.history().len() as u64);
-    for entry in closed.history() {
+pub fn with_history(sum: u64, history: &[Entry]) -> u64 {
+    let mut sum = with(sum, history.len() as u64);
+    for entry in history {
         match &entry.event {
             Event::Lend(note) => sum = with(sum, u64::from(note.number())),
             Event::Arrive(frame) => sum = with(sum, frame.bytes().len() as u64),
@@ -66,6 +69,33 @@ pub fn lends_in(closed: &Closed<0, 64>) -> u64 {
     lends
 }
 
+/// An event that is to be made: a frame arrives, or a block is lent.
+fn event_of<R: Abort>(rt: &R, alloc: Global, arena: &mut Arena, arrives: bool) -> Event {
+    if arrives {
+        Event::Arrive(frame(rt, alloc))
+    } else {
+        to_lend(rt, arena)
+    }
+}
+
+/// The number of the reply, where the event was made; where it was refused for lack of memory it is back.
+fn answered<R: Abort>(
+    rt: &R,
+    answer: Result<Reply, CallFault>,
+    event: &mut Option<Event>,
+) -> Option<u64> {
+    match answer {
+        Ok(reply) => Some(number_of(rt, reply)),
+        Err(CallFault::OutOfMemory(back)) => {
+            put(rt, event, back);
+            None
+        }
+        Err(CallFault::ForeignPass(_) | CallFault::HistoryFull(_)) => {
+            panic!(rt; "another refusal")
+        }
+    }
+}
+
 /// A call that a pass is to make.
 struct Calling {
     opened: Opened,
@@ -74,14 +104,9 @@ struct Calling {
 }
 
 impl Calling {
-    /// A frame arrives, or a block is lent.
     fn new<R: Abort + Wait>(rt: &R, alloc: Global, arrives: bool) -> Calling {
         let mut opened = open_bench(rt, alloc);
-        let event = if arrives {
-            Event::Arrive(frame(rt, alloc))
-        } else {
-            to_lend(rt, &mut opened.arena)
-        };
+        let event = event_of(rt, alloc, &mut opened.arena, arrives);
         Calling {
             opened,
             event: Some(event),
@@ -97,18 +122,13 @@ impl Trial for Calling {
             pass,
             arena: _,
         } = &mut self.opened;
-        match bench.call(rt, alloc, pass, some(rt, self.event.take())) {
-            Ok(reply) => {
-                self.sum = with(self.sum, number_of(rt, reply));
+        let answer = bench.call(rt, alloc, pass, some(rt, self.event.take()));
+        match answered(rt, answer, &mut self.event) {
+            Some(number) => {
+                self.sum = with(self.sum, number);
                 true
             }
-            Err(CallFault::OutOfMemory(event)) => {
-                put(rt, &mut self.event, event);
-                false
-            }
-            Err(CallFault::ForeignPass(_) | CallFault::HistoryFull(_)) => {
-                panic!(rt; "another refusal")
-            }
+            None => false,
         }
     }
 
@@ -124,7 +144,7 @@ impl Trial for Calling {
         } = self;
         none(rt, event);
         let closed = closed(rt, alloc, bench, pass);
-        let sum = with_history(sum, &closed);
+        let sum = with_history(sum, closed.history());
         end_device(rt, sum, closed.into_device(), arena)
     }
 }
@@ -148,6 +168,84 @@ fn a_frame_arrives_by_a_pass(rt: HostRuntime) {
         alloc,
         Calling::new(&rt, alloc, true),
         Calling::new(&rt, alloc, true),
+    );
+}
+
+/// An event that is to be made of what lies under a lock, with no lock around it.
+struct Stepping {
+    locked: Locked<0, 64>,
+    arena: Arena,
+    event: Option<Event>,
+    sum: u64,
+}
+
+impl Stepping {
+    fn new<R: Abort>(rt: &R, alloc: Global, arrives: bool) -> Stepping {
+        let mut locked = done(rt, Locked::new(alloc, 100));
+        for (address, word) in ACCEPTING {
+            let event = Event::Write(Port::Pf, address, word);
+            let _number = number_of(rt, done(rt, locked.step(alloc, 0, event)));
+        }
+        let mut arena = done(rt, Arena::new(alloc, 0, 8));
+        let event = event_of(rt, alloc, &mut arena, arrives);
+        Stepping {
+            locked,
+            arena,
+            event: Some(event),
+            sum: START,
+        }
+    }
+}
+
+impl Trial for Stepping {
+    fn call<R: Abort + Wait>(&mut self, rt: &R, alloc: Global) -> bool {
+        let answer = self.locked.step(alloc, 0, some(rt, self.event.take()));
+        match answered(rt, answer, &mut self.event) {
+            Some(number) => {
+                self.sum = with(self.sum, number);
+                true
+            }
+            None => false,
+        }
+    }
+
+    fn picture<R: Abort>(&mut self, _rt: &R) -> u64 {
+        with_event(u64::from(self.locked.entries_of(0)), &self.event)
+    }
+
+    fn end<R: Abort + Wait>(self, rt: &R, _alloc: Global) -> u64 {
+        let Stepping {
+            locked,
+            arena,
+            event,
+            sum,
+        } = self;
+        none(rt, event);
+        let unlocked = locked.unlock();
+        let sum = with_history(sum, unlocked.history());
+        end_device(rt, sum, unlocked.into_device(), arena)
+    }
+}
+
+#[test]
+fn a_step_under_the_lock_lends_a_block(rt: HostRuntime) {
+    let alloc = rt.alloc();
+    tried(
+        &rt,
+        alloc,
+        Stepping::new(&rt, alloc, false),
+        Stepping::new(&rt, alloc, false),
+    );
+}
+
+#[test]
+fn a_frame_arrives_by_a_step_under_the_lock(rt: HostRuntime) {
+    let alloc = rt.alloc();
+    tried(
+        &rt,
+        alloc,
+        Stepping::new(&rt, alloc, true),
+        Stepping::new(&rt, alloc, true),
     );
 }
 
@@ -180,7 +278,7 @@ impl Trial for Opening {
         let arena = done(rt, Arena::new(alloc, 0, 1));
         end_device(
             rt,
-            with_history(count, &closed),
+            with_history(count, closed.history()),
             closed.into_device(),
             arena,
         )
@@ -227,7 +325,7 @@ impl Trial for Positions {
     }
 
     fn picture<R: Abort>(&mut self, _rt: &R) -> u64 {
-        with_history(START, &self.closed)
+        with_history(START, self.closed.history())
     }
 
     fn end<R: Abort + Wait>(self, rt: &R, _alloc: Global) -> u64 {
@@ -239,7 +337,7 @@ impl Trial for Positions {
         assert!(rt; found == 2);
         end_device(
             rt,
-            with_history(found, &closed),
+            with_history(found, closed.history()),
             closed.into_device(),
             arena,
         )

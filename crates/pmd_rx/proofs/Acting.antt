@@ -209,7 +209,8 @@ module _ {A N : Type 0} {made : N → List Call} {began : N → Origin → Type 
       → IsFault f a (made m) v (made n) v → b ≡ a
       → Gathers made began refuses (let r : Result A PmdFault = Err f in r) m a v n b v
   fails_here f {m} {n} {a} {b} {v} asks plays fault home =
-      subst (λ (d : Numbers). Gathers made began refuses (let r : Result A PmdFault = Err f in r) m a v n d v) (sym home)
+      subst (λ (d : Numbers). Gathers made began refuses (let r : Result A PmdFault = Err f in r) m a v n d v)
+      (sym home)
       (record {
         acts = record { asks = asks; plays = plays; fails = fails_of f (made m) (made n) a a v v fault };
         keeps = keeps_none a v;
@@ -218,7 +219,8 @@ module _ {A N : Type 0} {made : N → List Call} {began : N → Origin → Type 
       })
 
   -- an event that changed nothing, since its reply is none of a healthy queue, or it was refused
-  pub fails_alone : (f : PmdFault) {m n : N} {v : Receive} → Asks began refuses (let r : Result A PmdFault = Err f in r) m n
+  pub fails_alone : (f : PmdFault) {m n : N} {v : Receive}
+      → Asks began refuses (let r : Result A PmdFault = Err f in r) m n
       → ((a : Numbers) → PlaysFrom a (made m) v (made n) v) → ((a : Numbers) → IsFault f a (made m) v (made n) v)
       → GathersAlone made began refuses (let r : Result A PmdFault = Err f in r) m v n v
   fails_alone f {m} {n} {v} asks plays fault =

@@ -11,8 +11,8 @@ use Rattle.pmd_rx.specs.Plays.{PlaysFrom}
 use Rattle.pmd_rx.specs.Receive.{Receive}
 use Rattle.pmd_rx.specs.Wrong.{FailsBy}
 
--- the way to the device is the same: what is known of where its calls began is known of it still, and it may refuse what
--- it might. Where it refused a call, it might
+-- the way to the device is the same: what is known of where its calls began is known of it still, and it may refuse
+-- what it might. Where it refused a call, it might
 pub record Asks {A N : Type 0} (known : N → Origin → Type 0) (may : N → Refusals) (r : Result A PmdFault) (n m : N)
     : Type 0 where
   pub began : BeganAs known n m

@@ -28,7 +28,8 @@ impl ReceiveRing {
     ) -> Result<bool, PmdFault>
         requires running { IsRunning self.old }
         requires home { AreOut arena.old (blocks_out self.old) }
-        ensures gathers { Gathers N.made N.began N.refuses result nic.old arena.old self.old nic.new arena.new self.new }
+        ensures gathers { Gathers N.made N.began N.refuses result
+            nic.old arena.old self.old nic.new arena.new self.new }
         ensures one { result ≡ Ok true → OneMore self.old self.new }
         ensures none { result ≡ Ok false → self.old.whole ≡ []
             → LooksInVain (N.made nic.old) self.old (N.made nic.new) self.new }
@@ -71,7 +72,8 @@ impl ReceiveRing {
         requires running { IsRunning self.old }
         requires home { AreOut arena.old (blocks_out self.old) }
         requires some { 0 < most }
-        ensures gathers { Gathers N.made N.began N.refuses result nic.old arena.old self.old nic.new arena.new self.new }
+        ensures gathers { Gathers N.made N.began N.refuses result
+            nic.old arena.old self.old nic.new arena.new self.new }
         ensures some { result ≡ Ok true → 0 < length self.new.whole }
         ensures none { result ≡ Ok false → LooksInVain (N.made nic.old) self.old (N.made nic.new) self.new }
         ensures waits { result ≡ Err PmdFault.NoBuffer → PacketWaits self.new.stage }

@@ -33,7 +33,8 @@ impl ReceiveRing {
         requires stage { CanLend self.old.stage self.old.seen }
         requires room { length (reach self.old).blocks + 1 < self.old.layout.size }
         requires home { AreOut arena.old (blocks_out self.old) }
-        ensures gathers { Gathers N.made N.began N.refuses result nic.old arena.old self.old nic.new arena.new self.new }
+        ensures gathers { Gathers N.made N.began N.refuses result
+            nic.old arena.old self.old nic.new arena.new self.new }
         ensures named { OnOk result ((n : ℕ) × (is_free arena.old n ≡ true)
             × (arena.new ≡ with_free arena.old n false) × (self.new ≡ refilled self.old n)) }
         ensures none { result ≡ Err PmdFault.NoBuffer → free_count arena.old ≡ 0 }
@@ -117,7 +118,8 @@ impl ReceiveRing {
         requires stage { PacketWaits self.old.stage }
         requires home { AreOut arena.old (blocks_out self.old) }
         requires free { wanted self.old ≤ free_count arena.old }
-        ensures gathers { Gathers N.made N.began N.refuses result nic.old arena.old self.old nic.new arena.new self.new }
+        ensures gathers { Gathers N.made N.began N.refuses result
+            nic.old arena.old self.old nic.new arena.new self.new }
         ensures enough { result ≢ Err PmdFault.NoBuffer }
         ensures more { OnOk result (IsOneLess arena.old self.old arena.new self.new) }
     {
@@ -145,7 +147,8 @@ impl ReceiveRing {
         requires running { IsRunning self.old }
         requires stage { PacketWaits self.old.stage }
         requires home { AreOut arena.old (blocks_out self.old) }
-        ensures gathers { Gathers N.made N.began N.refuses result nic.old arena.old self.old nic.new arena.new self.new }
+        ensures gathers { Gathers N.made N.began N.refuses result
+            nic.old arena.old self.old nic.new arena.new self.new }
         ensures one { OnOk result (OneMore self.old self.new) }
         ensures same { result ≡ Err PmdFault.NoBuffer → self.new ≡ self.old }
     {

@@ -164,7 +164,8 @@ impl ReceiveRing {
         requires stage { CanLend self.old.stage self.old.seen }
         requires room { length (reach self.old).blocks + 1 < self.old.layout.size }
         requires home { AreOut arena.old (blocks_out self.old) }
-        ensures gathers { Gathers N.made N.began N.refuses result nic.old arena.old self.old nic.new arena.new self.new }
+        ensures gathers { Gathers N.made N.began N.refuses result
+            nic.old arena.old self.old nic.new arena.new self.new }
         ensures lent { OnOk result ((n : ℕ) × (is_free arena.old n ≡ true)
             × (arena.new ≡ with_free arena.old n false) × (self.new ≡ lent_one self.old n)) }
         ensures none { result ≡ Err PmdFault.NoBuffer → free_count arena.old ≡ 0 }

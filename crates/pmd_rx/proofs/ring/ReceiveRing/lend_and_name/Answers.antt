@@ -21,4 +21,5 @@ returns-in-Ok-clause-named g c =
 pub returns-in-Ok-clause-none : goal.returns-in-Ok-clause-none
 returns-in-Ok-clause-none g c short =
     let n = c.name_fresh.ensures in
-    absurd ((name_gathers {made = g.N.Nic.made} n.asks (rw c.in-Ok.ensures.lent.3 tt) n.made n.named n.kept n.failed).enough short)
+    absurd ((name_gathers {made = g.N.Nic.made} n.asks (rw c.in-Ok.ensures.lent.3 tt) n.made n.named n.kept
+    n.failed).enough short)

@@ -36,8 +36,8 @@ returns-in-Ok-None-clause-gathers g c =
     let v = c.args.self.now in
     let w = c.keep_lent.new.self in
     let buf = c.in-Some.buf in
-    let own = lends_own a v buf c.requires.stage c.in-Some.ensures.free c.requires.home c.bytes-whole.ensures.whole.small
-    c.requires.room c.bytes-whole.ensures.whole.size in
+    let own = lends_own a v buf c.requires.stage c.in-Some.ensures.free c.requires.home
+    c.bytes-whole.ensures.whole.small c.requires.room c.bytes-whole.ensures.whole.size in
     let lent : w ≡ lent_one v buf.number =
     subst (λ (n : ℕ). w ≡ lent_one v n) c.block-block.ensures.number c.keep_lent.ensures in
     let kept : Keeps a v b (lent_one v buf.number) [] =
@@ -72,8 +72,8 @@ returns-in-Ok-Some-clause-gathers g c =
     let buf = c.in-Some.buf in
     let old = g.N.Nic.made c.args.nic.now in
     let new = g.N.Nic.made c.lend.new.nic in
-    let own = lends_own a v buf c.requires.stage c.in-Some.ensures.free c.requires.home c.bytes-whole.ensures.whole.small
-    c.requires.room c.bytes-whole.ensures.whole.size in
+    let own = lends_own a v buf c.requires.stage c.in-Some.ensures.free c.requires.home
+    c.bytes-whole.ensures.whole.small c.requires.room c.bytes-whole.ensures.whole.size in
     let twice = rw c.in-Ok-Some.field-0-is at c.in-Ok-Some.ensures.made in
     fails_here fault.DeviceFault
     (record { began = c.lend.ensures.began; refuses = c.lend.ensures.refuses; refusal = tt })
@@ -87,8 +87,8 @@ returns-in-Err-clause-gathers g c =
     let a = c.args.arena.now in
     let v = c.args.self.now in
     let buf = c.in-Some.buf in
-    let own = lends_own a v buf c.requires.stage c.in-Some.ensures.free c.requires.home c.bytes-whole.ensures.whole.small
-    c.requires.room c.bytes-whole.ensures.whole.size in
+    let own = lends_own a v buf c.requires.stage c.in-Some.ensures.free c.requires.home
+    c.bytes-whole.ensures.whole.small c.requires.room c.bytes-whole.ensures.whole.size in
     fails_here _
     (record { began = c.lend.ensures.began; refuses = c.lend.ensures.refuses; refusal = c.in-Err.ensures.refusal })
     (plays_some a (g.N.Nic.made c.args.nic.now) (g.N.Nic.made c.lend.new.nic) v c.in-Err.ensures.refused)

@@ -46,7 +46,8 @@ returns-in-Err-clause-gathers g c =
     let l = c.look.ensures in
     let some = c.has_next.ensures.yes c.if-not-has_next.false in
     alone_then c.loop-look.invariant.gathers
-    (alone_as _ c.in-Err.is (look_gathers l.asks (c.waits.ensures.no c.if-waits.false) some l.looked l.unseen l.refused))
+    (alone_as _ c.in-Err.is
+    (look_gathers l.asks (c.waits.ensures.no c.if-waits.false) some l.looked l.unseen l.refused))
 
 pub returns-in-Ok-Nothing-clause-kept : goal.returns-in-Ok-Nothing-clause-kept
 returns-in-Ok-Nothing-clause-kept g c =
@@ -91,7 +92,8 @@ loop-look-preserved g c =
     let seen = look_gathers l.asks looks some l.looked l.unseen l.refused in
     record {
       gathers = alone_then c.loop-look.invariant.gathers (alone_as _ tt seen);
-      kept = kept_both c.args.self.now v w c.loop-look.invariant.kept (looks_same c.look.result old new v w l.looked l.unseen);
+      kept = kept_both c.args.self.now v w c.loop-look.invariant.kept
+          (looks_same c.look.result old new v w l.looked l.unseen);
       running = (seen.gathers (record { first = 0; free = [] })).keeps.running c.loop-look.invariant.running;
       many = λ still. omega (
         arith,

@@ -32,7 +32,8 @@ returns-in-Ok-clause-began g c =
 pub returns-in-Ok-clause-refuses : goal.returns-in-Ok-clause-refuses
 returns-in-Ok-clause-refuses g c =
     let next = c.post_named.ensures.gathers in
-    (gathers_then c.lend_and_name.ensures.gathers next.enough (next.gathers c.lend_and_name.new.arena)).acts.asks.refuses
+    (gathers_then c.lend_and_name.ensures.gathers next.enough (next.gathers
+    c.lend_and_name.new.arena)).acts.asks.refuses
 
 pub returns-in-Ok-clause-refusal : goal.returns-in-Ok-clause-refusal
 returns-in-Ok-clause-refusal g c = (c.post_named.ensures.gathers.gathers c.lend_and_name.new.arena).acts.asks.refusal

@@ -12,7 +12,8 @@ returns-in-Ok-Some-clause-gathers g c =
     let v = c.args.self.now in
     let w = c.hold.new.self in
     let b = c.in-Ok-Some.buf in
-    let own = takes_own v c.next_block-block.result _ c.requires.stage c.requires.some refl c.next_block-block.ensures.block in
+    let own = takes_own v c.next_block-block.result _ c.requires.stage c.requires.some refl
+    c.next_block-block.ensures.block in
     let own_as = takes_own v b.number _ c.requires.stage c.requires.some
     (rw c.in-Ok-Some.field-0-is at c.in-Ok-Some.ensures.number) c.next_block-block.ensures.block in
     let same = took_whole v w b c.hold.ensures in
@@ -36,7 +37,8 @@ returns-in-Ok-None-clause-gathers g c =
     let old = g.N.Nic.made c.args.nic.now in
     let new = g.N.Nic.made c.take.new.nic in
     let v = c.args.self.now in
-    let own = takes_own v c.next_block-block.result _ c.requires.stage c.requires.some refl c.next_block-block.ensures.block in
+    let own = takes_own v c.next_block-block.result _ c.requires.stage c.requires.some refl
+    c.next_block-block.ensures.block in
     let missed = rw c.in-Ok-None.field-0-is at c.in-Ok-None.ensures.made in
     fails_alone _ (record { began = c.take.ensures.began; refuses = c.take.ensures.refuses; refusal = tt })
     (λ a. take_misses a old new v c.next_block-block.result own missed)
@@ -45,7 +47,8 @@ returns-in-Ok-None-clause-gathers g c =
 pub returns-in-Err-clause-gathers : goal.returns-in-Err-clause-gathers
 returns-in-Err-clause-gathers g c =
     let v = c.args.self.now in
-    let own = takes_own v c.next_block-block.result _ c.requires.stage c.requires.some refl c.next_block-block.ensures.block in
+    let own = takes_own v c.next_block-block.result _ c.requires.stage c.requires.some refl
+    c.next_block-block.ensures.block in
     fails_alone _
     (record { began = c.take.ensures.began; refuses = c.take.ensures.refuses; refusal = c.in-Err.ensures.refusal })
     (λ a. plays_some a (g.N.Nic.made c.args.nic.now) (g.N.Nic.made c.take.new.nic) v c.in-Err.ensures.refused)

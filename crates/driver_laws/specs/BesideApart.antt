@@ -48,8 +48,8 @@ LentIsOut =
     (x : Beside) → IsAloneBeside x → (number : ℕ) → IsTrue (asked_of x.w x.a x.g number) →
     IsTrue (has_block (memory_after x.origin x.h) number) → IsTrue (is_out (now x).driver.rings number)
 
--- and each that was free in the arena that came to the driver, or out of it then, is in one place; those among them that
--- were out, or were given out of hand, others may have lent
+-- and each that was free in the arena that came to the driver, or out of it then, is in one place; those among them
+-- that were out, or were given out of hand, others may have lent
 abbrev pub EachInOnePlace : Type 0
 EachInOnePlace =
     (x : Beside) → IsAloneBeside x → (outside hand elsewhere : List ℕ) →

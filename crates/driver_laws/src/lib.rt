@@ -95,9 +95,9 @@ pub fn no_start_finds_the_device_at_fault()
 /// Over a legal history of any sound device that leaves the queue alone, where a `start` answered a driver and its
 /// calls came since: each block that the driver has out with a half is lent at the device. Where of its arena's blocks
 /// those that its pass asks to lend weren't lent just before its first access, and no other pass lends any of them,
-/// each of them that is lent there is out with a half. So each that was free in the arena as it came, or out of it then,
-/// as one in hand is, is in one place: free there, in hand, or lent to the device. Those that were out, or that the
-/// driver gave out of hand, others may have lent.
+/// each of them that is lent there is out with a half. So each that was free in the arena as it came, or out of it
+/// then, as one in hand is, is in one place: free there, in hand, or lent to the device. Those that were out, or that
+/// the driver gave out of hand, others may have lent.
 pub fn blocks_out_are_lent_at_the_device()
     ensures lent { OutIsLent }
     ensures known { LentIsOut }

@@ -1,7 +1,9 @@
+#define _POSIX_C_SOURCE 200809L
 #include "card.h"
 
 #include <inttypes.h>
 #include <string.h>
+#include <time.h>
 
 #include "memory.h"
 
@@ -150,19 +152,6 @@ static void watch(struct card *it, const struct function *function, bool is_writ
         card_hold(it);
 }
 
-uint32_t card_read(struct card *it, struct function *function, uint32_t offset)
-{
-    uint64_t enables = bus_counts()->enables;
-    it->active[function->number] = function;
-    watch(it, function, false, offset, 0);
-    uint32_t word = bus_read(function->number, offset);
-    if (function->number == BUS_PHYSICAL && offset == NIC_CTRL)
-        word |= it->stepper.reset.word & RESETS;
-    it->stepper.has_changed |= bus_counts()->enables != enables;
-    keep_access(it, function, false, offset, word);
-    return word;
-}
-
 /* A reset, whether a driver asked for it or the client, forgets the frames that wait. */
 static void reset(struct card *it, uint32_t word)
 {
@@ -170,6 +159,34 @@ static void reset(struct card *it, uint32_t word)
     it->stepper.has_changed = true;
     it->let_in = bus_counts()->frames_in + bus_counts()->drops;
     bus_write(BUS_PHYSICAL, NIC_CTRL, word);
+}
+
+static uint64_t now(void)
+{
+    struct timespec time;
+    clock_gettime(CLOCK_MONOTONIC, &time);
+    return (uint64_t)time.tv_sec * 1000000000u + (uint64_t)time.tv_nsec;
+}
+
+/* Makes the reset that goes on, where its time is over. */
+static void end_reset(struct card *it)
+{
+    if (it->stepper.reset.word && stepper_is_reset(&it->stepper, now()))
+        reset(it, it->stepper.reset.word);
+}
+
+uint32_t card_read(struct card *it, struct function *function, uint32_t offset)
+{
+    uint64_t enables = bus_counts()->enables;
+    it->active[function->number] = function;
+    watch(it, function, false, offset, 0);
+    end_reset(it);
+    uint32_t word = bus_read(function->number, offset);
+    if (function->number == BUS_PHYSICAL && offset == NIC_CTRL)
+        word |= it->stepper.reset.word & RESETS;
+    it->stepper.has_changed |= bus_counts()->enables != enables;
+    keep_access(it, function, false, offset, word);
+    return word;
 }
 
 /* What is written while the card is being reset has no effect. */
@@ -187,10 +204,11 @@ void card_write(struct card *it, struct function *function, uint32_t offset, uin
     it->stepper.has_changed = true;
     keep_access(it, function, true, offset, word);
     watch(it, function, true, offset, word);
+    end_reset(it);
     if (it->stepper.reset.word)
         lose(it, function, offset);
     else if (resets && it->stepper.has_seed && !it->stepper.is_held)
-        stepper_reset(&it->stepper, word);
+        stepper_reset(&it->stepper, word, now());
     else if (resets)
         reset(it, word);
     else
@@ -323,11 +341,9 @@ static bool reads_eeprom(void)
 static bool pump_late(struct card *it)
 {
     struct stepper *stepper = &it->stepper;
-    if (stepper->reset.word) {
-        if (!stepper_is_reset(stepper))
-            return true;
-        reset(it, stepper->reset.word);
-    }
+    end_reset(it);
+    if (stepper->reset.word)
+        return true;
     bool left = enable_asked(it);
     if (reads_eeprom() && stepper_toss(stepper))
         bus_eeprom();

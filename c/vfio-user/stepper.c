@@ -2,7 +2,8 @@
 
 #include <stddef.h>
 
-#define RESET_TOSSES 3u /* a driver polls ten times for its end */
+#define RESET_TOSSES 4u /* so many make one of sixteen lengths of a reset, the longest of 0.9 milliseconds */
+#define RESET_STEP 60000u
 
 void stepper_begin(struct stepper *it)
 {
@@ -36,12 +37,15 @@ void stepper_ask(struct stepper *it, bool is_transmit, uint16_t queue)
     it->is_asked[is_transmit][queue] = it->any_asked = true;
 }
 
-void stepper_reset(struct stepper *it, uint32_t word)
+void stepper_reset(struct stepper *it, uint32_t word, uint64_t now)
 {
-    it->reset = (struct late_reset){word, RESET_TOSSES};
+    uint64_t length = 0;
+    for (unsigned int i = 0; i < RESET_TOSSES; i++)
+        length = 2 * length + stepper_toss(it);
+    it->reset = (struct late_reset){word, now + length * RESET_STEP};
 }
 
-bool stepper_is_reset(struct stepper *it)
+bool stepper_is_reset(const struct stepper *it, uint64_t now)
 {
-    return stepper_toss(it) || --it->reset.tosses == 0;
+    return it->reset.word && now >= it->reset.ends;
 }

@@ -9,8 +9,8 @@
 
 /* A reset of the card takes time too, by a seed: drivers are told to wait a millisecond. */
 struct late_reset {
-    uint32_t word;       /* of CTRL; 0: none goes on */
-    unsigned int tosses; /* that are left until it is made in any case */
+    uint32_t word; /* of CTRL; 0: none goes on */
+    uint64_t ends; /* nanoseconds of the caller's clock */
 };
 
 struct stepper {
@@ -31,8 +31,8 @@ void stepper_tail(struct stepper *it, uint16_t queue);
 /* A side of a queue was asked to go on or off. */
 void stepper_ask(struct stepper *it, bool is_transmit, uint16_t queue);
 
-/* A reset begins, by this word of CTRL; and whether it is made now. */
-void stepper_reset(struct stepper *it, uint32_t word);
-bool stepper_is_reset(struct stepper *it);
+/* A reset begins, by this word of CTRL; and whether one goes on that is to be over by now. */
+void stepper_reset(struct stepper *it, uint32_t word, uint64_t now);
+bool stepper_is_reset(const struct stepper *it, uint64_t now);
 
 #endif

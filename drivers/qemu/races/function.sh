@@ -10,10 +10,15 @@ start() {
 }
 
 # A host that was reset spreads frames over more queues than the function has, and is waited for: the driver looks every
-# two seconds.
+# two seconds. While it is reset it refuses an MTU.
 calm() {
     host ethtool -X eth0 equal 1
     sleep 5
+    n=0
+    while ! ip link set eth0 mtu 1500 && [ $n -lt 10 ]; do
+        sleep 1
+        n=$((n + 1))
+    done
 }
 
 # The check of a function: numbered frames out; frames of the wire go to the host's address, so pings are the other way.

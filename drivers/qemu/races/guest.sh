@@ -8,6 +8,9 @@ doing() {
     echo "$step $*" >/tmp/doing
 }
 
+# Frames of one flow stay in order, and none is dropped or marked since it waited: the kernels' own fq_codel does that.
+echo pfifo_fast >/proc/sys/net/core/default_qdisc
+
 # control WORDS..: a request to the server, which is answered before the guest goes on.
 control() {
     echo "@control $*"

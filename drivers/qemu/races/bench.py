@@ -20,7 +20,7 @@ from workload import Plan, script  # noqa: E402
 
 BOOT_SECONDS = 300
 SILENT_SECONDS = 90  # in which a guest that is well says something
-LOCKED_SECONDS = 25  # after a lockup was told, in which a guest that goes on begins another operation
+LOCKED_SECONDS = 60  # after a lockup was told, in which a guest that goes on begins another operation
 FUNCTION_MAC = "02:00:00:00:00:55"
 REQUEST = re.compile(r"@(control|search|host) (.*)$")
 WORKLOAD = LIBRARY + (HERE / "guest.sh").read_text()

@@ -22,7 +22,7 @@ BOOT_SECONDS = 300
 SILENT_SECONDS = 90  # in which a guest that is well says something
 LOCKED_SECONDS = 60  # after a lockup was told, in which a guest that goes on begins another operation
 FUNCTION_MAC = "02:00:00:00:00:55"
-REQUEST = re.compile(r"@(control|search|host) (.*)$")
+REQUEST = re.compile(r"@(control|await|search|host) (.*)$")
 WORKLOAD = LIBRARY + (HERE / "guest.sh").read_text()
 
 
@@ -111,8 +111,10 @@ class Relay(Guest):
             self.last = time.time()
             found = REQUEST.search(line)
             self.add(found[0] if found else line)
-            if found and found[1] == "control":
+            if found and found[1] in ("control", "await"):
                 self.relay(found[2])
+            if found and found[1] == "await":
+                self.send(": answered")
             if found and found[1] == "host" and self.host:
                 self.host.send(found[2])
 
@@ -122,7 +124,6 @@ class Relay(Guest):
                 self.add(f"control: {answer}")
         except Wrong:
             self.add("control: the server has ended")
-        self.send(": answered")
 
     @property
     def has_ended(self) -> bool:

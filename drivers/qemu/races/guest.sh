@@ -1,5 +1,5 @@
 # What a guest of drivers/qemu/search does, behind guest/library.sh: busybox's sh reads it. Lines "@search .." are the
-# runner's, "@control .." go to the server, "@host .." to the guest that has the physical function.
+# runner's, "@control .." and "@await .." go to the server, "@host .." to the guest that has the physical function.
 
 # doing WORDS..: what the guest does now, which the watcher looks at too.
 doing() {
@@ -11,9 +11,10 @@ doing() {
 # Frames of one flow stay in order, and none is dropped or marked since it waited: the kernels' own fq_codel does that.
 echo pfifo_fast >/proc/sys/net/core/default_qdisc
 
-# control WORDS..: a request to the server, which is answered before the guest goes on.
+# control WORDS..: a request to the server, which is answered before the guest goes on. Where an operation is to begin
+# at once behind a request, the line is "@control WORDS", and nobody waits.
 control() {
-    echo "@control $*"
+    echo "@await $*"
     read -r -t 20 _
 }
 
@@ -31,13 +32,13 @@ mtu() {
 }
 burst() {
     doing burst "$@"
-    control frames "$1" "$2"
+    echo "@control frames $1 $2"
 }
 blink() {
     doing blink "$@"
-    control link down
+    echo "@control link down"
     usleep "$1"
-    control link up
+    echo "@control link up"
 }
 again() {
     doing again

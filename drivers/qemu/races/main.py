@@ -116,7 +116,7 @@ class Search:
                 self.tasks.appendleft(Task(outcome.seed, outcome))
             else:
                 self.note(outcome)
-        if outcome.fails and (not task.first or outcome.record):
+        if outcome.fails and (not task.first or outcome.record) and (not self.case or self.is_the_case(outcome)):
             folder = keep_failure(outcome, script(outcome.seed, self.plan), self.words.out / "failures")
             if self.is_the_case(outcome):
                 self.is_found, self.found = True, folder

@@ -13,7 +13,7 @@ from pathlib import Path
 
 HERE = Path(__file__).resolve().parent
 sys.path.insert(0, str(HERE.parent))
-from guests import LIBRARY, QUIET, Guest, Place, Server, Wrong, device, memory, port  # noqa: E402
+from guests import LIBRARY, QUIET, Guest, Place, Server, Wrong, device, memory, port, started  # noqa: E402
 from initrd import Initrd  # noqa: E402
 from verdict import FATAL, NOTES, Finding, checked, counted, numbers, spoken, went_on, worst_first  # noqa: E402
 from workload import Plan, script  # noqa: E402
@@ -89,10 +89,8 @@ class Relay(Guest):
 
     def __init__(self, words: Sequence[str], server: Server, log: Path, host: Relay | None = None) -> None:
         self.server, self.lines, self.began, self.log = server, list[str](), time.time(), log
-        self.host, self.last = host, time.time()
-        self.process = subprocess.Popen(
-            words, stdin=subprocess.PIPE, stdout=subprocess.PIPE, stderr=subprocess.STDOUT
-        )
+        self.times, self.host, self.last = list[float](), host, time.time()
+        self.process = started(words, stdin=subprocess.PIPE, stdout=subprocess.PIPE, stderr=subprocess.STDOUT)
         self.reader = threading.Thread(target=self.read, daemon=True)
         self.reader.start()
 

@@ -6,6 +6,7 @@
 from __future__ import annotations
 
 import argparse
+import atexit
 import os
 import re
 import shutil
@@ -22,7 +23,7 @@ HERE = Path(__file__).resolve().parent
 sys.path[:0] = [str(HERE), str(HERE.parent)]
 from bench import Bench, Kernel, Outcome  # noqa: E402
 from cases import CASES, Case  # noqa: E402
-from guests import Place, Wrong  # noqa: E402
+from guests import Place, Wrong, end_all, end_on_signals  # noqa: E402
 from modules import Unreadable, unpack_modules  # noqa: E402
 from report import draw, junit, keep_failure, line, table  # noqa: E402
 from verdict import Finding  # noqa: E402
@@ -138,7 +139,8 @@ class Search:
     # ---- all ----
 
     def run(self) -> int:
-        threads = [threading.Thread(target=self.work) for _ in range(min(self.words.jobs, len(self.tasks)))]
+        many = min(self.words.jobs, len(self.tasks))
+        threads = [threading.Thread(target=self.work, daemon=True) for _ in range(many)]
         for thread in threads:
             thread.start()
         for thread in threads:
@@ -239,6 +241,8 @@ def main(words: Sequence[str]) -> int:
         page = draw(given.draw)
         print(page or f"{NAME}: {given.draw} can't be drawn")
         return 0 if page else 2
+    atexit.register(end_all)
+    end_on_signals()
     place = Place(*(Path(it) for it in words[:3]))
     given.out = (given.out or place.folder / "out").resolve()
     given.out.mkdir(parents=True)

@@ -5,4 +5,4 @@ carrier
 ip neigh replace 10.0.0.5 lladdr 02:00:00:00:00:55 dev eth0
 ping -c 2 10.0.0.1
 echo "HOST READY"
-sleep 200
+sleep 3000

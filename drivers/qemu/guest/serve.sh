@@ -6,4 +6,4 @@ dd if=/dev/urandom of=big bs=1M count=8 2>/dev/null
 md5sum big >sum
 httpd -p 80 -h /var/www
 echo "SERVES"
-sleep 200
+sleep 3000

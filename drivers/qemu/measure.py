@@ -185,9 +185,11 @@ def main(words: list[str]) -> int:
     try:
         for turn in range(int(words[3])):
             for card in CARDS:
-                got = [*alone(place, card), between_two(place, card)]
+                got = alone(place, card)
                 told = ", ".join(shown(it) for it in got)
-                print(f"turn {turn + 1}, {card.name}: {told}", file=sys.stderr, flush=True)
+                print(f"turn {turn + 1}, {card.name}, alone: {told}", file=sys.stderr, flush=True)
+                got.append(between_two(place, card))
+                print(f"turn {turn + 1}, {card.name}, two guests: {shown(got[-1])}", file=sys.stderr, flush=True)
                 old = best.get(card.name, got)
                 best[card.name] = [(max if it.is_rate else min)(a, b) for it, a, b in zip(FIGURES, old, got)]
     except Wrong as fault:

@@ -305,7 +305,7 @@ def check_notes(folder: Path, expect: Expect) -> None:
     nic82599.record(file)
     with nic82599.Nic(0) as nic:
         nic.lend(1)
-        nic.note("of the ring")
+        nic.note("guest: the ring of rx 0 is at 0x12340000, 8 slots")
         nic.write32(0x01000, 0x800)
         nic.note("first")
         nic.note("second \u00fc")
@@ -314,7 +314,8 @@ def check_notes(folder: Path, expect: Expect) -> None:
     for limit in (4_096, 1):
         run = of_recording(str(file), limit)
         said = [run.comment(step.pc) for step in run.steps]
-        wanted = ["", "of the ring"] if limit > 1 else ["after the 2 events before"]
+        ring = "guest: the ring of rx 0 is at 0x12340000, 8 slots"
+        wanted = ["", ring] if limit > 1 else [f"after the 2 events before; {ring}"]
         wanted.append("first; second ??")
         expect(said == wanted, f"the notes of the last {limit} events are {said}")
         expect(Data(run).whole()["comments"] == said, "the page has other notes")

@@ -44,15 +44,18 @@ function lentAfter(rows, [sign, first, last]) {
   return parts.filter(([a, b]) => a <= b);
 }
 const isLent = (rows, block) => rows.some(([first, last]) => first <= block && block <= last);
+// What a recording of a virtual machine's card says of a ring: where the guest has it.
+const RING_OF_GUEST = /guest: the ring of ((?:rx|tx) \d+) is at (0x[0-9a-f]+)/g;
 // The machine after n steps.
 function machine(n) {
   const state = {
-    words: new Map(start), memory: new Map(), lent: [], waiting: [], out: [], routes: run.routes,
+    words: new Map(start), memory: new Map(), lent: [], waiting: [], out: [], routes: run.routes, guest: new Map(),
   };
   const moved = (list, [sign, frames]) =>
     sign === "+" ? list.concat(frames) : list.filter((one) => !frames.includes(one));
   for (let k = 0; k < n; k++) {
-    const [, , , changes, more] = run.steps[k];
+    const [pc, , , changes, more] = run.steps[k];
+    for (const [, name, address] of (run.comments[pc] ?? "").matchAll(RING_OF_GUEST)) state.guest.set(name, address);
     for (const [address, word] of changes) state.words.set(address, word);
     for (const [unit, content] of more.m || []) state.memory.set(unit, content);
     for (const one of more.l || []) state.lent = lentAfter(state.lent, one);

@@ -47,8 +47,9 @@ function writtenSlots(ring, n) {
   return new Set(written.map(([unit]) => (unit - ring.base) / 16));
 }
 function factsOf(state, ring) {
-  const { name, base, slots, head, tail, on } = ring;
-  return `${name}: base 0x${base.toString(16)}, ${slots} slots, head ${head}, tail ${tail}, ${on ? "on" : "off"}`;
+  const { name, slots, head, tail, on } = ring, guest = state.guest.get(ring.name);
+  const base = `base 0x${ring.base.toString(16)}${guest ? `, the guest's ${guest}` : ""}`;
+  return `${name}: ${base}, ${slots} slots, head ${head}, tail ${tail}, ${on ? "on" : "off"}`;
 }
 
 // A circle.

@@ -10,6 +10,7 @@ what was there then.
 from __future__ import annotations
 
 import contextlib
+import re
 from bisect import bisect_right
 from collections.abc import Iterator
 from dataclasses import dataclass, field, replace
@@ -31,6 +32,8 @@ BAD = (ValueError, KeyError, IndexError, OverflowError, TypeError, NicError)
 EMPTY = ": no bytes"
 # What the program said of what comes next (nic_note).
 NOTE = "# note: "
+# What the card of a virtual machine says of a ring; of the last of each it goes on to be so.
+RING = re.compile(r"guest: the ring of (\S+ \d+) is at [^;]*")
 # Behind these the steps begin anew.
 RESTARTS = (["restore"], ["image"], ["text"])
 
@@ -280,6 +283,25 @@ def _steps(player: Player, script: Script, bench: Library, start: dict[int, int]
     return steps
 
 
+def _comment(recording: Recording, script: Script, steps: list[Step], replies: list[str]) -> int:
+    """What stands behind the lines: what was recorded where it is another answer, of which it tells how many there are;
+    and the notes."""
+    notes, others, extra = _notes(recording), 0, bool(recording.before)
+    if extra:
+        told = (RING.finditer(text) for event, text in sorted(notes.items()) if event < recording.before)
+        rings = {one[1]: one[0] for found in told for one in found}
+        script.lines[0] += "".join(f"; {text}" for text in rings.values())
+    for step, reply in zip(steps, replies):
+        at = script.line_of[step.pc] - 1
+        if step.reply == reply:
+            script.lines[at] = script.lines[at].partition("#")[0].rstrip()
+        note = notes.get(recording.before + step.pc - extra) if reply != "after" else None
+        if note:
+            script.lines[at] += f"  # {note}"
+        others += step.reply != reply and reply != "after"
+    return others
+
+
 def trace(player: Player) -> Trace:
     """The trace of the steps that are shown, from the controller as it is in front of them."""
     nic, recording = player.nic, player.recording
@@ -300,15 +322,7 @@ def trace(player: Player) -> Trace:
             break
         always |= missed
     bench.begin_debug(script, [step.reply for step in steps])
-    notes, extra = _notes(recording), bool(recording.before)
-    for step, reply in zip(steps, replies):
-        at = script.line_of[step.pc] - 1
-        if step.reply == reply:  # what was recorded stands where it is another answer
-            script.lines[at] = script.lines[at].partition("#")[0].rstrip()
-        note = notes.get(recording.before + step.pc - extra) if reply != "after" else None
-        if note:
-            script.lines[at] += f"  # {note}"
-        player.others += step.reply != reply and reply != "after"
+    player.others += _comment(recording, script, steps, replies)
     if recording.before:
         steps[0].lent = [("+", *row) for row in in_rows(lent)]
     if player.others:

@@ -23,6 +23,7 @@ from pathlib import Path
 sys.dont_write_bytecode = True
 from guests import HERE, Guest, Machine, Place, Server, Wrong, begin, device, has, running, started  # noqa: E402
 
+READS, WRITES, FRAMES = 20_000, 100_000, 20_000  # of a register, and each way
 MEGABYTES = 32  # that go from one guest to the other
 
 
@@ -112,7 +113,10 @@ def seconds_in(text: str, pattern: str) -> float:
 
 def alone(place: Place, card: Card) -> list[float]:
     """All figures but the last, of one guest."""
-    script = (HERE / "guest/measure.sh").read_text().replace("MODULE", card.module).replace("MASK", card.mask)
+    script = (HERE / "guest/measure.sh").read_text()
+    counts = {"READS": READS, "WRITES": WRITES, "FRAMES": FRAMES}
+    for name, value in ({"MODULE": card.module, "MASK": card.mask} | counts).items():
+        script = script.replace(name, str(value))
     other = OtherEnd(place)
     machine = Machine(place, "kernel-6.1", script, modules=(card.module,))
     with plugged(place, card, "card", f"stream:{other.path}", MACS[0]) as words:
@@ -123,7 +127,8 @@ def alone(place: Place, card: Card) -> list[float]:
             guest.kill()
     other.end()
     has(text, "guest", "3 packets received")
-    for end in (r"^control: 20000 of 20000, twice 0, wrong 0", r"^frames: received 20000 of 20000 .* wrong 0$"):
+    all_of = f"{FRAMES} of {FRAMES}"
+    for end in (rf"^control: {all_of}, twice 0, wrong 0", rf"^frames: received {all_of} .* wrong 0$"):
         if len(re.findall(end, text, re.MULTILINE)) != 2:
             raise Wrong(f"{card.name}: frames are missing or wrong:\n" + "\n".join(text.splitlines()[-20:]))
     return [guest.when("guest: carrier at"), *figures_of(text, guest)]
@@ -131,11 +136,11 @@ def alone(place: Place, card: Card) -> list[float]:
 
 def figures_of(text: str, guest: Guest) -> list[float]:
     loaded, carrier = seconds_in(text, r"^guest: loads at ([\d.]+)"), seconds_in(text, r"^guest: carrier at ([\d.]+)")
-    outs = [float(it) for it in re.findall(r"^control: 20000 of 20000, .* in ([\d.]+) s$", text, re.MULTILINE)]
-    ins = [float(it) for it in re.findall(r"^frames: received 20000 .* in ([\d.]+) s", text, re.MULTILINE)]
-    reads = 20000 / seconds_in(text, r"^registers: 20000 reads in ([\d.]+) s")
-    writes = 100000 / seconds_in(text, r"^registers: 100000 writes in ([\d.]+) s")
-    rates = [20000 / max(1e-6, it) for pair in zip(outs, ins) for it in pair]
+    outs = [float(it) for it in re.findall(rf"^control: {FRAMES} of .* in ([\d.]+) s$", text, re.MULTILINE)]
+    ins = [float(it) for it in re.findall(rf"^frames: received {FRAMES} .* in ([\d.]+) s", text, re.MULTILINE)]
+    reads = READS / seconds_in(text, r"^registers: \d+ reads in ([\d.]+) s")
+    writes = WRITES / seconds_in(text, r"^registers: \d+ writes in ([\d.]+) s")
+    rates = [FRAMES / max(1e-6, it) for pair in zip(outs, ins) for it in pair]
     return [carrier - loaded, guest.when("bytes from 10.0.0.1"), reads, writes, *rates]
 
 

@@ -15,7 +15,7 @@ rates() {
 
 up 10.0.0.2 MODULE
 ping -c 3 10.0.0.1
-registers 0000:01:00.0 8 20000
-registers 0000:01:00.0 MASK 100000 0
-rates 20000 60
-rates 20000 1514
+registers 0000:01:00.0 8 READS
+registers 0000:01:00.0 MASK WRITES 0
+rates FRAMES 60
+rates FRAMES 1514

@@ -118,7 +118,8 @@ def alone(place: Place, card: Card) -> list[float]:
     for name, value in ({"MODULE": card.module, "MASK": card.mask} | counts).items():
         script = script.replace(name, str(value))
     other = OtherEnd(place)
-    machine = Machine(place, "kernel-6.1", script, modules=(card.module,))
+    # else a program may not have the registers beside a driver
+    machine = Machine(place, "kernel-6.1", script, modules=(card.module,), append="iomem=relaxed")
     with plugged(place, card, "card", f"stream:{other.path}", MACS[0]) as words:
         guest = machine.start("guest", other, *words)
         try:

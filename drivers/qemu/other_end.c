@@ -46,7 +46,7 @@ static void obey(const char *line)
         if (!traffic_expect(&traffic, count, (uint16_t)most, card))
             puts("error: memory is short");
     } else if (strcmp(line, "came") == 0) {
-        printf("%u of %u, twice %u, wrong %u, in %.3f s\n", expected->good, expected->count, expected->twice,
+        printf("%u of %u, twice %u, wrong %u, in %.6f s\n", expected->good, expected->count, expected->twice,
                expected->wrong, last - first);
     } else {
         puts("error: frames COUNT MOST, expect COUNT MOST, or came");

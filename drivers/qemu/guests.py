@@ -182,13 +182,23 @@ class Guest:
         with open(self.log, "a", encoding="utf-8") as log:
             log.write(f"{time.time() - self.began:7.2f} {line}\n")
 
+    def asked(self, words: str) -> list[str]:
+        """The answer to a guest's request. Frames that are on their way are waited for, as long as more come."""
+        answer = self.server.ask(words)
+        while words == "came" and answer and not re.match(r"(\d+) of \1,", answer[0]):
+            time.sleep(2)
+            before, answer = answer, self.server.ask(words)
+            if answer == before:
+                break
+        return answer
+
     def read(self) -> None:
         assert self.process.stdout
         for raw in self.process.stdout:
             line = re.sub(r"\x1b\[[0-9;?]*[A-Za-z]|\x1bc", "", raw.decode("latin-1")).strip()
             self.add(line)
             if line.startswith("@control "):
-                for answer in self.server.ask(line.removeprefix("@control ")):
+                for answer in self.asked(line.removeprefix("@control ")):
                     self.add(f"control: {answer}")
 
     def wait_for(self, text: str, seconds: float = SECONDS) -> None:

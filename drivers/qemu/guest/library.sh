@@ -35,7 +35,7 @@ passes() {
     sleep 1
     echo "@control came"
     frames receive eth0 2000 "$1" 60 >/tmp/received &
-    while ! grep -q ready /tmp/received; do usleep 50000; done
+    while ! grep -q ready /tmp/received 2>/dev/null; do usleep 50000; done
     echo "@control frames 2000 $1"
     wait
     cat /tmp/received

@@ -7,7 +7,7 @@ rates() {
     echo "@control came"
     usleep 300000
     frames receive eth0 "$1" "$2" 60 >/tmp/received &
-    while ! grep -q ready /tmp/received; do usleep 50000; done
+    while ! grep -q ready /tmp/received 2>/dev/null; do usleep 50000; done
     echo "@control frames $1 $2"
     wait
     cat /tmp/received

@@ -201,7 +201,7 @@ FAULTS = {
 NOTES = {
     "stray": (0, r"note: \d+ accesses of no register, the first by faulty: r 0x1f000 = 0x00000000 \(stray\)"),
     "beyond": (1, r"note: queue 5 isn't below \.queues, so it never goes on"),
-    "left": (1, "it doesn't fail alone: the same options find it again"),
+    "left": (1, "it doesn't fail alone: the same options, with as many processes, find it again"),
 }
 
 # Of which scenarios what is told never to have run: these lines and no others.
@@ -295,6 +295,10 @@ WORDS = {
     "--junit /nowhere/result.xml": "--junit: /nowhere/result.xml can't be written",
     "--junit /tmp": "--junit: /tmp can't be written",
     "--junit": "--junit: it wants a word behind it",
+    "--result": "--result: it wants a word behind it",
+    "--result /tmp": "--result: /tmp can't be written",
+    "--merge": "--merge: it wants a word behind it",
+    "--lenient": "--lenient: it is for --replay",
     "--replay /tmp": "/tmp: it can't be read",
     "--replay /nowhere": "/nowhere: it can't be read",
 }
@@ -507,7 +511,7 @@ def check_refusals(kit: Kit) -> str:
     for words, wanted in WORDS.items():
         said = ran([program, "fine", *words.split()], 2)
         told(said, wanted, words)
-        if not words.startswith(("--out ", "--junit ", "--replay ")):
+        if not words.startswith(("--out ", "--junit ", "--replay ", "--result ")):
             told(said, "usage: .*options", words)
     schedule = out / "bad.schedule"
     fine = "scenario faulty\ntask faulty\n"
@@ -519,7 +523,7 @@ def check_refusals(kit: Kit) -> str:
         f"{fine}rx\n": r':3: "rx" can\'t act here',
         f"{fine}handler isr\n": r':3: "handler isr" can\'t act here',
         fine: r":2: the schedule ends, and somebody can act",
-        "scenario faulty\n" + "x" * 600: r":2: the line is longer",
+        "scenario faulty\n" + "x" * 1100: r":2: the line is longer",
         f"{fine}rx\0\n": r":3: it is no text",
         "\0" * 600: r":1: it is no text",
     }.items():

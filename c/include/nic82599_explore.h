@@ -106,6 +106,9 @@ int nicx_timer(const char *name, void (*function)(void *), void *argument, uint3
 void nicx_frame(const uint8_t *frame, size_t length);
 /* The link will go down or up, beside the frames and in the order in which this was called. */
 void nicx_link_change(bool up);
+/* How many frames came so far, dropped ones too. A failure is shrunk by leaving frames out, so `end` had better ask for
+   what came than for what was named. */
+uint32_t nicx_came(void);
 
 /* --- in tasks and handlers: each of these is a point --- */
 

@@ -9,16 +9,19 @@ at the end of a `with`. pytest's own option `-p no:nic82599` leaves the plugin o
         return Poll()                  # a nic82599.explore.Scenario
 
 The words of the marker are those of `nic82599.explore.search`: runs, seed, strategy, depth, preemptions, hang, shrink,
-jobs, strict, memory. What of a scenario never ran is a warning and a property in JUnit XML, and by `strict` a failure.
-A failure is told with its schedule. With --nic-out FOLDER the schedule goes into a file there, NAME.schedule, which
+jobs, strict, memory, shard. What of a scenario never ran is a warning and a property in JUnit XML, and by `strict` a
+failure. A failure is told with its schedule. With --nic-out FOLDER the schedule goes into a file there,
+NAME.schedule, which
 --nic-replay FILE makes once in place of the search; tests of other scenarios are skipped then. Beside it is NAME.nic,
-the device's side of it, which nicview draws. --nic-jobs N has N processes search each scenario. A word of the marker
-that can't be taken fails its test; one of the options ends pytest, with status 4.
+the device's side of it, which nicview draws. --nic-jobs N has N processes search each scenario, and --nic-shard K/N is
+for the K-th of N machines that share all searches. A word of the marker that can't be taken fails its test; one of the
+options ends pytest, with status 4.
 """
 
 from __future__ import annotations
 
 import contextlib
+import re
 import sys
 import weakref
 from collections.abc import Generator, Iterator
@@ -28,18 +31,31 @@ import pytest
 
 import nic82599
 
-from .explore import BadSchedule, BadWord, Failure, Report, Scenario, Vacuous, check_number, check_out, replay, search
+from .explore import (
+    BadSchedule,
+    BadWord,
+    Failure,
+    Report,
+    Scenario,
+    Vacuous,
+    check_number,
+    check_out,
+    check_shard,
+    replay,
+    search,
+)
 
 if TYPE_CHECKING:
     from pluggy import Result
 
-WORDS = ("runs", "seed", "strategy", "depth", "preemptions", "hang", "shrink", "jobs", "strict", "memory")
+WORDS = ("runs", "seed", "strategy", "depth", "preemptions", "hang", "shrink", "jobs", "strict", "memory", "shard")
 
 
 def pytest_addoption(parser: pytest.Parser) -> None:
     group = parser.getgroup("nic82599")
     group.addoption("--nic-out", metavar="FOLDER", help="where the schedules of failures go")
     group.addoption("--nic-jobs", metavar="N", type=int, help="so many processes for each search")
+    group.addoption("--nic-shard", metavar="K/N", help="of N machines that share each search the K-th")
     group.addoption("--nic-replay", metavar="FILE", help="makes the schedule of this file in place of a search")
 
 
@@ -53,8 +69,20 @@ def pytest_configure(config: pytest.Config) -> None:
             check_number("jobs", jobs)
         if out is not None:
             check_out(out)
+        shard_of(config)
     except BadWord as fault:
         raise pytest.UsageError(f"--nic-{fault}") from None
+
+
+def shard_of(config: pytest.Config) -> tuple[int, int] | None:
+    """The shard of an option; BadWord."""
+    text = config.getoption("--nic-shard")
+    if text is None:
+        return None
+    found = re.fullmatch(r"(\d{1,5})/(\d{1,5})", text)
+    shard = (int(found[1]), int(found[2])) if found else text
+    check_shard(shard)
+    return shard
 
 
 def words_of(marker: pytest.Mark) -> dict[str, object]:
@@ -110,6 +138,8 @@ def pytest_pyfunc_call(pyfuncitem: pytest.Function) -> bool | None:
         words = words_of(marker)
         if config.getoption("--nic-jobs") is not None:
             words["jobs"] = config.getoption("--nic-jobs")
+        if (shard := shard_of(config)) is not None:
+            words["shard"] = shard
         try:
             report = search(scenario, **words, out=config.getoption("--nic-out"))
         except BadWord as fault:

@@ -343,18 +343,198 @@ def ran(script: str, *words: str) -> str:
     return made.stdout
 
 
+def without_place(text: str) -> str:
+    """The text of a file without the lines of the source, what a condition is called there, and where it goes wrong."""
+    text = re.sub(r"# here it goes wrong: .*\n", "", text)
+    text = re.sub(r"waited until \S+\(.*\)", "waited until", text)
+    return re.sub(r"(:|,)? at \S+:\d+( < \S+:\d+)*$", "", text, flags=re.M)
+
+
+class Much(Scenario):
+    """A driver that loses a frame, beside what doesn't matter."""
+
+    name, points = "much", 200
+
+    def bring_up(self) -> None:
+        Race.bring_up(self)
+
+    def begin(self) -> None:
+        self.got = 0
+        self.service("take", self.take)
+        self.task("count", self.count)
+        self.handler("isr", self.isr, vector=5)
+        for _ in range(4):
+            self.frame(bytes.fromhex("02000000000102000000000288b5") + bytes(46))
+        self.link_change(True)
+
+    def count(self) -> None:
+        for _ in range(3):
+            self.point()
+
+    def isr(self) -> None:
+        self.write32("EIMC", 1 << 5)
+
+    def take(self) -> None:
+        slot = 0
+        while slot < 7:
+            self.wait()
+            while slot < 7 and self.get64(16 * slot + 8) & 1:
+                head = self.read32("RDH")
+                self.got += 1
+                slot += 1 + (self.read32("RDH") != head)
+
+    def end(self) -> str | None:
+        return None if self.got == self.came else "a frame is lost"
+
+
+class Counted(Much):
+    def end(self) -> str | None:
+        return None if self.got == 4 else "a frame is lost"
+
+
+class Polite(Scenario):
+    """Each of two waits until the other one doesn't want, and wants."""
+
+    name, points = "polite", 100
+
+    def begin(self) -> None:
+        self.wants = [False, False]
+        self.task("one", lambda: self.polite(0))
+        self.task("other", lambda: self.polite(1))
+
+    def polite(self, mine: int) -> None:
+        self.wants[mine] = True
+        self.point()
+        while self.wants[1 - mine]:
+            self.write32("EIMC", 1)
+            self.wait()
+        self.wants[mine] = False
+
+    def end(self) -> str | None:
+        return None
+
+
+class Reader(Scenario):
+    name = "reader"
+    is_mended = False
+
+    def bring_up(self) -> None:
+        Race.bring_up(self)
+
+    def begin(self) -> None:
+        self.task("reader", self.reader)
+        self.frame(bytes.fromhex("02000000000102000000000288b5") + bytes(46))
+
+    def reader(self) -> None:
+        head = self.read32("RDH")
+        if self.is_mended:
+            self.write32("EIMC", 1)
+        self.check(self.read32("RDH") == head, "the head moved")
+
+    def end(self) -> str | None:
+        return None
+
+
+class Told(unittest.TestCase):
+    """How a failure is told: shrunk, by what goes round, and to a driver that was changed."""
+
+    def found(self, scenario: Scenario, **words: object) -> Failure:
+        with self.assertRaises(Failure) as caught:
+            search(scenario, 500, **words)
+        return caught.exception
+
+    def test_without(self) -> None:
+        left = {"task count", "handler isr", "frame 3", "link 0"}
+        result = self.found(Much()).result
+        self.assertTrue(left <= result.without and len(result.points) < 20, result)
+        self.assertLess(len(result.points), len(self.found(Much(), shrink=False).result.points))
+        counted = self.found(Counted()).result
+        self.assertFalse([name for name in counted.without if name.startswith("frame")], counted)
+        with tempfile.TemporaryDirectory() as folder:
+            path = self.found(Much(), out=folder).path
+            text = path.read_text()
+            self.assertIn("without task count\n", text)
+            self.assertRegex(text, r"task take +# peek 0x\w+, 8 bytes at explorer\.py:\d+\n")
+            self.assertEqual(replay(Much(), path).words, "a frame is lost")
+
+    def test_cycle(self) -> None:
+        with tempfile.TemporaryDirectory() as folder:
+            failure = self.found(Polite(), out=folder)
+            self.assertEqual((failure.result.outcome, failure.result.cycle), ("endless", 4), failure)
+            self.assertLess(len(failure.result.points), 12)
+            text, again = failure.path.read_text(), replay(Polite(), failure.path)
+            self.assertIn("cycle                    # from here on over and over:\n", text)
+            self.assertEqual((again.outcome, again.points, again.cycle), ("endless", failure.result.points, 4))
+            script = (Path(folder) / "polite.nic").read_text()
+            self.assertEqual(script.count("# task one: "), failure.result.actors.count("task one"))
+            for wrong, told in {
+                "task one\ncycle\n": "the cycle has no point",
+                "cycle\ntask one\ncycle\n": ":4: there is another cycle",
+                "task one\nwithout task one\n": ":3: what is left out stands in front",
+                "without rx\n": ":2: what is left out",
+            }.items():
+                failure.path.write_text(f"scenario polite\n{wrong}")
+                with self.assertRaisesRegex(BadSchedule, told):
+                    replay(Polite(), failure.path)
+
+    def test_lenient(self) -> None:
+        with tempfile.TemporaryDirectory() as folder:
+            path = self.found(Reader(), out=folder).path
+            same = replay(Reader(), path, lenient=True)
+            self.assertEqual((same.outcome, str(same.parting)), ("check", "it never parts from the schedule"))
+            mended = Reader()
+            mended.is_mended = True
+            result = replay(mended, path, lenient=True)
+            self.assertEqual(result.outcome, "check")
+            self.assertRegex(str(result.parting), r"^it parts from the schedule at \S+/reader.schedule:\d+; "
+                             r"it was: task reader, r RDH\[0\] = 0x00000001.*; "
+                             r"it is: task reader, w EIMC 0x00000001$")  # fmt: skip
+            self.assertRaises(BadSchedule, replay, mended, path)
+
+    def test_shards(self) -> None:
+        """Shards make each schedule that one search makes, and the first of the seeds are told by one of them."""
+        def made(shard: tuple[int, int], **words: object) -> list[tuple[str, ...]]:
+            seen: list[tuple[str, ...]] = []
+
+            class Noted(Twice):
+                def end(self) -> str | None:
+                    seen.append(tuple(self._run.result.actors))
+                    return None
+
+            search(Noted("count", "add", "point"), shard=shard, **words)
+            return seen
+
+        every = {"runs": None, "strategy": "exhaustive", "preemptions": 1}
+        whole = made((1, 1), **every)
+        parts = [made((k, 3), **every) for k in (1, 2, 3)]
+        self.assertEqual(set().union(*map(set, parts)), set(whole))
+        self.assertTrue(sum(map(len, parts)) <= len(whole) + 2 * 2 and min(map(len, parts)) > 3)
+        told = [self.found(Race(), shard=(k, 3)).args[0].splitlines()[1] for k in (1, 2, 3)]
+        runs = [int(re.search(r"in run (\d+) of", line)[1]) for line in told]
+        whole_run = int(re.search(r"in run (\d+) of", self.found(Race()).args[0].splitlines()[1])[1])
+        self.assertEqual(([run % 3 for run in runs], min(runs)), ([0, 1, 2], whole_run))
+        for wrong in ((0, 2), (3, 2), (1, 65_537), (1,), "1/2", None, (1.0, 2)):
+            with self.assertRaisesRegex(BadWord, "^shard: "):
+                search(Race(), 5, shard=wrong)
+
+
 class Files(unittest.TestCase):
     def test_of_c(self) -> None:
         """The explorer in C found this schedule of the same scenario: each point does what it did there."""
         result = replay(Race(), HERE / "race.schedule")
-        lines = [line.split("#") for line in (HERE / "race.schedule").read_text().splitlines()]
+        lines = [without_place(line).split("#") for line in (HERE / "race.schedule").read_text().splitlines()]
         wanted = [(line[0].strip(), line[1].strip()) for line in lines if len(line) == 2 and line[0]]
         self.assertEqual(result.points, wanted)
         self.assertEqual(f"# {result.outcome}: {result.words}", "#".join(lines[0]))
+        is_thread = [name.startswith(("task", "handler")) for name in result.actors]
+        places = [place for place, is_one in zip(result.places, is_thread) if is_one]
+        self.assertTrue(all(re.fullmatch(r"race\.py:\d+", place) for place in places), places)
         with tempfile.TemporaryDirectory() as folder:
             write_files(Race(), result, "found by random in run 36 of seed 1", Path(folder), 10)
-            for name in ("race.schedule", "race.nic"):  # (what the explorer in C wrote of it, to the letter)
-                self.assertEqual((Path(folder) / name).read_text(), (HERE / name).read_text())
+            for name in ("race.schedule", "race.nic"):  # (what the explorer in C wrote of it, but for the lines)
+                one, other = ((at / name).read_text() for at in (Path(folder), HERE))
+                self.assertEqual(without_place(one), without_place(other))
+                self.assertRegex(one, r"at race\.py:\d+\n")
 
     def test_written(self) -> None:
         with tempfile.TemporaryDirectory() as folder:
@@ -365,7 +545,7 @@ class Files(unittest.TestCase):
             script = (Path(folder) / "race.nic").read_text()
         self.assertEqual(again, caught.exception.result)
         self.assertIn("w RDT[0] 7                   # bring-up\n", script)
-        self.assertIn("w EICR 0x20                  # task poll\npeek 0x0 2 ", script)
+        self.assertRegex(script, r"w EICR 0x20                  # task poll: at race\.py:\d+\npeek 0x0 2 ")
         self.assertIn("expect 0x00000003 0xffffffff\n", script)
         self.assertEqual(script.splitlines()[-1], "# FAILED end: a frame lies in the ring, and nobody comes for it")
         self.assertEqual(ran(script, "--vfs", "0", "--fifo", "64").splitlines()[-1].split()[0], "ok")
@@ -461,6 +641,9 @@ class Plugin(unittest.TestCase):
             self.assertIn("nic_schedules: walks is none of runs, seed", told)
             self.assertIn("nic_schedules: depth: 17 is no whole number of 1 to 16", told)
             self.assertIn("--nic-jobs: 0 is no whole number", self.pytest(folder, "--nic-jobs", "0"))
+            self.assertIn("--nic-shard: (3, 2) isn't (K, N)",
+                          self.pytest(folder, "--nic-shard", "3/2"))  # fmt: skip
+            self.assertIn("1 passed", self.pytest(folder, "--nic-shard", "1/2", "-k", "fixed"))
             self.assertIn("--nic-out: there is no such folder", self.pytest(folder, "--nic-out", "/nowhere"))
             told = self.pytest(folder, "--nic-replay", "race.schedule", "-k", "race or fixed")
             self.assertIn("1 failed, 1 skipped", told)

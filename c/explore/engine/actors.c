@@ -178,7 +178,9 @@ static void arrive(struct step *step)
 {
     const struct frame *frame = &nicxi.frames[nicxi.next_frame];
     step->kind = STEP_ARRIVE;
-    step->of = nicxi.next_frame++;
+    step->of = nicxi.next_frame;
+    nicxi.next_frame = nicxi_next_kept(nicxi.omitted.frames, (uint16_t)(step->of + 1), nicxi.frame_count);
+    nicxi.came++;
     step->status = nic_arrive(&nicxi.device, frame->bytes, frame->length, &step->told);
 }
 
@@ -186,7 +188,8 @@ static void change_link(struct step *step)
 {
     step->kind = STEP_LINK;
     step->of = nicxi.next_link;
-    step->word = nicxi.links[nicxi.next_link++];
+    step->word = nicxi.links[step->of];
+    nicxi.next_link = nicxi_next_kept(nicxi.omitted.links, (uint16_t)(step->of + 1), nicxi.link_count);
     step->status = nic_link(&nicxi.device, step->word != 0);
 }
 
@@ -199,7 +202,7 @@ static void message(const struct actor *actor, struct step *step)
     for (uint16_t k = NICX_TASKS; k < NICX_TASKS + nicxi.handlers; k++) {
         struct thread *handler = &nicxi.threads[k];
         if (handler->group == actor->of && handler->vector == step->told.vector)
-            handler->pending = true;
+            handler->pending = !nicxi.omitted.threads[k];
     }
 }
 
@@ -249,6 +252,13 @@ bool nicxi_device_step(struct actor *actor, struct step *step)
     if (nicxi.is_weak && nicxi.phase == RUNNING)
         nicxi_memory_changed(step);
     return step->status != NIC_IDLE && step->status != NIC_NO_GROUP;
+}
+
+uint16_t nicxi_next_kept(const bool *omitted, uint16_t from, uint16_t count)
+{
+    while (from < count && omitted[from])
+        from++;
+    return from;
 }
 
 /* --- what they are called --- */

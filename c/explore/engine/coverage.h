@@ -52,6 +52,8 @@ struct distinct {
     volatile uint8_t ranks[RANKS];
 };
 
+/* A schedule, or what stands for it. */
+void nicxi_count_bits(struct distinct *distinct, uint64_t bits);
 void nicxi_count_schedule(struct distinct *distinct, const uint16_t *schedule, uint32_t points);
 uint64_t nicxi_distinct(const struct distinct *distinct, bool *is_exact);
 

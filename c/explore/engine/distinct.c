@@ -37,7 +37,11 @@ static void note_rank(struct distinct *distinct, uint64_t bits)
 
 void nicxi_count_schedule(struct distinct *distinct, const uint16_t *schedule, uint32_t points)
 {
-    uint64_t bits = bits_of(schedule, points);
+    nicxi_count_bits(distinct, bits_of(schedule, points));
+}
+
+void nicxi_count_bits(struct distinct *distinct, uint64_t bits)
+{
     note_rank(distinct, bits);
     if (distinct->count > EXACT)
         return;

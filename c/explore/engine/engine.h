@@ -160,6 +160,13 @@ struct frame {
     size_t length, room;
 };
 
+/* What the scenario names and a schedule does without: shrinking leaves out what a failure doesn't need. Numbers and
+   names stay those of the whole. */
+struct omitted {
+    bool threads[MOST_THREADS];
+    bool frames[NICX_FRAMES], links[NICX_FRAMES];
+};
+
 enum phase { CLOSED, BRINGING_UP, BEGINNING, RUNNING, ENDING };
 
 /* What is told behind a search, since it is no failure and may be its reason. */
@@ -194,6 +201,8 @@ struct engine {
     uint16_t frame_count, next_frame;
     bool links[NICX_FRAMES];
     uint16_t link_count, next_link;
+    struct omitted omitted;
+    uint32_t came; /* frames that came in this schedule */
 
     const char *asker;    /* the function of the scenario that may only look, while it runs */
     struct polls outside; /* of no thread */
@@ -242,6 +251,9 @@ void nicxi_next(struct thread *self);
 void nicxi_went_on(struct thread *self);
 /* A step was made: kept, and told to whoever listens. */
 void nicxi_told(const struct step *step);
+
+/* The first from a number on that isn't left out, or `count`. */
+uint16_t nicxi_next_kept(const bool *omitted, uint16_t from, uint16_t count);
 
 /* Lists the actors of a schedule, once its tasks and handlers are named. */
 void nicxi_list_actors(void);

@@ -30,8 +30,11 @@ struct node {
 struct exhaustive {
     uint32_t preemptions;
     bool sleeps, is_first, is_strange;
+    bool is_glance;  /* the schedule ends behind the choice of another process's part */
+    bool was_glance; /* as it began */
     struct parts *parts;
-    uint64_t mine, seen, part;
+    uint64_t mine, seen;
+    volatile uint64_t *part; /* which is searched, for who asks after a crash */
     struct node *nodes;
     uint32_t depth; /* how many nodes there are */
     uint32_t root;  /* of them, how many have the first schedule's choice */
@@ -42,7 +45,7 @@ struct exhaustive {
     uint32_t asleep_count, asleep_room;
 };
 
-struct exhaustive *nicxi_exhaustive(uint32_t preemptions, bool sleeps, struct parts *parts)
+struct exhaustive *nicxi_exhaustive(uint32_t preemptions, bool sleeps, struct parts *parts, volatile uint64_t *part)
 {
     struct exhaustive *it = calloc(1, sizeof *it);
     if (!it)
@@ -50,6 +53,8 @@ struct exhaustive *nicxi_exhaustive(uint32_t preemptions, bool sleeps, struct pa
     it->preemptions = preemptions;
     it->sleeps = sleeps;
     it->parts = parts;
+    it->part = part;
+    *part = parts->base;
     it->is_first = true;
     it->nodes = calloc((size_t)nicxi.most_points + 1, sizeof *it->nodes);
     if (!nicxi.steps)
@@ -75,9 +80,9 @@ bool nicxi_exhaustive_is_strange(const struct exhaustive *it)
     return it->is_strange;
 }
 
-uint64_t nicxi_exhaustive_part(const struct exhaustive *it)
+bool nicxi_exhaustive_is_glance(const struct exhaustive *it)
 {
-    return it->part;
+    return it->is_glance || (it->was_glance && nicxi.is_cut);
 }
 
 /* --- lists that grow; without memory the search ends, as one of a driver that isn't the same each time --- */
@@ -248,23 +253,28 @@ static uint64_t next_part(struct parts *parts)
     return parts->shards ? next * parts->shards + parts->shard : next;
 }
 
-/* Whether this process searches the part that begins here. */
-static bool is_mine(struct exhaustive *it)
+/* The part that begins here is this process's, or another's. */
+static void begin_part(struct exhaustive *it)
 {
-    if (it->seen++ != it->mine)
-        return false;
-    it->part = it->mine + 1;
-    it->mine = next_part(it->parts);
-    return true;
+    *it->part = it->parts->base + it->seen + 1;
+    it->is_glance = it->seen++ != it->mine;
+    if (!it->is_glance)
+        it->mine = next_part(it->parts);
 }
 
-/* The next choice at the last node. At a point of the first schedule each choice is a part. */
+/* The next choice at the last node. At a point of the first schedule each choice is a part. Another process's is made
+   too, but no further: what it did is asked for by the sleep sets of the parts behind it. So each process makes of its
+   parts what one alone would make. */
 static bool advance(struct exhaustive *it, struct node *node)
 {
     bool is_root = it->depth <= it->root;
-    do
+    it->is_glance = false;
+    do {
         go_to(it, node, node->at + 1);
-    while (node->at < node->count && is_root && !is_mine(it));
+        if (is_root && node->at < node->count)
+            begin_part(it);
+    } while (it->is_glance && !it->sleeps && node->at < node->count);
+    it->is_glance = it->is_glance && node->at < node->count;
     node[1].is_current = false;
     return node->at < node->count;
 }
@@ -317,6 +327,18 @@ static uint32_t choose_again(struct exhaustive *it, const struct node *node, con
     return k;
 }
 
+/* The point behind the choice of another process's part is the last: whether its actor could go on there is all that is
+   asked. A step of the device is tried for that. */
+static uint32_t end_glance(struct exhaustive *it, const uint16_t *can, uint32_t count, bool again)
+{
+    struct node *node = &it->nodes[it->depth - 1];
+    bool is_current = can[0] == actor_at(it, node, node->at);
+    if (*nicxi.points > it->depth)
+        return count;
+    node[1].is_current = is_current && !again;
+    return is_current && !again && nicxi_may_be_idle(can, 1) ? 0 : count;
+}
+
 static uint32_t choose(void *argument, const uint16_t *can, uint32_t count)
 {
     struct exhaustive *it = argument;
@@ -325,6 +347,8 @@ static uint32_t choose(void *argument, const uint16_t *can, uint32_t count)
     bool again = it->asked == point + 1, is_last = point + 1 == it->depth;
     it->asked = point + 1;
     note_offers(can, count);
+    if (it->is_glance && point >= it->depth)
+        return end_glance(it, can, count, again);
     if (point > it->depth || (again && !is_last)) {
         it->is_strange = true;
         return count;
@@ -347,6 +371,7 @@ nicx_chooser nicxi_exhaustive_chooser(struct exhaustive *it)
 {
     nicx_chooser chooser = {choose, it};
     it->asked = 0;
+    it->was_glance = it->is_glance;
     return chooser;
 }
 
@@ -359,8 +384,7 @@ void nicxi_exhaustive_made(struct exhaustive *it)
     it->is_first = false;
 }
 
-/* The choice that was searched sleeps behind the others of its node. One that another process searched doesn't, since
-   what it did isn't known here. */
+/* The choice that was searched, here or by another process, sleeps behind the others of its node. */
 static bool put_to_sleep(struct exhaustive *it, struct node *node)
 {
     uint32_t depth = (uint32_t)(node - it->nodes);

@@ -1,10 +1,24 @@
+/* The result as JUnit XML: a suite of the scenario, with a case for each failure, or one without. */
 #ifndef NICX_JUNIT_H
 #define NICX_JUNIT_H
 
 #include "search.h"
 
-/* Writes the result to the options' file as JUnit XML, with the schedule of a failure in it: false where it can't. */
-bool nicxi_write_junit(const struct options *options, const struct totals *totals, const struct failure *failure,
-                       const char *schedule);
+struct junit_failure {
+    const nicx_result *result;
+    const char *schedule; /* its file */
+};
+
+struct junit {
+    const struct options *options;
+    const struct totals *totals;
+    bool has_distinct; /* schedules that differ were counted */
+    const char *name;  /* of the case; of the second failure on with a number */
+    const struct junit_failure *failures;
+    uint32_t count;
+};
+
+/* False where it can't be written. */
+bool nicxi_write_junit(const struct junit *junit);
 
 #endif

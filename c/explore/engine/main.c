@@ -1,18 +1,19 @@
 /* A whole program: the search, and what is told of it. */
 #define _DEFAULT_SOURCE
 #include <inttypes.h>
+#include <stdio.h>
 #include <stdlib.h>
 #include <string.h>
 #include <sys/stat.h>
 #include <unistd.h>
 
-#include "files.h"
 #include "junit.h"
-#include "search.h"
+#include "merge.h"
+#include "replay.h"
+#include "tell.h"
 #include "weak.h"
-#include "words.h"
 
-enum { NOTHING = 0, FAILURE = 1, REFUSED = 2, VACUOUS = 3, MOST_PATH = 1024 };
+enum { NOTHING = 0, FAILURE = 1, REFUSED = 2, VACUOUS = 3 };
 
 static int refuse(const nicx_scenario *scenario, const char *why)
 {
@@ -20,237 +21,140 @@ static int refuse(const nicx_scenario *scenario, const char *why)
     return REFUSED;
 }
 
-/* --- one schedule, to the letter --- */
-
-static void print_point(void *argument, uint16_t actor, const struct step *step)
+static bool cant_write(const char *path)
 {
-    uint32_t point = *nicxi.points;
-    if (actor == NOBODY || step->is_beside)
-        return;
-    fprintf(argument, "%4" PRIu32 "  ", point - 1);
-    nicxi_write_point(argument, actor, step);
-    fflush(argument);
+    fprintf(stderr, "%s: it can't be written\n", path);
+    return false;
 }
 
-/* Where the file doesn't fit: at a point of its own, at its end, or because all was over before. */
-static int unfit(const char *path, const struct schedule_file *file, const struct by_list *state, uint32_t points)
+/* --- a search --- */
+
+static void show(const struct options *options, struct failure *failure, const char *program, struct paths *paths)
 {
-    char name[96];
-    if (state->is_unfit && state->unfit < file->length) {
-        fprintf(stderr, "%s:%u: \"%s\" can't act here\n", path, (unsigned)file->lines[state->unfit],
-                nicx_actor_name(file->list[state->unfit], name));
-        return REFUSED;
-    }
-    if (state->is_unfit || points > file->length) {
-        fprintf(stderr, "%s:%u: the schedule ends, and somebody can act\n", path, (unsigned)file->last);
-        return REFUSED;
-    }
-    if (points < file->length) {
-        fprintf(stderr, "%s:%u: all is over before this point\n", path, (unsigned)file->lines[points]);
-        return REFUSED;
-    }
-    return NOTHING;
+    struct turn turn;
+    nicx_result found = failure->result;
+    nicxi_confirm(options, failure);
+    uint32_t tries = options->no_shrink || failure->is_stale ? 0 : nicxi_shrink(options, failure);
+    nicxi_find_turn(options, failure, &turn);
+    const struct keeping keeping = {options, failure, &turn, options->seed, 0};
+    nicxi_keep_failure(&keeping, paths);
+    nicxi_tell_failure(failure, &found, tries, &turn);
+    nicxi_tell_files(failure, paths, program);
 }
 
-/* What is no failure, and may be why. */
-static void tell_notes(const struct notes *notes)
+static bool write_result(const struct options *options, const struct totals *totals, const struct failure *failure)
 {
-    const char *name = nicxi.scenario->name;
-    if (notes->strays)
-        printf("%s: note: %" PRIu32 " accesses of no register, the first by %s\n", name, notes->strays, notes->stray);
-    if (notes->beyond)
-        printf("%s: note: queue %" PRIu32 " isn't below .queues, so it never goes on\n", name, notes->beyond - 1);
+    struct result result = {*options, *totals, *failure, totals->sketch};
+    return !options->result || nicxi_write_result(options->result, &result) || cant_write(options->result);
 }
 
-static void tell_never(void *argument, const char *line)
+static bool write_junit(const struct junit *junit)
 {
-    fprintf(argument, "%s: note: %s\n", nicxi.scenario->name, line);
-}
-
-/* Of a search that found nothing: how much it saw, and what never happened in it. The status. */
-static int tell_nothing(const struct options *options, const struct totals *totals)
-{
-    const char *name = nicxi.scenario->name;
-    const struct coverage *coverage = &totals->coverage;
-    bool allows_faults = (nicxi.scenario->allowed & NICX_FAULTS) != 0;
-    if (options->strategy != EXHAUSTIVE)
-        printf("%s: %s%" PRIu64 " distinct schedules\n", name, totals->is_exact ? "" : "about ", totals->distinct);
-    if (coverage->faults)
-        printf("%s: note: %" PRIu64 " faults, which are allowed, the first: %s\n", name, coverage->faults,
-               coverage->fault);
-    else if (allows_faults)
-        printf("%s: note: faults are allowed, and none was met\n", name);
-    uint32_t never = nicxi_never(coverage, tell_never, stdout);
-    bool fails = never && options->is_strict;
-    printf("%s: nothing was found%s\n", name, fails ? ", and some of it never ran: --strict" : "");
-    return fails ? VACUOUS : NOTHING;
-}
-
-static int replay(const char *path)
-{
-    struct schedule_file file;
-    struct by_list state;
-    nicx_result result;
-    const char *fault = nicxi_read_schedule(path, &file);
-    if (fault) {
-        fprintf(stderr, "%s\n", fault);
-        nicxi_free_schedule(&file);
-        return REFUSED;
-    }
-    nicx_chooser chooser = nicxi_by_list(&state, file.list, file.length, true);
-    nicxi.listener = print_point;
-    nicxi.listener_argument = stdout;
-    nicx_run(&chooser, &result);
-    nicxi.listener = NULL;
-    int status = unfit(path, &file, &state, result.points);
-    nicxi_free_schedule(&file);
-    if (status != NOTHING)
-        return status;
-    tell_notes(nicxi.notes);
-    if (result.outcome == NICX_FINE)
-        printf("%s: fine\n", nicxi.scenario->name);
-    else
-        printf("%s: FAILED %s: %s\n", nicxi.scenario->name, nicxi_outcome_name(result.outcome), result.words);
-    return result.outcome == NICX_FINE ? NOTHING : FAILURE;
-}
-
-/* --- the files of a failure: made by its schedule once more, line by line, as the driver may crash --- */
-
-struct writing {
-    FILE *schedule;
-    struct script script;
-    const struct failure *failure;
-};
-
-static void write_step(void *argument, uint16_t actor, const struct step *step)
-{
-    struct writing *it = argument;
-    nicxi_script_step(&it->script, actor, step);
-    fflush(it->script.file);
-    if (actor == NOBODY || step->is_beside)
-        return;
-    nicxi_write_point(it->schedule, actor, step);
-    fflush(it->schedule);
-}
-
-/* The bring-up is told once more too: by another controller, from its beginning. */
-static void write_files(struct post *post, void *argument)
-{
-    struct writing *it = argument;
-    struct by_list state;
-    const nicx_scenario *scenario = nicxi.scenario;
-    nicxi_give_memory(nicxi.is_weak ? WEAK : STRONG);
-    nicx_close();
-    nicxi.listener = write_step;
-    nicxi.listener_argument = it;
-    if (nicx_open(scenario))
-        return;
-    nicxi_note_in(post);
-    nicx_chooser chooser = nicxi_by_list(&state, it->failure->schedule, it->failure->result.points, false);
-    nicx_run(&chooser, &post->result);
-    post->is_found = post->result.outcome != NICX_FINE;
-    if (it->script.unfit)
-        fprintf(stderr, "%s: no script: %s\n", scenario->name, it->script.unfit);
-}
-
-static FILE *open_file(const struct options *options, const char *ending, char path[MOST_PATH])
-{
-    size_t length = strlen(options->out);
-    const char *between = length && options->out[length - 1] == '/' ? "" : "/";
-    snprintf(path, MOST_PATH, "%s%s%s.%s", options->out, between, nicxi.scenario->name, ending);
-    FILE *file = fopen(path, "w");
-    if (!file)
-        fprintf(stderr, "%s: it can't be written\n", path);
-    return file;
-}
-
-/* A schedule that has no file goes to standard error: it isn't lost. */
-static void keep(const struct options *options, const struct failure *failure, char schedule_path[MOST_PATH],
-                 char script_path[MOST_PATH])
-{
-    struct writing it = {NULL, {NULL, 0, 0, NULL}, failure};
-    char where[80];
-    struct origin origin = {nicxi_where(failure, where), options->seed, &failure->result};
-    FILE *schedule = open_file(options, "schedule", schedule_path), *script = open_file(options, "nic", script_path);
-    struct post *post = nicxi_posts(1);
-    it.schedule = schedule ? schedule : stderr;
-    if (!script)
-        script = fopen("/dev/null", "w");
-    if (script && post) {
-        nicxi_write_head(it.schedule, &origin);
-        nicxi_script_begin(&it.script, script, &origin);
-        nicxi_do(post, options->hang, write_files, &it);
-        nicxi_script_end(script, &failure->result);
-    }
-    if (schedule)
-        fclose(schedule);
-    if (script)
-        fclose(script);
-    if (post)
-        nicxi_free_posts(post, 1);
-}
-
-/* --- what is told --- */
-
-static void tell_totals(const struct options *options, const struct totals *totals)
-{
-    double seconds = totals->seconds > 0 ? totals->seconds : 1e-9;
-    printf("%s: %" PRIu64 " schedules, %" PRIu64 " points, %.1f s (%.0f schedules a second), %s, seed %" PRIu64 "\n",
-           nicxi.scenario->name, totals->runs, totals->points, totals->seconds, (double)totals->runs / seconds,
-           nicxi_strategy_name(options->strategy), options->seed);
-    if (options->strategy != EXHAUSTIVE || !totals->is_whole)
-        return;
-    printf("%s: these are all schedules", nicxi.scenario->name);
-    if (options->preemptions != UNBOUNDED)
-        printf(" with at most %" PRIu32 " preemptions", options->preemptions);
-    if (options->shards > 1)
-        printf(" of shard %" PRIu32 "/%" PRIu32, options->shard + 1, options->shards);
-    printf("\n");
-}
-
-static void tell_failure(const struct failure *failure, const nicx_result *found, uint32_t tries, const char *schedule,
-                         const char *script, const char *program)
-{
-    char where[80];
-    const char *name = nicxi.scenario->name;
-    printf("%s: FAILED %s: %s\n", name, nicxi_outcome_name(failure->result.outcome), failure->result.words);
-    printf("%s: found by %s, %" PRIu32 " points and %" PRIu32 " switches", name, nicxi_where(failure, where),
-           found->points, found->switches);
-    if (tries)
-        printf("; shrunk by %" PRIu32 " tries to %" PRIu32 " and %" PRIu32, tries, failure->result.points,
-               failure->result.switches);
-    printf("\n%s: the schedule is %s, the device's side of it %s\n", name, schedule, script);
-    if (failure->is_stale)
-        printf("%s: it doesn't fail alone: the same options find it again\n", name);
-    else
-        printf("%s: again: %s --replay %s\n", name, program, schedule);
+    return !junit->options->junit || nicxi_write_junit(junit) || cant_write(junit->options->junit);
 }
 
 static int search(const struct options *options, const char *program)
 {
+    static struct paths paths;
     struct totals totals;
     struct failure failure;
-    char schedule[MOST_PATH] = "", script[MOST_PATH] = "";
     const char *fault = nicxi_search(options, &totals, &failure);
     if (fault)
         return refuse(nicxi.scenario, fault);
-    tell_totals(options, &totals);
-    tell_notes(&totals.notes);
-    if (failure.is_there) {
-        nicx_result found = failure.result;
-        nicxi_confirm(options, &failure);
-        uint32_t tries = options->no_shrink || failure.is_stale ? 0 : nicxi_shrink(options, &failure);
-        keep(options, &failure, schedule, script);
-        tell_failure(&failure, &found, tries, schedule, script, program);
-    }
-    int status = failure.is_there ? FAILURE : tell_nothing(options, &totals);
-    if (options->junit && !nicxi_write_junit(options, &totals, &failure, schedule)) {
-        fprintf(stderr, "%s: it can't be written\n", options->junit);
+    nicxi_tell_totals(options, &totals);
+    nicxi_tell_notes(&totals.notes);
+    if (failure.is_there)
+        show(options, &failure, program, &paths);
+    bool has_distinct = options->strategy != EXHAUSTIVE;
+    int status = failure.is_there ? FAILURE : nicxi_tell_nothing(options, &totals, has_distinct) ? VACUOUS : NOTHING;
+    const struct junit_failure told = {&failure.result, paths.schedule};
+    const struct junit junit = {options, &totals,         has_distinct, nicxi_strategy_name(options->strategy),
+                                &told,   failure.is_there};
+    if (!write_junit(&junit) || !write_result(options, &totals, &failure))
         status = REFUSED;
-    }
     free(failure.schedule);
+    free(totals.sketch);
     return status;
 }
+
+/* --- results of several searches --- */
+
+static void tell_merged(const struct merged *merged)
+{
+    const char *name = nicxi.scenario->name;
+    const struct totals *totals = &merged->sum.totals;
+    double longest = merged->longest > 0 ? merged->longest : 1e-3;
+    printf("%s: %" PRIu32 " results, %" PRIu64 " schedules, %" PRIu64 " points, %.1f s in all, %.1f s the longest"
+           " (%.0f schedules a second, if they ran at once)\n",
+           name, merged->results, totals->runs, totals->points, totals->seconds, merged->longest,
+           (double)totals->runs / longest);
+    if (*merged->missing)
+        printf("%s: note: shards that aren't there: %s\n", name, merged->missing);
+    if (totals->is_whole && merged->sum.options.strategy == EXHAUSTIVE)
+        printf("%s: these are all schedules\n", name);
+}
+
+/* It was shrunk where it was found. */
+static void show_cause(const struct options *options, struct cause *cause, uint32_t number, const char *program,
+                       struct paths *paths)
+{
+    struct turn turn;
+    nicx_result found = cause->failure.result;
+    bool is_elsewhere = !cause->failure.is_stale && !nicxi_fails(options, &cause->failure);
+    memset(&turn, 0, sizeof turn);
+    if (!is_elsewhere)
+        nicxi_find_turn(options, &cause->failure, &turn);
+    const struct keeping keeping = {options, &cause->failure, &turn, cause->seed, number};
+    nicxi_keep_failure(&keeping, paths);
+    nicxi_tell_failure(&cause->failure, &found, 0, &turn);
+    printf("%s: in %" PRIu32 " results, this one of %s\n", nicxi.scenario->name, cause->count, cause->path);
+    if (is_elsewhere)
+        printf("%s: it doesn't fail so in this program: the schedule is %s\n", nicxi.scenario->name, paths->schedule);
+    else
+        nicxi_tell_files(&cause->failure, paths, program);
+}
+
+static int show_merged(const struct options *options, struct merged *merged, const char *program)
+{
+    const char *fault = NULL;
+    struct paths *paths = calloc(merged->cause_count + 1, sizeof *paths);
+    struct junit_failure *told = calloc(merged->cause_count + 1, sizeof *told);
+    for (uint32_t k = 0; paths && told && k < merged->cause_count; k++) {
+        show_cause(options, &merged->causes[k], k, program, &paths[k]);
+        told[k].result = &merged->causes[k].failure.result;
+        told[k].schedule = paths[k].schedule;
+    }
+    int status = merged->cause_count                                                              ? FAILURE
+                 : nicxi_tell_nothing(options, &merged->sum.totals, merged->sum.distinct != NULL) ? VACUOUS
+                                                                                                  : NOTHING;
+    const struct junit junit = {options, &merged->sum.totals, merged->sum.distinct != NULL, "merged",
+                                told,    merged->cause_count};
+    if (!paths || !told)
+        fault = "there is no memory";
+    if (fault || !write_junit(&junit))
+        status = fault ? refuse(nicxi.scenario, fault) : REFUSED;
+    free(paths);
+    free(told);
+    return status;
+}
+
+static int merge(const struct options *options, const char *program)
+{
+    struct merged merged;
+    const char *fault = nicxi_merge(options->merge, options->merge_count, &merged);
+    int status = REFUSED;
+    if (fault) {
+        fprintf(stderr, "%s\n", fault);
+    } else {
+        tell_merged(&merged);
+        nicxi_tell_notes(&merged.sum.totals.notes);
+        status = show_merged(options, &merged, program);
+    }
+    nicxi_free_merged(&merged);
+    return status;
+}
+
+/* --- the words --- */
 
 static bool is_folder(const char *path)
 {
@@ -270,18 +174,23 @@ static bool is_writable(const char *path)
     return length < MOST_PATH && is_folder(folder);
 }
 
+static const char *unwritable(const char *word, const char *path)
+{
+    static char why[100];
+    snprintf(why, sizeof why, "%s: %.60s can't be written", word, path);
+    return why;
+}
+
 /* Null, or why the files of a search couldn't be written. */
 static const char *look_at_files(const struct options *options, const char *name)
 {
-    static char why[100];
     if (!is_folder(options->out))
         return "--out: there is no such folder that can be written to";
     if (strlen(options->out) + strlen(name) + sizeof "/.schedule" > MOST_PATH)
         return "--out: the path of the folder is too long";
-    if (!options->junit || is_writable(options->junit))
-        return NULL;
-    snprintf(why, sizeof why, "--junit: %.60s can't be written", options->junit);
-    return why;
+    if (options->junit && !is_writable(options->junit))
+        return unwritable("--junit", options->junit);
+    return options->result && !is_writable(options->result) ? unwritable("--result", options->result) : NULL;
 }
 
 int nicx_main(int argc, char **argv, const nicx_scenario *scenario)
@@ -306,7 +215,9 @@ int nicx_main(int argc, char **argv, const nicx_scenario *scenario)
     nicxi_give_memory(AS_SCENARIO);
     if (fault)
         return refuse(scenario, fault);
-    int status = options.replay ? replay(options.replay) : search(&options, argv[0]);
+    int status = options.replay  ? nicxi_replay(options.replay, options.is_lenient)
+                 : options.merge ? merge(&options, argv[0])
+                                 : search(&options, argv[0]);
     nicx_close();
     return status;
 }

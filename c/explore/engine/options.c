@@ -29,8 +29,11 @@ const char nicxi_usage[] =
     "  --hang S           a task that makes no point for S seconds hangs (10)\n"
     "  --out FOLDER       where the files of a failure go (.)\n"
     "  --junit FILE       writes the result as JUnit XML\n"
+    "  --result FILE      writes what was searched and found, for --merge\n"
+    "  --merge FILE ..    makes one of the results of several searches, in place of a search\n"
     "  --no-shrink        keeps a failing schedule as it was found\n"
     "  --replay FILE      makes one schedule, to the letter, in this process, and prints each point\n"
+    "  --lenient          of --replay: as far as it goes, and says where it parts, as of a driver that was changed\n"
     "  --strict           fails with status 3 where something of the scenario never ran\n"
     "  --quiet            no progress\n"
     "  --help             this\n";
@@ -180,6 +183,8 @@ static const char *take_value(const char *word, const char *text, struct options
         return take_name(word, text, &options->out);
     if (!strcmp(word, "--junit"))
         return take_name(word, text, &options->junit);
+    if (!strcmp(word, "--result"))
+        return take_name(word, text, &options->result);
     if (!strcmp(word, "--replay"))
         return take_name(word, text, &options->replay);
     return refused(word, "there is no such option");
@@ -191,6 +196,8 @@ static bool take_flag(const char *word, struct options *options)
         options->is_quiet = true;
     else if (!strcmp(word, "--strict"))
         options->is_strict = true;
+    else if (!strcmp(word, "--lenient"))
+        options->is_lenient = true;
     else if (!strcmp(word, "--no-sleep"))
         options->no_sleep = true;
     else if (!strcmp(word, "--no-shrink"))
@@ -214,12 +221,29 @@ static void set_usual(struct options *options)
     options->jobs = cores < 1 ? 1 : cores > 256 ? 256 : (uint32_t)cores;
 }
 
+/* The files are all words up to the next option. How many words it takes in all. */
+static int take_merge(int argc, char **argv, int at, struct options *options)
+{
+    int end = at + 1;
+    while (end < argc && strncmp(argv[end], "--", 2) != 0)
+        end++;
+    options->merge = argv + at + 1;
+    options->merge_count = (uint32_t)(end - at - 1);
+    return end - at;
+}
+
 const char *nicxi_options(int argc, char **argv, struct options *options)
 {
     set_usual(options);
     for (int k = 1; k < argc; k++) {
         if (take_flag(argv[k], options))
             continue;
+        if (!strcmp(argv[k], "--merge")) {
+            k += take_merge(argc, argv, k, options) - 1;
+            if (!options->merge_count)
+                return without_word("--merge");
+            continue;
+        }
         if (strncmp(argv[k], "--", 2) != 0)
             return refused(argv[k], "there is no such option");
         const char *fault = take_value(argv[k], k + 1 < argc ? argv[k + 1] : "", options);
@@ -227,6 +251,8 @@ const char *nicxi_options(int argc, char **argv, struct options *options)
             return fault;
         k++;
     }
+    if (options->is_lenient && !options->replay)
+        return refused("--lenient", "it is for --replay");
     if (!options->runs && !options->seconds && options->strategy != EXHAUSTIVE)
         options->runs = 10000;
     return NULL;

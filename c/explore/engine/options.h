@@ -25,7 +25,10 @@ struct options {
     const char *replay;   /* a schedule's file, or null */
     const char *out;      /* a folder that is there */
     const char *junit;    /* a file to write, or null */
-    bool is_quiet, is_strict, no_sleep, no_shrink, wants_help;
+    const char *result;   /* another one, or null */
+    char **merge;         /* results of other searches, or null */
+    uint32_t merge_count;
+    bool is_quiet, is_strict, is_lenient, no_sleep, no_shrink, wants_help;
 };
 
 /* Null, or what is wrong with the words. */

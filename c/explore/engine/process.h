@@ -14,9 +14,12 @@ struct post {
     volatile bool is_running;       /* amid a schedule */
     volatile bool is_found;         /* `result` tells of a failure of `run` */
     bool is_stale;                  /* the failure is that schedules aren't the same each time */
+    bool is_trial;                  /* a schedule before the first run */
     bool is_over;                   /* an exhaustive search that has come to its end */
     uint8_t strategy;
     nicx_result result;
+    uint32_t
+        cycle; /* of a schedule without end: its `result` has so many points before the next turn, these the last */
     struct notes notes;
     struct coverage coverage;
     pid_t process;

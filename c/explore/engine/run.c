@@ -331,7 +331,7 @@ static void begin_threads(void)
         bool is_task = k < NICX_TASKS;
         if (is_task ? k >= nicxi.tasks : k - NICX_TASKS >= nicxi.handlers)
             continue;
-        thread->state = is_task ? READY : OFF;
+        thread->state = is_task && !nicxi.omitted.threads[k] ? READY : OFF;
         thread->interrupted_by = thread->on = -1;
         thread->masked = 0;
         thread->own = thread->seen = 0;
@@ -366,6 +366,7 @@ static void reset(void)
     nicxi.tasks = nicxi.handlers = nicxi.timers = 0;
     nicxi.frame_count = nicxi.next_frame = 0;
     nicxi.link_count = nicxi.next_link = 0;
+    nicxi.came = 0;
     nicxi.let_in = nicxi.oldest = 0;
 }
 
@@ -410,6 +411,8 @@ void nicx_run(const nicx_chooser *chooser, nicx_result *result)
     nicxi.phase = BEGINNING;
     nicxi.chooser = chooser;
     nicxi.scenario->begin();
+    nicxi.next_frame = nicxi_next_kept(nicxi.omitted.frames, 0, nicxi.frame_count);
+    nicxi.next_link = nicxi_next_kept(nicxi.omitted.links, 0, nicxi.link_count);
     nicxi_list_actors();
     begin_threads();
     nicxi.phase = RUNNING;

@@ -124,6 +124,11 @@ void nicx_link_change(bool up)
         nicxi.links[nicxi.link_count++] = up;
 }
 
+uint32_t nicx_came(void)
+{
+    return nicxi.came;
+}
+
 /* --- the whole --- */
 
 static const char *fault_of(const nicx_scenario *scenario)

@@ -1,13 +1,28 @@
-/* The first line that is no comment says of which scenario the schedule is; each further one is an actor. */
+/* The first line that is no comment says of which scenario the schedule is; then come those that say what it does
+   without, and each further one is an actor. A line "cycle" stands in front of the points that come over and over. */
 #include <inttypes.h>
 #include <stdlib.h>
 #include <string.h>
 
 #include "files.h"
+#include "places.h"
 #include "weak.h"
 #include "words.h"
 
-enum { MOST_LINE = 512 };
+enum { MOST_LINE = 1024 };
+
+static void write_omitted(FILE *file, const struct omitted *omitted)
+{
+    for (int k = 0; k < MOST_THREADS; k++)
+        if (omitted->threads[k])
+            fprintf(file, "without %s %s\n", k < NICX_TASKS ? "task" : "handler", nicxi.threads[k].name);
+    for (int k = 0; k < NICX_FRAMES; k++)
+        if (omitted->frames[k])
+            fprintf(file, "without frame %d\n", k);
+    for (int k = 0; k < NICX_FRAMES; k++)
+        if (omitted->links[k])
+            fprintf(file, "without link %d\n", k);
+}
 
 void nicxi_write_head(FILE *file, const struct origin *origin)
 {
@@ -18,19 +33,21 @@ void nicxi_write_head(FILE *file, const struct origin *origin)
     fprintf(file, "scenario %s\n", nicxi.scenario->name);
     if (nicxi.is_weak)
         fprintf(file, "memory weak\n");
+    write_omitted(file, origin->omitted);
 }
 
 void nicxi_write_point(FILE *file, uint16_t actor, const struct step *step)
 {
-    char name[96], words[MOST_WORDS];
-    fprintf(file, "%-24s # %s\n", nicx_actor_name(actor, name), nicxi_words(step, words));
+    char name[96], told[MOST_TOLD];
+    nicxi_tell_step(actor, step, told, sizeof told);
+    fprintf(file, "%-24s # %s\n", nicx_actor_name(actor, name), told);
 }
 
-/* A line without its comment and its blanks, each run of which is one. */
+/* A line without its blanks, each run of which is one. */
 static void trim(char *line)
 {
     char *to = line;
-    for (char *from = line; *from && *from != '#'; from++) {
+    for (char *from = line; *from; from++) {
         bool blank = *from == ' ' || *from == '\t' || *from == '\n' || *from == '\r';
         if (!blank)
             *to++ = *from;
@@ -42,7 +59,7 @@ static void trim(char *line)
     *to = 0;
 }
 
-static uint16_t actor_of(const char *words)
+uint16_t nicxi_actor_of(const char *words)
 {
     char name[96];
     for (uint16_t k = VALUES; !strncmp(words, "value ", 6) && k < VALUES + NICX_VALUES; k++)
@@ -54,53 +71,127 @@ static uint16_t actor_of(const char *words)
     return NOBODY;
 }
 
-static bool add(struct schedule_file *file, uint16_t actor, uint32_t line)
+/* The lists have room for a power of two of points. */
+static bool has_room(struct schedule_file *file)
 {
-    if (!(file->length & (file->length - 1))) {
-        size_t room = file->length ? 2u * file->length : 1;
-        uint16_t *list = realloc(file->list, room * sizeof *list);
-        if (list)
-            file->list = list;
-        uint32_t *lines = realloc(file->lines, room * sizeof *lines);
-        if (lines)
-            file->lines = lines;
-        if (!list || !lines)
-            return false;
-    }
+    if (file->length & (file->length - 1))
+        return true;
+    size_t room = file->length ? 2u * file->length : 1;
+    uint16_t *list = realloc(file->list, room * sizeof *list);
+    if (list)
+        file->list = list;
+    uint32_t *lines = realloc(file->lines, room * sizeof *lines);
+    if (lines)
+        file->lines = lines;
+    char **told = realloc(file->told, room * sizeof *told);
+    if (told)
+        file->told = told;
+    return list && lines && told;
+}
+
+static const char *add(struct schedule_file *file, uint16_t actor, const char *told)
+{
+    if (file->length == MOST_POINTS)
+        return "a schedule has at most 1,000,000 points";
+    if (!has_room(file))
+        return "there is no memory";
     file->list[file->length] = actor;
-    file->lines[file->length++] = line;
-    return true;
+    file->lines[file->length] = file->last;
+    file->told[file->length] = NULL;
+    if (told && *told) {
+        size_t size = strlen(told) + 1;
+        file->told[file->length] = malloc(size);
+        if (!file->told[file->length])
+            return "there is no memory";
+        memcpy(file->told[file->length], told, size);
+    }
+    file->length++;
+    return NULL;
+}
+
+static char why[2 * MOST_LINE + 256];
+
+/* --- a line --- */
+
+static const char *take_scenario(const char *words)
+{
+    if (strncmp(words, "scenario ", 9) != 0)
+        return "the first line is \"scenario NAME\"";
+    if (!strcmp(words + 9, nicxi.scenario->name))
+        return NULL;
+    snprintf(why, sizeof why, "it is a schedule of scenario %s, and this is %s", words + 9, nicxi.scenario->name);
+    return why;
+}
+
+/* A number below a bound, or that bound. */
+static unsigned number_of(const char *text, unsigned bound)
+{
+    unsigned number = 0;
+    if (!*text)
+        return bound;
+    for (; *text; text++) {
+        if (*text < '0' || *text > '9' || number >= bound)
+            return bound;
+        number = 10 * number + (unsigned)(*text - '0');
+    }
+    return number < bound ? number : bound;
+}
+
+/* Which entry says that this is left out, or null where the scenario hasn't it. */
+static bool *omission_of(struct omitted *omitted, const char *words)
+{
+    unsigned frame = strncmp(words, "frame ", 6) ? nicxi.frame_count : number_of(words + 6, nicxi.frame_count);
+    unsigned link = strncmp(words, "link ", 5) ? nicxi.link_count : number_of(words + 5, nicxi.link_count);
+    uint16_t actor = nicxi_actor_of(words);
+    if (frame < nicxi.frame_count)
+        return &omitted->frames[frame];
+    if (link < nicxi.link_count)
+        return &omitted->links[link];
+    return actor != NOBODY && !nicxi_is_value(actor) && nicxi.actors[actor].kind == BY_THREAD
+               ? &omitted->threads[nicxi.actors[actor].of]
+               : NULL;
+}
+
+static const char *take_without(struct schedule_file *file, const char *words, bool is_lenient)
+{
+    bool *entry = omission_of(&file->omitted, words);
+    if (file->length)
+        return "what is left out stands in front of the first point";
+    if (entry)
+        *entry = true;
+    if (entry || is_lenient)
+        return NULL;
+    snprintf(why, sizeof why, "the scenario has no \"%s\"", words);
+    return why;
 }
 
 /* What is wrong with a line, or null. */
-static const char *take(struct schedule_file *file, const char *words, uint32_t line, bool *has_scenario)
+static const char *take(struct schedule_file *file, const char *words, const char *told, bool is_lenient)
 {
-    static char why[MOST_LINE + 128];
-    if (!*words)
-        return NULL;
-    if (!*has_scenario) {
-        *has_scenario = true;
-        if (strncmp(words, "scenario ", 9) != 0)
-            return "the first line is \"scenario NAME\"";
-        if (!strcmp(words + 9, nicxi.scenario->name))
-            return NULL;
-        snprintf(why, sizeof why, "it is a schedule of scenario %s, and this is %s", words + 9, nicxi.scenario->name);
-        return why;
-    }
     if (!file->length && !strcmp(words, "memory weak")) {
         file->is_weak = true;
         return nicxi_change_memory(true);
     }
     if (!file->length && !file->is_weak)
         nicxi_change_memory(false);
-    uint16_t actor = actor_of(words);
-    if (actor == NOBODY) {
+    uint16_t actor = nicxi_actor_of(words);
+    if (!strncmp(words, "without ", 8))
+        return take_without(file, words + 8, is_lenient);
+    if (!strcmp(words, "cycle")) {
+        if (file->cycle)
+            return "there is another cycle before it";
+        file->cycle = file->length + 1;
+        return NULL;
+    }
+    if (actor == NOBODY && !is_lenient) {
         snprintf(why, sizeof why, "the scenario has no \"%s\"", words);
         return why;
     }
-    if (file->length == MOST_POINTS)
-        return "a schedule has at most 1,000,000 points";
-    return add(file, actor, line) ? NULL : "there is no memory";
+    if (actor == NOBODY) {
+        snprintf(why, sizeof why, "\"%s\", which the scenario hasn't", words);
+        told = why;
+    }
+    return add(file, actor, told);
 }
 
 /* A line that stops at a zero byte, or has other bytes that no text has, isn't one. */
@@ -112,47 +203,75 @@ static bool is_text(const char *line, size_t length, bool is_last)
     return length && (line[length - 1] == '\n' || is_last || length == MOST_LINE - 1);
 }
 
-const char *nicxi_read_schedule(const char *path, struct schedule_file *file)
+/* A line that was read, with its comment behind it. */
+static const char *take_line(struct schedule_file *file, char *line, bool is_last, bool is_lenient, bool *has_scenario)
 {
-    static char why[2 * MOST_LINE + 256];
+    size_t length = strlen(line);
+    if (!is_text(line, length, is_last))
+        return "it is no text";
+    if (line[length - 1] != '\n' && !is_last)
+        return "the line is longer than 1,022 bytes";
+    char *comment = strchr(line, '#');
+    if (comment) {
+        *comment++ = 0;
+        trim(comment);
+    }
+    trim(line);
+    if (!*line)
+        return NULL;
+    if (*has_scenario)
+        return take(file, line, comment ? comment + (*comment == ' ') : NULL, is_lenient);
+    *has_scenario = true;
+    return take_scenario(line);
+}
+
+/* Where the cycle begins becomes how long it is. */
+static const char *end_cycle(struct schedule_file *file)
+{
+    if (!file->cycle)
+        return NULL;
+    file->cycle = file->length - (file->cycle - 1);
+    return file->cycle ? NULL : "the cycle has no point";
+}
+
+const char *nicxi_read_schedule(const char *path, bool is_lenient, struct schedule_file *file)
+{
+    static char told[sizeof why + MOST_LINE];
     char line[MOST_LINE];
     const char *fault = NULL;
     bool has_scenario = false;
     memset(file, 0, sizeof *file);
     FILE *from = fopen(path, "r");
     if (!from) {
-        snprintf(why, sizeof why, "%.500s: it can't be read", path);
-        return why;
+        snprintf(told, sizeof told, "%.500s: it can't be read", path);
+        return told;
     }
     while (!fault && fgets(line, sizeof line, from)) {
-        size_t length = strlen(line);
         file->last++;
-        if (!is_text(line, length, feof(from) != 0)) {
-            fault = "it is no text";
-        } else if (line[length - 1] != '\n' && !feof(from)) {
-            fault = "the line is longer than 510 bytes";
-        } else {
-            trim(line);
-            fault = take(file, line, file->last, &has_scenario);
-        }
+        fault = take_line(file, line, feof(from) != 0, is_lenient, &has_scenario);
     }
     bool is_unread = ferror(from) != 0;
     fclose(from);
     if (is_unread) {
-        snprintf(why, sizeof why, "%.500s: it can't be read", path);
-        return why;
+        snprintf(told, sizeof told, "%.500s: it can't be read", path);
+        return told;
     }
     if (!fault && !has_scenario)
         fault = "it has no line \"scenario NAME\"";
     if (!fault)
+        fault = end_cycle(file);
+    if (!fault)
         return NULL;
-    snprintf(why, sizeof why, "%.500s:%u: %s", path, (unsigned)file->last, fault);
-    return why;
+    snprintf(told, sizeof told, "%.500s:%u: %s", path, (unsigned)file->last, fault);
+    return told;
 }
 
 void nicxi_free_schedule(struct schedule_file *file)
 {
+    for (uint32_t k = 0; k < file->length; k++)
+        free(file->told[k]);
     free(file->list);
     free(file->lines);
+    free(file->told);
     memset(file, 0, sizeof *file);
 }

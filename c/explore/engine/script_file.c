@@ -5,6 +5,7 @@
 
 #include "files.h"
 #include "names.h"
+#include "places.h"
 #include "words.h"
 
 enum { MOST_INSTRUCTIONS = 4096, MOST_STRINGS = 1024, MOST_BLOCKS = 256, CHECKED = 64 };
@@ -51,7 +52,8 @@ static void line(struct script *script, uint16_t actor, const char *text)
 {
     char name[96];
     if (has_room(script))
-        fprintf(script->file, "%-28s # %s\n", text, actor == NOBODY ? "bring-up" : nicx_actor_name(actor, name));
+        fprintf(script->file, "%-28s # %s%s%s\n", text, actor == NOBODY ? "bring-up" : nicx_actor_name(actor, name),
+                *script->where ? ": at " : "", script->where);
 }
 
 /* A step of the device or the link, with what it answered. */
@@ -127,7 +129,7 @@ static void of_function(struct script *script, uint16_t actor, const char *text,
     char room[96];
     const char *who = actor == NOBODY ? "bring-up" : nicx_actor_name(actor, room);
     if (has_room(script))
-        fprintf(script->file, "%-28s # %s: %s\n", text, who, name);
+        fprintf(script->file, "%-28s # %s: %s%s%s\n", text, who, name, *script->where ? ", at " : "", script->where);
 }
 
 static void access_registers(struct script *script, uint16_t actor, const struct step *step)
@@ -174,14 +176,19 @@ static void device_step(struct script *script, uint16_t actor, const struct step
 /* A driver's own step asks nothing of the device, and stands as a comment. */
 static void own_step(struct script *script, uint16_t actor, const struct step *step)
 {
-    char name[96], words[MOST_WORDS];
-    if (!script->unfit)
-        fprintf(script->file, "%-28s # %s: %s\n", "", nicx_actor_name(actor, name), nicxi_words(step, words));
+    char name[96], told[MOST_TOLD];
+    if (script->unfit)
+        return;
+    nicxi_tell_step(actor, step, told, sizeof told);
+    fprintf(script->file, "%-28s # %s: %s\n", "", nicx_actor_name(actor, name), told);
 }
 
 void nicxi_script_step(struct script *script, uint16_t actor, const struct step *step)
 {
     char text[32];
+    struct place place;
+    nicxi_place(actor, step, &place);
+    nicxi_place_words(&place, script->where);
     switch (step->kind) {
     case STEP_LOCAL:
     case STEP_VALUE:

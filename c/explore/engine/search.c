@@ -14,13 +14,22 @@
 #include "exhaustive.h"
 
 /* The exhaustive search allows no preemption first, then one more each time, and from SLOWLY on all that it may. */
-enum { TRIED = 16, PAUSE = 10000000, SLOWLY = 3, BOUNDS = SLOWLY + 1, RUNS_OF_BOUND = 1 << 24 };
+enum {
+    TRIED = 16,
+    PAUSE = 10000000,
+    SLOWLY = 3,
+    BOUNDS = SLOWLY + 1,
+    RUNS_OF_BOUND = 1 << 24,
+    PARTS = 1 << 16, /* parts above that are counted together */
+    ANEW = 1024
+};
 
 /* What all processes of a search share. */
 struct common {
     volatile uint64_t lowest; /* the lowest run that failed */
     volatile bool stop;
     struct parts parts[BOUNDS];
+    volatile uint64_t made[BOUNDS][PARTS]; /* schedules of each part of the exhaustive search */
     struct distinct distinct;
 };
 
@@ -40,14 +49,32 @@ static double now(void)
 const char *nicxi_where(const struct failure *failure, char room[80])
 {
     const char *strategy = nicxi_strategy_name(failure->strategy);
-    if (failure->strategy == EXHAUSTIVE)
-        snprintf(room, 80, "%s in part %" PRIu64, strategy, failure->run % RUNS_OF_BOUND);
-    else
+    uint64_t part = failure->run % RUNS_OF_BOUND;
+    if (failure->is_trial)
+        snprintf(room, 80, "%s before run %" PRIu64, strategy, failure->run);
+    else if (failure->strategy != EXHAUSTIVE)
         snprintf(room, 80, "%s in run %" PRIu64, strategy, failure->run);
+    else if (failure->preemptions == UNBOUNDED)
+        snprintf(room, 80, "%s in part %" PRIu64 " with any preemptions", strategy, part);
+    else
+        snprintf(room, 80, "%s in part %" PRIu64 " with at most %" PRIu32 " preemption%s", strategy, part,
+                 failure->preemptions, failure->preemptions == 1 ? "" : "s");
     return room;
 }
 
 /* --- in one of the processes --- */
+
+/* A schedule was made: whether it failed. */
+static bool note(struct post *post, const nicx_result *result)
+{
+    post->runs++;
+    post->points += result->points;
+    if (result->outcome == NICX_FINE)
+        return false;
+    post->result = *result;
+    post->is_found = true;
+    return true;
+}
 
 static bool make(struct post *post, const nicx_chooser *chooser, struct distinct *distinct)
 {
@@ -55,16 +82,9 @@ static bool make(struct post *post, const nicx_chooser *chooser, struct distinct
     post->is_running = true;
     nicx_run(chooser, &result);
     post->is_running = false;
-    post->runs++;
-    post->points += result.points;
-    if (result.outcome == NICX_FINE) {
-        if (distinct)
-            nicxi_count_schedule(distinct, post->schedule, result.points);
-        return false;
-    }
-    post->result = result;
-    post->is_found = true;
-    return true;
+    if (result.outcome == NICX_FINE)
+        nicxi_count_schedule(distinct, post->schedule, result.points);
+    return note(post, &result);
 }
 
 /* How long the schedules are: of the first ones by chance the most points. Priorities change at points below that. */
@@ -105,7 +125,9 @@ static void search_by_chance(struct post *post, const struct job *job)
     uint64_t end = options->runs ? options->first + options->runs : UINT64_MAX;
     post->run = options->first;
     post->strategy = RANDOM;
+    post->is_trial = true;
     uint32_t length = options->strategy == RANDOM ? 0 : usual_length(options);
+    post->is_trial = false;
     uint64_t step = (uint64_t)options->jobs * options->shards;
     uint64_t run = options->first + (uint64_t)job->number * options->shards + options->shard;
     for (; run < end; run += step) {
@@ -122,21 +144,84 @@ static void search_by_chance(struct post *post, const struct job *job)
     }
 }
 
+/* --- the exhaustive search has an order: that of its parts, and in a part that in which they are made --- */
+
+static uint64_t made_of(const struct common *common, uint64_t run)
+{
+    uint64_t part = run % RUNS_OF_BOUND;
+    return common->made[run / RUNS_OF_BOUND][part < PARTS ? part : PARTS - 1];
+}
+
+/* How many schedules come before a part, as far as they were made. */
+static uint64_t made_before(const struct common *common, uint64_t run)
+{
+    uint64_t sum = 0, bound = run / RUNS_OF_BOUND, part = run % RUNS_OF_BOUND;
+    for (uint64_t k = 0; k <= bound; k++)
+        for (uint64_t of = 0; of < PARTS && (of < part || k < bound) && of <= common->parts[k].most; of++)
+            sum += common->made[k][of];
+    return sum;
+}
+
+/* Of several machines each makes its share. */
+static uint64_t most_runs(const struct options *options)
+{
+    return options->runs / options->shards + (options->runs % options->shards != 0);
+}
+
+/* Whether no schedule of a part is among the first ones any more that may be made. Those before it are counted anew now
+   and then, since other processes make them meanwhile. */
+static bool is_spent(const struct job *job, const struct post *post)
+{
+    static uint64_t before, part = UINT64_MAX, counted;
+    if (!job->options->runs)
+        return false;
+    if (part != post->run || post->runs - counted >= ANEW) {
+        before = made_before(job->common, post->run);
+        part = post->run;
+        counted = post->runs;
+    }
+    return before + made_of(job->common, post->run) >= most_runs(job->options);
+}
+
+static void count_part(struct common *common, uint64_t run)
+{
+    uint64_t part = run % RUNS_OF_BOUND, bound = run / RUNS_OF_BOUND;
+    volatile uint64_t *made = &common->made[bound][part < PARTS ? part : PARTS - 1];
+    if (part == 0) /* (which every process makes) */
+        *made = 1;
+    else if (part < PARTS - 1)
+        ++*made;
+    else
+        __sync_fetch_and_add(made, 1);
+    if (common->parts[bound].most < part)
+        common->parts[bound].most = part;
+}
+
+static bool make_of_part(struct post *post, const struct job *job, struct exhaustive *state)
+{
+    nicx_result result;
+    nicx_chooser chooser = nicxi_exhaustive_chooser(state);
+    post->is_running = true;
+    nicx_run(&chooser, &result);
+    post->is_running = false;
+    if (nicxi_exhaustive_is_glance(state))
+        return false;
+    count_part(job->common, post->run);
+    return note(post, &result);
+}
+
 /* All schedules within a bound; the runs of a lower bound come before those of a higher one. False where the search is
    over. */
 static bool search_within(struct post *post, const struct job *job, uint32_t preemptions, uint32_t number)
 {
-    struct exhaustive *state = nicxi_exhaustive(preemptions, !job->options->no_sleep, &job->common->parts[number]);
+    struct parts *parts = &job->common->parts[number];
+    struct exhaustive *state = nicxi_exhaustive(preemptions, !job->options->no_sleep, parts, &post->run);
     while (state && nicxi_exhaustive_next(state)) {
-        uint64_t run = (uint64_t)number * RUNS_OF_BOUND + nicxi_exhaustive_part(state);
-        if (job->common->stop || run > job->common->lowest ||
-            (job->options->runs && post->runs * job->options->jobs * job->options->shards >= job->options->runs)) {
+        if (job->common->stop || post->run > job->common->lowest || is_spent(job, post)) {
             nicxi_free_exhaustive(state);
             return false;
         }
-        post->run = run;
-        nicx_chooser chooser = nicxi_exhaustive_chooser(state);
-        if (make(post, &chooser, NULL))
+        if (make_of_part(post, job, state))
             break;
         nicxi_exhaustive_made(state);
     }
@@ -151,13 +236,18 @@ static bool search_within(struct post *post, const struct job *job, uint32_t pre
     return is_over;
 }
 
+static uint32_t bound_of(const struct options *options, uint32_t number)
+{
+    return number < SLOWLY && number < options->preemptions ? number : options->preemptions;
+}
+
 /* So the failure that is found takes as few preemptions as any. */
 static void search_all(struct post *post, const struct job *job)
 {
     uint32_t most = job->options->preemptions;
     post->strategy = EXHAUSTIVE;
     for (uint32_t number = 0; number < BOUNDS; number++) {
-        uint32_t bound = number < SLOWLY && number < most ? number : most;
+        uint32_t bound = bound_of(job->options, number);
         if (!search_within(post, job, bound, number))
             return;
         post->is_over = bound == most;
@@ -264,12 +354,22 @@ static void wait_for_all(struct search *search)
     }
 }
 
+/* Whether a failure is among the first schedules that may be made: other processes may have been ahead. */
+static bool is_within(const struct search *search, const struct post *post)
+{
+    const struct options *options = search->options;
+    if (options->strategy != EXHAUSTIVE || !options->runs || post->is_stale)
+        return true;
+    uint64_t made = made_before(search->common, post->run) + made_of(search->common, post->run);
+    return made + (post->is_running ? 1 : 0) <= most_runs(options);
+}
+
 static bool keep_failure(const struct search *search, struct failure *failure)
 {
     const struct post *best = NULL;
     for (uint32_t k = 0; k < search->options->jobs; k++) {
         const struct post *post = &search->posts[k];
-        if (post->is_found && (!best || post->run < best->run))
+        if (post->is_found && is_within(search, post) && (!best || post->run < best->run))
             best = post;
     }
     if (!best)
@@ -278,6 +378,8 @@ static bool keep_failure(const struct search *search, struct failure *failure)
     failure->is_stale = best->is_stale;
     failure->strategy = (enum strategy)best->strategy;
     failure->run = best->run;
+    failure->is_trial = best->is_trial;
+    failure->preemptions = bound_of(search->options, (uint32_t)(best->run / RUNS_OF_BOUND));
     failure->result = best->result;
     failure->result.points = best->at;
     failure->schedule = malloc((best->at + 1) * sizeof *failure->schedule);
@@ -306,6 +408,15 @@ static void start_all(struct search *search)
     }
 }
 
+static struct distinct *sketch_of(const struct search *search)
+{
+    bool is_asked = search->options->result && search->options->strategy != EXHAUSTIVE;
+    struct distinct *sketch = is_asked ? malloc(sizeof *sketch) : NULL;
+    if (sketch)
+        memcpy(sketch, (const void *)&search->common->distinct, sizeof *sketch);
+    return sketch;
+}
+
 const char *nicxi_search(const struct options *options, struct totals *totals, struct failure *failure)
 {
     struct search search = {options, totals, NULL, NULL, 0, now(), 0};
@@ -317,6 +428,7 @@ const char *nicxi_search(const struct options *options, struct totals *totals, s
     search.common = memory;
     search.common->lowest = UINT64_MAX;
     for (uint32_t k = 0; k < BOUNDS; k++) {
+        search.common->parts[k].base = (uint64_t)k * RUNS_OF_BOUND;
         search.common->parts[k].shard = options->shard;
         search.common->parts[k].shards = options->shards;
     }
@@ -329,6 +441,7 @@ const char *nicxi_search(const struct options *options, struct totals *totals, s
     sum_notes(&search);
     totals->distinct = nicxi_distinct(&search.common->distinct, &totals->is_exact);
     totals->is_whole = is_whole(&search);
+    totals->sketch = sketch_of(&search);
     if (!keep_failure(&search, failure))
         fault = "there is no memory for the schedule that failed";
     munmap(memory, sizeof *search.common);

@@ -1,6 +1,9 @@
 /* A schedule that fails is cut and merged for as long as one with fewer switches, or as few and fewer points, fails the
-   same way. Each try is made in a process of its own, so a driver that crashes is shrunk as any other. */
+   same way; and what the scenario names and the failure doesn't need is left out. Each try is made in a process of its
+   own, so a driver that crashes is shrunk as any other. */
 #define _DEFAULT_SOURCE
+#include "shrink.h"
+
 #include <fcntl.h>
 #include <stdio.h>
 #include <stdlib.h>
@@ -8,31 +11,20 @@
 #include <time.h>
 #include <unistd.h>
 
-#include "search.h"
+#include "strategy.h"
 #include "words.h"
 
-enum { MOST_TRIES = 4000 };
+enum { MOST_TRIES = 4000, BY_CHANCE = 200 };
 #define MOST_SECONDS 15.0
 
-struct shrinking {
-    const struct options *options;
-    struct failure *best;
-    struct post *post;
-    uint16_t *list; /* what is tried */
-    uint32_t length;
-    uint32_t tries;
-    double until;
-};
-
-static double now(void)
+double nicxi_now(void)
 {
     struct timespec time;
     clock_gettime(CLOCK_MONOTONIC, &time);
     return (double)time.tv_sec + (double)time.tv_nsec * 1e-9;
 }
 
-/* What the driver prints, and what a sanitizer says of a crash, was seen once. */
-static void be_quiet(void)
+void nicxi_be_quiet(void)
 {
     int nowhere = open("/dev/null", O_WRONLY);
     if (nowhere < 0)
@@ -42,13 +34,30 @@ static void be_quiet(void)
     close(nowhere);
 }
 
+/* What goes round at the end of one without end: told are the points before it, and those of it once. */
+static void note_cycle(struct post *post)
+{
+    struct cycle cycle = {0, 0};
+    if (post->result.outcome == NICX_ENDLESS && nicxi.steps)
+        cycle = nicxi_find_cycle(post->schedule, nicxi.steps, post->at);
+    post->cycle = cycle.length;
+    if (cycle.length)
+        post->result.points = cycle.from + cycle.length;
+}
+
+/* One without end stays fair: else it is one task that never lets another act. */
 static void follow(struct post *post, void *argument)
 {
     const struct shrinking *it = argument;
     struct by_list state;
-    be_quiet();
+    nicxi_be_quiet();
+    nicxi.omitted = it->omitted;
     nicx_chooser chooser = nicxi_by_list(&state, it->list, it->length, false);
+    state.is_fair = it->best->result.outcome == NICX_ENDLESS;
+    if (state.is_fair && !nicxi.steps)
+        nicxi.steps = calloc((size_t)nicxi.most_points + 1, sizeof *nicxi.steps);
     nicx_run(&chooser, &post->result);
+    note_cycle(post);
     post->is_found = post->result.outcome != NICX_FINE;
 }
 
@@ -67,37 +76,59 @@ static bool are_alike(const char *a, const char *b)
     }
 }
 
-static bool is_the_same(const nicx_result *a, const nicx_result *b)
+/* Who came last in one without end is chance. */
+bool nicxi_is_the_same(const nicx_result *a, const nicx_result *b)
 {
-    return a->outcome == b->outcome && are_alike(a->words, b->words);
+    return a->outcome == b->outcome && (a->outcome == NICX_ENDLESS || are_alike(a->words, b->words));
 }
 
-static bool is_better(const struct shrinking *it)
+/* Without some of the scenario it is better as long as it isn't longer; else it has fewer switches, or fewer points.
+   One that goes round is better than one of which that isn't seen. */
+static bool is_better(const struct shrinking *it, uint32_t points, uint32_t switches)
 {
-    const nicx_result *new = &it->post->result, *old = &it->best->result;
-    if (!is_the_same(new, old))
+    const nicx_result *old = &it->best->result;
+    if (!nicxi_is_the_same(&it->post->result, old))
         return false;
-    if (new->switches != old->switches || new->points != old->points)
-        return new->switches < old->switches || (new->switches == old->switches &&new->points < old->points);
-    return nicxi_sum_of_values(it->post->schedule, it->post->at) < nicxi_sum_of_values(it->best->schedule, old->points);
+    if (!it->post->cycle != !it->best->cycle)
+        return it->post->cycle != 0;
+    if (memcmp(&it->omitted, &it->best->omitted, sizeof it->omitted) != 0)
+        return switches <= old->switches && points <= old->points;
+    if (it->post->cycle)
+        return points < old->points || (points == old->points && switches < old->switches);
+    if (switches != old->switches || points != old->points)
+        return switches < old->switches || (switches == old->switches && points < old->points);
+    return nicxi_sum_of_values(it->post->schedule, points) < nicxi_sum_of_values(it->best->schedule, points);
 }
 
-static bool is_over(const struct shrinking *it)
+static void take_over(struct shrinking *it, uint32_t points, uint32_t switches)
 {
-    return it->tries >= MOST_TRIES || now() > it->until;
+    it->best->result = it->post->result;
+    it->best->result.points = points;
+    it->best->result.switches = switches;
+    it->best->cycle = it->post->cycle;
+    it->best->omitted = it->omitted;
+    memcpy(it->best->schedule, it->post->schedule, points * sizeof *it->list);
 }
 
-/* Tries the list: where it fails in a better way it is the best one from then on, as it ran. */
-static bool attempt(struct shrinking *it)
+bool nicxi_shrinking_is_over(const struct shrinking *it)
 {
-    if (is_over(it))
+    return it->tries >= MOST_TRIES || nicxi_now() > it->until;
+}
+
+/* Where it fails in a better way it is the best one from then on, as it ran. */
+bool nicxi_attempt(struct shrinking *it)
+{
+    if (nicxi_shrinking_is_over(it))
         return false;
     it->tries++;
-    if (!nicxi_do(it->post, it->options->hang, follow, it) || !is_better(it))
+    it->post->cycle = 0;
+    if (!nicxi_do(it->post, it->options->hang, follow, it))
         return false;
-    it->best->result = it->post->result;
-    it->best->result.points = it->post->at;
-    memcpy(it->best->schedule, it->post->schedule, it->post->at * sizeof *it->list);
+    uint32_t points = it->post->cycle ? it->post->result.points : it->post->at;
+    uint32_t switches = nicxi_switches(it->post->schedule, points);
+    if (!is_better(it, points, switches))
+        return false;
+    take_over(it, points, switches);
     return true;
 }
 
@@ -127,14 +158,14 @@ static uint32_t next_of(const struct failure *best, uint32_t from, uint16_t acto
 /* The first points alone: from there on whoever acted last goes on. */
 static bool try_beginnings(struct shrinking *it)
 {
-    bool any = false;
-    for (uint32_t length = 0; length < it->best->result.points && !is_over(it); length += 1 + length / 8) {
+    for (uint32_t length = 0; length < it->best->result.points && !nicxi_shrinking_is_over(it);
+         length += 1 + length / 8) {
         it->length = 0;
         take_range(it, 0, length);
-        if (attempt(it))
+        if (nicxi_attempt(it))
             return true;
     }
-    return any;
+    return false;
 }
 
 /* Without a stretch; with it later, in front of the next one of its actor; with that one earlier, behind it. */
@@ -145,7 +176,7 @@ static bool try_stretch(struct shrinking *it, uint32_t at)
     it->length = 0;
     take_range(it, 0, at);
     take_range(it, end, length);
-    if (attempt(it))
+    if (nicxi_attempt(it))
         return true;
     if (next == length)
         return false;
@@ -155,20 +186,20 @@ static bool try_stretch(struct shrinking *it, uint32_t at)
     take_range(it, end, next);
     take_range(it, at, end);
     take_range(it, next, length);
-    if (attempt(it))
+    if (nicxi_attempt(it))
         return true;
     it->length = 0;
     take_range(it, 0, end);
     take_range(it, next, next_end);
     take_range(it, end, next);
     take_range(it, next_end, length);
-    return attempt(it);
+    return nicxi_attempt(it);
 }
 
 static bool try_stretches(struct shrinking *it)
 {
     bool any = false;
-    for (uint32_t at = 0; at < it->best->result.points && !is_over(it);) {
+    for (uint32_t at = 0; at < it->best->result.points && !nicxi_shrinking_is_over(it);) {
         if (try_stretch(it, at))
             any = true;
         else
@@ -181,7 +212,7 @@ static bool try_stretches(struct shrinking *it)
 static bool try_values(struct shrinking *it)
 {
     bool any = false;
-    for (uint32_t at = 0; at < it->best->result.points && !is_over(it); at++) {
+    for (uint32_t at = 0; at < it->best->result.points && !nicxi_shrinking_is_over(it); at++) {
         for (uint32_t way = 0; way < 3; way++) {
             uint16_t actor = it->best->schedule[at];
             if (!nicxi_is_value(actor) || actor == VALUES)
@@ -189,20 +220,90 @@ static bool try_values(struct shrinking *it)
             it->length = 0;
             take_range(it, 0, it->best->result.points);
             it->list[at] = way == 0 ? VALUES : (uint16_t)(way == 1 ? VALUES + (actor - VALUES) / 2 : actor - 1);
-            any |= attempt(it);
+            any |= nicxi_attempt(it);
         }
     }
     return any;
+}
+
+static void shrink_order(struct shrinking *it)
+{
+    bool goes_on = true;
+    while (goes_on) {
+        goes_on = try_beginnings(it);
+        goes_on = try_stretches(it) || goes_on;
+        goes_on = try_values(it) || goes_on;
+    }
+}
+
+/* --- without some of the scenario the failure may want another order: one that fails alike is looked for by chance ---
+ */
+
+static void fail_by_chance(struct post *post, void *argument)
+{
+    const struct shrinking *it = argument;
+    struct by_chance state;
+    nicxi_be_quiet();
+    nicxi.omitted = it->omitted;
+    for (uint64_t k = 0; k < BY_CHANCE && !post->is_found; k++) {
+        nicx_chooser chooser = nicxi_by_chance(&state, it->options->seed, k);
+        nicx_run(&chooser, &post->result);
+        post->is_found = nicxi_is_the_same(&post->result, &it->best->result);
+    }
+}
+
+bool nicxi_attempt_by_chance(struct shrinking *it)
+{
+    struct failure kept = *it->best;
+    if (nicxi_shrinking_is_over(it) || kept.result.outcome == NICX_ENDLESS || kept.result.outcome == NICX_HANG)
+        return false;
+    it->tries++;
+    it->post->cycle = 0;
+    if (!nicxi_do(it->post, it->options->hang, fail_by_chance, it) ||
+        !nicxi_is_the_same(&it->post->result, &kept.result))
+        return false;
+    uint16_t *schedule = malloc(kept.result.points * sizeof *schedule + 1);
+    if (!schedule)
+        return false;
+    memcpy(schedule, kept.schedule, kept.result.points * sizeof *schedule);
+    take_over(it, it->post->at, nicxi_switches(it->post->schedule, it->post->at));
+    shrink_order(it);
+    const nicx_result *new = &it->best->result;
+    bool is_smaller = new->points + new->switches <= kept.result.points + kept.result.switches;
+    if (!is_smaller) {
+        *it->best = kept;
+        memcpy(it->best->schedule, schedule, kept.result.points * sizeof *schedule);
+    }
+    free(schedule);
+    return is_smaller;
 }
 
 static void follow_to_the_letter(struct post *post, void *argument)
 {
     const struct failure *failure = argument;
     struct by_list state;
-    be_quiet();
+    nicxi_be_quiet();
+    nicxi.omitted = failure->omitted;
     nicx_chooser chooser = nicxi_by_list(&state, failure->schedule, failure->result.points, true);
+    state.cycle = failure->cycle;
     nicx_run(&chooser, &post->result);
     post->is_found = post->result.outcome != NICX_FINE;
+}
+
+/* Whether the schedule fails alone, as it did. */
+static bool fails_again(const struct options *options, struct post *post, const struct failure *failure)
+{
+    return nicxi_do(post, options->hang, follow_to_the_letter, (void *)(uintptr_t)failure) &&
+           nicxi_is_the_same(&post->result, &failure->result);
+}
+
+bool nicxi_fails(const struct options *options, const struct failure *failure)
+{
+    struct post *post = nicxi_posts(1);
+    bool fails = post && fails_again(options, post, failure);
+    if (post)
+        nicxi_free_posts(post, 1);
+    return fails;
 }
 
 void nicxi_confirm(const struct options *options, struct failure *failure)
@@ -210,8 +311,7 @@ void nicxi_confirm(const struct options *options, struct failure *failure)
     struct post *post = failure->is_stale ? NULL : nicxi_posts(1);
     if (!post)
         return;
-    bool fails = nicxi_do(post, options->hang, follow_to_the_letter, failure);
-    failure->is_stale = !fails || !is_the_same(&post->result, &failure->result);
+    failure->is_stale = !fails_again(options, post, failure);
     if (failure->is_stale) {
         nicx_result found = failure->result;
         failure->result.outcome = NICX_MISUSE;
@@ -222,21 +322,37 @@ void nicxi_confirm(const struct options *options, struct failure *failure)
     nicxi_free_posts(post, 1);
 }
 
+static void shrink(struct shrinking *it)
+{
+    do {
+        shrink_order(it);
+        bool any = nicxi_omit(it);
+        it->omitted = it->best->omitted;
+        if (!any)
+            return;
+    } while (!nicxi_shrinking_is_over(it));
+}
+
+/* What was shrunk fails alone, or it stays as it was found. */
 uint32_t nicxi_shrink(const struct options *options, struct failure *failure)
 {
-    struct shrinking it = {options, failure, nicxi_posts(1), NULL, 0, 0, now() + MOST_SECONDS};
-    it.list = malloc(((size_t)nicxi.most_points + 1) * sizeof *it.list);
-    uint16_t *room = realloc(failure->schedule, ((size_t)nicxi.most_points + 1) * sizeof *room);
-    if (room)
-        failure->schedule = room;
-    bool goes_on = it.post && it.list && room;
-    while (goes_on) {
-        goes_on = try_beginnings(&it);
-        goes_on = try_stretches(&it) || goes_on;
-        goes_on = try_values(&it) || goes_on;
+    size_t size = ((size_t)nicxi.most_points + 1) * sizeof *failure->schedule;
+    struct failure best = *failure;
+    struct shrinking it = {
+        options, &best, nicxi_posts(1), failure->omitted, malloc(size), 0, 0, nicxi_now() + MOST_SECONDS};
+    best.schedule = malloc(size);
+    if (it.post && it.list && best.schedule) {
+        memcpy(best.schedule, failure->schedule, failure->result.points * sizeof *best.schedule);
+        shrink(&it);
+        if (fails_again(options, it.post, &best)) {
+            uint16_t *schedule = failure->schedule;
+            *failure = best;
+            best.schedule = schedule;
+        }
     }
     if (it.post)
         nicxi_free_posts(it.post, 1);
     free(it.list);
+    free(best.schedule);
     return it.tries;
 }

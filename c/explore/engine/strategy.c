@@ -72,6 +72,19 @@ static uint32_t place_of(uint16_t actor, const uint16_t *can, uint32_t count)
     return count;
 }
 
+/* Whether the list has a point, and whose turn it is there. */
+static bool is_listed(const struct by_list *state, uint32_t point)
+{
+    return point < state->length || state->cycle;
+}
+
+static uint16_t listed(const struct by_list *state, uint32_t point)
+{
+    if (point >= state->length)
+        point = state->length - state->cycle + (point - state->length) % state->cycle;
+    return state->list[point];
+}
+
 static uint32_t longest_ago(const uint16_t *can, uint32_t count)
 {
     uint32_t best = 0;
@@ -93,9 +106,9 @@ static uint32_t choose_to_the_letter(void *argument, const uint16_t *can, uint32
         return count;
     state->unfit = point;
     state->is_trying = false;
-    uint32_t k = point < state->length ? place_of(state->list[point], can, count) : count;
-    if (k == count &&
-        (point < state->length ? nicxi_may_come(state->list[point], can, count) : nicxi_may_be_idle(can, count))) {
+    bool is_in = is_listed(state, point);
+    uint32_t k = is_in ? place_of(listed(state, point), can, count) : count;
+    if (k == count && (is_in ? nicxi_may_come(listed(state, point), can, count) : nicxi_may_be_idle(can, count))) {
         state->is_trying = true;
         return 0;
     }
@@ -127,7 +140,7 @@ static uint32_t choose_by_list(void *argument, const uint16_t *can, uint32_t cou
         if (k < count)
             return k;
     }
-    return nicxi_goes_on(can) ? 0 : longest_ago(can, count);
+    return nicxi_goes_on(can) && !state->is_fair ? 0 : longest_ago(can, count);
 }
 
 nicx_chooser nicxi_by_list(struct by_list *state, const uint16_t *list, uint32_t length, bool is_strict)
@@ -135,7 +148,8 @@ nicx_chooser nicxi_by_list(struct by_list *state, const uint16_t *list, uint32_t
     nicx_chooser chooser = {is_strict ? choose_to_the_letter : choose_by_list, state};
     state->list = list;
     state->length = length;
-    state->at = 0;
+    state->at = state->cycle = 0;
+    state->is_fair = false;
     state->is_trying = state->is_unfit = false;
     return chooser;
 }

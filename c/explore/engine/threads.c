@@ -172,6 +172,7 @@ void nicx_unlock(nicx_mutex *lock)
     struct thread *self = nicxi.self;
     if (!nicxi_may_act() || !self)
         return;
+    self->lock = lock;
     self->next.bus = (uint64_t)(uintptr_t)lock;
     stand(READY, LOCAL_UNLOCK);
     if (lock->kept != (nicxi.epoch << 8 | (number_of(self) + 1))) {

@@ -51,7 +51,7 @@ void nicx_arm(int timer)
     struct thread *it = timer_of(timer, LOCAL_ARM);
     if (!it)
         return;
-    it->pending = true;
+    it->pending = !nicxi.omitted.threads[timer];
     it->due = (nicxi.phase == RUNNING ? *nicxi.points : 0) + it->within;
 }
 

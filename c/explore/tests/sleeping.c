@@ -175,7 +175,8 @@ static uint64_t sum_of_ends(void)
 static uint32_t search(uint32_t preemptions, bool sleeps, uint64_t *sum)
 {
     struct parts parts = {0};
-    struct exhaustive *it = nicxi_exhaustive(preemptions, sleeps, &parts);
+    volatile uint64_t part;
+    struct exhaustive *it = nicxi_exhaustive(preemptions, sleeps, &parts, &part);
     nicx_result result;
     uint32_t runs = 0;
     end_count = 0;

@@ -319,7 +319,8 @@ static unsigned search(const nicx_scenario *scenario, uint32_t preemptions, bool
 {
     struct parts parts = {0};
     const char *fault = nicx_open(scenario);
-    struct exhaustive *state = fault ? NULL : nicxi_exhaustive(preemptions, sleeps, &parts);
+    volatile uint64_t part;
+    struct exhaustive *state = fault ? NULL : nicxi_exhaustive(preemptions, sleeps, &parts, &part);
     nicx_result result = {0};
     unsigned runs = 0;
     seen = 0;

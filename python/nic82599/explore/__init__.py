@@ -15,15 +15,17 @@ import os
 import re
 from collections.abc import Callable, Iterator
 from contextlib import contextmanager
-from dataclasses import dataclass
+from dataclasses import dataclass, field, replace
 from pathlib import Path
 
 from .. import BadMemory, Nic, NotLent, address_of, offset_of
 from .coverage import Coverage
-from .engine import POLLS, Choose, Result, Run, Thread
+from .engine import POLLS, Choose, Result, Run, Thread, place_of_call
 from .jobs import Found, Over, searched
 from .kit import TCP, UDP, Flow, Mailbox, frame_number, numbered_frame
+from .lenient import Parting, following
 from .script import Script, name_of, number_of, offset_name_of
+from .shrink import Shrinking, cut
 from .strategy import Exhaustive, by_chance, by_list, by_priority
 from .weak import WeakMemory
 
@@ -151,6 +153,12 @@ class Scenario:
         assert self._run, "changes of the link are named in begin"
         self._run.links.append(up)
 
+    @property
+    def came(self) -> int:
+        """How many frames came so far, dropped ones too. A failure is shrunk by leaving frames out, so `end` had better
+        ask for what came than for what was named."""
+        return self._run.came if self._run else 0
+
     # --- the controller, for what the explorer needn't know of ---
 
     @property
@@ -164,11 +172,13 @@ class Scenario:
         while any([run.device_event(one) for one in run.actors if one.kind == "device"]):
             continue
 
-    def _who(self, run: Run | None) -> str:
-        """Who accesses, as scripts say it."""
-        if run is None or run.self is None:
-            return "bring-up"
-        return f"{'handler' if run.self.is_handler else 'task'} {run.self.name}"
+    def _who(self, run: Run | None, more: str = "") -> str:
+        """Who accesses, and where, as scripts say it."""
+        is_task = run is not None and run.self is not None
+        place = f"at {place_of_call()}" if is_task else ""
+        told = ", ".join(filter(None, (more, place)))
+        who = f"{'handler' if run.self.is_handler else 'task'} {run.self.name}" if is_task else "bring-up"
+        return f"{who}: {told}" if told else who
 
     # --- points ---
 
@@ -226,7 +236,7 @@ class Scenario:
         is_change = not stray and function.peek32(offset) != word
         self._did(run, f"vr {vf} {offset_name_of(offset)} = 0x{word:08x}{' (stray)' * stray}", is_change)
         if self._script:
-            self._script.read(f"vr {vf} 0x{offset:x}", f"{self._who(run)}: {offset_name_of(offset)}", word)
+            self._script.read(f"vr {vf} 0x{offset:x}", self._who(run, offset_name_of(offset)), word)
         if run:
             run.polled(f"vr {vf} {offset}", str(word))
         return word
@@ -238,8 +248,7 @@ class Scenario:
         is_there = self._nic.vf(vf).write32(offset, word)
         self._did(run, f"vw {vf} {offset_name_of(offset)} 0x{word:08x}{'' if is_there else ' (stray)'}")
         if self._script:
-            said = f"{self._who(run)}: {offset_name_of(offset)}"
-            self._script.line(f"vw {vf} 0x{offset:x} {number_of(word)}", said)
+            self._script.line(f"vw {vf} 0x{offset:x} {number_of(word)}", self._who(run, offset_name_of(offset)))
         return is_there
 
     def _order(self, kind: str, run: Run | None) -> None:
@@ -452,7 +461,7 @@ class Scenario:
         thread.lock = mutex
         run.stand("locked")
         mutex.holder, thread.is_void = thread, False
-        run.tell("locks")
+        run.tell(f"locks {mutex.name}")
 
     def unlock(self, mutex: Mutex) -> None:
         run = self._run
@@ -460,7 +469,7 @@ class Scenario:
             return
         thread = run.self
         run.stand()
-        run.tell("unlocks")
+        run.tell(f"unlocks {mutex.name}")
         if mutex.run is not run or mutex.holder is not thread:
             run.failed("misuse", f"{thread.name} unlocks {mutex.name}, which it doesn't hold")
             run.stand()
@@ -501,7 +510,7 @@ class Failure(AssertionError):
     """A schedule that fails, and where its file is, if it has one."""
 
     def __init__(self, result: Result, told: str, path: Path | None) -> None:
-        shown = "".join(f"    {name:<24} # {words}\n" for name, words in result.points)
+        shown = "".join(f"    {line}\n" for line in lines_of(result))
         where = f"the schedule, also in {path}" if path else "the schedule"
         super().__init__(f"{result.outcome}: {result.words}\n{told}; {where}:\n{shown}")
         self.result, self.path = result, path
@@ -524,38 +533,78 @@ class Report:
 # --- files ---
 
 
+def lines_of(result: Result) -> list[str]:
+    """The points of a schedule, what goes without and what goes round."""
+    lines = [f"without {name}" for name in sorted(result.without)]
+    begin = len(result.points) - result.cycle if result.cycle else None
+    for number, (name, words) in enumerate(result.points):
+        place = result.places[number] if number < len(result.places) else ""
+        if number == begin:
+            lines.append(f"{'cycle':<24} # from here on over and over:")
+        lines.append(f"{name:<24} # {words}{f' at {place}' if place else ''}")
+    return lines
+
+
 def write_schedule(path: Path, scenario: Scenario, result: Result, told: str) -> None:
     lines = [f"# {result.outcome}: {result.words}", f"# {told}; who acts at each point:", f"scenario {scenario.name}"]
     lines += ["memory weak"] if scenario._is_weak else []
-    lines += [f"{name:<24} # {words}" for name, words in result.points]
+    lines += lines_of(result)
     path.write_text("\n".join(lines) + "\n")
 
 
-def read_schedule(path: str | Path, scenario: Scenario) -> tuple[list[str], list[int], str]:
-    """The actors of a schedule's file, the line of each, and what memory is in it. BadSchedule."""
-    memory = "strong"
-    names, numbers, has_scenario = [], [], False
+@dataclass
+class Schedule:
+    """What a file has: the actors, the line of each and what it says of it; what goes without, and what goes round."""
+
+    names: list[str] = field(default_factory=list)
+    numbers: list[int] = field(default_factory=list)
+    told: list[str] = field(default_factory=list)
+    without: frozenset[str] = frozenset()
+    cycle: int = 0
+    memory: str = "strong"
+
+
+WITHOUT = re.compile(r"without ((?:task|handler) [A-Za-z0-9_-]{1,63}|(?:frame|link) \d{1,3})")
+
+
+def read_schedule(path: str | Path, scenario: Scenario) -> Schedule:
+    """The schedule of a file. BadSchedule."""
+    it, has_scenario, begin = Schedule(), False, None
     try:
         text = Path(path).read_text()
     except (OSError, UnicodeDecodeError) as fault:
         raise BadSchedule(f"{path}: it can't be read ({fault})") from None
     for number, line in enumerate(text.splitlines(), 1):
-        words = " ".join(line.partition("#")[0].split())
+        words, _, told = (part.strip() for part in line.partition("#"))
+        words = " ".join(words.split())
         if not words:
             continue
         if not has_scenario and not words.startswith("scenario "):
             raise BadSchedule(f'{path}:{number}: the first line is "scenario NAME"')
         if not has_scenario and words != f"scenario {scenario.name}":
             raise BadSchedule(f"{path}:{number}: it is a schedule of {words}, and this is {scenario.name}")
-        if has_scenario and words == "memory weak" and not names:
-            memory = "weak"
+        left = WITHOUT.fullmatch(words)
+        if words.startswith("without ") and (left is None or it.names):
+            raise BadSchedule(f"{path}:{number}: what is left out stands in front of the first point")
+        if left:
+            it.without |= {left[1]}
+        elif words == "memory weak" and not it.names:
+            it.memory = "weak"
+        elif words == "cycle" and begin is not None:
+            raise BadSchedule(f"{path}:{number}: there is another cycle before it")
+        elif words == "cycle":
+            begin = len(it.names)
         elif has_scenario:
-            names.append(words)
-            numbers.append(number)
+            it.names.append(words)
+            it.numbers.append(number)
+            it.told.append(told)
         has_scenario = True
     if not has_scenario:
         raise BadSchedule(f'{path}: it has no line "scenario NAME"')
-    return names, numbers, memory
+    it.cycle = 0 if begin is None else len(it.names) - begin
+    if begin is not None and not it.cycle:
+        raise BadSchedule(f"{path}: the cycle has no point")
+    return it
 
 
 # --- searching ---
@@ -568,6 +617,7 @@ class Search:
         self, scenario: Scenario, hang: float = 10, script: Script | None = None, memory: str | None = None
     ) -> None:
         self.scenario, self.hang, self.is_cut = scenario, hang, False
+        self.last: Run | None = None
         kind = scenario.memory if memory is None else memory
         if kind not in KINDS or not ORDERS >= scenario.orders:
             raise ValueError(f"a scenario's memory is strong or weak, its orders writes and reads: {kind!r}, "
@@ -596,51 +646,31 @@ class Search:
     def __exit__(self, *_fault: object) -> None:
         self.close()
 
-    def run(self, choose: Choose) -> Result:
+    def run(self, choose: Choose, without: frozenset[str] = frozenset(), tells: bool = False) -> Result:
         """Makes one schedule."""
         scenario = self.scenario
         scenario._nic.restore(self.kept)
-        scenario._run = Run(scenario, scenario._nic, choose, self.hang, self.coverage, self.memory)
+        scenario._run = run = Run(
+            scenario, scenario._nic, choose, self.hang, self.coverage, self.memory, without, tells
+        )
         try:
-            return scenario._run.make()
+            return run.make()
         finally:
-            self.coverage.made(scenario._run)
-            self.is_cut = scenario._run.is_cut
+            self.coverage.made(run)
+            self.is_cut, self.last = run.is_cut, run
             scenario._run = None
 
-    def shrink(self, result: Result, tries: int = 200) -> Result:
-        """A schedule that fails alike, with fewer switches where one is found: turns of an actor are left out."""
-        best = result
-        at = 0
-        while at < len(best.points) and tries:
-            end = at
-            while end < len(best.points) and best.actors[end] == best.actors[at]:
-                end += 1
-            tries -= 1
-            made = self.run(by_list(best.actors[:at] + best.actors[end:], False))
-            fewer = (made.switches, len(made.points)) < (best.switches, len(best.points))
-            if made.outcome == best.outcome and fewer:
-                best, at = made, 0
-            else:
-                at = end
-        return self._lowered(best, tries)
-
-    def _lowered(self, best: Result, tries: int) -> Result:
-        """The same with lower values: 0, a half, one less."""
-        at = 0
-        while at < len(best.points) and tries > 0:
-            kind, _, value = best.actors[at].partition(" ")
-            lower = [0, int(value) // 2, int(value) - 1] if kind == "value" and int(value) else []
-            for one in lower[:tries]:
-                tries -= 1
-                made = self.run(by_list([*best.actors[:at], f"value {one}", *best.actors[at + 1 :]], False))
-                least = (best.switches, len(best.points), best.values)
-                if made.outcome == best.outcome and (made.switches, len(made.points), made.values) < least:
-                    best = made
-                    break
-            else:
-                at += 1
-        return best
+    def shrink(self, result: Result, tries: int = 300) -> Result:
+        """A schedule that fails alike: with fewer switches, without what it doesn't need, and of one without end what
+        goes round."""
+        coverage, self.coverage = self.coverage, Coverage()
+        try:
+            if result.outcome == "endless":
+                without = result.without
+                return cut(lambda names, cycle: self.run(by_list(names, bool(cycle), cycle, True), without), result)
+            return Shrinking(self, result, tries).whole()
+        finally:
+            self.coverage = coverage
 
 
 @dataclass
@@ -653,6 +683,16 @@ class _Plan:
     depth: int | None
     preemptions: int
     jobs: int
+    shard: tuple[int, int] = (1, 1)
+
+    @property
+    def shares(self) -> int:
+        """So many processes of all machines share the work; this machine has those from `first_share` on."""
+        return self.jobs * self.shard[1]
+
+    @property
+    def first_share(self) -> int:
+        return self.jobs * (self.shard[0] - 1)
 
     def depth_of(self, number: int) -> int:
         """Mixed has each depth in turn."""
@@ -662,7 +702,8 @@ class _Plan:
         """The first runs, by which the usual length is known, are made by each process."""
         length = 1
         for number in range(self.runs or 0):
-            if number >= FIRST and (number - FIRST) % self.jobs != mine:
+            is_mine = number % self.shares == mine
+            if number >= FIRST and not is_mine:
                 continue
             if is_over(number):
                 return None
@@ -672,7 +713,7 @@ class _Plan:
             choose = by_chance(seed, number) if is_random else by_priority(seed, number, self.depth_of(number), length)
             result = searching.run(choose)
             length = max(length, len(result.points)) if number < FIRST else length
-            if result.outcome != "fine":
+            if result.outcome != "fine" and (is_mine or self.shard[1] == 1):
                 return Found(number, result, f"found by {way} in run {number} of seed {self.seed}")
         return None
 
@@ -680,10 +721,10 @@ class _Plan:
         """Without a preemption first, then with one more each time: so the failure takes as few as any."""
         number, slowly = 0, 3
         for bound in (*range(min(slowly, self.preemptions)), self.preemptions):
-            way, before = Exhaustive(bound, mine, self.jobs), bound << 40
+            way, before = Exhaustive(bound, mine, self.shares), bound << 40
             goes_on = True
             while goes_on:
-                if (self.runs is not None and number * self.jobs >= self.runs) or is_over(before + way.rank):
+                if (self.runs is not None and number * self.shares >= self.runs) or is_over(before + way.rank):
                     return None
                 way.begin()
                 result = searching.run(way.choose)
@@ -697,10 +738,10 @@ class _Plan:
     def search(self, searching: Search) -> Found | None:
         share = self.exhaustive if self.strategy == "exhaustive" else self.by_runs
         if self.jobs == 1:
-            return share(searching, 0, lambda _rank: False)
+            return share(searching, self.first_share, lambda _rank: False)
 
         def work(mine: int, is_over: Over) -> tuple[Found | None, object]:
-            return share(searching, mine, is_over), searching.coverage
+            return share(searching, self.first_share + mine, is_over), searching.coverage
 
         what = "in a part of the exhaustive search:" if self.strategy == "exhaustive" else f"in seed {self.seed}, run"
         found, seen = searched(self.jobs, work, what)
@@ -710,6 +751,7 @@ class _Plan:
 
 
 FIRST = 16
+MOST_SHARDS = 65_536
 
 
 # The words of `search` that are numbers, and their ranges.
@@ -741,6 +783,13 @@ def check_out(out: object) -> None:
         raise BadWord(f"out: there is no such folder that can be written to: {out!r}")
 
 
+def check_shard(shard: object) -> None:
+    """BadWord where it isn't (K, N): of N machines the K-th, from 1 on."""
+    is_pair = isinstance(shard, tuple) and len(shard) == 2 and all(type(one) is int for one in shard)
+    if not is_pair or not 1 <= shard[0] <= shard[1] <= MOST_SHARDS:
+        raise BadWord(f"shard: {shard!r} isn't (K, N), K of 1 to N and N of 1 to {MOST_SHARDS:,}")
+
+
 def _checked(plan: _Plan) -> _Plan:
     if plan.strategy not in STRATEGIES:
         raise BadWord(f"strategy: {plan.strategy!r} is none of {', '.join(STRATEGIES)}")
@@ -748,18 +797,21 @@ def _checked(plan: _Plan) -> _Plan:
         may_be_none = name == "depth" or (name == "runs" and plan.strategy == "exhaustive")
         if getattr(plan, name) is not None or not may_be_none:
             check_number(name, getattr(plan, name))
+    check_shard(plan.shard)
     return plan
 
 
 def write_files(scenario: Scenario, result: Result, told: str, out: Path, hang: float) -> Path:
     """The schedule of a failure, and the device's side of it as a script, from the bring-up on."""
     path = out / f"{scenario.name}.schedule"
-    write_schedule(path, scenario, result, told)
     script = Script(scenario, result)
+    told_of = result
     with Search(scenario, hang, script, "weak" if scenario._is_weak else "strong") as searching:
         if result.points:
-            searching.run(by_list(result.actors, False))
+            made = searching.run(by_list(result.actors, bool(result.cycle)), result.without, True)
+            told_of = replace(result, places=made.places) if made.points == result.points else result
     scenario._script = None
+    write_schedule(path, scenario, told_of, told)
     (out / f"{scenario.name}.nic").write_text(script.text())
     return path
 
@@ -767,14 +819,15 @@ def write_files(scenario: Scenario, result: Result, told: str, out: Path, hang: 
 def search(
     scenario: Scenario, runs: int | None = 1_000, *, seed: int = 1, strategy: str = "mixed", depth: int | None = None,
     preemptions: int = 2, hang: float = 10, out: str | Path | None = None, shrink: bool = True, jobs: int = 1,
-    strict: bool = False, memory: str | None = None,
+    strict: bool = False, memory: str | None = None, shard: tuple[int, int] = (1, 1),
 ) -> Report:  # fmt: skip
     """Makes so many schedules; Failure at the first that fails, shrunk, and in the folder `out` as NAME.schedule, with
     the device's side of it as NAME.nic. The exhaustive search makes all schedules with at most so many preemptions
-    where `runs` is None. So many processes share the work, and the failure is the same however many they are. BadWord
-    where a word can't be taken. Where nothing fails: what never ran is in the report, and `strict` raises Vacuous.
-    `memory` is strong or weak whatever the scenario says; None: as it says."""
-    plan = _checked(_Plan(runs, seed, strategy, depth, preemptions, jobs))
+    where `runs` is None. So many processes share the work, and the failure is the same however many they are. Of N
+    machines that share a search the K-th has the `shard` (K, N); each makes the first 16 schedules, from which it
+    learns how long they are. BadWord where a word can't be taken. Where nothing fails: what never ran is in the report,
+    and `strict` raises Vacuous. `memory` is strong or weak whatever the scenario says; None: as it says."""
+    plan = _checked(_Plan(runs, seed, strategy, depth, preemptions, jobs, shard))
     check_hang(hang)
     if memory not in (None, *KINDS):
         raise BadWord(f"memory: {memory!r} is none of {', '.join(KINDS)}")
@@ -789,20 +842,32 @@ def search(
                 raise Vacuous("nothing was found, and some of it never ran: " + "; ".join(report.never))
             return report
         result = found.result
-        if shrink and result.points and result.outcome not in ("hang", "endless"):
+        if shrink and result.points and result.outcome != "hang":
             result = searching.shrink(result)
     path = write_files(scenario, result, found.told, Path(out), hang) if out is not None else None
     raise Failure(result, found.told, path)
 
 
-def replay(scenario: Scenario, path: str | Path, hang: float = 10) -> Result:
-    """Makes the schedule of a file, to the letter. BadSchedule where it doesn't fit the scenario."""
+def replay(
+    scenario: Scenario, path: str | Path, hang: float = 10, *, lenient: bool = False,
+) -> Result:  # fmt: skip
+    """Makes the schedule of a file, to the letter. BadSchedule where it doesn't fit the scenario. Leniently a driver
+    that was changed follows it as far as it goes, and `parting` of the result says where it parts."""
     check_hang(hang)
-    names, numbers, memory = read_schedule(path, scenario)
-    with Search(scenario, hang, memory=memory) as searching:
-        result, is_cut = searching.run(by_list(names, True)), searching.is_cut
+    file = read_schedule(path, scenario)
+    with Search(scenario, hang, memory=file.memory) as searching:
+        if lenient:
+            parting = Parting(str(path), file.numbers, file.names, file.told)
+            result = searching.run(following(parting, file.cycle), file.without, True)
+            parting.end(result)
+            return result
+        result = searching.run(by_list(file.names, True, file.cycle), file.without, True)
+        is_cut = searching.is_cut
     at = len(result.points)
-    if is_cut or result.actors != names:
-        where = numbers[min(at, len(numbers) - 1)] if numbers else 1
-        raise BadSchedule(f"{path}:{where}: \"{names[at] if at < len(names) else 'the end'}\" can't act here")
+    if file.cycle and result.outcome == "endless":
+        result.points, result.places, result.cycle = result.points[: len(file.names)], result.places, file.cycle
+    if is_cut or result.actors != file.names:
+        where = file.numbers[min(at, len(file.numbers) - 1)] if file.numbers else 1
+        name = file.names[at] if at < len(file.names) else "the end"
+        raise BadSchedule(f'{path}:{where}: "{name}" can\'t act here')
     return result

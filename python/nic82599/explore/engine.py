@@ -6,7 +6,9 @@ the device's steps itself, and hands over where another thread goes on.
 
 from __future__ import annotations
 
+import os
 import re
+import sys
 import threading
 from collections.abc import Callable
 from dataclasses import dataclass, field
@@ -19,10 +21,14 @@ from .weak import OLDER, STORES, WeakMemory
 
 if TYPE_CHECKING:
     from . import Scenario
+    from .lenient import Parting
 
 POLLS = 8
-OWN = ("a point", "waited", "waited until", "paused", "locks", "unlocks", "wmb", "rmb", "mb")
+# The first words of steps of the driver's own, and others.
+OWN = ("a", "waited", "paused", "locks", "unlocks", "wmb", "rmb", "mb")
 ALSO_OWN = re.compile(r"arms |disarms |mb, |wmb, |p(eek|oke) .*(on its way|own stores in it|as before the last)")
+HERE = os.path.dirname(__file__) + os.sep
+MOST_CALLS = 4
 Choose = Callable[["Run", list["Actor"]], "Actor | None"]
 
 
@@ -38,6 +44,11 @@ class Result:
     outcome: str = "fine"
     words: str = ""
     points: list[tuple[str, str]] = field(default_factory=list)
+    without: frozenset[str] = frozenset()  # what takes no part: "task a", "handler b", "frame 2", "link 0"
+    cycle: int = 0  # the last so many points come over and over
+    places: list[str] = field(default_factory=list, compare=False)  # the line of each point, where it is told
+
+    parting: Parting | None = field(default=None, compare=False)  # of a lenient replay
 
     @property
     def actors(self) -> list[str]:
@@ -103,19 +114,37 @@ class Actor:
     last: int = 0
 
 
+def place_of_call() -> str:
+    """Where the driver called: "race.py:31"; of helpers "card.py:110 < race.py:42"."""
+    frame, found = sys._getframe(1), []
+    while frame is not None and frame.f_code.co_filename.startswith(HERE):
+        frame = frame.f_back
+    while frame is not None and not frame.f_code.co_filename.startswith(HERE) and len(found) < MOST_CALLS:
+        found.append(f"{os.path.basename(frame.f_code.co_filename)}:{frame.f_lineno}")
+        frame = frame.f_back
+    return " < ".join(found)
+
+
+def place_of_function(function: Callable[[], object]) -> str:
+    code = getattr(function, "__code__", None)
+    return f"{os.path.basename(code.co_filename)}:{code.co_firstlineno}" if code else ""
+
+
 class Run:
     """A schedule of a scenario, whose controller is as its bring-up left it."""
 
     def __init__(
         self, scenario: Scenario, nic: Nic, choose: Choose, hang: float, coverage: Coverage | None = None,
-        memory: WeakMemory | None = None,
+        memory: WeakMemory | None = None, without: frozenset[str] = frozenset(), tells: bool = False,
     ) -> None:  # fmt: skip
         self.scenario, self.nic, self.choose, self.hang = scenario, nic, choose, hang
+        self.tells = tells  # each point with its line
         self.coverage = Coverage() if coverage is None else coverage
         self.memory = memory
         self.last = ""
         self.waiting: list[int] = []  # frames inside the device
-        self.result = Result()
+        self.result = Result(without=without)
+        self.came = 0
         self.threads: list[Thread] = []
         self.frames: list[bytes] = []
         self.links: list[bool] = []
@@ -205,8 +234,9 @@ class Run:
 
     # --- steps ---
 
-    def note(self, actor: Actor, words: str) -> None:
+    def note(self, actor: Actor, words: str, place: str = "") -> None:
         self.result.points.append((actor.name, words))
+        self.result.places.append(place)
         if actor.kind == "value":
             return
         actor.last = len(self.result.points)
@@ -243,22 +273,31 @@ class Run:
         except NoGroup:
             return None
 
+    def _kept(self, kind: str, number: int, count: int) -> int:
+        """The first from a number on that isn't left out."""
+        while number < count and f"{kind} {number}" in self.result.without:
+            number += 1
+        return number
+
     def _from_link(self, actor: Actor) -> str:
         script = self.scenario._script
         if actor.kind == "link":
-            up = self.links[self.next_link]
-            self.next_link += 1
+            number = self.next_link
+            up = self.links[number]
+            self.next_link = self._kept("link", number + 1, len(self.links))
             is_changed = self.nic.link(up)
             if is_changed:
-                self.coverage.links.add(self.next_link - 1)
+                self.coverage.links.add(number)
             told = "done" if is_changed else "idle"
             if script:
                 script.line("link up" if up else "link down", f"link: {told}")
             return "link up" if up else "link down"
-        frame = self.frames[self.next_frame]
-        self.next_frame += 1
+        number = self.next_frame
+        frame = self.frames[number]
+        self.next_frame = self._kept("frame", number + 1, len(self.frames))
+        self.came += 1
         dropped = self.nic.arrive(frame)
-        self.coverage.arrived(self, self.next_frame - 1, dropped or None)
+        self.coverage.arrived(self, number, dropped or None)
         told = printed(dropped or True)
         if script:
             script.line(f"arrive {script.data(frame)}", f"link: {told}")
@@ -304,7 +343,8 @@ class Run:
         if isinstance(event, Message):
             group = 0 if event.function is None else event.function + 1
             for one in self.threads:
-                one.pending |= one.is_handler and (one.group, one.vector) == (group, event.vector)
+                is_its = one.is_handler and (one.group, one.vector) == (group, event.vector)
+                one.pending |= is_its and f"handler {one.name}" not in self.result.without
         if isinstance(event, Fault) and "faults" not in self.scenario.allowed:
             where = "" if event.bus is None else f" 0x{event.bus:x}"
             self.failed("fault", f"queue {event.queue}: {event.why}{where}")
@@ -421,9 +461,10 @@ class Run:
         actor.thread.older = actor.of if actor.kind == "older" else 0
         if actor.kind == "start":
             self._start_handler(actor)
-        self.note(actor, words)
+        place = place_of_function(actor.thread.function) if words and self.tells else ""
+        self.note(actor, words, place)
         if words and self.scenario._script:
-            self.scenario._script.own(actor.name, words)
+            self.scenario._script.own(actor.name, words, place)
         self.coverage.goes_on(actor.thread)
         if actor.kind in ("thread", "older") and actor.thread is thread:
             return True
@@ -462,10 +503,14 @@ class Run:
 
     def tell(self, words: str) -> None:
         """What the thread that runs did at the point at which it stood."""
-        if (words in OWN or ALSO_OWN.match(words)) and self.self is not None and self.scenario._script:
-            self.scenario._script.own(self.result.points[-1][0], words)
-        if self.self is not None and self.result.points:
-            self.result.points[-1] = (self.result.points[-1][0], words)
+        if self.self is None or not self.result.points:
+            return
+        self.result.points[-1] = (self.result.points[-1][0], words)
+        if self.tells:
+            self.result.places[-1] = place_of_call()
+        is_own = words.split()[0] in OWN or ALSO_OWN.match(words)
+        if is_own and self.scenario._script:
+            self.scenario._script.own(self.result.points[-1][0], words, self.result.places[-1])
 
     def store(self, bus: int, data: bytes) -> bool:
         """Whether a store is on its way; the oldest of too many reaches memory. NotLent."""
@@ -537,10 +582,12 @@ class Run:
         self.scenario.begin()
         self._check_begun()
         self.list_actors()
+        self.next_frame = self._kept("frame", 0, len(self.frames))
+        self.next_link = self._kept("link", 0, len(self.links))
         for thread in self.threads:
             if self.memory:
                 self.memory.acquired(thread)
-            if not thread.is_handler:
+            if not thread.is_handler and f"task {thread.name}" not in self.result.without:
                 self._prepare(thread)
         try:
             self._hand_over(None)

@@ -108,10 +108,10 @@ class Script:
         self.strings += 1
         return f"d{self.strings - 1}"
 
-    def own(self, who: str, words: str) -> None:
+    def own(self, who: str, words: str, place: str = "") -> None:
         """A step of the driver's own, of which the device hears nothing."""
         if not self.cut:
-            self.lines.append(f"{'':<28} # {who}: {words}")
+            self.lines.append(f"{'':<28} # {who}: {words}{f' at {place}' if place else ''}")
 
     def read(self, text: str, said: str, word: int) -> None:
         self.line(text, said)

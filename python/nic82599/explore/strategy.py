@@ -39,9 +39,10 @@ def by_priority(seed: int, number: int, depth: int, length: int) -> Choose:
     return choose
 
 
-def by_list(names: Sequence[str], is_strict: bool) -> Choose:
-    """By the actors of a list. To the letter it ends where one can't act. Else such a one is left out, and behind the
-    end the one that acted goes on, or the one that acted longest ago."""
+def by_list(names: Sequence[str], is_strict: bool, cycle: int = 0, is_fair: bool = False) -> Choose:
+    """By the actors of a list, of which the last `cycle` come over and over. To the letter it ends where one can't act.
+    Else such a one is left out, and behind the end the one that acted goes on unless it is fair, or the one that acted
+    longest ago does."""
     at = 0
 
     def choose(run: Run, can: list[Actor]) -> Actor | None:
@@ -49,6 +50,8 @@ def by_list(names: Sequence[str], is_strict: bool) -> Choose:
         by_name = {one.name: one for one in can}
         if is_strict:
             at = len(run.result.points)
+            if at >= len(names) and cycle:
+                at = len(names) - cycle + (at - len(names)) % cycle
             if at < len(names) and names[at] in by_name:
                 return by_name[names[at]]
             idle = [one for one in can if one.kind == "device"]
@@ -65,7 +68,7 @@ def by_list(names: Sequence[str], is_strict: bool) -> Choose:
             if names[at - 1] in by_name:
                 return by_name[names[at - 1]]
         usual = [one for one in can if one.kind != "older"] or can
-        return can[0] if can[0].name == run.last else min(usual, key=lambda one: one.last)
+        return can[0] if can[0].name == run.last and not is_fair else min(usual, key=lambda one: one.last)
 
     return choose
 

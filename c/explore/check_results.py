@@ -1,0 +1,184 @@
+"""Checks results of searches as files: several become one, and one that can't be taken is refused. `c/test` calls it.
+"""
+
+from __future__ import annotations
+
+import random
+import re
+import subprocess
+import xml.etree.ElementTree
+from pathlib import Path
+
+from explore.check import HERE, Kit, Wrong, ran, told
+
+RACE = HERE / "examples/race.c"
+
+
+def folder_of(kit: Kit) -> Path:
+    out = kit.folder / "results"
+    out.mkdir(exist_ok=True)
+    return out
+
+
+def numbers(said: str) -> dict[str, int]:
+    """How many schedules, points and distinct schedules are told."""
+    found = re.search(r"(\d+) schedules, (\d+) points", said)
+    distinct = re.search(r"(\d+) distinct schedules", said)
+    if not found:
+        raise Wrong(f"it isn't told how many schedules were made:\n{said}")
+    return {"schedules": int(found[1]), "points": int(found[2]), "distinct": int(distinct[1]) if distinct else 0}
+
+
+def check_sums(kit: Kit) -> str:
+    """The results of shards are that of one search; which are missing is told, and one isn't taken twice."""
+    program, out = kit.build(RACE, "FIXED"), folder_of(kit)
+    ways: list[list[object]] = [["--runs", 500], ["--strategy", "exhaustive", "--preemptions", 1, "--no-sleep"]]
+    for way in ways:
+        words = [program, "--quiet", "--out", out, *way]
+        whole = ran([*words, "--jobs", 1, "--result", out / "whole"])
+        files = [out / f"shard-{k}" for k in (1, 2, 3)]
+        for k, file in enumerate(files, 1):
+            ran([*words, "--jobs", k, "--shard", f"{k}/3", "--result", file])
+        merged = ran([program, "--merge", *files, "--out", out])
+        got, wanted = numbers(merged), numbers(whole)
+        if "exhaustive" in way:
+            told(merged, "these are all schedules", "shards of the exhaustive search")
+            firsts = 2 * (2 + 1 + 2)  # (each process of each shard makes the first schedule of both bounds)
+            if not wanted["schedules"] <= got["schedules"] <= wanted["schedules"] + firsts:
+                raise Wrong(f"the shards made {got}, and one search {wanted}")
+        elif got != wanted:
+            raise Wrong(f"the shards made {got}, and one search {wanted}")
+        alone = ran([program, "--merge", out / "whole", "--out", out])
+        if numbers(alone) != wanted:
+            raise Wrong(f"a result by itself has {numbers(alone)}, and its search made {wanted}")
+        part = ran([program, "--merge", files[0], files[2], "--out", out])
+        told(part, r"note: shards that aren't there: 2 \(1 of 3\)", "two shards of three")
+        if "these are all schedules" in part:
+            raise Wrong(f"two shards of three are told to be all:\n{part}")
+        told(ran([program, "--merge", files[0], files[0]], 2), "shard 1/3 of the same search as", "a shard twice")
+        ran([program, "--merge", *files, "--out", out, "--strict"])
+    return "shards are one search"
+
+
+def check_causes(kit: Kit) -> str:
+    """Each cause is told once, of the lowest run, with its schedule, in JUnit too."""
+    race, out = kit.build(RACE), folder_of(kit)
+    files = [out / f"race-{k}" for k in range(4)]
+    for k, file in enumerate(files[:3]):
+        ran([race, "--quiet", "--jobs", 1, "--shard", f"{k + 1}/3", "--out", out, "--result", file], 1)
+    ran([race, "--quiet", "--jobs", 1, "--seed", 2, "--runs", 5, "--out", out, "--result", files[3]])
+    one = ran([race, "--quiet", "--jobs", 1, "--out", out], 1)
+    run = re.findall(r"found by (\w+ in run \d+)", one)[0]
+    merged = ran([race, "--merge", *files, "--out", out, "--junit", out / "all.xml"], 1)
+    if merged.count("FAILED") != 1 or f"found by {run}," not in merged or "in 3 results" not in merged:
+        raise Wrong(f"the failure of three shards isn't told once, as that {run}:\n{merged}")
+    ran([race, "--replay", out / "race.schedule"], 1)
+    faulty = kit.build(HERE / "tests/faulty.c")
+    for mode, status in (("end", 1), ("check", 1), ("fine", 0)):
+        words = [faulty, mode, "--quiet", "--jobs", 1, "--runs", 200, "--out", out]
+        ran([*words, "--seed", len(mode), "--result", out / mode], status)
+    said = ran([faulty, "end", "--merge", *(out / one for one in ("end", "check", "fine")), "--out", out, "--junit",
+                out / "all.xml"], 1)  # fmt: skip
+    told(said, r"it doesn't fail so in this program: the schedule is \S+/faulty-2.schedule", "another program's")
+    cases = xml.etree.ElementTree.parse(out / "all.xml").findall("testcase/failure")
+    if [case.get("type") for case in cases] != ["end", "check"] or not all("scenario faulty" in (case.text or "")
+                                                                          for case in cases):  # fmt: skip
+        raise Wrong(f"two causes: the JUnit file has {[case.get('type') for case in cases]}")
+    vacuous = kit.build(HERE / "tests/vacuous.c")
+    for seed in (1, 2):
+        ran([vacuous, "waits", "--quiet", "--runs", 20, "--seed", seed, "--out", out, "--result", out / f"v{seed}"])
+    said = ran([vacuous, "waits", "--merge", out / "v1", out / "v2", "--strict", "--out", out], 3)
+    told(said, "task poll never came past its first wait", "what never ran in two results")
+    return "each cause once"
+
+
+def summed(lines: list[str]) -> str:
+    """The lines of a result with the sum that they must end in."""
+    total = 0xCBF29CE484222325
+    for byte in "".join(lines).encode("latin-1"):
+        total = (total ^ byte) * 0x100000001B3 % 2**64
+    return "".join(lines) + f"sum {total:016x}\n"
+
+
+FIELDS = {
+    "nicx-result 1": ("nicx-result 2", ":1: nicx-result: this program reads version 1"),
+    "scenario race": ("scenario other", ":2: it is a result of scenario other, and this is race"),
+    "strategy mixed": ("strategy best", ':3: strategy: there is no strategy "best"'),
+    "seed 1": ("seed 18446744073709551616", ':4: seed: "18446744073709551616" is no number of 0 to'),
+    "first 0": ("first -1", ':5: first: "-1" is no number'),
+    "runs 10000": ("runs 010000", ':6: runs: "010000" is no number'),
+    "shard 1": ("shard 0", ": shard 0 isn't one of 3"),
+    "tasks 1": ("tasks 2", ": tasks: it is 2, and the scenario has 1"),
+    "task 1 poll": ("task 1 pall", ': task: here stands "1 pall", and the scenario has poll'),
+    "frames 2": ("frames 3", ": frames: it is 3, and the scenario has 2"),
+    "distinct exact": ("distinct maybe", ": distinct: it is exact, about or none"),
+    "failure 1": ("failure 2", ': failure: "2" is no number of 0 to 1'),
+    "outcome end": ("outcome bad", ': outcome: there is no "bad"'),
+    "without-threads 0": ("without-threads 2", ': here stands "without-frames 0" and not "without"'),
+    "point arrive": ("point nobody", ': point: the scenario has no "nobody"'),
+    "whole 0": ("whole", ': here stands "whole" and not "whole"'),
+}
+
+
+def check_refused(kit: Kit, tries: int) -> str:
+    """Each field is checked as it is read; changed files are refused, or are results of other numbers."""
+    race, out = kit.build(RACE), folder_of(kit)
+    file, bad = out / "race-0", out / "bad"
+    lines = file.read_text().splitlines(keepends=True)[:-1]
+    if summed(lines) != file.read_text():
+        raise Wrong("the sum of a result's file isn't that of its lines")
+    for old, (new, wanted) in FIELDS.items():
+        at = lines.index(f"{old}\n")
+        bad.write_text(summed([*lines[:at], f"{new}\n", *lines[at + 1 :]]))
+        told(ran([race, "--merge", bad, "--out", out], 2), re.escape(wanted), f"{old} as {new}")
+    for text, wanted in {
+        "": ":1: it ends here, before its end",
+        "".join(lines): "it ends here, before its end",
+        file.read_text() + "\n": "there is more behind its end",
+        file.read_text().replace("seed 1\n", "seed 2\n"): "sum: it isn't that of the lines before it",
+        "x" * 600: ":1: the line has no end",
+        "nicx-result 1\nscenario \x01\n": ":2: it is no text",
+    }.items():
+        bad.write_text(text)
+        told(ran([race, "--merge", bad, "--out", out], 2), re.escape(wanted), repr(text[:40]))
+    told(ran([race, "--merge", "/nowhere"], 2), "/nowhere: it can't be read", "no file")
+    told(ran([race, "--merge"], 2), "--merge: it wants a word behind it", "no word")
+    told(ran([race, "--result", "/nowhere/file"], 2), "--result: /nowhere/file can't be written", "no folder")
+    chance, taken = random.Random(1), 0
+    for _ in range(tries):
+        taken += is_taken(race, out, changed(lines, chance))
+    return f"{len(FIELDS) + 9} refusals, {tries} changed files, {taken} of them taken"
+
+
+def changed(lines: list[str], chance: random.Random) -> str:
+    """A file with a line less, twice, elsewhere, or with another byte or number; half of them with the right sum."""
+    made = list(lines)
+    for _ in range(chance.randint(1, 3)):
+        at, other = chance.randrange(len(made)), chance.randrange(len(made))
+        way = chance.randrange(5)
+        if way == 0:
+            del made[at]
+        elif way == 1:
+            made.insert(other, made[at])
+        elif way == 2:
+            made[at], made[other] = made[other], made[at]
+        elif way == 3:
+            where = chance.randrange(len(made[at]))
+            made[at] = made[at][:where] + chr(chance.randrange(1, 256)) + made[at][where + 1 :]
+        else:
+            made[at] = re.sub(r"\d+", lambda _: str(chance.choice((0, 1, 2, 255, 2**32, 2**63))), made[at], count=1)
+    return summed(made) if chance.randrange(4) else "".join(made)
+
+
+def is_taken(race: Path, out: Path, text: str) -> bool:
+    (out / "bad").write_bytes(text.encode("latin-1"))
+    words = [race, "--merge", out / "bad", "--out", out]
+    made = subprocess.run(words, stdout=subprocess.PIPE, stderr=subprocess.STDOUT, text=True, check=False)
+    if made.returncode not in (0, 1, 2) or (made.returncode == 2) != ("/bad:" in made.stdout.split(" ")[0]):
+        raise Wrong(f"a changed file ends with status {made.returncode}:\n{made.stdout}\n{text}")
+    return made.returncode != 2
+
+
+def check_results(kit: Kit, tries: int) -> list[str]:
+    """All that is here."""
+    return [check_sums(kit), check_causes(kit), check_refused(kit, tries)]

@@ -1,0 +1,238 @@
+"""Checks how a failure is told: shrunk, with lines and names, by the step at which it went wrong, and to a driver that
+was changed. `c/test` calls it."""
+
+from __future__ import annotations
+
+import json
+import os
+import re
+import shutil
+from pathlib import Path
+from typing import Any
+
+from explore.check import HERE, Kit, Wrong, ran, told
+
+SOURCE = HERE / "tests/told.c"
+FOUND = r"found by .*, (\d+) points and (\d+) switches; shrunk by \d+ tries to (\d+) and (\d+)"
+RESOLVERS = ("addr2line", "llvm-symbolizer")
+
+
+def found_by(kit: Kit, program: Path, mode: str, *words: object) -> tuple[str, str]:
+    """What a search that finds a failure tells, and its schedule, which fails again to the letter."""
+    out = kit.folder / "told-out"
+    out.mkdir(exist_ok=True)
+    said = ran([program, mode, "--quiet", "--jobs", 1, "--out", out, *words], 1)
+    again = ran([program, mode, "--replay", out / "told.schedule"], 1)
+    if re.findall(r"FAILED .*", said) != re.findall(r"FAILED .*", again):
+        raise Wrong(f"told {mode}: another failure by --replay:\n{said}{again}")
+    return said, (out / "told.schedule").read_text()
+
+
+def points_of(schedule: str) -> list[str]:
+    """The actors of a schedule's file."""
+    lines = [line.partition("#")[0].strip() for line in schedule.splitlines()]
+    return [line for line in lines if line and not line.startswith(("scenario ", "without ", "cycle"))]
+
+
+def check_shrinking(kit: Kit, program: Path) -> str:
+    """What a failure doesn't need is left out; what `end` counts is not."""
+    left = "without 2 tasks, 1 handler, 4 frames, 4 changes of the link"
+    seen = []
+    for seed in range(1, 6):
+        said, schedule = found_by(kit, program, "much", "--seed", seed)
+        numbers = re.search(FOUND, said)
+        if not numbers or not int(numbers[1]) > 40 or not int(numbers[3]) < 18 or left not in said:
+            raise Wrong(f"told much isn't shrunk to what it needs:\n{said}")
+        told(schedule, "without task watch\nwithout task count\nwithout handler isr\n", "told much")
+        told(said, "it goes wrong at point", "told much")
+        seen.append((int(numbers[1]), int(numbers[3])))
+    said, schedule = found_by(kit, program, "counted")
+    if "without 2 tasks, 1 handler, 4 changes of the link\n" not in said or points_of(schedule).count("arrive") != 6:
+        raise Wrong(f"told counted is shrunk by frames that its end asks for:\n{said}{schedule}")
+    ran([program, "fixed", "--quiet", "--runs", 500, "--out", kit.folder])
+    return ", ".join(f"{found} points shrunk to {shrunk}" for found, shrunk in seen)
+
+
+def check_cycle(kit: Kit, program: Path) -> str:
+    """A schedule without end is told by what goes round, once."""
+    said, schedule = found_by(kit, program, "round")
+    told(said, r"FAILED endless: .*\n.*shrunk by \d+ tries to \d+ and \d+, the last \d over and over", "told round")
+    points, lines = points_of(schedule), schedule.splitlines()
+    where = next(number for number, line in enumerate(lines) if line.startswith("cycle "))
+    round_of = points_of("\n".join(lines[where + 1 :]))
+    if len(points) > 12 or not {"task one", "task other"} == set(round_of):
+        raise Wrong(f"told round: a longer cycle than it needs, or another:\n{schedule}")
+    again = ran([program, "round", "--replay", kit.folder / "told-out/told.schedule"], 1)
+    told(again, f"and so on: the last {len(round_of)} over and over", "told round")
+    script = (kit.folder / "told-out/told.nic").read_text()
+    if script.count("# task one: ") != points.count("task one"):
+        raise Wrong(f"told round: its script has other steps than its schedule:\n{script}")
+    file = kit.folder / "told-out/round.schedule"
+    for text, wanted in {
+        "scenario told\ntask one\ncycle\n": ":3: the cycle has no point",
+        "scenario told\ncycle\ntask one\ncycle\n": ":4: there is another cycle before it",
+        "scenario told\ntask one\nwithout task other\n": ":3: what is left out stands in front of the first point",
+        "scenario told\nwithout frame 2\n": ':2: the scenario has no "frame 2"',
+        "scenario told\nwithout frame 18446744073709551617\n": ":2: the scenario has no",
+        "scenario told\nwithout task nobody\n": ':2: the scenario has no "task nobody"',
+        "scenario told\nwithout rx\n": ':2: the scenario has no "rx"',
+        "scenario told\nwithout task other\ntask other\n": ':3: "task other" can\'t act here',
+        "scenario told\ntask one\ncycle\nrx\n": ':4: "rx" can\'t act here',
+    }.items():
+        file.write_text(text)
+        told(ran([program, "round", "--replay", file], 2), wanted, repr(text))
+    return f"{len(points)} points with a cycle of {len(round_of)}"
+
+
+def check_places(kit: Kit, program: Path) -> str:
+    """Each point has its line, and locks and conditions their names, by each program that knows debug information."""
+    wanted = {}
+    for number, line in enumerate(SOURCE.read_text().splitlines(), 1):
+        if found := re.search(r"/\* here: (.*?) \*/", line):
+            wanted[number] = found[1]
+    found_resolvers = [name for name in RESOLVERS if shutil.which(name)]
+    folder = kit.folder / "resolvers"
+    for name in [*found_resolvers, ""]:
+        shutil.rmtree(folder, ignore_errors=True)
+        folder.mkdir()
+        if name:
+            (folder / name).symlink_to(shutil.which(name) or "")
+        words = [program, "names", "--replay", kit.folder / "told-out/told.schedule"]
+        if name == (found_resolvers or [""])[0]:
+            found_by(kit, program, "names", "--no-shrink")
+        said = ran(words, 1, env={**os.environ, "PATH": str(folder)})
+        for number, what in wanted.items():
+            pattern = re.escape(what) if name else re.escape(what).replace("far_lock", "lock 1")
+            place = rf".* (at|<) told.c:{number}$" if name else ""
+            if what != "helper" and not re.search(f"# {pattern}{place}", said, re.M):
+                raise Wrong(f"by {name or 'nothing'}: line {number} isn't told as \"{what}\":\n{said}")
+        helpers = re.findall(r"w EIMC .* at told.c:(\d+) < told.c:\d+$", said, re.M)
+        if name and [wanted.get(int(one)) for one in helpers] != ["helper", "helper"]:
+            raise Wrong(f"by {name}: the two lines of a helper aren't told:\n{said}")
+        if not name and "told.c:" in said:
+            raise Wrong(f"there is nobody to ask for lines, and there are some:\n{said}")
+    return f"lines by {' and '.join(found_resolvers) or 'nothing, which is here'}"
+
+
+PARTS = {
+    "reader": ["it never parts from the schedule", "FAILED check: the head moved"],
+    "mended": [
+        r"parts from the schedule here, at \S+:\d+\n.*it was: task reader, r RDH\[0\] = 0x00000001.*\n"
+        r".*it is:  task reader, w EIMC 0x00000020",
+        "FAILED check: the head moved",
+    ],
+    "renamed": [
+        r"parts from the schedule here, at \S+:\d+ \(it can't act now\)\n"
+        r'.*it was: "task reader", which the scenario hasn\'t\n',
+        r"told: (fine|FAILED check: the head moved)$",
+    ],
+    "frameless": [
+        r"parts from the schedule here, at \S+:\d+ \(it can't act now\)\n.*it was: arrive, done\n"
+        r".*it is:  task reader, r RDH\[0\] = 0x00000000",
+        "told: fine$",
+    ],
+}
+
+
+def page_of(path: Path) -> dict[str, Any]:
+    """The data of a page, as its script reads them."""
+    found = re.search(r'<script type="application/json" id="data">\n(.*?)\n</script>', path.read_text(), re.S)
+    if not found:
+        raise Wrong(f"{path} has no data")
+    made: dict[str, Any] = json.loads(re.sub(r",\s*\]\}\s*$", "]}", found[1]))
+    return made
+
+
+OBJECTS = {
+    "corpus/eicr_cleared_behind_poll.c": {"frame 1", "rx 0 slot 1", "rx 0"},
+    "corpus/lock_in_handler_and_poll.c": {"lock counters", "interrupts of pf"},
+    "corpus/mailbox_not_taken.c": {"mailbox 0"},
+    "corpus/buffer_again_before_dd.c": {"tx 0 slot 0", "tx 0"},
+}
+
+
+def check_page(kit: Kit, program: Path) -> str:
+    """A page has the points of the schedule, what each is about, and the step at which it went wrong."""
+    out = kit.folder / "told-out"
+    for name, wanted in OBJECTS.items():
+        source = HERE / name
+        said = ran([kit.build(source), "--quiet", "--jobs", 1, "--out", out], 1)
+        data, schedule = page_of(out / f"{source.stem}.html"), (out / f"{source.stem}.schedule").read_text()
+        if [step["actor"] for step in data["steps"]] != points_of(schedule):
+            raise Wrong(f"{name}: its page has other points than its schedule")
+        seen = {one for step in data["steps"] for one in step["objects"]}
+        turn = re.search(r"it goes wrong at point (\d+)", said)
+        if not wanted <= seen or not turn or int(turn[1]) != data["turn"]:
+            raise Wrong(f"{name}: its page has {sorted(seen)}, and goes wrong at {data.get('turn')}:\n{said}")
+        lines = schedule.splitlines()
+        where = next(number for number, line in enumerate(lines) if line.startswith("# here it goes wrong: had "))
+        if points_of("\n".join(lines[:where])) != points_of(schedule)[: data["turn"]]:
+            raise Wrong(f"{name}: its schedule goes wrong elsewhere than its page")
+    faulty = kit.build(HERE / "tests/faulty.c")
+    for mode in ("crash", "end"):  # (amid a step; words that look like a tag)
+        ran([faulty, mode, "--quiet", "--jobs", 1, "--out", out], 1)
+        data = page_of(out / "faulty.html")
+        if data["outcome"] != mode or not data["steps"]:
+            raise Wrong(f"faulty {mode}: its page has no steps, or another end")
+    said = ran([faulty, "crash", "--quiet", "--jobs", 1, "--strategy", "priorities", "--out", out], 1)
+    told(said, "found by random before run 0,", "a crash before the first run")
+    found_by(kit, program, "round")
+    if page_of(out / "told.html")["cycle"] != len(page_of(out / "told.html")["steps"]) - 4:
+        raise Wrong("told round: its page has another cycle")
+    return f"{len(OBJECTS) + 3} pages"
+
+
+def check_lenient(kit: Kit, program: Path) -> str:
+    """A driver that was changed follows the schedule as far as it goes, and where it parts is told."""
+    found_by(kit, program, "reader")
+    schedule = kit.folder / "told-out/told.schedule"
+    for mode, parts in PARTS.items():
+        said = ran([program, mode, "--replay", schedule, "--lenient"], None)
+        for wanted in parts:
+            if not re.search(wanted, said, re.M):
+                raise Wrong(f"told {mode} --lenient: it isn't told that {wanted}:\n{said}")
+        if said.count("parts from the schedule") != 1:
+            raise Wrong(f"told {mode} --lenient: it parts more than once:\n{said}")
+    told(ran([program, "reader", "--lenient"], 2), "--lenient: it is for --replay", "--lenient")
+    return f"{len(PARTS)} drivers follow a schedule as far as it goes"
+
+
+def made(said: str) -> int:
+    return int(re.findall(r": (\d+) schedules", said)[0])
+
+
+def check_same_answer(kit: Kit) -> str:
+    """The exhaustive search finds the same and makes as much, however many processes there are, also to a bound."""
+    source, out = HERE / "corpus/eicr_cleared_behind_poll.c", kit.folder / "told-out"
+    words = ["--quiet", "--no-shrink", "--strategy", "exhaustive", "--out", out]
+    wrong, right = kit.build(source), kit.build(source, "FIXED")
+    alone, whole = made(ran([wrong, *words, "--jobs", 1], 1)), made(ran([right, *words, "--jobs", 1]))
+    schedules, bounds = set(), 3
+    for jobs in (1, 2, 3):
+        ran([wrong, *words, "--jobs", jobs, "--runs", alone - 1])
+        ran([wrong, *words, "--jobs", jobs, "--runs", alone], 1)
+        schedules.add((out / f"{source.stem}.schedule").read_text())
+        count = made(ran([right, *words, "--jobs", jobs]))
+        if count != whole + bounds * (jobs - 1):  # (each process makes the first schedule of each bound)
+            raise Wrong(f"{jobs} processes make {count} schedules, where one makes {whole}")
+    if len(schedules) != 1:
+        raise Wrong("with another number of processes the exhaustive search finds another schedule")
+    return f"the same failure behind {alone} schedules, and {whole} of the twin, by 1, 2 and 3 processes"
+
+
+def check_told(kit: Kit) -> list[str]:
+    """All that is here."""
+    program = replace_flags(kit).build(SOURCE)
+    return [
+        check_shrinking(kit, program),
+        check_cycle(kit, program),
+        check_places(kit, program),
+        check_page(kit, program),
+        check_lenient(kit, program),
+        check_same_answer(kit),
+    ]
+
+
+def replace_flags(kit: Kit) -> Kit:
+    """The same with debug information, without which no lines are known."""
+    return Kit(kit.folder, kit.compiler, [*kit.flags, "-g"], kit.explorer, kit.nicbench)

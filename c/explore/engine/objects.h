@@ -1,0 +1,17 @@
+/* What a step is about: a frame, a slot, a queue, a mailbox, interrupts, a lock. A page follows these backwards. */
+#ifndef NICX_OBJECTS_H
+#define NICX_OBJECTS_H
+
+#include "engine.h"
+
+enum { MOST_OBJECTS = 6, MOST_OBJECT_NAME = 120 };
+
+struct objects {
+    char names[MOST_OBJECTS][MOST_OBJECT_NAME]; /* the most special first: "frame 1", "rx 0 slot 1", "rx 0" */
+    uint32_t count;
+};
+
+/* Of a step that is told as it is made; `about` is what it locks or waits for, or "". */
+void nicxi_objects(const struct step *step, const char *about, struct objects *objects);
+
+#endif

@@ -1,0 +1,57 @@
+/* What a failure doesn't need is left out: tasks, handlers, frames, changes of the link. Much fails for want of what is
+   missing, as where `end` counts frames that never come. So something is left out only where some schedule without it
+   is fine: then it is the order that fails, as before. */
+#include <string.h>
+
+#include "shrink.h"
+
+enum { TRIES = 64 };
+
+static bool can_be_fine(const struct shrinking *it, const struct omitted *omitted)
+{
+    const struct beginning any = {omitted, NULL, 0, TRIES};
+    uint32_t tried;
+    return nicxi_can_be_fine(it->options, it->post, &any, &tried);
+}
+
+/* Without these of a list as well. */
+static bool try_without(struct shrinking *it, bool *list, uint32_t from, uint32_t to)
+{
+    bool any = false;
+    for (uint32_t k = from; k < to; k++) {
+        any |= !list[k];
+        list[k] = true;
+    }
+    if (!any)
+        return false;
+    it->length = it->best->result.points;
+    memcpy(it->list, it->best->schedule, it->length * sizeof *it->list);
+    return !nicxi_shrinking_is_over(it) && can_be_fine(it, &it->omitted) &&
+           (nicxi_attempt(it) || nicxi_attempt_by_chance(it));
+}
+
+/* All of a list, halves of it, and so on to each by itself; the last ones first. */
+static bool omit_of(struct shrinking *it, bool *list, uint32_t count)
+{
+    bool any = false;
+    for (uint32_t size = count; size; size = size == 1 ? 0 : (size + 1) / 2)
+        for (uint32_t to = count; to && !nicxi_shrinking_is_over(it);) {
+            uint32_t from = to > size ? to - size : 0;
+            any |= try_without(it, list, from, to);
+            it->omitted = it->best->omitted;
+            to = from;
+        }
+    return any;
+}
+
+bool nicxi_omit(struct shrinking *it)
+{
+    it->omitted = it->best->omitted;
+    if (it->best->result.outcome == NICX_HANG || !can_be_fine(it, &it->omitted))
+        return false;
+    bool any = omit_of(it, it->omitted.threads, nicxi.tasks);
+    any |= omit_of(it, it->omitted.threads + NICX_TASKS, nicxi.handlers);
+    any |= omit_of(it, it->omitted.links, nicxi.link_count);
+    any |= omit_of(it, it->omitted.frames, nicxi.frame_count);
+    return any;
+}

@@ -1,0 +1,29 @@
+/* Where in the driver's source a step was made. */
+#ifndef NICX_PLACES_H
+#define NICX_PLACES_H
+
+#include "engine.h"
+#include "symbols.h"
+
+enum { MOST_CALLS = 8, MOST_PLACE = 160, MOST_TEXT = 200, MOST_TOLD = 512 };
+
+struct place {
+    struct source_line calls[MOST_CALLS]; /* the innermost first, to the task's own function */
+    unsigned count;
+    const void *function; /* where none is known but this: the call was the last one of its function */
+};
+
+/* Of a step that is told as it is made: in a listener, and nowhere else. Nothing is known of the device's steps, nor
+   where the program has no debug information. */
+void nicxi_place(uint16_t actor, const struct step *step, struct place *place);
+
+/* "race.c:31"; of helpers "card.h:110 < tail.c:42". "" where nothing is known. */
+const char *nicxi_place_words(const struct place *place, char room[MOST_PLACE]);
+
+/* A step in words, "locks driver.lock", and what it locks or waits for, or "". */
+void nicxi_step_words(const struct step *step, const struct place *place, char room[MOST_TOLD], char about[MOST_TOLD]);
+
+/* The same with its place: "locks driver.lock at poll.c:17". */
+void nicxi_tell_step(uint16_t actor, const struct step *step, char *room, size_t size);
+
+#endif

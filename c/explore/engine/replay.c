@@ -1,0 +1,242 @@
+/* A schedule of a file is made in this process, so that a debugger can be at it. To the letter it fits or is refused.
+   Leniently it is followed as far as it goes: a driver that was changed parts from it somewhere, which is told, and
+   then acts by the rest of it as far as that can be, to a verdict. */
+#include "replay.h"
+
+#include <inttypes.h>
+#include <stdio.h>
+#include <string.h>
+
+#include "files.h"
+#include "strategy.h"
+#include "words.h"
+
+enum { FINE = 0, FAILED = 1, REFUSED = 2 };
+
+struct replay {
+    const char *path;
+    struct schedule_file file;
+    bool is_lenient;
+    uint32_t at;     /* the point of the file that is next */
+    uint32_t asked;  /* one more than the point at which it was asked for */
+    uint32_t now;    /* the point of the file that is made; `length` where it is none */
+    bool has_parted; /* which is told once the next step was made */
+    bool is_told;
+    char reason[192]; /* how the file's point can't be made */
+};
+
+/* --- where a driver parts from the file --- */
+
+static void print_file_point(const struct replay *it, uint32_t point)
+{
+    char name[96];
+    if (point == it->file.length)
+        printf("the end");
+    else if (it->file.list[point] == NOBODY)
+        printf("%s", it->file.told[point]);
+    else
+        printf("%s%s%s", nicx_actor_name(it->file.list[point], name), it->file.told[point] ? ", " : "",
+               it->file.told[point] ? it->file.told[point] : "");
+}
+
+static void part(struct replay *it, uint32_t point, const char *reason)
+{
+    if (it->has_parted)
+        return;
+    it->has_parted = true;
+    it->now = point;
+    snprintf(it->reason, sizeof it->reason, "%s", reason);
+}
+
+static void tell_parting(struct replay *it, const char *now)
+{
+    const char *name = nicxi.scenario->name;
+    if (!it->has_parted || it->is_told)
+        return;
+    it->is_told = true;
+    printf("%s: it parts from the schedule here, at %s:%u%s\n%s:   it was: ", name, it->path,
+           (unsigned)(it->now < it->file.length ? it->file.lines[it->now] : it->file.last), it->reason, name);
+    print_file_point(it, it->now);
+    printf("\n%s:   it is:  %s\n", name, now);
+}
+
+/* Whether what was told before is what is told now, but for the line and for what one of them has no word of. */
+static bool is_as_told(const char *before, const char *now)
+{
+    size_t length = strlen(now);
+    const char *at = NULL;
+    for (const char *more = strstr(before, " at "); more; more = strstr(more + 1, " at "))
+        at = more;
+    size_t old = at ? (size_t)(at - before) : strlen(before);
+    size_t least = old < length ? old : length;
+    return !strncmp(before, now, least) && (old == length || (old > length ? before : now)[least] == ' ');
+}
+
+static void compare(struct replay *it, uint16_t actor, const struct step *step)
+{
+    char told[MOST_TOLD], name[96], line[MOST_TOLD + 100];
+    nicxi_tell_step(actor, step, told, sizeof told);
+    snprintf(line, sizeof line, "%s, %s", nicx_actor_name(actor, name), told);
+    char *at = strstr(told, " at ");
+    if (at && !nicxi_is_device_step(step->kind))
+        *at = 0;
+    if (it->now == it->file.length || (it->file.told[it->now] && !is_as_told(it->file.told[it->now], told)))
+        part(it, it->now, "");
+    tell_parting(it, line);
+}
+
+/* --- who acts --- */
+
+static uint32_t place_of(uint16_t actor, const uint16_t *can, uint32_t count)
+{
+    uint32_t k = 0;
+    while (k < count && can[k] != actor)
+        k++;
+    return k;
+}
+
+static uint32_t longest_ago(const uint16_t *can, uint32_t count)
+{
+    uint32_t best = 0;
+    for (uint32_t k = 1; k < count; k++)
+        if (!nicxi_is_value(can[0]) && nicxi.actors[can[k]].last < nicxi.actors[can[best]].last)
+            best = k;
+    return best;
+}
+
+static uint32_t choose(void *argument, const uint16_t *can, uint32_t count)
+{
+    struct replay *it = argument;
+    uint32_t point = *nicxi.points;
+    if (it->asked == point + 1 && it->now < it->file.length)
+        part(it, it->now, " (it has nothing to do now)");
+    it->asked = point + 1;
+    if (nicxi_is_value(can[0]) && (it->at == it->file.length || !nicxi_is_value(it->file.list[it->at]))) {
+        part(it, it->at, " (a value is chosen now)");
+        return 0;
+    }
+    if (it->at == it->file.length && it->file.cycle)
+        it->at -= it->file.cycle;
+    while (it->at < it->file.length) {
+        uint16_t wanted = it->file.list[it->at];
+        uint32_t k = place_of(wanted, can, count);
+        if (k == count && wanted != NOBODY && !nicxi_is_value(can[0]) && nicxi_may_come(wanted, can, count)) {
+            it->asked = 0;
+            return 0;
+        }
+        if (k < count) {
+            if (!it->has_parted)
+                it->now = it->at;
+            it->at++;
+            return k;
+        }
+        part(it, it->at++, " (it can't act now)");
+    }
+    if (!it->has_parted)
+        it->now = it->file.length;
+    return nicxi_goes_on(can) ? 0 : longest_ago(can, count);
+}
+
+/* --- what is told --- */
+
+static void print_point(void *argument, uint16_t actor, const struct step *step)
+{
+    struct replay *it = argument;
+    uint32_t point = *nicxi.points - 1;
+    if (actor == NOBODY || step->is_beside)
+        return;
+    if (it->file.cycle && point == it->file.length && !it->has_parted)
+        printf("      and so on: the last %" PRIu32 " over and over\n", it->file.cycle);
+    if (it->file.cycle && point >= it->file.length && !it->has_parted)
+        return;
+    if (it->is_lenient)
+        compare(it, actor, step);
+    printf("%4" PRIu32 "  ", point);
+    nicxi_write_point(stdout, actor, step);
+    fflush(stdout);
+}
+
+/* Where the file doesn't fit: at a point of its own, at its end, or because all was over before. */
+static int unfit(const struct replay *it, const struct by_list *state, uint32_t points)
+{
+    char name[96];
+    const struct schedule_file *file = &it->file;
+    uint32_t at = state->unfit;
+    if (file->cycle && at >= file->length)
+        at = file->length - file->cycle + (at - file->length) % file->cycle;
+    if (state->is_unfit && at < file->length) {
+        fprintf(stderr, "%s:%u: \"%s\" can't act here\n", it->path, (unsigned)file->lines[at],
+                nicx_actor_name(file->list[at], name));
+        return REFUSED;
+    }
+    if (state->is_unfit || (points > file->length && !file->cycle)) {
+        fprintf(stderr, "%s:%u: the schedule ends, and somebody can act\n", it->path, (unsigned)file->last);
+        return REFUSED;
+    }
+    if (points < file->length) {
+        fprintf(stderr, "%s:%u: all is over before this point\n", it->path, (unsigned)file->lines[points]);
+        return REFUSED;
+    }
+    return FINE;
+}
+
+void nicxi_tell_notes(const struct notes *notes)
+{
+    const char *name = nicxi.scenario->name;
+    if (notes->strays)
+        printf("%s: note: %" PRIu32 " accesses of no register, the first by %s\n", name, notes->strays, notes->stray);
+    if (notes->beyond)
+        printf("%s: note: queue %" PRIu32 " isn't below .queues, so it never goes on\n", name, notes->beyond - 1);
+}
+
+static void tell_end(struct replay *it, const nicx_result *result)
+{
+    const char *name = nicxi.scenario->name;
+    if (it->is_lenient && !it->has_parted && it->at < it->file.length)
+        part(it, it->at, " (it isn't come to)");
+    tell_parting(it, "all is over");
+    nicxi_tell_notes(nicxi.notes);
+    if (it->is_lenient && !it->has_parted)
+        printf("%s: it never parts from the schedule\n", name);
+    if (result->outcome == NICX_FINE)
+        printf("%s: fine\n", name);
+    else
+        printf("%s: FAILED %s: %s\n", name, nicxi_outcome_name(result->outcome), result->words);
+}
+
+static int follow(struct replay *it)
+{
+    struct by_list state;
+    nicx_result result;
+    nicx_chooser chooser = nicxi_by_list(&state, it->file.list, it->file.length, true);
+    state.cycle = it->file.cycle;
+    if (it->is_lenient) {
+        chooser.choose = choose;
+        chooser.argument = it;
+    }
+    nicxi.omitted = it->file.omitted;
+    nicxi.listener = print_point;
+    nicxi.listener_argument = it;
+    nicx_run(&chooser, &result);
+    nicxi.listener = NULL;
+    memset(&nicxi.omitted, 0, sizeof nicxi.omitted);
+    int status = it->is_lenient ? FINE : unfit(it, &state, result.points);
+    if (status != FINE)
+        return status;
+    tell_end(it, &result);
+    return result.outcome == NICX_FINE ? FINE : FAILED;
+}
+
+int nicxi_replay(const char *path, bool is_lenient)
+{
+    static struct replay it;
+    memset(&it, 0, sizeof it);
+    it.path = path;
+    it.is_lenient = is_lenient;
+    const char *fault = nicxi_read_schedule(path, is_lenient, &it.file);
+    if (fault)
+        fprintf(stderr, "%s\n", fault);
+    int status = fault ? REFUSED : follow(&it);
+    nicxi_free_schedule(&it.file);
+    return status;
+}

@@ -1,0 +1,302 @@
+#define _GNU_SOURCE
+#include "symbols.h"
+
+#include <elf.h>
+#include <fcntl.h>
+#include <link.h>
+#include <stdint.h>
+#include <stdio.h>
+#include <stdlib.h>
+#include <string.h>
+#include <sys/mman.h>
+#include <sys/socket.h>
+#include <sys/stat.h>
+#include <sys/time.h>
+#include <sys/wait.h>
+#include <unistd.h>
+
+/* --- which file an address is of, and where in it --- */
+
+struct module {
+    char path[MOST_FILE];
+    uintptr_t from, at; /* what is asked for, and its place in the file */
+    bool is_found;
+};
+
+static int look_at_module(struct dl_phdr_info *info, size_t size, void *argument)
+{
+    struct module *module = argument;
+    (void)size;
+    for (int k = 0; k < info->dlpi_phnum; k++) {
+        const ElfW(Phdr) *part = &info->dlpi_phdr[k];
+        if (part->p_type != PT_LOAD || module->from - info->dlpi_addr - part->p_vaddr >= part->p_memsz)
+            continue;
+        module->at = module->from - info->dlpi_addr;
+        module->is_found = true;
+        if (info->dlpi_name && *info->dlpi_name)
+            snprintf(module->path, sizeof module->path, "%s", info->dlpi_name);
+        else
+            snprintf(module->path, sizeof module->path, "/proc/%ld/exe", (long)getpid());
+        return 1;
+    }
+    return 0;
+}
+
+static bool find_module(const void *address, struct module *module)
+{
+    memset(module, 0, sizeof *module);
+    module->from = (uintptr_t)address;
+    dl_iterate_phdr(look_at_module, module);
+    return module->is_found;
+}
+
+/* --- symbols of a file --- */
+
+struct image {
+    const char *bytes;
+    size_t size;
+    char path[MOST_FILE];
+};
+
+static struct image image; /* of the file that was asked for last */
+
+static bool open_image(const char *path)
+{
+    struct stat about;
+    if (image.bytes && !strcmp(image.path, path))
+        return true;
+    if (image.bytes)
+        munmap((void *)(uintptr_t)image.bytes, image.size);
+    image.bytes = NULL;
+    int file = open(path, O_RDONLY | O_CLOEXEC);
+    if (file < 0)
+        return false;
+    void *memory = MAP_FAILED;
+    if (fstat(file, &about) == 0 && about.st_size > (off_t)sizeof(ElfW(Ehdr)))
+        memory = mmap(NULL, (size_t)about.st_size, PROT_READ, MAP_PRIVATE, file, 0);
+    close(file);
+    if (memory == MAP_FAILED)
+        return false;
+    image.bytes = memory;
+    image.size = (size_t)about.st_size;
+    snprintf(image.path, sizeof image.path, "%s", path);
+    return true;
+}
+
+/* A piece of the file, or null where it isn't whole. */
+static const void *piece(uint64_t at, uint64_t size)
+{
+    return at <= image.size && size <= image.size - at ? image.bytes + at : NULL;
+}
+
+static const ElfW(Shdr) * sections(uint32_t *count)
+{
+    const ElfW(Ehdr) *head = piece(0, sizeof *head);
+    *count = 0;
+    if (!head || memcmp(head->e_ident, ELFMAG, SELFMAG) != 0 || head->e_shentsize != sizeof(ElfW(Shdr)))
+        return NULL;
+    const ElfW(Shdr) *first = piece(head->e_shoff, (uint64_t)head->e_shnum * sizeof *first);
+    if (first)
+        *count = head->e_shnum;
+    return first;
+}
+
+struct symbol {
+    uintptr_t at, size;
+    char name[MOST_SYMBOL];
+};
+
+/* Of the symbols of a table the smallest that covers a place. */
+static bool look_in(const ElfW(Shdr) * table, const ElfW(Shdr) * names, uintptr_t at, struct symbol *found)
+{
+    const ElfW(Sym) *list = piece(table->sh_offset, table->sh_size);
+    const char *text = piece(names->sh_offset, names->sh_size);
+    bool any = false;
+    if (!list || !text || !names->sh_size || text[names->sh_size - 1])
+        return false;
+    for (size_t k = 0; k < table->sh_size / sizeof *list; k++) {
+        unsigned kind = list[k].st_info & 0xF;
+        if ((kind != STT_OBJECT && kind != STT_FUNC) || list[k].st_name >= names->sh_size)
+            continue;
+        if (at - list[k].st_value >= list[k].st_size || (any && list[k].st_size >= found->size))
+            continue;
+        found->at = list[k].st_value;
+        found->size = list[k].st_size;
+        snprintf(found->name, sizeof found->name, "%s", text + list[k].st_name);
+        any = true;
+    }
+    return any;
+}
+
+static bool find_symbol(const void *address, struct module *module, struct symbol *found)
+{
+    uint32_t count;
+    if (!address || !find_module(address, module) || !open_image(module->path))
+        return false;
+    const ElfW(Shdr) *first = sections(&count);
+    for (uint32_t k = 0; k < count; k++)
+        if ((first[k].sh_type == SHT_SYMTAB || first[k].sh_type == SHT_DYNSYM) && first[k].sh_link < count &&
+            look_in(&first[k], &first[first[k].sh_link], module->at, found))
+            return true;
+    return false;
+}
+
+bool nicxi_symbol(const void *address, char *room, size_t size)
+{
+    struct module module;
+    struct symbol found;
+    if (!find_symbol(address, &module, &found))
+        return false;
+    if (module.at == found.at)
+        snprintf(room, size, "%s", found.name);
+    else
+        snprintf(room, size, "%s+0x%lx", found.name, (unsigned long)(module.at - found.at));
+    return true;
+}
+
+const void *nicxi_function(const void *address)
+{
+    struct module module;
+    struct symbol found;
+    if (!find_symbol(address, &module, &found))
+        return NULL;
+    return (const char *)address - (module.at - found.at);
+}
+
+/* --- lines: a program that knows debug information is asked, address by address --- */
+
+static struct {
+    pid_t process;
+    FILE *from;
+    int to;
+    char path[MOST_FILE];
+    bool is_absent; /* of this file nothing is known */
+} asked;
+
+static void end_asking(void)
+{
+    int status;
+    if (asked.from)
+        fclose(asked.from);
+    if (asked.process > 0)
+        waitpid(asked.process, &status, 0);
+    memset(&asked, 0, sizeof asked);
+}
+
+void nicxi_symbols_close(void)
+{
+    end_asking();
+    if (image.bytes)
+        munmap((void *)(uintptr_t)image.bytes, image.size);
+    image.bytes = NULL;
+}
+
+static void become(int end, const char *path)
+{
+    int nowhere = open("/dev/null", O_WRONLY);
+    dup2(end, STDIN_FILENO);
+    dup2(end, STDOUT_FILENO);
+    if (nowhere >= 0)
+        dup2(nowhere, STDERR_FILENO);
+    execlp("addr2line", "addr2line", "-a", "-f", "-i", "-e", path, (char *)NULL);
+    execlp("llvm-symbolizer", "llvm-symbolizer", "--output-style=GNU", "-a", "-f", "-i", "-e", path, (char *)NULL);
+    _exit(127);
+}
+
+static void begin_asking(const char *path)
+{
+    int ends[2];
+    struct timeval patience = {20, 0};
+    end_asking();
+    snprintf(asked.path, sizeof asked.path, "%s", path);
+    asked.is_absent = true;
+    if (socketpair(AF_UNIX, SOCK_STREAM | SOCK_CLOEXEC, 0, ends) != 0)
+        return;
+    fflush(NULL);
+    asked.process = fork();
+    if (asked.process == 0)
+        become(ends[1], path);
+    close(ends[1]);
+    setsockopt(ends[0], SOL_SOCKET, SO_RCVTIMEO, &patience, sizeof patience);
+    asked.to = ends[0];
+    asked.from = fdopen(ends[0], "r");
+    asked.is_absent = asked.process < 0 || !asked.from;
+    if (!asked.from)
+        close(ends[0]);
+}
+
+/* A line of an answer without its end. */
+static bool next_line(char *room, size_t size)
+{
+    if (!fgets(room, (int)size, asked.from))
+        return false;
+    room[strcspn(room, "\r\n")] = 0;
+    return true;
+}
+
+/* "FILE:31", or "FILE:31 (discriminator 2)"; "??:0" is none. */
+static bool take_line(const char *text, struct source_line *line)
+{
+    const char *colon = strrchr(text, ':');
+    unsigned long number = colon ? strtoul(colon + 1, NULL, 10) : 0;
+    if (!number || *text == '?' || (size_t)(colon - text) >= sizeof line->file)
+        return false;
+    memcpy(line->file, text, (size_t)(colon - text));
+    line->file[colon - text] = 0;
+    line->line = (unsigned)number;
+    return true;
+}
+
+/* Behind the address comes 0, whose answer ends the one that is wanted: a line with the address, then pairs of lines,
+   a function and a place. */
+static unsigned ask(uintptr_t at, struct source_line *lines, unsigned most)
+{
+    char text[2 * MOST_FILE], words[64];
+    unsigned count = 0;
+    int length = snprintf(words, sizeof words, "0x%lx\n0x0\n", (unsigned long)at);
+    bool goes_on = send(asked.to, words, (size_t)length, MSG_NOSIGNAL) == length && next_line(text, sizeof text);
+    while (goes_on) {
+        goes_on = next_line(text, sizeof text);
+        if (!goes_on || !strncmp(text, "0x0", 3))
+            break;
+        goes_on = next_line(text, sizeof text);
+        if (goes_on && count < most && take_line(text, &lines[count]))
+            count++;
+    }
+    goes_on = goes_on && next_line(text, sizeof text) && next_line(text, sizeof text);
+    asked.is_absent = !goes_on;
+    return count;
+}
+
+unsigned nicxi_lines(const void *instruction, struct source_line *lines, unsigned most)
+{
+    struct module module;
+    if (!find_module(instruction, &module))
+        return 0;
+    if (strcmp(asked.path, module.path) != 0)
+        begin_asking(module.path);
+    return asked.is_absent ? 0 : ask(module.at, lines, most);
+}
+
+bool nicxi_source(const struct source_line *line, char *room, size_t size)
+{
+    char text[1024];
+    unsigned number = 1;
+    FILE *file = fopen(line->file, "r");
+    if (!file)
+        return false;
+    bool any = fgets(text, sizeof text, file) != NULL;
+    while (any && number < line->line) {
+        number += text[strcspn(text, "\n")] == '\n';
+        any = fgets(text, sizeof text, file) != NULL;
+    }
+    fclose(file);
+    if (!any)
+        return false;
+    const char *from = text + strspn(text, " \t");
+    size_t length = strcspn(from, "\r\n");
+    while (length && (from[length - 1] == ' ' || from[length - 1] == '\t'))
+        length--;
+    snprintf(room, size, "%.*s", (int)length, from);
+    return true;
+}

@@ -1,0 +1,117 @@
+#include "tell.h"
+
+#include <inttypes.h>
+#include <stdio.h>
+
+#include "words.h"
+
+static void tell_never(void *argument, const char *line)
+{
+    fprintf(argument, "%s: note: %s\n", nicxi.scenario->name, line);
+}
+
+/* Of a search that found nothing: how much it saw, and what never happened in it. Whether that fails by --strict. */
+bool nicxi_tell_nothing(const struct options *options, const struct totals *totals, bool has_distinct)
+{
+    const char *name = nicxi.scenario->name;
+    const struct coverage *coverage = &totals->coverage;
+    bool allows_faults = (nicxi.scenario->allowed & NICX_FAULTS) != 0;
+    if (has_distinct)
+        printf("%s: %s%" PRIu64 " distinct schedules\n", name, totals->is_exact ? "" : "about ", totals->distinct);
+    if (coverage->faults)
+        printf("%s: note: %" PRIu64 " faults, which are allowed, the first: %s\n", name, coverage->faults,
+               coverage->fault);
+    else if (allows_faults)
+        printf("%s: note: faults are allowed, and none was met\n", name);
+    uint32_t never = nicxi_never(coverage, tell_never, stdout);
+    bool fails = never && options->is_strict;
+    printf("%s: nothing was found%s\n", name, fails ? ", and some of it never ran: --strict" : "");
+    return fails;
+}
+
+void nicxi_tell_totals(const struct options *options, const struct totals *totals)
+{
+    double seconds = totals->seconds > 0 ? totals->seconds : 1e-9;
+    printf("%s: %" PRIu64 " schedules, %" PRIu64 " points, %.1f s (%.0f schedules a second), %s, seed %" PRIu64 "\n",
+           nicxi.scenario->name, totals->runs, totals->points, totals->seconds, (double)totals->runs / seconds,
+           nicxi_strategy_name(options->strategy), options->seed);
+    if (options->strategy != EXHAUSTIVE || !totals->is_whole)
+        return;
+    printf("%s: these are all schedules", nicxi.scenario->name);
+    if (options->preemptions != UNBOUNDED)
+        printf(" with at most %" PRIu32 " preemptions", options->preemptions);
+    if (options->shards > 1)
+        printf(" of shard %" PRIu32 "/%" PRIu32, options->shard + 1, options->shards);
+    printf("\n");
+}
+
+static uint32_t count_of(const bool *list, uint32_t length)
+{
+    uint32_t count = 0;
+    for (uint32_t k = 0; k < length; k++)
+        count += list[k];
+    return count;
+}
+
+/* ", without 1 task, 3 frames": what shrinking left out. */
+static void tell_omitted(const struct omitted *omitted)
+{
+    const struct {
+        const char *name;
+        uint32_t count;
+    } kinds[] = {
+        {"task", count_of(omitted->threads, NICX_TASKS)},
+        {"handler", count_of(omitted->threads + NICX_TASKS, NICX_HANDLERS)},
+        {"frame", count_of(omitted->frames, NICX_FRAMES)},
+        {"change of the link", count_of(omitted->links, NICX_FRAMES)},
+    };
+    const char *before = ", without";
+    for (uint32_t k = 0; k < sizeof kinds / sizeof *kinds; k++) {
+        if (!kinds[k].count)
+            continue;
+        if (k == 3 && kinds[k].count > 1)
+            printf("%s %" PRIu32 " changes of the link", before, kinds[k].count);
+        else
+            printf("%s %" PRIu32 " %s%s", before, kinds[k].count, kinds[k].name, kinds[k].count > 1 ? "s" : "");
+        before = ",";
+    }
+}
+
+static void tell_turn(const struct turn *turn)
+{
+    char words[MOST_TURN];
+    if (turn->kind == TURN_NONE)
+        printf("%s: %s\n", nicxi.scenario->name, nicxi_turn_words(turn, words));
+    if (turn->kind == TURN_FOUND)
+        printf("%s: it goes wrong at point %" PRIu32 ": had %s there, it could end well\n", nicxi.scenario->name,
+               turn->point, nicxi_turn_other(turn, words));
+}
+
+void nicxi_tell_failure(const struct failure *failure, const nicx_result *found, uint32_t tries,
+                        const struct turn *turn)
+{
+    char where[80];
+    const char *name = nicxi.scenario->name;
+    printf("%s: FAILED %s: %s\n", name, nicxi_outcome_name(failure->result.outcome), failure->result.words);
+    printf("%s: found by %s, %" PRIu32 " points and %" PRIu32 " switches", name, nicxi_where(failure, where),
+           found->points, found->switches);
+    if (tries)
+        printf("; shrunk by %" PRIu32 " tries to %" PRIu32 " and %" PRIu32, tries, failure->result.points,
+               failure->result.switches);
+    if (failure->cycle)
+        printf(", the last %" PRIu32 " over and over", failure->cycle);
+    tell_omitted(&failure->omitted);
+    printf("\n");
+    tell_turn(turn);
+}
+
+void nicxi_tell_files(const struct failure *failure, const struct paths *paths, const char *program)
+{
+    const char *name = nicxi.scenario->name;
+    printf("%s: the schedule is %s, the device's side of it %s, the page %s\n", name, paths->schedule, paths->script,
+           paths->page);
+    if (failure->is_stale)
+        printf("%s: it doesn't fail alone: the same options, with as many processes, find it again\n", name);
+    else
+        printf("%s: again: %s --replay %s\n", name, program, paths->schedule);
+}

@@ -1,0 +1,161 @@
+/* The step at which a schedule went wrong: before it others are fine, behind it none of those that were tried. */
+#include "turn.h"
+
+#include <stdio.h>
+#include <string.h>
+
+#include "shrink.h"
+#include "strategy.h"
+
+enum { FEW = 100, MANY = 1000 };
+#define UNKNOWN UINT32_MAX
+#define MOST_SECONDS 5.0
+
+/* --- schedules that begin as another does --- */
+
+struct going {
+    const struct beginning *beginning;
+    struct by_chance chance;
+    uint32_t first;
+    double until;
+    bool is_unfit;
+};
+
+static uint32_t choose(void *argument, const uint16_t *can, uint32_t count)
+{
+    struct going *going = argument;
+    const struct beginning *from = going->beginning;
+    uint32_t point = *nicxi.points;
+    if (!from->list || point >= from->length)
+        return chance_below(&going->chance.chance, count);
+    for (uint32_t k = 0; k < count; k++)
+        if (can[k] == from->list[point])
+            return k;
+    if (!nicxi_is_value(can[0]) && nicxi_may_come(from->list[point], can, count))
+        return 0;
+    going->is_unfit = true;
+    return count;
+}
+
+static void go_on(struct post *post, void *argument)
+{
+    struct going *going = argument;
+    nicxi_be_quiet();
+    nicxi.omitted = *going->beginning->omitted;
+    for (uint32_t k = going->first; k < going->beginning->tries && nicxi_now() < going->until; k++) {
+        nicx_chooser chooser = {choose, going};
+        post->run = k;
+        nicxi_by_chance(&going->chance, 0, k);
+        nicx_run(&chooser, &post->result);
+        if (!going->is_unfit && post->result.outcome == NICX_FINE) {
+            post->is_found = true;
+            return;
+        }
+    }
+}
+
+/* A process that ends amid a schedule has failed in it, and the next one goes on behind that. */
+bool nicxi_can_be_fine(const struct options *options, struct post *post, const struct beginning *beginning,
+                       uint32_t *tried)
+{
+    static struct going going;
+    memset(&going, 0, sizeof going);
+    going.beginning = beginning;
+    going.until = nicxi_now() + MOST_SECONDS;
+    for (*tried = 0; going.first < beginning->tries && nicxi_now() < going.until;) {
+        post->run = going.first;
+        bool is_told = nicxi_do(post, options->hang, go_on, &going);
+        *tried = (uint32_t)post->run + 1;
+        if (!is_told)
+            return false;
+        if (post->result.outcome == NICX_FINE)
+            return true;
+        going.first = (uint32_t)post->run + 1;
+    }
+    return false;
+}
+
+/* --- the step --- */
+
+struct turning {
+    const struct options *options;
+    const struct failure *failure;
+    struct post *post;
+    double until;
+    uint32_t tried; /* behind the beginning that was looked at last */
+};
+
+static bool can_be_fine(struct turning *it, uint32_t length, uint32_t tries)
+{
+    const struct beginning beginning = {&it->failure->omitted, it->failure->schedule, length, tries};
+    return nicxi_can_be_fine(it->options, it->post, &beginning, &it->tried);
+}
+
+/* The fewest points behind which nothing was fine; 0 where all fail, UNKNOWN where there was no time to see it. */
+static uint32_t first_lost(struct turning *it)
+{
+    uint32_t low = 0, high = it->failure->result.points;
+    if (!can_be_fine(it, 0, MANY))
+        return 0;
+    while (high - low > 1) {
+        if (nicxi_now() > it->until)
+            return UNKNOWN;
+        uint32_t middle = low + (high - low) / 2;
+        if (can_be_fine(it, middle, FEW))
+            low = middle;
+        else
+            high = middle;
+    }
+    it->tried = 0;
+    while (high < it->failure->result.points && can_be_fine(it, high, MANY)) {
+        high++;
+        it->tried = 0;
+        if (nicxi_now() > it->until)
+            return UNKNOWN;
+    }
+    return high;
+}
+
+void nicxi_find_turn(const struct options *options, const struct failure *failure, struct turn *turn)
+{
+    struct turning it = {options, failure, nicxi_posts(1), nicxi_now() + 2 * MOST_SECONDS, 0};
+    memset(turn, 0, sizeof *turn);
+    if (!it.post || failure->is_stale || failure->result.outcome == NICX_HANG) {
+        if (it.post)
+            nicxi_free_posts(it.post, 1);
+        return;
+    }
+    uint32_t lost = first_lost(&it);
+    turn->kind = lost == UNKNOWN ? TURN_UNKNOWN : lost ? TURN_FOUND : TURN_NONE;
+    turn->tried = it.tried;
+    if (turn->kind == TURN_FOUND && can_be_fine(&it, lost - 1, MANY)) {
+        turn->point = lost - 1;
+        turn->other = it.post->at >= lost ? it.post->schedule[lost - 1] : (uint16_t)NOBODY;
+    } else if (turn->kind == TURN_FOUND) {
+        turn->kind = TURN_UNKNOWN;
+    }
+    nicxi_free_posts(it.post, 1);
+}
+
+const char *nicxi_turn_other(const struct turn *turn, char room[MOST_TURN])
+{
+    char name[96];
+    snprintf(room, MOST_TURN, "%s %s", nicx_actor_name(turn->other, name),
+             nicxi_is_value(turn->other) ? "been chosen" : "acted");
+    return room;
+}
+
+const char *nicxi_turn_words(const struct turn *turn, char room[MOST_TURN])
+{
+    char other[MOST_TURN];
+    room[0] = 0;
+    if (turn->kind == TURN_FOUND && turn->tried)
+        snprintf(room, MOST_TURN,
+                 "here it goes wrong: had %.120s, it could end well; behind this step none of %u schedules does",
+                 nicxi_turn_other(turn, other), (unsigned)turn->tried);
+    else if (turn->kind == TURN_FOUND)
+        snprintf(room, MOST_TURN, "here it goes wrong: had %.120s, it could end well", nicxi_turn_other(turn, other));
+    if (turn->kind == TURN_NONE)
+        snprintf(room, MOST_TURN, "all of %u schedules fail: it is no matter of the order", (unsigned)turn->tried);
+    return room;
+}

@@ -1,0 +1,30 @@
+/* Where a schedule went wrong. */
+#ifndef NICX_TURN_H
+#define NICX_TURN_H
+
+#include "search.h"
+
+enum { MOST_TURN = 300 };
+
+enum turn_kind {
+    TURN_UNKNOWN,
+    TURN_FOUND, /* before `point` some schedule was fine, in which `other` acted there; behind it none */
+    TURN_NONE   /* no schedule was fine: it is no matter of the order */
+};
+
+struct turn {
+    uint8_t kind;
+    uint16_t other;
+    uint32_t point;
+    uint32_t tried; /* so many schedules */
+};
+
+void nicxi_find_turn(const struct options *options, const struct failure *failure, struct turn *turn);
+
+/* "task poll acted", "value 3 been chosen": what else could end well. */
+const char *nicxi_turn_other(const struct turn *turn, char room[MOST_TURN]);
+
+/* "here it goes wrong: ..", or "" where that isn't known. */
+const char *nicxi_turn_words(const struct turn *turn, char room[MOST_TURN]);
+
+#endif

@@ -641,6 +641,12 @@ pub struct Look<'a> {
 }
 
 impl Look<'_> {
+    /// How many frames came so far, dropped ones too. A failure is shrunk by leaving frames out, so `end` had better
+    /// ask for what came than for what was named.
+    pub fn came(&self) -> u32 {
+        raw::came()
+    }
+
     /// What a read would give.
     pub fn peek(&self, register: Register) -> u32 {
         self.nic.peek(register)

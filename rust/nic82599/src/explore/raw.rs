@@ -93,6 +93,7 @@ extern "C" {
     fn nicx_host_is_acked(vf: u8) -> bool;
     fn nicx_frame(frame: *const u8, length: usize);
     fn nicx_link_change(up: bool);
+    fn nicx_came() -> u32;
     fn nicx_read32(address: u32) -> u32;
     fn nicx_write32(address: u32, word: u32) -> u8;
     fn nicx_vf_read32(vf: u8, offset: u32) -> u32;
@@ -388,6 +389,11 @@ pub(super) fn frame(frame: &[u8]) {
 pub(super) fn link_change(up: bool) {
     // SAFETY: it takes no pointer.
     unsafe { nicx_link_change(up) }
+}
+
+pub(super) fn came() -> u32 {
+    // SAFETY: it takes no pointer.
+    unsafe { nicx_came() }
 }
 
 // --- in tasks and handlers; a `Bus` is only in their hands, and in those of `bring_up` ---

@@ -31,7 +31,7 @@ def found_by(kit: Kit, program: Path, mode: str, *words: object) -> tuple[str, s
 def points_of(schedule: str) -> list[str]:
     """The actors of a schedule's file."""
     lines = [line.partition("#")[0].strip() for line in schedule.splitlines()]
-    return [line for line in lines if line and not line.startswith(("scenario ", "without ", "cycle"))]
+    return [line for line in lines if line and not line.startswith(("scenario ", "without ", "cycle", "memory "))]
 
 
 def check_shrinking(kit: Kit, program: Path) -> str:
@@ -148,6 +148,7 @@ OBJECTS = {
     "corpus/lock_in_handler_and_poll.c": {"lock counters", "interrupts of pf"},
     "corpus/mailbox_not_taken.c": {"mailbox 0"},
     "corpus/buffer_again_before_dd.c": {"tx 0 slot 0", "tx 0"},
+    "corpus/missing_wmb.c": {"tx 0 slot 0", "tx 0"},
 }
 
 

@@ -127,12 +127,13 @@ static void add_received(struct objects *objects, const struct step *step)
         add(objects, "rx %u", step->told.queue);
 }
 
-/* Behind the step the head is at the next slot. */
+/* Behind the step the head is at the next slot, but where that can't be processed. */
 static void add_sent(struct objects *objects, const struct step *step)
 {
     uint32_t slots = word_at(NIC_TDLEN(step->of)) / NIC_DESC_BYTES, head = word_at(NIC_TDH(step->of));
-    if (slots && step->status != NIC_FAULT)
-        add(objects, "tx %u slot %u", step->of, (unsigned)((head + slots - 1) % slots));
+    uint32_t back = step->status != NIC_FAULT;
+    if (slots)
+        add(objects, "tx %u slot %u", step->of, (unsigned)((head + slots - back) % slots));
     add(objects, "tx %u", step->of);
 }
 

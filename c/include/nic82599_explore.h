@@ -262,6 +262,7 @@ enum nicx_outcome {
     NICX_MISUSE = 8,   /* a call that can't be made there, as the unlocking of a lock that another holds */
     NICX_CRASH = 9,    /* a signal ended the process */
     NICX_HANG = 10,    /* a task made no point for ten seconds */
+    NICX_RACE = 11     /* two accesses of memory, one of them a write, with no order between them */
 };
 
 typedef struct nicx_result {

@@ -6,6 +6,7 @@
 
 #include "engine.h"
 #include "independent.h"
+#include "parts.h"
 #include "weak.h"
 #include "words.h"
 
@@ -70,6 +71,13 @@ static void note_poll(const struct step *step)
     }
     polls->seen[k][0] = place;
     polls->seen[k][1] = step->word;
+}
+
+/* Where an access of packet memory is made: the outermost call of several. */
+static void note_call(const void *at)
+{
+    if (nicxi.self && !nicxi.self->call)
+        nicxi.self->call = (const char *)at - 1;
 }
 
 static void note_change(void)
@@ -140,6 +148,8 @@ static void after(const struct step *step)
     if (nicxi.self && nicxi.self->is_void && is_change(step))
         nicxi.self->is_void = false;
     nicxi_told(step);
+    if (nicxi.self)
+        nicxi.self->call = NULL;
 }
 
 /* Memory that isn't lent is the driver's fault, unless it is allowed. */
@@ -255,6 +265,7 @@ uint8_t nicx_dma_read(uint64_t bus, uint8_t *bytes, size_t length)
 {
     if (!nicxi_may_act())
         return NIC_NOT_LENT;
+    note_call(__builtin_return_address(0));
     struct step *step = before(STEP_PEEK);
     step->bus = bus;
     step->length = (uint32_t)length;
@@ -272,6 +283,7 @@ uint8_t nicx_dma_write(uint64_t bus, const uint8_t *bytes, size_t length)
 {
     if (!nicxi_may_act())
         return NIC_NOT_LENT;
+    note_call(__builtin_return_address(0));
     struct step *step = before(STEP_POKE);
     step->bus = bus;
     step->length = (uint32_t)length;
@@ -287,6 +299,7 @@ uint64_t nicx_get64(uint64_t bus)
 {
     uint8_t bytes[8] = {0};
     uint64_t value = 0;
+    note_call(__builtin_return_address(0));
     nicx_dma_read(bus, bytes, sizeof bytes);
     for (int k = 0; k < 8; k++)
         value |= (uint64_t)bytes[k] << 8 * k;
@@ -298,6 +311,7 @@ uint8_t nicx_put64(uint64_t bus, uint64_t value)
     uint8_t bytes[8];
     for (int k = 0; k < 8; k++)
         bytes[k] = (uint8_t)(value >> 8 * k);
+    note_call(__builtin_return_address(0));
     return nicx_dma_write(bus, bytes, sizeof bytes);
 }
 
@@ -328,6 +342,64 @@ uint8_t nicx_lend(uint32_t block)
 uint8_t nicx_take(uint32_t block)
 {
     return move_block(STEP_TAKE, block);
+}
+
+/* --- the driver's own memory, where accesses of it are known --- */
+
+void nicxi_memory_point(enum local local, uint64_t at, uint32_t size)
+{
+    struct step *step = before(STEP_LOCAL);
+    step->word = (uint32_t)local;
+    step->bus = at;
+    step->length = size;
+    let_others(nicxi.self);
+    nicxi_told(step);
+}
+
+void nicxi_polled(uint64_t at, uint64_t value)
+{
+    struct step step = {.kind = STEP_LOCAL, .address = (uint32_t)at, .word = (uint32_t)(value ^ value >> 32)};
+    note_poll(&step);
+}
+
+void nicxi_changed_memory(void)
+{
+    note_change();
+    if (nicxi.self)
+        nicxi.self->is_void = false;
+}
+
+/* --- steps of the device that a thread itself asks for --- */
+
+void nicxi_asks(const char *call)
+{
+    struct thread *self = nicxi.self;
+    if (!nicxi_may_act() || !self)
+        return;
+    self->next.kind = STEP_LOCAL;
+    self->next.word = LOCAL_CALL;
+    self->next.call = call;
+    self->next.bus = 0;
+    let_others(self);
+}
+
+void nicxi_asked_in_vain(void)
+{
+    if (nicxi.self)
+        nicxi_told(&nicxi.self->next);
+}
+
+/* It is of the driver too, so no other step is independent of it. */
+void nicxi_asked(struct step *step)
+{
+    bool is_made = step->status != NIC_IDLE && step->status != NIC_NO_GROUP;
+    step->waits = true;
+    nicxi_judge(step);
+    if (is_made && nicxi.phase == RUNNING)
+        nicxi_cover_step(step);
+    if (is_made)
+        note_change();
+    after(step);
 }
 
 /* --- in `bring_up` --- */
@@ -404,7 +476,7 @@ static void give_up(void)
 
 void nicxi_wait_outside(void)
 {
-    if (nicxi.phase != BRINGING_UP && nicxi.phase != BEGINNING)
+    if ((nicxi.phase != BRINGING_UP && nicxi.phase != BEGINNING) || nicxi.is_program)
         return;
     if (nicxi.phase == BRINGING_UP && !nicxi.is_settled)
         settle();

@@ -48,6 +48,8 @@ void nicxi_list_actors(void)
     add_threads();
     for (uint16_t handler = 0; handler < nicxi.handlers; handler++)
         add_starts((uint16_t)(NICX_TASKS + handler));
+    if (nicxi.is_program)
+        return;
     add(BY_WIRE, 0, -1);
     add(BY_LINK, 0, -1);
     add(BY_RX, 0, -1);
@@ -206,7 +208,7 @@ static void message(const struct actor *actor, struct step *step)
     }
 }
 
-static void judge(const struct step *step)
+void nicxi_judge(const struct step *step)
 {
     if (step->status == NIC_OUT_OF_MEMORY)
         nicxi_failed(NICX_MISUSE, "the controller found no memory");
@@ -248,7 +250,7 @@ bool nicxi_device_step(struct actor *actor, struct step *step)
     case BY_STORE: nicxi_land(actor, step); return true;
     default: change_link(step); return true;
     }
-    judge(step);
+    nicxi_judge(step);
     if (nicxi.is_weak && nicxi.phase == RUNNING)
         nicxi_memory_changed(step);
     return step->status != NIC_IDLE && step->status != NIC_NO_GROUP;

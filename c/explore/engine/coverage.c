@@ -152,7 +152,7 @@ static void tell_threads(struct telling *it)
     char room[16];
     for (unsigned k = 0; k < NICX_TASKS + (unsigned)nicxi.handlers; k++) {
         const struct thread *thread = &nicxi.threads[k];
-        if (it->coverage->ran[k] || (k >= nicxi.tasks && k < NICX_TASKS))
+        if (it->coverage->ran[k] || (k >= nicxi.tasks && k < NICX_TASKS) || thread->is_made)
             continue;
         if (k < NICX_TASKS) {
             snprintf(it->line, MOST_LINE, "task %s never came past its first wait", thread->name);

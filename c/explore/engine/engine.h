@@ -64,6 +64,7 @@ struct step {
     uint64_t bus;        /* of a memory access; of a lock, which */
     uint64_t touched[2]; /* the driver's own memory that it read, and wrote: a bit for each of 64 parts of all places */
     nic_told told;
+    const char *call; /* of LOCAL_CALL: what was called, about the object at `bus` */
 };
 
 /* Which step of the driver's own a STEP_LOCAL is. */
@@ -79,7 +80,11 @@ enum local {
     LOCAL_RMB,
     LOCAL_MB,
     LOCAL_ARM,
-    LOCAL_DISARM
+    LOCAL_DISARM,
+    LOCAL_CALL, /* of a library that the driver uses */
+    LOCAL_LOAD, /* of the driver's own memory, at `bus` */
+    LOCAL_STORE,
+    LOCAL_ATOMIC
 };
 
 enum thread_state {
@@ -118,12 +123,18 @@ struct thread {
     int interrupted_by; /* of a task: the handler thread that sits on it, or -1 */
     int on;             /* of a handler: the task that it sits on, or -1 */
     unsigned masked;
+    size_t room;     /* bytes of its stack; 0: the scenario's */
+    bool is_made;    /* it begins once the driver makes it */
+    bool is_timed;   /* its wait may end without its condition, where nobody can act, */
+    unsigned rested; /* and did so, or paused, so often since there were so many changes */
+    uint64_t rested_at;
     uint64_t own, seen; /* acts of its own; acts of others as it last went on */
     bool (*condition)(void *);
     void *condition_argument;
     nicx_mutex *lock;
     struct step next; /* before what it stands */
     struct polls polls;
+    const void *call;    /* where it accesses packet memory */
     nicx_mutex *held[8]; /* the locks that it holds; of more than eight not all */
     uint32_t locks;      /* how many it holds */
     uint16_t group;      /* of a handler */
@@ -204,6 +215,10 @@ struct engine {
     struct omitted omitted;
     uint32_t came; /* frames that came in this schedule */
 
+    const void *maker; /* a mark of the thread of the process that makes the schedules */
+    bool is_program;   /* the first task is a whole program, which makes the device's steps itself, */
+    bool is_over;      /* and it came to its end */
+
     const char *asker;    /* the function of the scenario that may only look, while it runs */
     struct polls outside; /* of no thread */
     uint32_t waits;       /* of no thread, in a row, without a step that changed anything */
@@ -267,6 +282,8 @@ bool nicxi_may_be_idle(const uint16_t *can, uint32_t count);
 bool nicxi_may_come(uint16_t actor, const uint16_t *can, uint32_t count);
 /* Makes a step of the device or the link: false where there was nothing to do. */
 bool nicxi_device_step(struct actor *actor, struct step *step);
+/* A fault of the device is a failure, unless the scenario allows it. */
+void nicxi_judge(const struct step *step);
 /* After this step, these steps of the device may have something to do, and threads that wait look again. */
 void nicxi_wake(const struct step *step);
 
@@ -285,6 +302,12 @@ bool nicxi_fires_at_rest(const struct actor *actor);
 
 /* The thread that runs accesses memory of the driver's own; told of all accesses, since `knows_memory` says so. */
 void nicxi_touched(const void *place, size_t size, bool writes);
+/* Schedules are made by this thread of the process, and no other one makes these calls. */
+void nicxi_is_made_here(void);
+/* Has the scenario name what a schedule has. */
+void nicxi_begin(void);
+/* A frame of a schedule, with its bytes copied: false where there are as many as there may be. */
+bool nicxi_add_frame(const uint8_t *bytes, size_t length);
 
 /* Threads. */
 void nicxi_thread_resume(struct thread *from, struct thread *to);

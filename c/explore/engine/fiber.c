@@ -8,14 +8,6 @@
 #include <sys/mman.h>
 #include <unistd.h>
 
-#if defined(__SANITIZE_ADDRESS__)
-#define NICX_ASAN 1
-#elif defined(__has_feature)
-#if __has_feature(address_sanitizer)
-#define NICX_ASAN 1
-#endif
-#endif
-
 #ifdef NICX_ASAN
 #include <sanitizer/asan_interface.h>
 #include <sanitizer/common_interface_defs.h>
@@ -63,25 +55,25 @@ int nicxi_fiber_open(struct fiber *fiber, size_t size)
 {
     size_t page = (size_t)sysconf(_SC_PAGESIZE);
     size = (size + page - 1) / page * page;
-    char *memory = mmap(NULL, size + page, PROT_READ | PROT_WRITE, MAP_PRIVATE | MAP_ANONYMOUS, -1, 0);
+    char *memory =
+        mmap(NULL, size + NICX_GUARD, PROT_READ | PROT_WRITE, MAP_PRIVATE | MAP_ANONYMOUS | MAP_NORESERVE, -1, 0);
     if (memory == MAP_FAILED)
         return 0;
-    if (mprotect(memory, page, PROT_NONE) != 0) {
-        munmap(memory, size + page);
+    if (mprotect(memory, NICX_GUARD, PROT_NONE) != 0) {
+        munmap(memory, size + NICX_GUARD);
         return 0;
     }
-    fiber->bottom = memory + page;
+    fiber->bottom = memory + NICX_GUARD;
     fiber->size = size;
     return 1;
 }
 
 void nicxi_fiber_close(struct fiber *fiber)
 {
-    size_t page = (size_t)sysconf(_SC_PAGESIZE);
     if (!fiber->bottom)
         return;
     forget_frames(fiber);
-    munmap(fiber->bottom - page, fiber->size + page);
+    munmap(fiber->bottom - NICX_GUARD, fiber->size + NICX_GUARD);
     fiber->bottom = NULL;
 }
 

@@ -4,12 +4,23 @@
 
 #include <stddef.h>
 
+#if defined(__SANITIZE_ADDRESS__)
+#define NICX_ASAN 1
+#elif defined(__has_feature)
+#if __has_feature(address_sanitizer)
+#define NICX_ASAN 1
+#endif
+#endif
+
 #if !defined(__x86_64__) || defined(NICX_UCONTEXT)
 #define NICX_BY_UCONTEXT 1
 #include <ucontext.h>
 #endif
 
-/* `bottom` is the lowest byte that may be used; below it lies a page that mustn't. The fiber of the process itself has
+/* What lies below a stack, and mustn't be used: more than a page, since a function may have more in its frame. */
+enum { NICX_GUARD = 65536 };
+
+/* `bottom` is the lowest byte that may be used; below it lies the guard. The fiber of the process itself has
    no stack here. */
 struct fiber {
     void *top; /* where the stack stood when it was left */

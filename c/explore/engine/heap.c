@@ -6,18 +6,9 @@
 #include <string.h>
 #include <sys/mman.h>
 
-/* Pieces are of powers of two, with their class in the 16 bytes before them. Free ones of a size are in a list whose
-   links lie in them. The lists' heads lie in the memory too, so that they go back with it. */
-enum { HEAD = 16, SMALLEST = 5, CLASSES = 40, FIRST = 512 };
+#include "piece.h"
 
-#define ROOM ((size_t)1 << 30)
-
-struct heap {
-    size_t used; /* from `memory` on: this struct, and all that was given out once */
-    void *free[CLASSES];
-};
-
-static char *memory;
+static struct piece *memory;
 static char *kept;
 static size_t kept_size;
 
@@ -27,11 +18,6 @@ static size_t kept_size;
 static char *searcher;
 static __thread char mark;
 
-static struct heap *heap(void)
-{
-    return (struct heap *)(void *)memory;
-}
-
 void nicxi_heap_is_mine(void)
 {
     if (memory)
@@ -40,22 +26,21 @@ void nicxi_heap_is_mine(void)
 
 bool nicxi_heap_open(void)
 {
-    char *room = mmap(NULL, ROOM, PROT_READ | PROT_WRITE, MAP_PRIVATE | MAP_ANONYMOUS | MAP_NORESERVE, -1, 0);
-    if (room == MAP_FAILED)
+    struct piece *piece = piece_open();
+    if (!piece)
         return false;
-    __atomic_store_n(&memory, room, __ATOMIC_RELAXED);
-    heap()->used = FIRST;
+    __atomic_store_n(&memory, piece, __ATOMIC_RELAXED);
     nicxi_heap_is_mine();
     return true;
 }
 
 void nicxi_heap_close(void)
 {
-    char *room = memory;
+    struct piece *piece = memory;
     __atomic_store_n(&searcher, NULL, __ATOMIC_RELAXED);
     __atomic_store_n(&memory, NULL, __ATOMIC_RELAXED);
-    if (room)
-        munmap(room, ROOM);
+    if (piece)
+        munmap(piece, PIECE_ROOM);
     free(kept);
     kept = NULL;
     kept_size = 0;
@@ -63,17 +48,17 @@ void nicxi_heap_close(void)
 
 bool nicxi_heap_is_used(void)
 {
-    return memory && heap()->used > FIRST;
+    return memory && memory->used > FIRST;
 }
 
 bool nicxi_heap_keep(void)
 {
-    char *copy = malloc(heap()->used);
+    char *copy = malloc(memory->used);
     if (!copy)
         return false;
     free(kept);
     kept = copy;
-    kept_size = heap()->used;
+    kept_size = memory->used;
     memcpy(kept, memory, kept_size);
     return true;
 }
@@ -85,59 +70,17 @@ void nicxi_heap_back(void)
 
 size_t nicxi_heap_size(void)
 {
-    return heap()->used;
+    return memory->used;
 }
 
 void nicxi_heap_copy(void *room)
 {
-    memcpy(room, memory, heap()->used);
+    memcpy(room, memory, memory->used);
 }
 
 bool nicxi_heap_is(const void *copy, size_t size)
 {
-    return size == heap()->used && memcmp(memory, copy, size) == 0;
-}
-
-/* --- taking and giving back --- */
-
-static unsigned class_of(size_t size)
-{
-    unsigned k = SMALLEST;
-    while (((size_t)1 << k) < size + HEAD)
-        k++;
-    return k;
-}
-
-/* A piece that was never given out. */
-static char *fresh(unsigned k)
-{
-    size_t whole = (size_t)1 << k;
-    if (k >= CLASSES || whole > ROOM - heap()->used)
-        return NULL;
-    char *piece = memory + heap()->used + HEAD;
-    heap()->used += whole;
-    memcpy(piece - HEAD, &k, sizeof k);
-    return piece;
-}
-
-static void *take(size_t size)
-{
-    if (size > ROOM)
-        return NULL;
-    unsigned k = class_of(size);
-    char *piece = heap()->free[k];
-    if (!piece)
-        return fresh(k);
-    memcpy(&heap()->free[k], piece, sizeof(void *));
-    return piece;
-}
-
-static void give(char *piece)
-{
-    unsigned k;
-    memcpy(&k, piece - HEAD, sizeof k);
-    memcpy(piece, &heap()->free[k], sizeof(void *));
-    heap()->free[k] = piece;
+    return size == memory->used && memcmp(memory, copy, size) == 0;
 }
 
 static bool is_searcher(void)
@@ -147,8 +90,7 @@ static bool is_searcher(void)
 
 bool nicxi_heap_has(const void *piece)
 {
-    const char *room = __atomic_load_n(&memory, __ATOMIC_RELAXED);
-    return room && (const char *)piece >= room && (const char *)piece < room + ROOM;
+    return piece_has(__atomic_load_n(&memory, __ATOMIC_RELAXED), piece);
 }
 
 /* --- what the toolchain's library calls: two words, of which the first is 1 where there was memory --- */
@@ -174,7 +116,7 @@ void nic82599_dealloc(void *piece);
 struct taken nic82599_alloc(size_t size, size_t align)
 {
     size_t wanted = size ? size : align;
-    return told(is_searcher() ? take(wanted) : malloc(wanted));
+    return told(is_searcher() ? piece_take(memory, wanted) : malloc(wanted));
 }
 
 /* A piece goes back to where it came from. One of the search that another thread gives back is left: it goes with the
@@ -184,7 +126,7 @@ void nic82599_dealloc(void *piece)
     if (!nicxi_heap_has(piece))
         free(piece);
     else if (is_searcher())
-        give(piece);
+        piece_give(memory, piece);
 }
 
 struct taken nic82599_realloc(void *piece, size_t old, size_t size, size_t align)
@@ -192,7 +134,7 @@ struct taken nic82599_realloc(void *piece, size_t old, size_t size, size_t align
     size_t wanted = size ? size : align;
     if (!nicxi_heap_has(piece))
         return told(realloc(piece, wanted));
-    void *moved = is_searcher() ? take(wanted) : malloc(wanted);
+    void *moved = is_searcher() ? piece_take(memory, wanted) : malloc(wanted);
     if (moved) {
         memcpy(moved, piece, old < wanted ? old : wanted);
         nic82599_dealloc(piece);

@@ -33,7 +33,7 @@ static bool is_of_a_side(uint32_t offset, bool transmit)
 }
 
 /* 2 q of the receive side of queue q, 2 q + 1 of its transmit side. */
-static int side_of_register(uint32_t address)
+int nicxi_side_of_register(uint32_t address)
 {
     int base = address >= 0x01000 && address < 0x02000   ? 0x01000
                : address >= 0x0D000 && address < 0x0E000 ? 0x0D000 - 64 * 0x40
@@ -97,14 +97,14 @@ static uint32_t address_of(const struct step *step)
 }
 
 /* The side that a step of the device is of; where a frame was dropped, its queue isn't told. */
-static int side_of_step(const struct step *step)
+int nicxi_side_of_step(const struct step *step)
 {
     switch (step->kind) {
     case STEP_RX: return step->status == NIC_WROTE || step->status == NIC_FAULT ? 2 * step->told.queue : NO_SIDE;
     case STEP_TX: return 2 * step->of + 1;
     case STEP_RX_ENABLE: return 2 * step->of;
     case STEP_TX_ENABLE: return 2 * step->of + 1;
-    default: return side_of_register(address_of(step));
+    default: return nicxi_side_of_register(address_of(step));
     }
 }
 
@@ -114,14 +114,14 @@ typedef bool condition(const struct step *a, const struct step *b);
 
 static bool are_other_sides(const struct step *a, const struct step *b)
 {
-    int side = side_of_step(a), other = side_of_step(b);
+    int side = nicxi_side_of_step(a), other = nicxi_side_of_step(b);
     return side != NO_SIDE && other != NO_SIDE && side != other;
 }
 
 static bool is_of_some_side(const struct step *a, const struct step *b)
 {
     (void)b;
-    return side_of_step(a) != NO_SIDE;
+    return nicxi_side_of_step(a) != NO_SIDE;
 }
 
 static bool is_mailbox_memory(const struct step *a, const struct step *b)
@@ -211,7 +211,7 @@ static int part_of(const struct step *step)
         return INTERRUPTS;
     if (address >= MAILBOX_MEMORY && address < MAILBOX_MEMORY + 4 * WORDS * FUNCTIONS)
         return WORDS_OF_MAILBOX + (int)(address - MAILBOX_MEMORY) / 4;
-    return side_of_register(address);
+    return nicxi_side_of_register(address);
 }
 
 static bool are_other_parts(const struct step *a, const struct step *b)
@@ -362,10 +362,18 @@ static bool is_of_driver(const struct step *step)
     return step->kind < STEP_STORE;
 }
 
+/* A call of a library, an access of memory as a point: what it is about isn't looked at. */
+static bool is_of_library(const struct step *step)
+{
+    return step->kind == STEP_LOCAL && step->word >= LOCAL_CALL;
+}
+
 /* Whether the driver's own memory keeps two of its steps apart: by what each touched, or since the scenario says that
    it has no race. */
 static bool are_apart(const struct step *a, const struct step *b)
 {
+    if (is_of_library(a) || is_of_library(b))
+        return false;
     if (nicxi.knows_memory)
         return !(a->touched[1] & (b->touched[0] | b->touched[1])) && !(b->touched[1] & a->touched[0]);
     return nicxi.scenario->race_free;

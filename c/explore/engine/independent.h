@@ -20,4 +20,8 @@ const char *nicxi_row_name(int row);
    table asks for it; else NO_ADDRESS. */
 uint32_t nicxi_physical(uint32_t gcr_ext, uint8_t vf, uint32_t offset);
 
+/* 2 q of the receive side of queue q, 2 q + 1 of its transmit side: of a register, and of a step; -1 of none. */
+int nicxi_side_of_register(uint32_t address);
+int nicxi_side_of_step(const struct step *step);
+
 #endif

@@ -26,6 +26,8 @@ const char nicxi_usage[] =
     "  --shard K/N        of N machines that share this search the K-th, from 1 on; N up to 65,536 (1/1)\n"
     "  --memory KIND      weak: stores to lent memory may be late, and loads of it old; strong: none is (strong,\n"
     "                     or what the scenario says)\n"
+    "  --points memory    accesses of the driver's own memory are points too, where they are known; memory:NAME those\n"
+    "                     of a variable or in a function\n"
     "  --hang S           a task that makes no point for S seconds hangs (10)\n"
     "  --out FOLDER       where the files of a failure go (.)\n"
     "  --junit FILE       writes the result as JUnit XML\n"
@@ -155,6 +157,16 @@ static const char *take_name(const char *word, const char *text, const char **na
     return *text ? NULL : without_word(word);
 }
 
+static const char *take_points(const char *word, const char *text, struct options *options)
+{
+    options->points = text;
+    if (!*text)
+        return without_word(word);
+    if (strncmp(text, "memory", 6) != 0 || (text[6] && (text[6] != ':' || !text[7])))
+        return refused(word, "it is memory, or memory:NAME of a variable or a function");
+    return NULL;
+}
+
 static const char *take_value(const char *word, const char *text, struct options *options)
 {
     if (!strcmp(word, "--strategy"))
@@ -185,6 +197,8 @@ static const char *take_value(const char *word, const char *text, struct options
         return take_name(word, text, &options->junit);
     if (!strcmp(word, "--result"))
         return take_name(word, text, &options->result);
+    if (!strcmp(word, "--points"))
+        return take_points(word, text, options);
     if (!strcmp(word, "--replay"))
         return take_name(word, text, &options->replay);
     return refused(word, "there is no such option");

@@ -28,6 +28,7 @@ struct options {
     const char *result;   /* another one, or null */
     char **merge;         /* results of other searches, or null */
     uint32_t merge_count;
+    const char *points; /* accesses that are points too: "memory", "memory:NAME"; or null */
     bool is_quiet, is_strict, is_lenient, no_sleep, no_shrink, wants_help;
 };
 

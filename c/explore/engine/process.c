@@ -1,4 +1,4 @@
-#define _DEFAULT_SOURCE
+#define _GNU_SOURCE
 #include "process.h"
 
 #include <errno.h>
@@ -9,12 +9,18 @@
 #include <sys/mman.h>
 #ifdef __linux__
 #include <sys/prctl.h>
+#include <sys/syscall.h>
+#include <ucontext.h>
 #endif
 #include <sys/time.h>
 #include <sys/wait.h>
 #include <unistd.h>
 
-enum { HUNG = 77 };
+/* Statuses of a process that a search started: a task made no point, waits in the kernel, or isn't a task. */
+enum { HUNG = 77, LOCKED_UP = 78, FOREIGN = 79 };
+
+/* What helps where threads and locks are the process's own. */
+#define FORM "link with @nic82599_threads.opts (docs/explore.md)"
 
 static size_t schedule_bytes(void)
 {
@@ -56,14 +62,30 @@ void nicxi_note_in(struct post *post)
 static struct post *watched;
 static uint32_t seconds_left, seconds_given;
 
-static void tick(int number)
+/* Whether a lock of the process's own is waited for: the system call will be made again behind the signal. */
+static bool is_locked_up(const void *context)
+{
+#if defined(__linux__) && defined(__x86_64__)
+    const greg_t *registers = ((const ucontext_t *)context)->uc_mcontext.gregs;
+    const unsigned char *at = (const unsigned char *)(uintptr_t)registers[REG_RIP];
+    return registers[REG_RAX] == SYS_futex && at[0] == 0x0F && at[1] == 0x05;
+#else
+    (void)context;
+    return false;
+#endif
+}
+
+static void tick(int number, siginfo_t *info, void *context)
 {
     static uint64_t seen[2];
     uint64_t now[2] = {watched->runs, watched->at};
     (void)number;
+    (void)info;
     if (memcmp(seen, now, sizeof now) != 0) {
         memcpy(seen, now, sizeof now);
         seconds_left = seconds_given;
+    } else if (is_locked_up(context) && nicxi.phase == RUNNING) {
+        _exit(LOCKED_UP);
     } else if (--seconds_left == 0) {
         _exit(HUNG);
     }
@@ -74,8 +96,8 @@ static void watch(struct post *post, uint32_t hang)
     struct sigaction action;
     struct itimerval each = {{1, 0}, {1, 0}};
     memset(&action, 0, sizeof action);
-    action.sa_handler = tick;
-    action.sa_flags = SA_RESTART;
+    action.sa_sigaction = tick;
+    action.sa_flags = SA_RESTART | SA_SIGINFO;
     watched = post;
     seconds_left = seconds_given = hang;
     sigaction(SIGALRM, &action, NULL);
@@ -99,6 +121,7 @@ bool nicxi_start(struct post *post, uint32_t hang, void (*work)(struct post *, v
 #endif
     nicxi_note_in(post);
     watch(post, hang);
+    nicxi_catch_overflows(&post->overflowed);
     work(post, argument);
     fflush(stdout);
     _exit(0);
@@ -118,6 +141,48 @@ static void tell_hang(const struct post *post, nicx_result *result)
         snprintf(result->words, sizeof result->words, "begin makes no end");
 }
 
+static void tell_signal(const struct post *post, int number, nicx_result *result)
+{
+    if (post->overflowed)
+        nicxi_overflow_words((uint16_t)(post->overflowed - 1), result->words, sizeof result->words);
+    else
+        snprintf(result->words, sizeof result->words, "the process was ended by signal %d (%s)", number,
+                 strsignal(number));
+}
+
+static void tell_status(const struct post *post, int status, nicx_result *result)
+{
+    char name[96];
+    const char *who = post->at ? nicx_actor_name(post->schedule[post->at - 1], name) : "begin";
+    switch (status) {
+    case HUNG:
+        result->outcome = NICX_HANG;
+        tell_hang(post, result);
+        break;
+    case LOCKED_UP:
+        result->outcome = NICX_HANG;
+        snprintf(result->words, sizeof result->words, "%s waits for a lock of the process, which no task is: " FORM,
+                 who);
+        break;
+    case FOREIGN:
+        result->outcome = NICX_MISUSE;
+        snprintf(result->words, sizeof result->words, "a thread that is no task makes a call of the explorer's: " FORM);
+        break;
+    default: snprintf(result->words, sizeof result->words, "the process ended with status %d", status); break;
+    }
+}
+
+/* The one that makes schedules in the process that was started with a program tells it by itself. */
+void nicxi_refuse_thread(void)
+{
+    static const char words[] = "a thread that is no task makes a call of the explorer's: " FORM "\n";
+    if (watched)
+        _exit(FOREIGN);
+    if (write(STDERR_FILENO, words, sizeof words - 1) < 0)
+        abort();
+    _exit(2);
+}
+
 bool nicxi_ended(struct post *post, int status)
 {
     nicx_result *result = &post->result;
@@ -126,15 +191,10 @@ bool nicxi_ended(struct post *post, int status)
     memset(result, 0, sizeof *result);
     result->points = post->at;
     result->outcome = NICX_CRASH;
-    if (WIFEXITED(status) && WEXITSTATUS(status) == HUNG) {
-        result->outcome = NICX_HANG;
-        tell_hang(post, result);
-    } else if (WIFSIGNALED(status)) {
-        snprintf(result->words, sizeof result->words, "the process was ended by signal %d (%s)", WTERMSIG(status),
-                 strsignal(WTERMSIG(status)));
-    } else {
-        snprintf(result->words, sizeof result->words, "the process ended with status %d", WEXITSTATUS(status));
-    }
+    if (WIFSIGNALED(status))
+        tell_signal(post, WTERMSIG(status), result);
+    else
+        tell_status(post, WEXITSTATUS(status), result);
     result->switches = nicxi_switches(post->schedule, post->at);
     return post->is_found = true;
 }

@@ -8,9 +8,16 @@
 
 #include "engine.h"
 #include "heap.h"
+#include "parts.h"
+#include "process.h"
 #include "weak.h"
 
+enum { MOST_RESTS = 20 };
+
 struct engine nicxi;
+const struct nicxi_form *nicxi_form;
+const struct nicxi_races *nicxi_races;
+const char *(*nicxi_ask_for_memory)(const char *name);
 
 void nicxi_failed(uint8_t outcome, const char *form, ...)
 {
@@ -33,8 +40,36 @@ void nicxi_leave(void)
     nicxi_next(self);
 }
 
+/* Tasks run on stacks of one thread of the process: the one at whose address this lies. */
+static __thread char mark;
+
+void nicxi_is_made_here(void)
+{
+    nicxi.maker = &mark;
+}
+
+bool nicxi_is_maker(void)
+{
+    return nicxi.maker == &mark;
+}
+
+bool nicxi_is_in_thread(void)
+{
+    return nicxi.phase == RUNNING && nicxi.self && !nicxi.asker && nicxi_is_maker();
+}
+
+void nicxi_begin(void)
+{
+    nicxi.phase = BEGINNING;
+    nicxi.scenario->begin();
+    if (nicxi_form && nicxi.tasks)
+        nicxi_form->begun();
+}
+
 bool nicxi_may_act(void)
 {
+    if (nicxi.maker != &mark && nicxi.phase != CLOSED)
+        nicxi_refuse_thread();
     if (!nicxi.asker)
         return true;
     nicxi_failed(NICX_MISUSE, "%s makes a call that acts: it may only look", nicxi.asker);
@@ -52,11 +87,19 @@ void nicxi_told(const struct step *step)
         nicxi.steps[point] = *step;
     if (nicxi.listener && nicxi.phase != ENDING)
         nicxi.listener(nicxi.listener_argument, is_point ? nicxi.schedule[point] : NOBODY, step);
+    if (nicxi_races)
+        nicxi_races->told(step);
+}
+
+/* Whether it depends on the acts of others that it goes on. */
+static bool is_waiting(const struct thread *thread)
+{
+    return thread->state == WAITING || thread->state == PAUSED || (thread->state == UNTIL && thread->is_timed);
 }
 
 void nicxi_went_on(struct thread *self)
 {
-    self->next.waits = self->state == WAITING || self->state == PAUSED;
+    self->next.waits = is_waiting(self);
     if (self->next.waits) {
         self->is_void = true;
         self->seen = nicxi.acts - self->own;
@@ -92,10 +135,10 @@ static void note_wait(void)
  */
 static void note_act(struct thread *self)
 {
-    if (nicxi.steps && (self->state == WAITING || self->state == PAUSED))
+    if (nicxi.steps && is_waiting(self))
         note_wait();
     if (self->is_void) {
-        if ((self->state != WAITING && self->state != PAUSED) || self->voided == nicxi.changes)
+        if (!is_waiting(self) || self->voided == nicxi.changes)
             return;
         self->voided = nicxi.changes;
     } else {
@@ -119,13 +162,30 @@ static void look(void)
 
 /* --- choosing --- */
 
+/* A thread that waits for a time goes on where nobody can act. One that the driver made may poll for ever: it rests
+   once that changes nothing any more, but not with a lock that others may wait for. */
+static bool ends_at_rest(const struct thread *thread)
+{
+    if (thread->interrupted_by >= 0 || (thread->state != PAUSED && !(thread->state == UNTIL && thread->is_timed)))
+        return false;
+    return !thread->is_made || thread->rested_at != nicxi.changes || thread->rested < MOST_RESTS ||
+           nicxi_form->holds_any(thread);
+}
+
+static void note_rest(struct thread *thread)
+{
+    if (thread->rested_at != nicxi.changes)
+        thread->rested = 0;
+    thread->rested_at = nicxi.changes;
+    thread->rested++;
+}
+
 /* Where nobody else can act threads that paused go on, and timers fire. */
 static bool comes_at_rest(const struct actor *actor)
 {
     if (actor->kind == BY_START)
         return nicxi_fires_at_rest(actor);
-    return actor->kind == BY_THREAD && nicxi.threads[actor->of].state == PAUSED &&
-           nicxi.threads[actor->of].interrupted_by < 0;
+    return actor->kind == BY_THREAD && ends_at_rest(&nicxi.threads[actor->of]);
 }
 
 /* Who acted last stands first, where it may go on. */
@@ -241,16 +301,17 @@ static bool is_endless(void)
 /* Whoever acts next and isn't the device, or NOBODY where the schedule is over. */
 static uint16_t choose(void)
 {
-    while (!nicxi.result.outcome && !nicxi.is_cut && !is_endless()) {
+    while (!nicxi.result.outcome && !nicxi.is_cut && !nicxi.is_over && !is_endless()) {
         uint32_t count = list_able(false);
         if (nicxi.result.outcome)
             break;
         uint32_t due = nicxi.timers ? nicxi_list_due(nicxi.can) : 0;
         if (due)
             count = due;
-        if (!count && !is_at_rest())
+        bool is_resting = !count;
+        if (is_resting && !is_at_rest())
             continue;
-        if (!count)
+        if (is_resting)
             count = list_able(true);
         if (!count)
             return NOBODY;
@@ -266,6 +327,8 @@ static uint16_t choose(void)
         }
         note(number);
         nicxi.actors[nicxi.last].last = *nicxi.points;
+        if (is_resting && nicxi.actors[number].kind == BY_THREAD)
+            note_rest(&nicxi.threads[nicxi.actors[number].of]);
         return number;
     }
     return NOBODY;
@@ -331,7 +394,7 @@ static void begin_threads(void)
         bool is_task = k < NICX_TASKS;
         if (is_task ? k >= nicxi.tasks : k - NICX_TASKS >= nicxi.handlers)
             continue;
-        thread->state = is_task && !nicxi.omitted.threads[k] ? READY : OFF;
+        thread->state = is_task && !thread->is_made && !nicxi.omitted.threads[k] ? READY : OFF;
         thread->interrupted_by = thread->on = -1;
         thread->masked = 0;
         thread->own = thread->seen = 0;
@@ -340,13 +403,15 @@ static void begin_threads(void)
         thread->locks = 0;
         thread->next.waits = false;
         thread->pending = thread->pending && thread->is_timer;
-        thread->is_void = false;
+        thread->is_void = thread->is_timed = false;
         thread->older = 0;
         if (nicxi.is_weak)
             nicxi_acquired(thread);
+        thread->rested = 0;
+        thread->call = NULL;
         thread->next.kind = STEP_LOCAL;
         thread->next.word = LOCAL_BEGIN;
-        if (is_task && !nicxi_thread_prepare(thread))
+        if (thread->state == READY && !nicxi_thread_prepare(thread))
             nicxi_failed(NICX_MISUSE, "there is no memory for a stack");
     }
 }
@@ -357,7 +422,7 @@ static void reset(void)
     nicxi.acts = nicxi.changes = 0;
     *nicxi.points = 0;
     nicxi.switches = 0;
-    nicxi.is_cut = false;
+    nicxi.is_cut = nicxi.is_over = false;
     nicxi.self = NULL;
     nicxi.asker = NULL;
     nicxi.result.outcome = NICX_FINE;
@@ -377,6 +442,8 @@ static void judge_waiting(bool locks)
         const struct thread *thread = &nicxi.threads[k];
         if ((k < NICX_TASKS ? k >= nicxi.tasks : k - NICX_TASKS >= nicxi.handlers) || thread->state == OFF)
             continue;
+        if ((locks || !thread->is_service) && nicxi_form && nicxi_form->tell_wait(thread, locks))
+            continue;
         if (locks && thread->state == LOCKED)
             nicxi_failed(NICX_DEADLOCK, "%s waits for %s, which %s holds", thread->name,
                          thread->lock->name ? thread->lock->name : "a lock",
@@ -391,26 +458,32 @@ static void judge_end(void)
     const char *words;
     if (nicxi.result.outcome || nicxi.is_cut)
         return;
-    judge_waiting(true);
+    if (!nicxi.is_over)
+        judge_waiting(true);
     nicxi.phase = ENDING;
     nicxi.is_changed = true;
     words = !nicxi.result.outcome && nicxi.scenario->end ? nicxi.scenario->end() : NULL;
     if (words)
         nicxi_failed(NICX_END, "%s", words);
-    judge_waiting(false);
+    if (!nicxi.is_over)
+        judge_waiting(false);
 }
 
 void nicx_run(const nicx_chooser *chooser, nicx_result *result)
 {
     nicxi_heap_is_mine();
+    nicxi_is_made_here();
     nicxi.main.bottom = NULL;
     reset();
     nicxi_back();
     if (nicxi.is_weak)
         nicxi_weak_back();
-    nicxi.phase = BEGINNING;
+    if (nicxi_form)
+        nicxi_form->back();
+    if (nicxi_races)
+        nicxi_races->begin();
     nicxi.chooser = chooser;
-    nicxi.scenario->begin();
+    nicxi_begin();
     nicxi.next_frame = nicxi_next_kept(nicxi.omitted.frames, 0, nicxi.frame_count);
     nicxi.next_link = nicxi_next_kept(nicxi.omitted.links, 0, nicxi.link_count);
     nicxi_list_actors();

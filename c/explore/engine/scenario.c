@@ -5,6 +5,7 @@
 
 #include "engine.h"
 #include "heap.h"
+#include "parts.h"
 #include "weak.h"
 
 static bool is_name(const char *name)
@@ -42,6 +43,8 @@ static struct thread *name_thread(int number, const char *name, void (*function)
     thread->function = function;
     thread->argument = argument;
     thread->is_timer = thread->pending = false;
+    thread->is_made = false;
+    thread->room = 0;
     return thread;
 }
 
@@ -53,6 +56,22 @@ static int add_task(const char *name, void (*function)(void *), void *argument, 
     }
     name_thread(nicxi.tasks, name, function, argument)->is_service = is_service;
     return nicxi.tasks++;
+}
+
+/* They are named by number, since it is the schedule that says which of them comes first. */
+void nicxi_name_made(void)
+{
+    static char names[NICX_TASKS][16];
+    unsigned number = 1;
+    for (; nicxi.tasks < NICX_TASKS; nicxi.tasks++) {
+        struct thread *thread = &nicxi.threads[nicxi.tasks];
+        do
+            snprintf(names[nicxi.tasks], sizeof *names, "thread-%u", number++);
+        while (is_taken(names[nicxi.tasks], nicxi.tasks));
+        thread->name = names[nicxi.tasks];
+        thread->function = NULL;
+        thread->is_made = thread->is_service = true;
+    }
 }
 
 int nicx_task(const char *name, void (*function)(void *), void *argument)
@@ -101,10 +120,14 @@ int nicx_timer(const char *name, void (*function)(void *), void *argument, uint3
 
 void nicx_frame(const uint8_t *bytes, size_t length)
 {
-    if (nicxi.phase != BEGINNING || nicxi.frame_count == NICX_FRAMES || length > MOST_FRAME) {
+    if (nicxi.phase != BEGINNING || !nicxi_add_frame(bytes, length))
         nicxi_failed(NICX_MISUSE, "frames are named in begin, at most %d of %d bytes", NICX_FRAMES, MOST_FRAME);
-        return;
-    }
+}
+
+bool nicxi_add_frame(const uint8_t *bytes, size_t length)
+{
+    if (nicxi.frame_count == NICX_FRAMES || length > MOST_FRAME)
+        return false;
     struct frame *frame = &nicxi.frames[nicxi.frame_count++];
     if (frame->room < length) {
         free(frame->bytes);
@@ -114,6 +137,7 @@ void nicx_frame(const uint8_t *bytes, size_t length)
     frame->length = frame->bytes || !length ? length : 0;
     if (frame->length)
         memcpy(frame->bytes, bytes, length);
+    return true;
 }
 
 void nicx_link_change(bool up)
@@ -164,6 +188,8 @@ static const char *bring_up(void)
         return why;
     }
     nicxi_cover_bring_up();
+    if (nicxi_form)
+        nicxi_form->keep();
     return nicxi_keep();
 }
 
@@ -182,9 +208,8 @@ static bool is_idle(void)
 /* The tasks are looked at once: a scenario without any is none. */
 static const char *try_begin(void)
 {
-    nicxi.phase = BEGINNING;
     nicxi.tasks = nicxi.handlers = nicxi.timers = 0;
-    nicxi.scenario->begin();
+    nicxi_begin();
     if (nicxi.result.outcome)
         return nicxi.result.words;
     for (int k = NICX_TASKS; k < NICX_TASKS + nicxi.handlers; k++) {
@@ -226,6 +251,9 @@ const char *nicx_open(const nicx_scenario *scenario)
     if (!nicxi.schedule)
         return "there is no memory";
     nicxi_heap_open();
+    nicxi_is_made_here();
+    if (nicxi_form)
+        nicxi_form->open();
     fault = bring_up();
     if (!fault)
         fault = nicxi_weak_open();
@@ -241,6 +269,8 @@ void nicx_close(void)
     nic_drop_snapshot(&nicxi.kept);
     nic_close(&nicxi.device);
     nicxi_heap_close();
+    if (nicxi_form)
+        nicxi_form->close();
     for (int k = 0; k < NICX_FRAMES; k++)
         free(nicxi.frames[k].bytes);
     free(nicxi.own_schedule);

@@ -2,7 +2,7 @@
 #include <stdint.h>
 #include <string.h>
 
-#include "engine.h"
+#include "parts.h"
 #include "weak.h"
 
 static const char *name_of(const nicx_mutex *lock)
@@ -19,21 +19,28 @@ static void judge_locks(const struct thread *self)
                      self->locks > MOST_HELD ? "a lock" : name_of(self->held[self->locks - 1]));
 }
 
+static void end(struct thread *self)
+{
+    if (nicxi_form)
+        nicxi_form->ended(self);
+    nicxi_cover_thread((uint16_t)(self - nicxi.threads));
+    if (self->on >= 0)
+        nicxi.threads[self->on].interrupted_by = -1;
+    if (self->masked)
+        nicxi_failed(NICX_MISUSE, "%s ends with its interrupts off", self->name);
+    judge_locks(self);
+    self->state = OFF;
+    self->is_void = false;
+    self->on = -1;
+}
+
 /* A thread ends where it began: a handler that is started again, and a task of the next schedule, go on from here. */
 static void live(void *argument)
 {
     struct thread *self = argument;
     for (;;) {
         self->function(self->argument);
-        nicxi_cover_thread((uint16_t)(self - nicxi.threads));
-        if (self->on >= 0)
-            nicxi.threads[self->on].interrupted_by = -1;
-        if (self->masked)
-            nicxi_failed(NICX_MISUSE, "%s ends with its interrupts off", self->name);
-        judge_locks(self);
-        self->state = OFF;
-        self->is_void = false;
-        self->on = -1;
+        end(self);
         self->stack = PARKED;
         nicxi_next(self);
     }
@@ -41,7 +48,11 @@ static void live(void *argument)
 
 bool nicxi_thread_prepare(struct thread *thread)
 {
-    size_t size = nicxi.scenario->stack ? nicxi.scenario->stack : USUAL_STACK;
+    size_t size = thread->room ? thread->room : nicxi.scenario->stack ? nicxi.scenario->stack : USUAL_STACK;
+    if (thread->stack != NO_STACK && thread->fiber.size < size) {
+        nicxi_fiber_close(&thread->fiber);
+        thread->stack = NO_STACK;
+    }
     if (thread->stack == NO_STACK && !nicxi_fiber_open(&thread->fiber, size))
         return false;
     if (thread->stack != PARKED)
@@ -53,6 +64,8 @@ bool nicxi_thread_prepare(struct thread *thread)
 void nicxi_thread_resume(struct thread *from, struct thread *to)
 {
     nicxi.self = to;
+    if (nicxi_form && from != to)
+        nicxi_form->goes(from, to);
     if (to->stack == PARKED)
         to->stack = BUSY;
     if (from != to)
@@ -122,6 +135,55 @@ void nicx_wait_until(bool (*condition)(void *), void *argument)
     self->condition = condition;
     self->condition_argument = argument;
     stand(UNTIL, LOCAL_UNTIL);
+}
+
+/* --- what a driver's own threads stand on --- */
+
+void nicxi_call(enum thread_state state, const char *call, const void *object)
+{
+    struct thread *self = nicxi.self;
+    if (!self)
+        return;
+    self->next.call = call;
+    self->next.bus = (uintptr_t)object;
+    stand(state, LOCAL_CALL);
+}
+
+void nicxi_call_until(bool (*condition)(void *), void *argument, bool timed, const char *call, const void *object)
+{
+    struct thread *self = nicxi.self;
+    if (!self)
+        return;
+    self->condition = condition;
+    self->condition_argument = argument;
+    self->is_timed = timed;
+    nicxi_call(UNTIL, call, object);
+    self->is_timed = false;
+}
+
+struct thread *nicxi_make_thread(void (*function)(void *), void *argument, size_t room)
+{
+    for (uint16_t k = 0; k < nicxi.tasks; k++) {
+        struct thread *thread = &nicxi.threads[k];
+        if (!thread->is_made || thread->function)
+            continue;
+        thread->function = function;
+        thread->argument = argument;
+        thread->room = room;
+        if (!nicxi_thread_prepare(thread))
+            return NULL;
+        thread->state = READY;
+        return thread;
+    }
+    return NULL;
+}
+
+void nicxi_end_thread(void)
+{
+    struct thread *self = nicxi.self;
+    end(self);
+    self->stack = BUSY;
+    nicxi_next(self);
 }
 
 /* --- locks: `kept` is the schedule's number and the holder's, so that each schedule finds them free --- */

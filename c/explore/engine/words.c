@@ -3,6 +3,7 @@
 #include <stdio.h>
 
 #include "names.h"
+#include "symbols.h"
 
 static const char *fault_words(const nic_told *told, char *room)
 {
@@ -68,6 +69,22 @@ static const char *memory_words(const struct step *step, const char *stray, char
     return room;
 }
 
+/* Of the driver's own memory, or of a library's object. */
+static const char *own_words(const struct step *step, char *room)
+{
+    static const char *const words[] = {"reads", "writes", "atomic"};
+    char name[MOST_SYMBOL];
+    if (step->word < LOCAL_CALL)
+        return local_words(step, room);
+    if (!nicxi_symbol((const void *)(uintptr_t)step->bus, name, sizeof name))
+        snprintf(name, sizeof name, "0x%llx", (unsigned long long)step->bus);
+    if (step->word != LOCAL_CALL)
+        snprintf(room, MOST_WORDS, "%s %.60s, %u bytes", words[step->word - LOCAL_LOAD], name, step->length);
+    else
+        snprintf(room, MOST_WORDS, "%.40s%s%.60s", step->call, step->bus ? " " : "", step->bus ? name : "");
+    return room;
+}
+
 /* An access of a register, by its name. */
 static const char *access_words(const struct step *step, const char *stray, char *room)
 {
@@ -92,7 +109,7 @@ const char *nicxi_words(const struct step *step, char room[MOST_WORDS])
 {
     const char *stray = step->status == NIC_STRAY ? " (stray)" : step->status == NIC_NOT_LENT ? " (not lent)" : "";
     switch (step->kind) {
-    case STEP_LOCAL: return local_words(step, room);
+    case STEP_LOCAL: return own_words(step, room);
     case STEP_START: return "starts";
     case STEP_READ:
     case STEP_WRITE:
@@ -125,6 +142,6 @@ void nicxi_plain(const char *words, char *room, unsigned size)
 const char *nicxi_outcome_name(uint8_t outcome)
 {
     static const char *const names[] = {"fine",   "end",   "always", "deadlock", "endless", "fault",
-                                        "memory", "check", "misuse", "crash",    "hang"};
+                                        "memory", "check", "misuse", "crash",    "hang",    "race"};
     return outcome < sizeof names / sizeof *names ? names[outcome] : "unknown";
 }

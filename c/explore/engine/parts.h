@@ -1,0 +1,62 @@
+/* Parts of the explorer that only some programs have in them, from c/explore/threads: threads as a driver makes them,
+   and data races. A part that is there says so before `main`; where it isn't there its pointer is null. */
+#ifndef NICX_PARTS_H
+#define NICX_PARTS_H
+
+#include "engine.h"
+
+struct nicxi_form {
+    void (*open)(void);  /* before bring_up */
+    void (*keep)(void);  /* behind it: the driver's own memory is kept as it is then, */
+    void (*back)(void);  /* and put back before each schedule */
+    void (*begun)(void); /* behind begin: threads that the driver may make are named */
+    void (*close)(void);
+    void (*goes)(const struct thread *from, const struct thread *to); /* another thread runs; null is the engine */
+    bool (*holds_any)(const struct thread *thread);                   /* a lock: so others may wait for it */
+    bool (*tell_wait)(const struct thread *thread, bool for_lock);    /* tells what it waits for, where that is known */
+    void (*ended)(struct thread *thread);                             /* its function returned */
+};
+
+struct nicxi_races {
+    void (*begin)(void);                   /* a schedule begins */
+    void (*told)(const struct step *step); /* a step was made */
+};
+
+extern const struct nicxi_form *nicxi_form;
+extern const struct nicxi_races *nicxi_races;
+/* Makes accesses of the driver's own memory points: all, or those of a variable or a function of this name. Null, or
+   why not. */
+extern const char *(*nicxi_ask_for_memory)(const char *name);
+
+/* --- what these parts call --- */
+
+/* Whether it is the search's own thread that calls. */
+bool nicxi_is_maker(void);
+/* What a thread of the driver is told of: whether a task or a handler runs, and not what may only look. */
+bool nicxi_is_in_thread(void);
+
+/* Names the tasks that a schedule may have besides: they begin once they are made. */
+void nicxi_name_made(void);
+/* Makes one of them, with a stack of so many bytes, or of the scenario's: null where all are made. */
+struct thread *nicxi_make_thread(void (*function)(void *), void *argument, size_t room);
+/* The thread that runs ends here, amid whatever it calls. */
+void nicxi_end_thread(void);
+
+/* A point of the thread that runs, by a call of this name that is about this object. */
+void nicxi_call(enum thread_state state, const char *call, const void *object);
+/* The same, until a condition of the engine's own holds. Where it is `timed` it may end without that at rest. */
+void nicxi_call_until(bool (*condition)(void *), void *argument, bool timed, const char *call, const void *object);
+
+/* A point before an access of the driver's own memory. */
+void nicxi_memory_point(enum local local, uint64_t at, uint32_t size);
+/* What a load gave: a loop that reads the same over and over is taken to wait. */
+void nicxi_polled(uint64_t at, uint64_t value);
+/* Something in memory that others look at is another now. */
+void nicxi_changed_memory(void);
+
+/* A point before a step of the device that a thread itself asks for by this call, and what came of it. */
+void nicxi_asks(const char *call);
+void nicxi_asked(struct step *step);
+void nicxi_asked_in_vain(void);
+
+#endif

@@ -1,0 +1,157 @@
+/* Threads of C11, by those of POSIX: in this C library their objects are the same. */
+#define _GNU_SOURCE
+#include <errno.h>
+#include <stdint.h>
+#include <threads.h>
+
+#include "form.h"
+#include "threads.h"
+
+int __wrap_pthread_mutex_lock(pthread_mutex_t *mutex);
+int __wrap_pthread_mutex_trylock(pthread_mutex_t *mutex);
+int __wrap_pthread_mutex_timedlock(pthread_mutex_t *mutex, const struct timespec *until);
+int __wrap_pthread_mutex_unlock(pthread_mutex_t *mutex);
+int __wrap_pthread_mutex_destroy(pthread_mutex_t *mutex);
+int __wrap_pthread_cond_init(pthread_cond_t *cond, const pthread_condattr_t *how);
+int __wrap_pthread_cond_wait(pthread_cond_t *cond, pthread_mutex_t *mutex);
+int __wrap_pthread_cond_timedwait(pthread_cond_t *cond, pthread_mutex_t *mutex, const struct timespec *until);
+int __wrap_pthread_cond_signal(pthread_cond_t *cond);
+int __wrap_pthread_cond_broadcast(pthread_cond_t *cond);
+int __wrap_pthread_once(pthread_once_t *once, void (*function)(void));
+int __wrap_pthread_detach(pthread_t number);
+pthread_t __wrap_pthread_self(void);
+int __wrap_pthread_key_delete(pthread_key_t key);
+void *__wrap_pthread_getspecific(pthread_key_t key);
+int __wrap_pthread_setspecific(pthread_key_t key, const void *value);
+
+static int as_c11(int status)
+{
+    switch (status) {
+    case 0: return thrd_success;
+    case EBUSY: return thrd_busy;
+    case ETIMEDOUT: return thrd_timedout;
+    case ENOMEM: return thrd_nomem;
+    default: return thrd_error;
+    }
+}
+
+#define TURNED(name, parameters, arguments, call)                                                                      \
+    int __real_##name parameters;                                                                                      \
+    int __wrap_##name parameters                                                                                       \
+    {                                                                                                                  \
+        return nicxi_is_ours() ? as_c11(call) : __real_##name arguments;                                               \
+    }
+
+#define MUTEX ((pthread_mutex_t *)(void *)mutex)
+#define COND ((pthread_cond_t *)(void *)cond)
+
+TURNED(mtx_lock, (mtx_t * mutex), (mutex), __wrap_pthread_mutex_lock(MUTEX))
+TURNED(mtx_trylock, (mtx_t * mutex), (mutex), __wrap_pthread_mutex_trylock(MUTEX))
+TURNED(mtx_timedlock, (mtx_t * mutex, const struct timespec *until), (mutex, until),
+       __wrap_pthread_mutex_timedlock(MUTEX, until))
+TURNED(mtx_unlock, (mtx_t * mutex), (mutex), __wrap_pthread_mutex_unlock(MUTEX))
+TURNED(cnd_init, (cnd_t * cond), (cond), __wrap_pthread_cond_init(COND, NULL))
+TURNED(cnd_wait, (cnd_t * cond, mtx_t *mutex), (cond, mutex), __wrap_pthread_cond_wait(COND, MUTEX))
+TURNED(cnd_timedwait, (cnd_t * cond, mtx_t *mutex, const struct timespec *until), (cond, mutex, until),
+       __wrap_pthread_cond_timedwait(COND, MUTEX, until))
+TURNED(cnd_signal, (cnd_t * cond), (cond), __wrap_pthread_cond_signal(COND))
+TURNED(cnd_broadcast, (cnd_t * cond), (cond), __wrap_pthread_cond_broadcast(COND))
+TURNED(thrd_detach, (thrd_t thread), (thread), __wrap_pthread_detach(thread))
+TURNED(tss_create, (tss_t * key, tss_dtor_t destructor), (key, destructor), nicxi_make_key(key, destructor))
+TURNED(tss_set, (tss_t key, void *value), (key, value), __wrap_pthread_setspecific(key, value))
+
+void __real_mtx_destroy(mtx_t *mutex);
+void __wrap_mtx_destroy(mtx_t *mutex)
+{
+    if (nicxi_is_ours())
+        __wrap_pthread_mutex_destroy(MUTEX);
+    else
+        __real_mtx_destroy(mutex);
+}
+
+void __real_cnd_destroy(cnd_t *cond);
+void __wrap_cnd_destroy(cnd_t *cond)
+{
+    if (!nicxi_is_ours())
+        __real_cnd_destroy(cond);
+}
+
+void __real_tss_delete(tss_t key);
+void __wrap_tss_delete(tss_t key)
+{
+    if (nicxi_is_ours())
+        __wrap_pthread_key_delete(key);
+    else
+        __real_tss_delete(key);
+}
+
+void *__real_tss_get(tss_t key);
+void *__wrap_tss_get(tss_t key)
+{
+    return nicxi_is_ours() ? __wrap_pthread_getspecific(key) : __real_tss_get(key);
+}
+
+void __real_call_once(once_flag *flag, void (*function)(void));
+void __wrap_call_once(once_flag *flag, void (*function)(void))
+{
+    if (nicxi_is_ours())
+        __wrap_pthread_once((pthread_once_t *)(void *)flag, function);
+    else
+        __real_call_once(flag, function);
+}
+
+/* A thread of C11 returns an int: it begins here, by what its task kept. */
+struct beginning {
+    thrd_start_t function;
+    void *argument;
+};
+
+static struct beginning beginnings[MOST_THREADS];
+
+static void *begin(void *argument)
+{
+    const struct beginning *it = argument;
+    return (void *)(intptr_t)it->function(it->argument);
+}
+
+int __real_thrd_create(thrd_t *thread, thrd_start_t function, void *argument);
+int __wrap_thrd_create(thrd_t *thread, thrd_start_t function, void *argument)
+{
+    static uint64_t epoch;
+    static unsigned next;
+    if (!nicxi_is_ours())
+        return __real_thrd_create(thread, function, argument);
+    if (epoch != nicxi.epoch)
+        next = 0;
+    epoch = nicxi.epoch;
+    struct beginning *it = &beginnings[next++ % MOST_THREADS];
+    *it = (struct beginning){function, argument};
+    return as_c11(nicxi_create(thread, begin, it, 0, false, "thrd_create", HERE));
+}
+
+int __real_thrd_join(thrd_t thread, int *result);
+int __wrap_thrd_join(thrd_t thread, int *result)
+{
+    void *told = NULL;
+    if (!nicxi_is_ours())
+        return __real_thrd_join(thread, result);
+    int status = nicxi_join(thread, &told, "thrd_join", HERE);
+    if (!status && result)
+        *result = (int)(intptr_t)told;
+    return as_c11(status);
+}
+
+thrd_t __real_thrd_current(void);
+thrd_t __wrap_thrd_current(void)
+{
+    return __wrap_pthread_self();
+}
+
+void __real_thrd_exit(int result) __attribute__((noreturn));
+void __wrap_thrd_exit(int result) __attribute__((noreturn));
+void __wrap_thrd_exit(int result)
+{
+    if (nicxi_is_ours())
+        nicxi_exit_thread((void *)(intptr_t)result, "thrd_exit", HERE);
+    __real_thrd_exit(result);
+}

@@ -1,0 +1,238 @@
+/* The link form itself: what it tells the engine, and what its parts share. */
+#define _GNU_SOURCE
+#include "form.h"
+
+#include <stdarg.h>
+#include <stdio.h>
+#include <string.h>
+
+#include "../engine/symbols.h"
+#include "races.h"
+
+struct task nicxi_tasks[MOST_THREADS + 1];
+struct thread *nicxi_alone;
+bool (*nicxi_program_opens)(uint8_t vfs, uint16_t fifo, uint32_t blocks, void **device);
+void (*nicxi_program_ends)(int status);
+
+void nicxi_program_begins(void)
+{
+    if (!nicxi_alone)
+        return;
+    nicxi.self = nicxi_alone;
+    nicxi.phase = RUNNING;
+    nicxi_alone = NULL;
+}
+
+/* --- what is told --- */
+
+void nicxi_misuse(const char *form, ...)
+{
+    char words[sizeof nicxi.result.words];
+    va_list list;
+    va_start(list, form);
+    vsnprintf(words, sizeof words, form, list);
+    va_end(list);
+    nicxi_failed(NICX_MISUSE, "%s", words);
+    nicxi_program_begins();
+    nicxi_leave();
+}
+
+void nicxi_refuse(const char *call, const void *at)
+{
+    char where[MOST_NAMED];
+    if (!nicxi_is_ours())
+        return;
+    nicxi_program_begins();
+    if (nicxi_is_in_thread())
+        nicxi_misuse("%s calls %s at %s, which isn't turned into steps of a schedule", nicxi.self->name, call,
+                     nicxi_line(at, where));
+}
+
+const char *nicxi_line(const void *at, char room[MOST_NAMED])
+{
+    struct source_line line;
+    if (nicxi_lines(at, &line, 1)) {
+        const char *slash = strrchr(line.file, '/');
+        snprintf(room, MOST_NAMED, "%.60s:%u", slash ? slash + 1 : line.file, line.line);
+    } else if (!nicxi_symbol(at, room, MOST_NAMED)) {
+        snprintf(room, MOST_NAMED, "an unknown place");
+    }
+    return room;
+}
+
+const char *nicxi_name(const void *object, const char *kind, char room[MOST_NAMED])
+{
+    if (!nicxi_symbol(object, room, MOST_NAMED))
+        snprintf(room, MOST_NAMED, "%s", kind);
+    return room;
+}
+
+/* --- waiting --- */
+
+static void wait_at(struct thread *self, bool is_lock, const char *call, const void *object, const void *at)
+{
+    struct task *task = &nicxi_tasks[nicxi_number(self)];
+    nicxi_program_begins();
+    task->object = object;
+    task->call = call;
+    task->at = at;
+    task->is_lock = is_lock;
+}
+
+void nicxi_block(struct thread *self, bool (*condition)(void *), void *argument, const char *call, const void *object,
+                 const void *at)
+{
+    wait_at(self, false, call, object, at);
+    nicxi_call_until(condition, argument, false, call, object);
+}
+
+void nicxi_block_lock(struct thread *self, bool (*condition)(void *), void *argument, const char *call,
+                      const void *object, const void *at)
+{
+    wait_at(self, true, call, object, at);
+    nicxi_call_until(condition, argument, false, call, object);
+}
+
+/* A wait with a time ends without its condition only behind an act of somebody else, or where nobody can act: else a
+   loop of such waits would never end. */
+struct timed {
+    bool (*condition)(void *);
+    void *argument;
+    struct thread *self;
+};
+
+static bool holds_or_is_late(void *argument)
+{
+    const struct timed *timed = argument;
+    return timed->condition(timed->argument) || nicxi_others_acted(timed->self);
+}
+
+bool nicxi_block_timed(struct thread *self, bool (*condition)(void *), void *argument, const char *call,
+                       const void *object, const void *at)
+{
+    struct timed timed = {condition, argument, self};
+    wait_at(self, false, call, object, at);
+    nicxi_call_until(holds_or_is_late, &timed, true, call, object);
+    return condition(argument);
+}
+
+/* --- what is held --- */
+
+void nicxi_hold(struct thread *self, const void *object, const void *at)
+{
+    struct task *task = &nicxi_tasks[nicxi_number(self)];
+    if (task->locks < MOST_HELD)
+        task->held[task->locks] = (struct held){object, at};
+    task->locks++;
+}
+
+void nicxi_drop(struct thread *self, const void *object)
+{
+    struct task *task = &nicxi_tasks[nicxi_number(self)];
+    unsigned kept = task->locks < MOST_HELD ? task->locks : MOST_HELD, k = kept;
+    while (k > 0 && task->held[k - 1].object != object)
+        k--;
+    task->locks -= k > 0 || task->locks > MOST_HELD;
+    for (; k > 0 && k < kept; k++)
+        task->held[k - 1] = task->held[k];
+}
+
+/* Who holds an object, and where it took it: null where nobody is known to. */
+static const struct thread *holder_of(const void *object, const void **at)
+{
+    for (unsigned k = 0; k < MOST_THREADS; k++) {
+        const struct task *task = &nicxi_tasks[k];
+        for (unsigned n = 0; n < task->locks && n < MOST_HELD; n++)
+            if (task->held[n].object == object) {
+                *at = task->held[n].at;
+                return &nicxi.threads[k];
+            }
+    }
+    return NULL;
+}
+
+static bool is_stuck(const struct thread *thread)
+{
+    return thread->state == UNTIL && nicxi_tasks[nicxi_number(thread)].call != NULL;
+}
+
+/* "up waits for second at driver.c:31, and down holds it since driver.c:40", and what down waits for. */
+static void tell_chain(const struct thread *thread)
+{
+    char words[sizeof nicxi.result.words], object[MOST_NAMED], where[MOST_NAMED], since[MOST_NAMED];
+    const struct thread *first = thread;
+    const void *at = NULL;
+    int length = 0;
+    words[0] = 0;
+    do {
+        const struct task *task = &nicxi_tasks[nicxi_number(thread)];
+        const struct thread *holder = holder_of(task->object, &at);
+        if (length < 0 || (size_t)length + 1 >= sizeof words)
+            break;
+        length += snprintf(words + length, sizeof words - (size_t)length, "%s%s waits for %s at %s", length ? "; " : "",
+                           thread->name, nicxi_name(task->object, "a lock", object), nicxi_line(task->at, where));
+        if (holder && (size_t)length < sizeof words)
+            length += snprintf(words + length, sizeof words - (size_t)length, ", held by %s since %s", holder->name,
+                               nicxi_line(at, since));
+        thread = holder;
+    } while (thread && thread != first && is_stuck(thread) && nicxi_tasks[nicxi_number(thread)].is_lock);
+    nicxi_failed(NICX_DEADLOCK, "%s", words);
+}
+
+static bool holds_any(const struct thread *thread)
+{
+    return nicxi_tasks[nicxi_number(thread)].locks != 0;
+}
+
+static bool tell_wait(const struct thread *thread, bool for_lock)
+{
+    char object[MOST_NAMED], where[MOST_NAMED];
+    const struct task *task = &nicxi_tasks[nicxi_number(thread)];
+    if (!is_stuck(thread) || (for_lock && !task->is_lock))
+        return false;
+    if (task->is_lock)
+        tell_chain(thread);
+    else
+        nicxi_failed(NICX_DEADLOCK, "%s waits in %s for %s at %s, and nobody can act", thread->name, task->call,
+                     nicxi_name(task->object, "an object", object), nicxi_line(task->at, where));
+    return true;
+}
+
+/* --- what the engine calls --- */
+
+static void back(void)
+{
+    memset(nicxi_tasks, 0, sizeof nicxi_tasks);
+    nicxi_state_back();
+}
+
+static void ended(struct thread *thread)
+{
+    char object[MOST_NAMED], where[MOST_NAMED];
+    struct task *task = &nicxi_tasks[nicxi_number(thread)];
+    if (task->locks)
+        nicxi_failed(NICX_MISUSE, "%s ends and holds %s, which it took at %s", thread->name,
+                     nicxi_name(task->held[0].object, "a lock", object), nicxi_line(task->held[0].at, where));
+    task->is_done = true;
+    nicxi_race_release(task);
+    nicxi_changed_memory();
+}
+
+static const struct nicxi_form form = {
+    .open = nicxi_state_open,
+    .keep = nicxi_state_keep,
+    .back = back,
+    .begun = nicxi_name_made,
+    .close = nicxi_state_close,
+    .goes = nicxi_state_goes,
+    .holds_any = holds_any,
+    .tell_wait = tell_wait,
+    .ended = ended,
+};
+
+/* The linker is told to take this, whatever the driver calls. */
+void nicxi_threads_form(void) __attribute__((constructor));
+void nicxi_threads_form(void)
+{
+    nicxi_form = &form;
+}

@@ -1,0 +1,105 @@
+/* Threads as a driver makes them: calls of the C library's threads become tasks, locks and points. The linker puts
+   the functions __wrap_NAME here in the place of NAME (--wrap), in the driver's code alone: the engine's own objects in this
+   archive call __real_NAME. docs/explore.md says how a program is linked. */
+#ifndef NICX_THREADS_FORM_H
+#define NICX_THREADS_FORM_H
+
+#include <pthread.h>
+
+#include "../engine/parts.h"
+
+enum { MOST_HELD = 16, MOST_KEYS = 64, OUTSIDE = MOST_THREADS, MOST_NAMED = 96 };
+
+/* What a task holds, and where it took it. */
+struct held {
+    const void *object;
+    const void *at;
+};
+
+/* Of each task what the engine doesn't know. */
+struct task {
+    const void *object; /* that it waits for, at this call */
+    const char *call;
+    const void *at;
+    bool is_lock;          /* what it waits for is a lock, so somebody holds it */
+    bool may_wake;         /* it waited as a signal came */
+    const void *condition; /* the condition variable that it waits at */
+    struct held held[MOST_HELD];
+    unsigned locks;
+    void *result;
+    bool is_done, is_detached, is_joined, runs_destructors;
+    void *(*begins)(void *);
+    void *argument;
+    void *values[MOST_KEYS];
+};
+
+extern struct task nicxi_tasks[MOST_THREADS + 1];
+
+/* Where a call was made. */
+#define HERE ((const char *)__builtin_return_address(0) - 1)
+
+/* Whether the calls of threads are the search's: a scenario is open, and its own thread calls. */
+static inline bool nicxi_is_ours(void)
+{
+    return nicxi.phase != CLOSED && nicxi_is_maker();
+}
+
+static inline unsigned nicxi_number(const struct thread *thread)
+{
+    return (unsigned)(thread - nicxi.threads);
+}
+
+/* The first thread of a whole program that made no other yet: so nothing that it does is a point. Null else. */
+extern struct thread *nicxi_alone;
+
+/* The task that calls, or null of what isn't one: bring_up, begin, end. What may only look fails here. */
+static inline struct thread *nicxi_caller(void)
+{
+    if (!nicxi_may_act())
+        return NULL;
+    return nicxi_alone ? nicxi_alone : nicxi.phase == RUNNING ? nicxi.self : NULL;
+}
+
+/* What is said of a call that can't be made, which doesn't return in a task. */
+void nicxi_misuse(const char *form, ...) __attribute__((format(printf, 1, 2)));
+/* The call of this name isn't turned into steps: told in a task, and nothing elsewhere. */
+void nicxi_refuse(const char *call, const void *at);
+
+/* "driver.c:31", or the function; an object's name, or what it is. */
+const char *nicxi_line(const void *at, char room[MOST_NAMED]);
+const char *nicxi_name(const void *object, const char *kind, char room[MOST_NAMED]);
+
+/* Waits until the condition holds; what it waits for is told in a deadlock. */
+void nicxi_block(struct thread *self, bool (*condition)(void *), void *argument, const char *call, const void *object,
+                 const void *at);
+/* The same, or until time is over: whether the condition holds. */
+bool nicxi_block_timed(struct thread *self, bool (*condition)(void *), void *argument, const char *call,
+                       const void *object, const void *at);
+/* The same for a lock: somebody holds it. */
+void nicxi_block_lock(struct thread *self, bool (*condition)(void *), void *argument, const char *call,
+                      const void *object, const void *at);
+
+void nicxi_hold(struct thread *self, const void *object, const void *at);
+void nicxi_drop(struct thread *self, const void *object);
+
+/* Of mutexes, for condition variables. */
+bool nicxi_mutex_is_free(const pthread_mutex_t *mutex);
+bool nicxi_mutex_is_mine(const struct thread *self, const pthread_mutex_t *mutex);
+void nicxi_mutex_take(struct thread *self, pthread_mutex_t *mutex, unsigned count, const void *at);
+unsigned nicxi_mutex_give(struct thread *self, pthread_mutex_t *mutex);
+
+/* The driver's variables and what it took from malloc. */
+void nicxi_state_open(void);
+void nicxi_state_keep(void);
+void nicxi_state_back(void);
+void nicxi_state_close(void);
+void nicxi_state_goes(const struct thread *from, const struct thread *to);
+
+/* Of a whole program, where one is searched: from here on others may act, since it makes its first thread, or waits. */
+void nicxi_program_begins(void);
+/* It opens a controller: whether that is the one of the search. */
+extern bool (*nicxi_program_opens)(uint8_t vfs, uint16_t fifo, uint32_t blocks, void **device);
+/* It ends: then this doesn't return. */
+extern void (*nicxi_program_ends)(int status);
+
+#endif

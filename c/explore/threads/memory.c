@@ -1,0 +1,66 @@
+#define _GNU_SOURCE
+#include "memory.h"
+
+#include <string.h>
+
+#include "../engine/symbols.h"
+#include "form.h"
+#include "races.h"
+
+bool nicxi_memory_is_point;
+
+static const char *name; /* of a variable or a function, or "" */
+
+static const char *ask_for(const char *wanted)
+{
+    nicxi_memory_is_point = true;
+    name = wanted;
+    return NULL;
+}
+
+void nicxi_memory_open(void)
+{
+    nicxi_ask_for_memory = ask_for;
+}
+
+/* --- whether an address is of the variable or in the function of that name: looked up once for each --- */
+
+enum { KNOWN = 4096 };
+
+static struct {
+    uint64_t at;
+    bool is_it;
+} known[KNOWN];
+
+static bool has_name(uint64_t at)
+{
+    char symbol[MOST_SYMBOL];
+    if (!nicxi_symbol((const void *)(uintptr_t)at, symbol, sizeof symbol))
+        return false;
+    symbol[strcspn(symbol, "+")] = 0;
+    return !strcmp(symbol, name);
+}
+
+static bool is_of_name(uint64_t at)
+{
+    uint64_t key = at * 0x9E3779B97F4A7C15u >> 52;
+    if (known[key].at != at) {
+        known[key].is_it = has_name(at);
+        known[key].at = at;
+    }
+    return known[key].is_it;
+}
+
+/* What lies on the thread's own stack is seldom anybody else's. */
+static bool is_own(uint64_t at)
+{
+    const struct fiber *fiber = &nicxi.self->fiber;
+    return at - (uintptr_t)fiber->bottom < fiber->size || nicxi_state_is_local(at);
+}
+
+void nicxi_memory_points(uint64_t at, size_t length, unsigned how, const void *call)
+{
+    if (is_own(at) || (*name && !is_of_name(at) && !is_of_name((uintptr_t)call)))
+        return;
+    nicxi_memory_point(how & WRITES ? LOCAL_STORE : LOCAL_LOAD, at, (uint32_t)length);
+}

@@ -1,0 +1,25 @@
+/* The variables of a driver stand together, so that they can be put back before each schedule. What isn't the driver's
+   stays where it is: this library, and what the compiler adds. It stands beside the linker's own script. */
+SECTIONS
+{
+    .nicx.data :
+    {
+        nicxi_data_begin = .;
+        *(EXCLUDE_FILE(*libnic82599* *crt1.o *crti.o *crtbegin*.o *crtend*.o *crtn.o *libc.a *libgcc* *libclang_rt* *libasan* *libubsan*) .data
+          EXCLUDE_FILE(*libnic82599* *crt1.o *crti.o *crtbegin*.o *crtend*.o *crtn.o *libc.a *libgcc* *libclang_rt* *libasan* *libubsan*) .data.*)
+        nicxi_data_end = .;
+    }
+}
+INSERT AFTER .data;
+SECTIONS
+{
+    .nicx.bss :
+    {
+        nicxi_bss_begin = .;
+        *(EXCLUDE_FILE(*libnic82599* *crt1.o *crti.o *crtbegin*.o *crtend*.o *crtn.o *libc.a *libgcc* *libclang_rt* *libasan* *libubsan*) .bss
+          EXCLUDE_FILE(*libnic82599* *crt1.o *crti.o *crtbegin*.o *crtend*.o *crtn.o *libc.a *libgcc* *libclang_rt* *libasan* *libubsan*) .bss.*
+          EXCLUDE_FILE(*libnic82599* *crt1.o *crti.o *crtbegin*.o *crtend*.o *crtn.o *libc.a *libgcc* *libclang_rt* *libasan* *libubsan*) COMMON)
+        nicxi_bss_end = .;
+    }
+}
+INSERT AFTER .bss;

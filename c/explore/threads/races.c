@@ -1,0 +1,615 @@
+#define _GNU_SOURCE
+#include "races.h"
+
+#include <stdio.h>
+#include <stdlib.h>
+#include <string.h>
+
+#include "../engine/independent.h"
+#include "../engine/symbols.h"
+#include "form.h"
+
+/* --- clocks --- */
+
+enum { DEVICE = MOST_THREADS, CLOCKS };
+
+struct clock {
+    uint32_t at[CLOCKS];
+};
+
+static struct clock now[CLOCKS];
+
+/* What a thread's clock was as it had given so many times: of each time that is over. */
+static struct {
+    struct clock *list;
+    uint32_t room;
+} past[CLOCKS];
+
+static bool is_open;
+
+static void out_of_memory(void)
+{
+    fputs("nicx: there is no memory to look for races\n", stderr);
+    abort();
+}
+
+static void *grown(void *list, size_t bytes)
+{
+    void *moved = realloc(list, bytes);
+    if (!moved)
+        out_of_memory();
+    return moved;
+}
+
+static void join(struct clock *to, const struct clock *from)
+{
+    for (unsigned k = 0; k < CLOCKS; k++)
+        if (to->at[k] < from->at[k])
+            to->at[k] = from->at[k];
+}
+
+/* What comes from here on isn't part of what was given. */
+static void tick(unsigned who)
+{
+    uint32_t time = now[who].at[who]++;
+    if (time >= past[who].room) {
+        past[who].room = 2 * time + 16;
+        past[who].list = grown(past[who].list, past[who].room * sizeof *past[who].list);
+    }
+    past[who].list[time] = now[who];
+    past[who].list[time].at[who] = time;
+}
+
+/* All that a thread knew at a time of its own. */
+static const struct clock *clock_at(unsigned who, uint32_t time)
+{
+    return time < now[who].at[who] ? &past[who].list[time] : &now[who];
+}
+
+/* --- objects that threads meet at, by their address --- */
+
+enum space { MEMORY, REGISTER, SIDE };
+
+struct object {
+    uint64_t key, epoch;
+    struct clock clock;
+};
+
+static struct {
+    struct object *list;
+    size_t room, used;
+    uint64_t epoch;
+} objects;
+
+static uint64_t mixed(uint64_t key)
+{
+    key *= 0x9E3779B97F4A7C15u;
+    return key ^ key >> 29;
+}
+
+static struct object *place_of(struct object *list, size_t room, uint64_t key)
+{
+    size_t k = mixed(key) & (room - 1);
+    while (list[k].epoch == nicxi.epoch && list[k].key != key)
+        k = (k + 1) & (room - 1);
+    return &list[k];
+}
+
+static void make_room(void)
+{
+    size_t room = objects.room ? 2 * objects.room : 1024;
+    struct object *list = calloc(room, sizeof *list);
+    if (!list)
+        out_of_memory();
+    for (size_t k = 0; k < objects.room; k++)
+        if (objects.list[k].epoch == nicxi.epoch)
+            *place_of(list, room, objects.list[k].key) = objects.list[k];
+    free(objects.list);
+    objects.list = list;
+    objects.room = room;
+}
+
+static struct clock *clock_of(enum space space, uint64_t of)
+{
+    uint64_t key = (uint64_t)space << 60 ^ of;
+    if (objects.epoch != nicxi.epoch)
+        objects.used = 0;
+    objects.epoch = nicxi.epoch;
+    if (2 * objects.used >= objects.room)
+        make_room();
+    struct object *object = place_of(objects.list, objects.room, key);
+    if (object->epoch != nicxi.epoch) {
+        object->key = key;
+        object->epoch = nicxi.epoch;
+        memset(&object->clock, 0, sizeof object->clock);
+        objects.used++;
+    }
+    return &object->clock;
+}
+
+/* A condition of nicx_wait_until looks at memory: who wrote it comes before whoever goes on by that. */
+static bool is_looking;
+
+static bool is_told(void)
+{
+    return is_open && nicxi_is_in_thread();
+}
+
+static unsigned self_number(void)
+{
+    return nicxi_number(nicxi.self);
+}
+
+static void give(enum space space, uint64_t of)
+{
+    join(clock_of(space, of), &now[self_number()]);
+    tick(self_number());
+}
+
+static void take(enum space space, uint64_t of)
+{
+    join(&now[self_number()], clock_of(space, of));
+}
+
+/* By weak memory what gives is a barrier of stores, and what takes one of loads. */
+void nicxi_race_release(const void *object)
+{
+    if (nicxi_is_in_thread())
+        nicx_release();
+    if (is_told())
+        give(MEMORY, (uintptr_t)object);
+}
+
+void nicxi_race_acquire(const void *object)
+{
+    if (nicxi_is_in_thread())
+        nicx_acquire();
+    if (is_told())
+        take(MEMORY, (uintptr_t)object);
+}
+
+/* --- atomic operations; a fence counts for the relaxed ones before or behind it --- */
+
+static struct {
+    struct clock loaded; /* what relaxed loads saw, for a fence behind them */
+    struct clock stored; /* what the last fence gave, for relaxed stores behind it */
+} fences[MOST_THREADS];
+
+static bool acquires(int order)
+{
+    return order == CONSUME || order == ACQUIRE || order == BOTH || order == ALL;
+}
+
+static bool releases(int order)
+{
+    return order == RELEASE || order == BOTH || order == ALL;
+}
+
+void nicxi_race_load(uint64_t at, int order)
+{
+    if (is_looking)
+        take(MEMORY, at);
+    if (nicxi_is_in_thread() && acquires(order))
+        nicx_acquire();
+    if (!is_told())
+        return;
+    if (acquires(order))
+        take(MEMORY, at);
+    else
+        join(&fences[self_number()].loaded, clock_of(MEMORY, at));
+}
+
+/* A store begins anew what is given at the place; an exchange goes on with it. */
+static void put(uint64_t at, int order, bool goes_on)
+{
+    struct clock *clock = clock_of(MEMORY, at);
+    if (releases(order))
+        nicx_release();
+    if (!goes_on)
+        memset(clock, 0, sizeof *clock);
+    if (releases(order))
+        give(MEMORY, at);
+    else
+        join(clock, &fences[self_number()].stored);
+}
+
+void nicxi_race_store(uint64_t at, int order)
+{
+    if (is_told())
+        put(at, order, false);
+}
+
+void nicxi_race_exchange(uint64_t at, int order)
+{
+    if (!is_told())
+        return;
+    nicxi_race_load(at, order);
+    put(at, order, true);
+}
+
+void nicxi_race_fence(int order)
+{
+    if (!is_told())
+        return;
+    unsigned self = self_number();
+    if (acquires(order))
+        nicx_acquire();
+    if (releases(order))
+        nicx_release();
+    if (acquires(order))
+        join(&now[self], &fences[self].loaded);
+    if (releases(order)) {
+        fences[self].stored = now[self];
+        tick(self);
+    }
+}
+
+/* --- accesses: of each eight bytes the last ones that count --- */
+
+enum { MOST_CELLS = 8, WRITTEN_BACK = 1 << 2 };
+
+/* Packet memory lies above all addresses of the process. */
+#define BUS_SPACE ((uint64_t)1 << 62)
+
+struct cell {
+    const void *call;
+    uint32_t time;
+    uint8_t who, mask, access; /* which of the bytes; enum access, and WRITTEN_BACK */
+};
+
+struct granule {
+    uint64_t key, epoch;
+    uint8_t count;
+    struct cell cells[MOST_CELLS];
+};
+
+static struct {
+    struct granule *list;
+    size_t room, used;
+    uint64_t epoch;
+} shadow;
+
+static struct granule *granule_place(struct granule *list, size_t room, uint64_t key)
+{
+    size_t k = mixed(key) & (room - 1);
+    while (list[k].epoch == nicxi.epoch && list[k].key != key)
+        k = (k + 1) & (room - 1);
+    return &list[k];
+}
+
+static void make_shadow(void)
+{
+    size_t room = shadow.room ? 2 * shadow.room : 4096;
+    struct granule *list = calloc(room, sizeof *list);
+    if (!list)
+        out_of_memory();
+    for (size_t k = 0; k < shadow.room; k++)
+        if (shadow.list[k].epoch == nicxi.epoch)
+            *granule_place(list, room, shadow.list[k].key) = shadow.list[k];
+    free(shadow.list);
+    shadow.list = list;
+    shadow.room = room;
+}
+
+static struct granule *granule_of(uint64_t key)
+{
+    if (shadow.epoch != nicxi.epoch)
+        shadow.used = 0;
+    shadow.epoch = nicxi.epoch;
+    if (2 * shadow.used >= shadow.room)
+        make_shadow();
+    struct granule *granule = granule_place(shadow.list, shadow.room, key);
+    if (granule->epoch != nicxi.epoch) {
+        granule->key = key;
+        granule->epoch = nicxi.epoch;
+        granule->count = 0;
+        shadow.used++;
+    }
+    return granule;
+}
+
+static bool is_before(const struct cell *cell, const struct clock *clock)
+{
+    return cell->time <= clock->at[cell->who];
+}
+
+/* Whether two accesses of the same bytes need an order. What the device writes back is there to be looked at before it
+   is written. */
+static bool conflict(const struct cell *old, const struct cell *new)
+{
+    if (!(old->mask & new->mask) || old->who == new->who || !((old->access | new->access) & WRITES))
+        return false;
+    if ((old->access | new->access) & WRITTEN_BACK)
+        return old->access & new->access &WRITES;
+    return !(old->access & new->access &ATOMIC);
+}
+
+/* Older accesses that this one stands for from here on go, then the oldest of those that are ordered. */
+static void keep(struct granule *granule, const struct cell *cell, const struct clock *clock)
+{
+    unsigned kept = 0;
+    for (unsigned k = 0; k < granule->count; k++) {
+        const struct cell *old = &granule->cells[k];
+        bool is_covered = !(old->mask & ~cell->mask) && is_before(old, clock) &&
+                          (cell->access & WRITES || (old->who == cell->who && !(old->access & WRITES))) &&
+                          !(old->access & WRITTEN_BACK && !(cell->access & WRITES));
+        if (!is_covered)
+            granule->cells[kept++] = *old;
+    }
+    if (kept == MOST_CELLS) {
+        memmove(granule->cells, granule->cells + 1, (MOST_CELLS - 1) * sizeof *granule->cells);
+        kept--;
+    }
+    granule->cells[kept++] = *cell;
+    granule->count = (uint8_t)kept;
+}
+
+/* --- telling --- */
+
+struct race {
+    uint64_t at;
+    size_t length;
+    struct cell old, new;
+};
+
+static const char *verb_of(const struct cell *cell, bool is_past)
+{
+    if (cell->access & WRITTEN_BACK)
+        return is_past ? "wrote back" : "writes back";
+    if (cell->access & ATOMIC)
+        return is_past ? "accessed atomically" : "accesses atomically";
+    return cell->access & WRITES ? is_past ? "wrote" : "writes" : is_past ? "read" : "reads";
+}
+
+static const char *who_of(const struct cell *cell, char room[MOST_NAMED])
+{
+    char line[MOST_NAMED];
+    const char *name = cell->who == DEVICE ? "the device" : nicxi.threads[cell->who].name;
+    if (cell->call)
+        snprintf(room, MOST_NAMED, "%.40s at %.50s", name, nicxi_line(cell->call, line));
+    else
+        snprintf(room, MOST_NAMED, "%.80s", name);
+    return room;
+}
+
+static void tell(const struct race *race)
+{
+    char place[MOST_NAMED], new[MOST_NAMED], old[MOST_NAMED];
+    if (race->at & BUS_SPACE)
+        snprintf(place, sizeof place, "packet memory 0x%llx", (unsigned long long)(race->at & ~BUS_SPACE));
+    else if (!nicxi_symbol((const void *)(uintptr_t)race->at, place, sizeof place))
+        snprintf(place, sizeof place, "0x%llx", (unsigned long long)race->at);
+    nicxi_failed(NICX_RACE, "%.70s, %zu bytes: %s %s, and %s %s it before, with no order between them", place,
+                 race->length, who_of(&race->new, new), verb_of(&race->new, false), who_of(&race->old, old),
+                 verb_of(&race->old, true));
+}
+
+/* --- an access --- */
+
+/* Of these bytes: false where it races, which is told. */
+static bool look_at(uint64_t at, size_t length, const struct cell *cell, const struct clock *clock)
+{
+    for (uint64_t key = at >> 3; key <= (at + length - 1) >> 3; key++) {
+        struct granule *granule = granule_of(key);
+        struct cell part = *cell;
+        uint64_t from = at > key << 3 ? at - (key << 3) : 0;
+        uint64_t to = at + length < (key + 1) << 3 ? at + length - (key << 3) : 8;
+        part.mask = (uint8_t)((1u << to) - (1u << from));
+        for (unsigned k = 0; k < granule->count; k++) {
+            const struct cell *old = &granule->cells[k];
+            if (!conflict(old, &part) || is_before(old, clock))
+                continue;
+            tell(&(struct race){at, length, *old, part});
+            return false;
+        }
+        keep(granule, &part, clock);
+    }
+    return true;
+}
+
+static void access(uint64_t at, size_t length, unsigned how, const void *call)
+{
+    unsigned self = self_number();
+    struct cell cell = {call, now[self].at[self], (uint8_t)self, 0, (uint8_t)how};
+    if (length && !look_at(at, length, &cell, &now[self]))
+        nicxi_leave();
+}
+
+/* What such a condition looks at. */
+static void take_from_writers(uint64_t at, size_t length, unsigned access)
+{
+    for (uint64_t key = at >> 3; length && key <= (at + length - 1) >> 3; key++) {
+        const struct granule *granule = granule_of(key);
+        for (unsigned k = 0; k < granule->count; k++)
+            if (granule->cells[k].access & access)
+                join(&now[self_number()], clock_at(granule->cells[k].who, granule->cells[k].time));
+    }
+}
+
+static void take_by_condition(const struct thread *self)
+{
+    const char *asker = nicxi.asker;
+    nicxi.asker = "a condition of nicx_wait_until";
+    is_looking = true;
+    self->condition(self->condition_argument);
+    is_looking = false;
+    nicxi.asker = asker;
+}
+
+void nicxi_race_access(uint64_t at, size_t length, unsigned how, const void *call)
+{
+    if (is_looking)
+        take_from_writers(at, length, WRITES);
+    else if (is_told() && !nicxi_state_is_local(at))
+        access(at, length, how, call);
+}
+
+/* Of what was never accessed nothing is kept. */
+static struct granule *known(uint64_t key)
+{
+    struct granule *granule = shadow.room ? granule_place(shadow.list, shadow.room, key) : NULL;
+    return granule && granule->epoch == nicxi.epoch ? granule : NULL;
+}
+
+void nicxi_race_forget(const void *at, size_t length)
+{
+    if (!is_open || !length || nicxi.phase != RUNNING)
+        return;
+    for (uint64_t key = (uintptr_t)at >> 3; key <= ((uintptr_t)at + length - 1) >> 3; key++)
+        if (known(key))
+            known(key)->count = 0;
+}
+
+void nicxi_race_free(const void *at, size_t length, const void *call)
+{
+    if (!is_told())
+        return;
+    for (uint64_t key = (uintptr_t)at >> 3; key <= ((uintptr_t)at + length - 1) >> 3; key++)
+        if (known(key) && known(key)->count)
+            access(key << 3, 8, WRITES, call);
+    nicxi_race_forget(at, length);
+}
+
+/* --- what the engine tells: the device is one more that has a clock --- */
+
+/* Of what sides of queues, and the device as a whole, were told by registers; of messages. */
+enum { GENERAL = 256, ALL_OF_IT, MESSAGES = 1024 };
+
+static void accessed_register(const struct step *step)
+{
+    uint32_t address = step->kind == STEP_READ || step->kind == STEP_WRITE ? step->address : step->physical;
+    unsigned self = self_number();
+    if (step->kind == STEP_READ || step->kind == STEP_VF_READ) {
+        take(REGISTER, address);
+        now[self].at[DEVICE] = now[DEVICE].at[DEVICE]; /* what it wrote has reached memory before the answer comes */
+        return;
+    }
+    int side = nicxi_side_of_register(address);
+    join(clock_of(SIDE, side < 0 ? GENERAL : (uint64_t)side), &now[self]);
+    join(clock_of(SIDE, ALL_OF_IT), &now[self]);
+    give(REGISTER, address);
+}
+
+static void accessed_packets(const struct step *step)
+{
+    unsigned how = step->kind == STEP_POKE ? WRITES : READS;
+    uint64_t at = BUS_SPACE | step->bus;
+    if (step->status != NIC_DONE)
+        return;
+    if (how == READS)
+        take_from_writers(at, step->length, WRITTEN_BACK);
+    access(at, step->length, how, nicxi.self->call);
+}
+
+static void device_writes(uint64_t bus, uint64_t length, unsigned how)
+{
+    struct cell cell = {NULL, now[DEVICE].at[DEVICE], DEVICE, 0, (uint8_t)how};
+    if (length)
+        look_at(BUS_SPACE | bus, length, &cell, &now[DEVICE]);
+}
+
+/* A head that is written is four bytes, a descriptor sixteen. */
+static void device_writes_back(const struct step *step)
+{
+    uint32_t where = 0;
+    nic_peek32(&nicxi.device, NIC_TDWBAL(step->told.queue), &where);
+    device_writes(step->told.at, where & 1 ? 4 : 16, WRITES | WRITTEN_BACK);
+}
+
+/* It did so after what it was told about this side, a message after all that it was told. */
+static void device_acted(const struct step *step)
+{
+    struct clock *clock = &now[DEVICE];
+    int side = nicxi_side_of_step(step);
+    tick(DEVICE);
+    uint32_t time = clock->at[DEVICE];
+    memset(clock, 0, sizeof *clock);
+    clock->at[DEVICE] = time;
+    join(clock, clock_of(SIDE, GENERAL));
+    if (side >= 0)
+        join(clock, clock_of(SIDE, (uint64_t)side));
+    if (step->kind == STEP_INT && step->status == NIC_MESSAGE) {
+        join(clock, clock_of(SIDE, ALL_OF_IT));
+        join(clock_of(SIDE, MESSAGES + 16u * step->told.group + step->told.vector), clock);
+    }
+    if (step->kind == STEP_RX && step->status == NIC_WROTE) {
+        device_writes(step->told.at, step->told.len, WRITES);
+        device_writes(step->told.desc, 16, WRITES | WRITTEN_BACK);
+    }
+    if (step->kind == STEP_TX && step->told.back)
+        device_writes_back(step);
+    if (nicxi_is_in_thread() && nicxi.is_program)
+        join(&now[self_number()], clock); /* whoever asked for the step was told of it */
+}
+
+/* --- handlers: one that sits on a task comes between two steps of that --- */
+
+static uint32_t sat[MOST_THREADS]; /* of a task, which handlers */
+
+static void handler_starts(void)
+{
+    unsigned number = nicxi.actors[nicxi.schedule[*nicxi.points - 1]].of;
+    const struct thread *handler = &nicxi.threads[number];
+    join(&now[number], clock_of(SIDE, MESSAGES + 16u * handler->group + handler->vector));
+    if (handler->on < 0)
+        return;
+    join(&now[number], &now[handler->on]);
+    tick((unsigned)handler->on);
+    sat[handler->on] |= 1u << (number - NICX_TASKS);
+}
+
+static void goes_on_behind_handlers(unsigned self)
+{
+    for (unsigned k = 0; sat[self] && k < NICX_HANDLERS; k++)
+        if (sat[self] >> k & 1) {
+            join(&now[self], &now[NICX_TASKS + k]);
+            tick(NICX_TASKS + k);
+        }
+    sat[self] = 0;
+}
+
+static void accessed_itself(const struct step *step)
+{
+    if (step->word == LOCAL_LOCK)
+        nicxi_race_acquire((const void *)(uintptr_t)step->bus);
+    else if (step->word == LOCAL_UNLOCK)
+        nicxi_race_release((const void *)(uintptr_t)step->bus);
+    else if (step->word == LOCAL_UNTIL)
+        take_by_condition(nicxi.self);
+}
+
+static void told(const struct step *step)
+{
+    if (nicxi.phase != RUNNING)
+        return;
+    if (nicxi_is_in_thread())
+        goes_on_behind_handlers(self_number());
+    if (nicxi_is_device_step(step->kind))
+        device_acted(step);
+    else if (step->kind == STEP_START)
+        handler_starts();
+    else if (!nicxi_is_in_thread() || step != &nicxi.self->next)
+        return;
+    else if (step->kind == STEP_LOCAL)
+        accessed_itself(step);
+    else if (step->kind == STEP_PEEK || step->kind == STEP_POKE)
+        accessed_packets(step);
+    else if (step->kind >= STEP_READ && step->kind <= STEP_VF_WRITE)
+        accessed_register(step);
+}
+
+static void begin(void)
+{
+    memset(fences, 0, sizeof fences);
+    memset(now, 0, sizeof now);
+    memset(sat, 0, sizeof sat);
+    for (unsigned k = 0; k < CLOCKS; k++)
+        now[k].at[k] = 1;
+}
+
+void nicxi_race_open(void)
+{
+    static const struct nicxi_races races = {begin, told};
+    nicxi_races = &races;
+    is_open = true;
+}

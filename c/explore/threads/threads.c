@@ -1,0 +1,283 @@
+/* Threads themselves, and what each has of its own. */
+#define _GNU_SOURCE
+#include "form.h"
+
+#include <errno.h>
+#include <limits.h>
+#include <stdlib.h>
+#include <string.h>
+
+#include "races.h"
+#include "threads.h"
+
+/* --- values of each thread --- */
+
+struct keys nicxi_keys;
+
+static void **values(void)
+{
+    const struct thread *self = nicxi_caller();
+    return nicxi_tasks[self ? nicxi_number(self) : OUTSIDE].values;
+}
+
+static bool is_key(unsigned key)
+{
+    return key < MOST_KEYS && nicxi_keys.is_used[key];
+}
+
+int nicxi_make_key(pthread_key_t *key, void (*destructor)(void *))
+{
+    for (unsigned k = 0; k < MOST_KEYS; k++) {
+        if (nicxi_keys.is_used[k])
+            continue;
+        nicxi_keys.is_used[k] = true;
+        nicxi_keys.destructors[k] = destructor;
+        for (unsigned n = 0; n <= OUTSIDE; n++)
+            nicxi_tasks[n].values[k] = NULL;
+        *key = k;
+        return 0;
+    }
+    return EAGAIN;
+}
+
+int __real_pthread_key_create(pthread_key_t *key, void (*destructor)(void *));
+int __wrap_pthread_key_create(pthread_key_t *key, void (*destructor)(void *))
+{
+    return nicxi_is_ours() ? nicxi_make_key(key, destructor) : __real_pthread_key_create(key, destructor);
+}
+
+int __real_pthread_key_delete(pthread_key_t key);
+int __wrap_pthread_key_delete(pthread_key_t key)
+{
+    if (!nicxi_is_ours())
+        return __real_pthread_key_delete(key);
+    if (!is_key(key))
+        return EINVAL;
+    nicxi_keys.is_used[key] = false;
+    return 0;
+}
+
+void *__real_pthread_getspecific(pthread_key_t key);
+void *__wrap_pthread_getspecific(pthread_key_t key)
+{
+    if (!nicxi_is_ours())
+        return __real_pthread_getspecific(key);
+    return is_key(key) ? values()[key] : NULL;
+}
+
+int __real_pthread_setspecific(pthread_key_t key, const void *value);
+int __wrap_pthread_setspecific(pthread_key_t key, const void *value)
+{
+    if (!nicxi_is_ours())
+        return __real_pthread_setspecific(key, value);
+    if (!is_key(key))
+        return EINVAL;
+    values()[key] = (void *)(uintptr_t)value;
+    return 0;
+}
+
+/* A destructor may set values again, a few times over. */
+static void destroy_values(struct task *task)
+{
+    bool any = true;
+    for (unsigned round = 0; any && round < PTHREAD_DESTRUCTOR_ITERATIONS; round++) {
+        any = false;
+        for (unsigned k = 0; k < MOST_KEYS; k++) {
+            void *value = task->values[k];
+            task->values[k] = NULL;
+            if (!value || !nicxi_keys.is_used[k] || !nicxi_keys.destructors[k])
+                continue;
+            any = true;
+            nicxi_keys.destructors[k](value);
+        }
+    }
+}
+
+/* --- threads: the number of a task, and one more, is what pthread_self tells --- */
+
+static void run(void *argument)
+{
+    struct task *task = argument;
+    nicxi_race_acquire(&task->begins);
+    task->result = task->begins(task->argument);
+    destroy_values(task);
+}
+
+int nicxi_create(pthread_t *told, void *(*function)(void *), void *argument, size_t room, bool is_detached,
+                 const char *call, const void *at)
+{
+    char where[MOST_NAMED];
+    nicxi_program_begins();
+    struct thread *self = nicxi_caller();
+    if (!self) {
+        nicxi_misuse("bring_up, begin or end calls %s at %s: threads are made in tasks", call, nicxi_line(at, where));
+        return EAGAIN;
+    }
+    nicxi_call(READY, call, (const void *)(uintptr_t)function);
+    struct thread *made = nicxi_make_thread(run, NULL, room);
+    if (!made) {
+        nicxi_misuse("%s calls %s at %s, and all %d tasks are taken", self->name, call, nicxi_line(at, where),
+                     NICX_TASKS);
+        return EAGAIN;
+    }
+    struct task *task = &nicxi_tasks[nicxi_number(made)];
+    made->argument = task;
+    task->begins = function;
+    task->argument = argument;
+    task->is_detached = is_detached;
+    nicxi_race_release(&task->begins);
+    nicxi_changed_memory();
+    *told = nicxi_number(made) + 1;
+    return 0;
+}
+
+int __real_pthread_create(pthread_t *told, const pthread_attr_t *how, void *(*function)(void *), void *argument);
+int __wrap_pthread_create(pthread_t *told, const pthread_attr_t *how, void *(*function)(void *), void *argument)
+{
+    size_t room = 0;
+    int state = PTHREAD_CREATE_JOINABLE;
+    if (!nicxi_is_ours())
+        return __real_pthread_create(told, how, function, argument);
+    if (how) {
+        pthread_attr_getdetachstate(how, &state);
+        nicxi_stack_of(how, &room);
+    }
+    return nicxi_create(told, function, argument, room, state == PTHREAD_CREATE_DETACHED, "pthread_create", HERE);
+}
+
+/* A thread that was made, or null: a task of the scenario isn't joined. */
+static struct task *made_of(pthread_t number)
+{
+    if (!number || number > MOST_THREADS || !nicxi.threads[number - 1].is_made || !nicxi.threads[number - 1].function)
+        return NULL;
+    return &nicxi_tasks[number - 1];
+}
+
+static bool has_ended(void *task)
+{
+    return ((const struct task *)task)->is_done;
+}
+
+static int join(pthread_t number, void **result, bool tries, bool is_timed, const char *call, const void *at)
+{
+    struct thread *self = nicxi_caller();
+    struct task *task = made_of(number);
+    if (!self || !task)
+        return ESRCH;
+    if (task->is_detached || task->is_joined)
+        return EINVAL;
+    if (task == &nicxi_tasks[nicxi_number(self)])
+        return EDEADLK;
+    const void *object = (const void *)(uintptr_t)task->begins;
+    if (tries)
+        nicxi_call(READY, call, object);
+    else if (is_timed)
+        nicxi_block_timed(self, has_ended, task, call, object, at);
+    else
+        nicxi_block(self, has_ended, task, call, object, at);
+    if (!task->is_done)
+        return tries ? EBUSY : ETIMEDOUT;
+    nicxi_race_acquire(task);
+    task->is_joined = true;
+    if (result)
+        *result = task->result;
+    return 0;
+}
+
+int nicxi_join(pthread_t number, void **result, const char *call, const void *at)
+{
+    return join(number, result, false, false, call, at);
+}
+
+int __real_pthread_join(pthread_t number, void **result);
+int __wrap_pthread_join(pthread_t number, void **result)
+{
+    return nicxi_is_ours() ? join(number, result, false, false, "pthread_join", HERE)
+                           : __real_pthread_join(number, result);
+}
+
+int __real_pthread_tryjoin_np(pthread_t number, void **result);
+int __wrap_pthread_tryjoin_np(pthread_t number, void **result)
+{
+    return nicxi_is_ours() ? join(number, result, true, false, "pthread_tryjoin_np", HERE)
+                           : __real_pthread_tryjoin_np(number, result);
+}
+
+int __real_pthread_timedjoin_np(pthread_t number, void **result, const struct timespec *until);
+int __wrap_pthread_timedjoin_np(pthread_t number, void **result, const struct timespec *until)
+{
+    return nicxi_is_ours() ? join(number, result, false, true, "pthread_timedjoin_np", HERE)
+                           : __real_pthread_timedjoin_np(number, result, until);
+}
+
+int __real_pthread_detach(pthread_t number);
+int __wrap_pthread_detach(pthread_t number)
+{
+    if (!nicxi_is_ours())
+        return __real_pthread_detach(number);
+    struct task *task = made_of(number);
+    if (!task)
+        return ESRCH;
+    if (task->is_detached || task->is_joined)
+        return EINVAL;
+    task->is_detached = true;
+    return 0;
+}
+
+pthread_t __real_pthread_self(void);
+pthread_t __wrap_pthread_self(void)
+{
+    const struct thread *self = nicxi_is_in_thread() ? nicxi.self : NULL;
+    return self ? nicxi_number(self) + 1 : __real_pthread_self();
+}
+
+void nicxi_exit_thread(void *result, const char *call, const void *at)
+{
+    char where[MOST_NAMED];
+    nicxi_program_begins();
+    struct thread *self = nicxi_caller();
+    if (!self) {
+        nicxi_misuse("bring_up, begin or end calls %s at %s", call, nicxi_line(at, where));
+        exit(2);
+    }
+    struct task *task = &nicxi_tasks[nicxi_number(self)];
+    task->result = result;
+    destroy_values(task);
+    nicxi_end_thread();
+    abort();
+}
+
+void __real_pthread_exit(void *result) __attribute__((noreturn));
+void __wrap_pthread_exit(void *result) __attribute__((noreturn));
+void __wrap_pthread_exit(void *result)
+{
+    if (nicxi_is_ours())
+        nicxi_exit_thread(result, "pthread_exit", HERE);
+    __real_pthread_exit(result);
+}
+
+/* --- what has no meaning where time and processors aren't modelled --- */
+
+#define IDLE(name, parameters, arguments)                                                                              \
+    int __real_##name parameters;                                                                                      \
+    int __wrap_##name parameters                                                                                       \
+    {                                                                                                                  \
+        return nicxi_is_ours() ? 0 : __real_##name arguments;                                                          \
+    }
+
+IDLE(pthread_setname_np, (pthread_t number, const char *name), (number, name))
+IDLE(pthread_setschedparam, (pthread_t number, int policy, const struct sched_param *how), (number, policy, how))
+IDLE(pthread_setschedprio, (pthread_t number, int priority), (number, priority))
+IDLE(pthread_setaffinity_np, (pthread_t number, size_t size, const cpu_set_t *set), (number, size, set))
+
+void nicxi_stack_of(const pthread_attr_t *how, size_t *room)
+{
+    pthread_attr_t usual;
+    size_t size = 0, usual_size = 0;
+    pthread_attr_getstacksize(how, &size);
+    if (pthread_attr_init(&usual) == 0) {
+        pthread_attr_getstacksize(&usual, &usual_size);
+        pthread_attr_destroy(&usual);
+    }
+    *room = size == usual_size ? 0 : size;
+}

@@ -1,0 +1,125 @@
+/* Waits for a time are pauses: others may act before they end, and where nobody can they end. The clocks that a
+   schedule sees begin at the same time in each, and go on by a microsecond for each point and by what is slept. */
+#define _GNU_SOURCE
+#include <sched.h>
+#include <sys/time.h>
+#include <threads.h>
+#include <time.h>
+#include <unistd.h>
+
+#include "form.h"
+
+enum { SECOND = 1000000000, POINT = 1000, FIRST = 1000000 };
+
+static uint64_t slept, of_epoch;
+
+static uint64_t now(void)
+{
+    if (of_epoch != nicxi.epoch)
+        slept = 0;
+    of_epoch = nicxi.epoch;
+    slept += POINT; /* each look takes a while, so a loop of them ends */
+    return (uint64_t)FIRST * SECOND + slept + (uint64_t)POINT * *nicxi.points;
+}
+
+/* True where it was a pause. */
+static bool pause_for(const char *call, uint64_t time)
+{
+    if (!nicxi_is_ours())
+        return false;
+    if (nicxi_caller())
+        nicxi_call(PAUSED, call, NULL);
+    now();
+    slept += time;
+    return true;
+}
+
+static uint64_t of(const struct timespec *time)
+{
+    return (uint64_t)time->tv_sec * SECOND + (uint64_t)time->tv_nsec;
+}
+
+int __real_sched_yield(void);
+int __wrap_sched_yield(void)
+{
+    return pause_for("sched_yield", 0) ? 0 : __real_sched_yield();
+}
+
+int __real_usleep(useconds_t time);
+int __wrap_usleep(useconds_t time)
+{
+    return pause_for("usleep", (uint64_t)time * 1000) ? 0 : __real_usleep(time);
+}
+
+unsigned __real_sleep(unsigned seconds);
+unsigned __wrap_sleep(unsigned seconds)
+{
+    return pause_for("sleep", (uint64_t)seconds * SECOND) ? 0 : __real_sleep(seconds);
+}
+
+int __real_nanosleep(const struct timespec *time, struct timespec *left);
+int __wrap_nanosleep(const struct timespec *time, struct timespec *left)
+{
+    return pause_for("nanosleep", of(time)) ? 0 : __real_nanosleep(time, left);
+}
+
+int __real_clock_nanosleep(clockid_t clock, int flags, const struct timespec *time, struct timespec *left);
+int __wrap_clock_nanosleep(clockid_t clock, int flags, const struct timespec *time, struct timespec *left)
+{
+    if (!nicxi_is_ours())
+        return __real_clock_nanosleep(clock, flags, time, left);
+    uint64_t until = of(time), from = flags & TIMER_ABSTIME ? now() : 0;
+    pause_for("clock_nanosleep", until > from ? until - from : 0);
+    return 0;
+}
+
+void __real_thrd_yield(void);
+void __wrap_thrd_yield(void)
+{
+    if (!pause_for("thrd_yield", 0))
+        __real_thrd_yield();
+}
+
+int __real_thrd_sleep(const struct timespec *time, struct timespec *left);
+int __wrap_thrd_sleep(const struct timespec *time, struct timespec *left)
+{
+    return pause_for("thrd_sleep", of(time)) ? 0 : __real_thrd_sleep(time, left);
+}
+
+/* --- clocks --- */
+
+static bool is_of_schedule(void)
+{
+    return nicxi_is_ours() && (nicxi.phase == RUNNING || nicxi_alone);
+}
+
+int __real_clock_gettime(clockid_t clock, struct timespec *time);
+int __wrap_clock_gettime(clockid_t clock, struct timespec *time)
+{
+    if (!is_of_schedule())
+        return __real_clock_gettime(clock, time);
+    time->tv_sec = (time_t)(now() / SECOND);
+    time->tv_nsec = (long)(now() % SECOND);
+    return 0;
+}
+
+int __real_gettimeofday(struct timeval *time, void *zone);
+int __wrap_gettimeofday(struct timeval *time, void *zone)
+{
+    if (!is_of_schedule())
+        return __real_gettimeofday(time, zone);
+    time->tv_sec = (time_t)(now() / SECOND);
+    time->tv_usec = (suseconds_t)(now() % SECOND / 1000);
+    return 0;
+}
+
+time_t __real_time(time_t *told);
+time_t __wrap_time(time_t *told)
+{
+    if (!is_of_schedule())
+        return __real_time(told);
+    time_t seconds = (time_t)(now() / SECOND);
+    if (told)
+        *told = seconds;
+    return seconds;
+}

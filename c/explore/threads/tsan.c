@@ -1,0 +1,285 @@
+/* What code that was built with -fsanitize=thread calls, in the place of the sanitizer's own library: each access of
+   memory is known, and each atomic operation is a point. All tasks run on one thread of the process, so an operation is
+   made as it stands. */
+#define _GNU_SOURCE
+#include <string.h>
+
+#include "form.h"
+#include "memory.h"
+#include "races.h"
+
+/* --- accesses --- */
+
+static inline void access(const void *at, size_t length, unsigned how, const void *call)
+{
+    if (nicxi_memory_is_point && nicxi_is_in_thread())
+        nicxi_memory_points((uintptr_t)at, length, how, call);
+    nicxi_race_access((uintptr_t)at, length, how, call);
+}
+
+#define ACCESS(name, how, size)                                                                                        \
+    void __tsan_##name(void *at);                                                                                      \
+    void __tsan_##name(void *at)                                                                                       \
+    {                                                                                                                  \
+        access(at, size, how, HERE);                                                                                   \
+    }
+
+#define ACCESSES(kind, size)                                                                                           \
+    ACCESS(kind##read##size, READS, size)                                                                              \
+    ACCESS(kind##write##size, WRITES, size)
+
+#define BOTH_WAYS(size)                                                                                                \
+    ACCESS(read_write##size, WRITES, size)                                                                             \
+    ACCESS(unaligned_read_write##size, WRITES, size)
+
+ACCESSES(, 1)
+ACCESSES(, 2)
+ACCESSES(, 4)
+ACCESSES(, 8)
+ACCESSES(, 16)
+ACCESSES(unaligned_, 2)
+ACCESSES(unaligned_, 4)
+ACCESSES(unaligned_, 8)
+ACCESSES(unaligned_, 16)
+ACCESSES(volatile_, 1)
+ACCESSES(volatile_, 2)
+ACCESSES(volatile_, 4)
+ACCESSES(volatile_, 8)
+ACCESSES(volatile_, 16)
+ACCESSES(unaligned_volatile_, 2)
+ACCESSES(unaligned_volatile_, 4)
+ACCESSES(unaligned_volatile_, 8)
+ACCESSES(unaligned_volatile_, 16)
+BOTH_WAYS(1)
+BOTH_WAYS(2)
+BOTH_WAYS(4)
+BOTH_WAYS(8)
+BOTH_WAYS(16)
+
+void __tsan_read_range(void *at, size_t length);
+void __tsan_read_range(void *at, size_t length)
+{
+    access(at, length, READS, HERE);
+}
+
+void __tsan_write_range(void *at, size_t length);
+void __tsan_write_range(void *at, size_t length)
+{
+    access(at, length, WRITES, HERE);
+}
+
+void __tsan_vptr_read(void **at);
+void __tsan_vptr_read(void **at)
+{
+    access(at, sizeof *at, READS, HERE);
+}
+
+/* The same value again changes nothing: a destructor does so. */
+void __tsan_vptr_update(void **at, void *value);
+void __tsan_vptr_update(void **at, void *value)
+{
+    if (*at != value)
+        access(at, sizeof *at, WRITES, HERE);
+}
+
+/* --- copies --- */
+
+void *__real_memcpy(void *to, const void *from, size_t length);
+void *__real_memmove(void *to, const void *from, size_t length);
+void *__real_memset(void *to, int value, size_t length);
+
+static void copies(void *to, const void *from, size_t length, const void *call)
+{
+    if (!length)
+        return;
+    access(from, length, READS, call);
+    access(to, length, WRITES, call);
+}
+
+void *__tsan_memcpy(void *to, const void *from, size_t length);
+void *__tsan_memcpy(void *to, const void *from, size_t length)
+{
+    copies(to, from, length, HERE);
+    return __real_memcpy(to, from, length);
+}
+
+void *__tsan_memmove(void *to, const void *from, size_t length);
+void *__tsan_memmove(void *to, const void *from, size_t length)
+{
+    copies(to, from, length, HERE);
+    return __real_memmove(to, from, length);
+}
+
+void *__tsan_memset(void *to, int value, size_t length);
+void *__tsan_memset(void *to, int value, size_t length)
+{
+    if (length)
+        access(to, length, WRITES, HERE);
+    return __real_memset(to, value, length);
+}
+
+/* gcc leaves the longer ones to the C library's functions. */
+void *__wrap_memcpy(void *to, const void *from, size_t length);
+void *__wrap_memcpy(void *to, const void *from, size_t length)
+{
+    copies(to, from, length, HERE);
+    return __real_memcpy(to, from, length);
+}
+
+void *__wrap_memmove(void *to, const void *from, size_t length);
+void *__wrap_memmove(void *to, const void *from, size_t length)
+{
+    copies(to, from, length, HERE);
+    return __real_memmove(to, from, length);
+}
+
+void *__wrap_memset(void *to, int value, size_t length);
+void *__wrap_memset(void *to, int value, size_t length)
+{
+    if (length)
+        access(to, length, WRITES, HERE);
+    return __real_memset(to, value, length);
+}
+
+/* --- atomic operations --- */
+
+/* Others may act before it; what it looked at was so for long, where a loop does nothing else. */
+static void atomic_point(const volatile void *at, unsigned size, unsigned how, const void *call)
+{
+    if (nicxi_is_in_thread())
+        nicxi_memory_point(LOCAL_ATOMIC, (uintptr_t)at, size);
+    nicxi_race_access((uintptr_t)at, size, how | ATOMIC, call);
+}
+
+static void atomic_done(const volatile void *at, uint64_t old, bool changed)
+{
+    if (!nicxi_is_in_thread())
+        return;
+    if (changed)
+        nicxi_changed_memory();
+    else
+        nicxi_polled((uintptr_t)at, old);
+}
+
+#define ATOMIC_EXCHANGE(bits, type, name, operation)                                                                   \
+    type __tsan_atomic##bits##_##name(volatile type *at, type value, int order);                                       \
+    type __tsan_atomic##bits##_##name(volatile type *at, type value, int order)                                        \
+    {                                                                                                                  \
+        atomic_point(at, sizeof *at, WRITES, HERE);                                                                    \
+        type old = *at, new = (type)(operation);                                                                       \
+        nicxi_race_exchange((uintptr_t)at, order);                                                                     \
+        *at = new;                                                                                                     \
+        atomic_done(at, (uint64_t)old, old != new);                                                                    \
+        return old;                                                                                                    \
+    }
+
+/* Where it isn't what was expected it is a load. */
+#define ATOMIC_COMPARE(bits, type, name)                                                                               \
+    int __tsan_atomic##bits##_compare_exchange_##name(volatile type *at, type *expected, type value, int order,        \
+                                                      int otherwise);                                                  \
+    int __tsan_atomic##bits##_compare_exchange_##name(volatile type *at, type *expected, type value, int order,        \
+                                                      int otherwise)                                                   \
+    {                                                                                                                  \
+        atomic_point(at, sizeof *at, WRITES, HERE);                                                                    \
+        type old = *at;                                                                                                \
+        bool is_equal = old == *expected;                                                                              \
+        if (is_equal) {                                                                                                \
+            nicxi_race_exchange((uintptr_t)at, order);                                                                 \
+            *at = value;                                                                                               \
+        } else {                                                                                                       \
+            nicxi_race_load((uintptr_t)at, otherwise);                                                                 \
+            *expected = old;                                                                                           \
+        }                                                                                                              \
+        atomic_done(at, (uint64_t)old, is_equal &&old != value);                                                       \
+        return is_equal;                                                                                               \
+    }
+
+#define ATOMIC_OF(bits, type)                                                                                          \
+    type __tsan_atomic##bits##_load(const volatile type *at, int order);                                               \
+    type __tsan_atomic##bits##_load(const volatile type *at, int order)                                                \
+    {                                                                                                                  \
+        atomic_point(at, sizeof *at, READS, HERE);                                                                     \
+        nicxi_race_load((uintptr_t)at, order);                                                                         \
+        type value = *at;                                                                                              \
+        atomic_done(at, (uint64_t)value, false);                                                                       \
+        return value;                                                                                                  \
+    }                                                                                                                  \
+    void __tsan_atomic##bits##_store(volatile type *at, type value, int order);                                        \
+    void __tsan_atomic##bits##_store(volatile type *at, type value, int order)                                         \
+    {                                                                                                                  \
+        atomic_point(at, sizeof *at, WRITES, HERE);                                                                    \
+        nicxi_race_store((uintptr_t)at, order);                                                                        \
+        bool changed = *at != value;                                                                                   \
+        *at = value;                                                                                                   \
+        atomic_done(at, (uint64_t)value, changed);                                                                     \
+    }                                                                                                                  \
+    ATOMIC_EXCHANGE(bits, type, exchange, value)                                                                       \
+    ATOMIC_EXCHANGE(bits, type, fetch_add, old + value)                                                                \
+    ATOMIC_EXCHANGE(bits, type, fetch_sub, old - value)                                                                \
+    ATOMIC_EXCHANGE(bits, type, fetch_and, old &value)                                                                 \
+    ATOMIC_EXCHANGE(bits, type, fetch_or, old | value)                                                                 \
+    ATOMIC_EXCHANGE(bits, type, fetch_xor, old ^ value)                                                                \
+    ATOMIC_EXCHANGE(bits, type, fetch_nand, ~(old & value))                                                            \
+    ATOMIC_COMPARE(bits, type, strong)                                                                                 \
+    ATOMIC_COMPARE(bits, type, weak)                                                                                   \
+    type __tsan_atomic##bits##_compare_exchange_val(volatile type *at, type expected, type value, int order,           \
+                                                    int otherwise);                                                    \
+    type __tsan_atomic##bits##_compare_exchange_val(volatile type *at, type expected, type value, int order,           \
+                                                    int otherwise)                                                     \
+    {                                                                                                                  \
+        __tsan_atomic##bits##_compare_exchange_strong(at, &expected, value, order, otherwise);                         \
+        return expected;                                                                                               \
+    }
+
+ATOMIC_OF(8, uint8_t)
+ATOMIC_OF(16, uint16_t)
+ATOMIC_OF(32, uint32_t)
+ATOMIC_OF(64, uint64_t)
+#ifdef __SIZEOF_INT128__
+__extension__ typedef unsigned __int128 uint128;
+ATOMIC_OF(128, uint128)
+#endif
+
+void __tsan_atomic_thread_fence(int order);
+void __tsan_atomic_thread_fence(int order)
+{
+    if (nicxi_is_in_thread())
+        nicxi_call(READY, "atomic_thread_fence", NULL);
+    nicxi_race_fence(order);
+}
+
+void __tsan_atomic_signal_fence(int order);
+void __tsan_atomic_signal_fence(int order)
+{
+    (void)order;
+}
+
+/* --- the rest --- */
+
+void __tsan_init(void);
+void __tsan_init(void)
+{
+    nicxi_race_open();
+    nicxi_memory_open();
+}
+
+void __tsan_func_entry(void *call);
+void __tsan_func_entry(void *call)
+{
+    (void)call;
+}
+
+void __tsan_func_exit(void);
+void __tsan_func_exit(void)
+{
+}
+
+void __tsan_ignore_thread_begin(void);
+void __tsan_ignore_thread_begin(void)
+{
+}
+
+void __tsan_ignore_thread_end(void);
+void __tsan_ignore_thread_end(void)
+{
+}

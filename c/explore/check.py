@@ -6,6 +6,7 @@
 from __future__ import annotations
 
 import re
+import shutil
 import subprocess
 import xml.etree.ElementTree
 from dataclasses import dataclass, replace
@@ -44,11 +45,29 @@ class Kit:
 
     def build(self, source: Path, *defines: str) -> Path:
         """A program of one source, with the explorer in it."""
+        if of_known_memory(source):
+            return self.build_form(source, *defines, of_memory=True)
         program = self.folder / "-".join([source.stem, *defines]).lower()
         includes = [f"-I{C}/include", f"-I{HERE}/corpus", f"-I{self.folder}"]
         words = [self.compiler, *STRICT, *self.flags, *includes, *(f"-D{one}" for one in defines), source]
         ran([*words, self.explorer, C / "out/libnic82599.a", "-o", program])
         return program
+
+    def build_form(self, source: Path, *defines: str, of_memory: bool = False, form: str = "threads") -> Path:
+        """The same by the link form that turns a driver's own threads; or that of a whole program, which prints
+        nothing of its own. Accesses of memory may be known."""
+        program = self.folder / "-".join([source.stem, form, *["memory"] * of_memory, *defines]).lower()
+        made = program.with_suffix(".o")
+        kind = ["-fsanitize=thread"] if of_memory else []
+        words = [self.compiler, "-std=gnu11", *STRICT[1:], "-g", "-O1", *kind, f"-I{C}/include", f"-I{HERE}/corpus"]
+        ran([*words, *(f"-D{one}" for one in defines), "-c", source, "-o", made])
+        ran([self.compiler, made, f"-L{C}/out", f"@{C}/out/nic82599_{form}.opts", "-o", program])
+        return program
+
+
+def of_known_memory(source: Path) -> bool:
+    """Whether a driver says that its bug is seen where accesses of memory are known."""
+    return "-fsanitize=thread" in source.read_text().partition("*/")[0] and source.parent.name == "corpus"
 
 
 def corpus() -> list[Path]:
@@ -583,6 +602,107 @@ def check_kit(kit: Kit) -> str:
     return "the kit's flows and mailboxes"
 
 
+# --- a driver's own threads, and races of its memory ---
+
+# What is told of each of these; of all other modes nothing is found.
+FORM_FAULTS = {
+    "orders": r"deadlock: (run|thread-1) waits for (first|second) at pthreads\.c:\d+, held by (run|thread-1) since "
+    r"pthreads\.c:\d+; (run|thread-1) waits for (first|second) at pthreads\.c:\d+, held by",
+    "again": r"deadlock: run waits for first at pthreads\.c:\d+, and holds it itself since pthreads\.c:\d+",
+    "held": r"misuse: thread-1 ends and holds first, which it took at pthreads\.c:\d+",
+    "not_held": r"misuse: run unlocks first at pthreads\.c:\d+, and doesn't hold it",
+    "destroyed": r"misuse: run uses first at pthreads\.c:\d+, which was destroyed",
+    "without": r"misuse: run calls pthread_cond_wait at pthreads\.c:\d+ with first, which it doesn't hold",
+    "lost": r"deadlock: run waits in pthread_cond_wait for changed at pthreads\.c:\d+, and nobody can act",
+    "wait_for_nobody": r"deadlock: run waits in sem_wait for semaphore at pthreads\.c:\d+, and nobody can act",
+    "cancel": r"misuse: run calls pthread_cancel at pthreads\.c:\d+, which isn't turned into steps",
+    "poll": r"misuse: run calls poll at pthreads\.c:\d+, which isn't turned into steps",
+    "too_many": r"misuse: run calls pthread_create at pthreads\.c:\d+, and all 16 tasks are taken",
+    "overflow": "crash: thread-1 runs over its stack of 65536 bytes",
+    "small_stack": "crash: thread-1 runs over its stack of 32768 bytes",
+}
+
+# Without that form.
+REAL_FAULTS = {
+    "thread": r"misuse: a thread that is no task makes a call of the explorer's: link with @nic82599_threads\.opts",
+    "lock": r"hang: task \w+ waits for a lock of the process, .*: link with @nic82599_threads\.opts",
+    "stack": "crash: two runs over its stack of 20480 bytes",
+}
+
+
+def modes_of(source: Path) -> list[str]:
+    """The modes that a test's table has."""
+    return re.findall(r'\{"([a-z0-9_]+)", [a-z]', source.read_text())
+
+
+def check_form(kit: Kit) -> str:
+    """Each call of threads that is turned does what it should in every schedule tried, and each fault is told."""
+    source, out = HERE / "tests/pthreads.c", kit.folder / "form"
+    out.mkdir(exist_ok=True)
+    program, modes = kit.build_form(source), modes_of(source)
+    words = ["--quiet", "--jobs", 2, "--out", out]
+    for mode in modes:
+        if mode in FORM_FAULTS:
+            told(ran([program, mode, *words, "--no-shrink"], 1), f"FAILED {FORM_FAULTS[mode]}", mode)
+        else:
+            ran([program, mode, *words, "--runs", 1000])
+    for mode in ("mutex", "cond", "rwlock", "barriers", "keys", "state"):
+        ran([program, mode, *words, "--strategy", "exhaustive", "--preemptions", 1])
+    for mode in ("orders", "again", "held", "lost"):
+        ran([program, mode, *words], 1)
+        told(ran([program, mode, "--replay", out / "pthreads.schedule"], 1), f"FAILED {FORM_FAULTS[mode]}", mode)
+    told(ran([program, "early", "--quiet"], 2), r"pthread_create at pthreads\.c:\d+: threads are made in tasks", "early")
+    real = replace(kit, flags=[*kit.flags, "-pthread"]).build(HERE / "tests/real_threads.c")
+    for mode, wanted in REAL_FAULTS.items():
+        if mode != "stack" or "-fsanitize=address,undefined" not in kit.flags:
+            told(ran([real, mode, *words, "--no-shrink"], 1), f"FAILED {wanted}", mode)
+    told(ran([real, "thread_early", "--quiet"], 2), "a thread that is no task makes a call", "thread_early")
+    return f"{len(modes)} uses of a driver's own threads"
+
+
+def check_races(kit: Kit) -> str:
+    """What orders two accesses isn't told as a race, and what doesn't is, by each compiler."""
+    source, out = HERE / "tests/races.c", kit.folder / "races"
+    out.mkdir(exist_ok=True)
+    words, modes = ["--quiet", "--jobs", 2, "--out", out, "--no-shrink"], modes_of(source)
+    for compiler in filter(shutil.which, ("gcc", "clang")):
+        folder = kit.folder / compiler
+        folder.mkdir(exist_ok=True)
+        program = replace(kit, folder=folder, compiler=compiler).build_form(source, of_memory=True)
+        for mode in modes:
+            said = ran([program, mode, *words, "--runs", 500], 1 if mode.startswith("no_") else 0)
+            if mode.startswith("no_"):
+                told(said, r"FAILED race: .*races\.c:\d+ (it before|writes|reads)?.*with no order between them", mode)
+        points = ["--points", "memory:data"]
+        told(ran([program, "no_lock", *words, *points], 1), f"again: .* {' '.join(points)}\n", "points")
+        told(ran([program, "no_lock", "--replay", out / "races.schedule", *points], 1), "FAILED race: data", "points")
+        made = [ran([program, "mutex", *words, "--points", points, "--runs", 100]) for points in ("memory", "memory:data")]
+        counts = [int(re.findall(r"(\d+) points", one)[0]) for one in made]
+        if not counts[0] >= counts[1] > int(re.findall(r"(\d+) points", ran([program, "mutex", *words, "--runs", 100]))[0]):
+            raise Wrong(f"--points memory makes {counts} points")
+    return f"{len(modes)} orders of accesses"
+
+
+def check_program(kit: Kit, runs: int) -> str:
+    """A whole program is searched as it stands: its bug is found by its end, and as a race; and its twin passes."""
+    source, out = HERE / "examples/forwarder.c", kit.folder / "program"
+    out.mkdir(exist_ok=True)
+    words = ["--quiet", "--jobs", 2, "--out", out]
+    for of_memory, wanted in ((False, "end: main returns 1"), (True, r"race: transmit.*, 4 bytes: thread-\d at forwarder")):
+        program = kit.build_form(source, form="program", of_memory=of_memory)
+        said = ran([program, *words], 1)
+        told(said, f"FAILED {wanted}", "forwarder")
+        schedule = re.findall(r"the schedule is (\S+),", said)[0]
+        told(ran([program, "--replay", schedule], 1), f"FAILED {wanted}", "forwarder")
+        twin = kit.build_form(source, "FIXED", form="program", of_memory=of_memory)
+        ran([twin, *words, "--runs", runs])
+        told(ran([twin, *words, "--runs", 2, "--", 1]), "nothing was found", "forwarder with one frame")
+    with open(schedule.replace(".schedule", ".nic"), encoding="ascii") as script:
+        if not ran([kit.nicbench, "run", "--fifo", 64], stdin=script).splitlines()[-1].startswith("ok "):
+            raise Wrong("the script of a program doesn't end with ok")
+    return "a whole program"
+
+
 # --- other threads of the process ---
 
 THREAD = ["-g", "-O1", "-fsanitize=thread"]
@@ -658,4 +778,7 @@ def check_all(kit: Kit, amount: str) -> list[str]:
         check_outside(kit, runs, each),
         check_examples(kit, runs),
         check_threads(kit, searches),
+        check_form(kit),
+        check_races(kit),
+        check_program(kit, runs // 10),
     ]

@@ -1,6 +1,6 @@
-# The explorer for threads as a driver makes them, out/libnic82599_threads.a: the engine, the library and the link form,
-# with out/nic82599_threads.opts for the linker, nic82599_program.opts for a whole program, and nic82599_threads.ld. Included
-# by ../Makefile.
+# The explorer for threads as a driver makes them, out/libnic82599_threads.a: the engine, the library and the link form;
+# with out/nic82599_threads.opts for the linker, nic82599_program.opts for a whole program, and nic82599_threads.ld.
+# Included by ../Makefile.
 
 THREADS_SOURCES := $(wildcard $(HERE)/explore/threads/*.c)
 THREADS_HEADERS := $(wildcard $(HERE)/explore/threads/*.h)

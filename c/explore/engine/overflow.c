@@ -11,7 +11,7 @@
 enum { ROOM = 65536 };
 
 static struct sigaction before[2];
-static volatile uint16_t *told;
+static volatile struct overflow *told;
 
 static int place_of(int number)
 {
@@ -29,11 +29,10 @@ static const struct thread *owner_of(const char *address)
     return NULL;
 }
 
-const char *nicxi_overflow_words(uint16_t number, char *room, size_t size)
+const char *nicxi_overflow_words(const volatile struct overflow *overflow, char *room, size_t size)
 {
-    const struct thread *thread = &nicxi.threads[number];
-    size_t bytes = thread->fiber.bottom ? thread->fiber.size : nicxi.scenario->stack;
-    snprintf(room, size, "%s runs over its stack of %zu bytes", thread->name, bytes ? bytes : (size_t)USUAL_STACK);
+    snprintf(room, size, "%s runs over its stack of %lu bytes", nicxi.threads[overflow->thread].name,
+             (unsigned long)overflow->size);
     return room;
 }
 
@@ -41,24 +40,26 @@ const char *nicxi_overflow_words(uint16_t number, char *room, size_t size)
 static void handle(int number, siginfo_t *info, void *context)
 {
     char words[160];
+    volatile struct overflow here;
     const struct thread *thread = owner_of(info->si_addr);
+    volatile struct overflow *overflow = told ? told : &here;
     (void)context;
     sigaction(number, &before[place_of(number)], NULL);
     if (info->si_code <= 0)
         raise(number);
     if (!thread)
         return;
-    if (told) {
-        *told = (uint16_t)(thread - nicxi.threads + 1);
+    overflow->thread = (uint16_t)(thread - nicxi.threads);
+    overflow->size = thread->fiber.size;
+    if (told)
         return;
-    }
-    nicxi_overflow_words((uint16_t)(thread - nicxi.threads), words, sizeof words - 1);
+    nicxi_overflow_words(overflow, words, sizeof words - 1);
     strcat(words, "\n");
     if (write(STDERR_FILENO, words, strlen(words)) < 0)
         abort();
 }
 
-void nicxi_catch_overflows(volatile uint16_t *where)
+void nicxi_catch_overflows(volatile struct overflow *where)
 {
 #ifndef NICX_ASAN
     static char room[ROOM];

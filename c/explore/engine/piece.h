@@ -1,6 +1,6 @@
 /* Memory in one piece, which goes back to what it was by a copy. What is taken of it is of powers of two, with its
-   class in the 16 bytes before it. Free ones of a size are in a list whose links lie in them. The lists' heads lie in the
-   piece too, so that they go back with it. */
+   class in the 16 bytes before it. Free ones of a size are in a list whose links lie in them. The lists' heads lie in
+   the piece too, so that they go back with it. */
 #ifndef NICX_PIECE_H
 #define NICX_PIECE_H
 

@@ -121,7 +121,7 @@ bool nicxi_start(struct post *post, uint32_t hang, void (*work)(struct post *, v
 #endif
     nicxi_note_in(post);
     watch(post, hang);
-    nicxi_catch_overflows(&post->overflowed);
+    nicxi_catch_overflows(&post->overflow);
     work(post, argument);
     fflush(stdout);
     _exit(0);
@@ -143,8 +143,8 @@ static void tell_hang(const struct post *post, nicx_result *result)
 
 static void tell_signal(const struct post *post, int number, nicx_result *result)
 {
-    if (post->overflowed)
-        nicxi_overflow_words((uint16_t)(post->overflowed - 1), result->words, sizeof result->words);
+    if (post->overflow.size)
+        nicxi_overflow_words(&post->overflow, result->words, sizeof result->words);
     else
         snprintf(result->words, sizeof result->words, "the process was ended by signal %d (%s)", number,
                  strsignal(number));
@@ -161,8 +161,8 @@ static void tell_status(const struct post *post, int status, nicx_result *result
         break;
     case LOCKED_UP:
         result->outcome = NICX_HANG;
-        snprintf(result->words, sizeof result->words, "%s waits for a lock of the process, which no task is: " FORM,
-                 who);
+        snprintf(result->words, sizeof result->words,
+                 "%s waits for a lock of the process, and no other task runs till then: " FORM, who);
         break;
     case FOREIGN:
         result->outcome = NICX_MISUSE;

@@ -7,6 +7,12 @@
 
 #include "engine.h"
 
+/* Which thread ran over its stack, of so many bytes; 0 bytes: none did. */
+struct overflow {
+    size_t size;
+    uint16_t thread;
+};
+
 struct post {
     volatile uint64_t runs, points; /* that are done */
     volatile uint64_t run;          /* the one that it is at */
@@ -16,7 +22,7 @@ struct post {
     bool is_stale;                  /* the failure is that schedules aren't the same each time */
     bool is_trial;                  /* a schedule before the first run */
     bool is_over;                   /* an exhaustive search that has come to its end */
-    volatile uint16_t overflowed;   /* one more than the number of a thread that ran over its stack */
+    volatile struct overflow overflow;
     uint8_t strategy;
     nicx_result result;
     uint32_t
@@ -48,9 +54,8 @@ bool nicxi_do(struct post *post, uint32_t hang, void (*work)(struct post *, void
 /* Another thread of the process makes a call that is for tasks: that is told, and the process ends. */
 void nicxi_refuse_thread(void);
 
-/* From here on it is told which task runs over its stack: there, as one more than its number, or on standard error
-   where that is null. */
-void nicxi_catch_overflows(volatile uint16_t *where);
-const char *nicxi_overflow_words(uint16_t number, char *room, size_t size);
+/* From here on it is told which task runs over its stack: there, or on standard error where that is null. */
+void nicxi_catch_overflows(volatile struct overflow *where);
+const char *nicxi_overflow_words(const volatile struct overflow *overflow, char *room, size_t size);
 
 #endif

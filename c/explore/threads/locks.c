@@ -223,6 +223,15 @@ static int spin(volatile int *lock, enum how how, const char *call, const void *
     return 0;
 }
 
+int __real_pthread_spin_init(pthread_spinlock_t *lock, int is_shared);
+int __wrap_pthread_spin_init(pthread_spinlock_t *lock, int is_shared)
+{
+    if (!nicxi_is_ours())
+        return __real_pthread_spin_init(lock, is_shared);
+    *lock = 0;
+    return 0;
+}
+
 int __real_pthread_spin_lock(pthread_spinlock_t *lock);
 int __wrap_pthread_spin_lock(pthread_spinlock_t *lock)
 {

@@ -372,16 +372,37 @@ static const char *who_of(const struct cell *cell, char room[MOST_NAMED])
     return room;
 }
 
+/* Whose stack has the address, or null. */
+static const struct thread *owner_of(uint64_t at)
+{
+    for (unsigned k = 0; k < MOST_THREADS; k++) {
+        const struct fiber *fiber = &nicxi.threads[k].fiber;
+        if (fiber->bottom && at - (uintptr_t)fiber->bottom < fiber->size)
+            return &nicxi.threads[k];
+    }
+    return NULL;
+}
+
+static const char *place_words(uint64_t at, char room[MOST_NAMED])
+{
+    const struct thread *owner = owner_of(at);
+    if (at & BUS_SPACE)
+        snprintf(room, MOST_NAMED, "packet memory 0x%llx", (unsigned long long)(at & ~BUS_SPACE));
+    else if (owner)
+        snprintf(room, MOST_NAMED, "a variable on the stack of %.40s", owner->name);
+    else if (nicxi_state_is_heap(at))
+        snprintf(room, MOST_NAMED, "memory from malloc");
+    else if (!nicxi_symbol((const void *)(uintptr_t)at, room, MOST_NAMED))
+        snprintf(room, MOST_NAMED, "0x%llx", (unsigned long long)at);
+    return room;
+}
+
 static void tell(const struct race *race)
 {
     char place[MOST_NAMED], new[MOST_NAMED], old[MOST_NAMED];
-    if (race->at & BUS_SPACE)
-        snprintf(place, sizeof place, "packet memory 0x%llx", (unsigned long long)(race->at & ~BUS_SPACE));
-    else if (!nicxi_symbol((const void *)(uintptr_t)race->at, place, sizeof place))
-        snprintf(place, sizeof place, "0x%llx", (unsigned long long)race->at);
-    nicxi_failed(NICX_RACE, "%.70s, %zu bytes: %s %s, and %s %s it before, with no order between them", place,
-                 race->length, who_of(&race->new, new), verb_of(&race->new, false), who_of(&race->old, old),
-                 verb_of(&race->old, true));
+    nicxi_failed(NICX_RACE, "%.70s, %zu bytes: %s %s, and %s %s it before, with no order between them",
+                 place_words(race->at, place), race->length, who_of(&race->new, new), verb_of(&race->new, false),
+                 who_of(&race->old, old), verb_of(&race->old, true));
 }
 
 /* --- an access --- */

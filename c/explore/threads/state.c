@@ -45,7 +45,7 @@ static char *kept_of(const char *begin, const char *end)
 
 /* --- variables of each thread: the program's own block of them is swapped as another task goes on --- */
 
-enum { OF_ENGINE = 8 }; /* so many bytes are the engine's, which has no values there */
+enum { OF_ENGINE = 2 }; /* so many bytes are the engine's, which has no values there */
 
 static struct {
     char *block;
@@ -129,6 +129,11 @@ void __asan_init(void) __attribute__((weak));
 static bool is_of_heap(void)
 {
     return heap && nicxi_is_ours();
+}
+
+bool nicxi_state_is_heap(uint64_t at)
+{
+    return piece_has(heap, (const void *)(uintptr_t)at);
 }
 
 void *__real_malloc(size_t size);

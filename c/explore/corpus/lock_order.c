@@ -1,0 +1,73 @@
+/* Two paths of a driver take the same two locks, each in its own order: a sender that has its ring's lock reports under
+   the lock of the statistics, and whoever reads the statistics asks each ring under its lock. Each waits for what the
+   other one holds. A right driver takes them in one order. */
+#include "card.h"
+
+static struct {
+    unsigned sent, tail;
+} driver;
+
+static nicx_mutex ring = {.name = "ring"}, statistics = {.name = "statistics"};
+
+static void send_frame(void *unused)
+{
+    (void)unused;
+    nicx_lock(&ring);
+    put_transmit(driver.tail, 0, EOP_RS);
+    driver.tail = (driver.tail + 1) % SLOTS;
+    nicx_write32(NIC_TDT(0), driver.tail);
+    nicx_lock(&statistics);
+    driver.sent++;
+    nicx_unlock(&statistics);
+    nicx_unlock(&ring);
+}
+
+static void read_statistics(void *unused)
+{
+    (void)unused;
+#ifdef FIXED
+    nicx_lock(&ring);
+    nicx_lock(&statistics);
+#else
+    nicx_lock(&statistics);
+    nicx_lock(&ring);
+#endif
+    nicx_check(driver.sent == driver.tail, "the statistics are others than the ring's");
+    nicx_unlock(&ring);
+    nicx_unlock(&statistics);
+}
+
+static const char *bring_up(void)
+{
+    lend_blocks(1);
+    bring_up_transmit();
+    fill_buffer(0, 0);
+    return NULL;
+}
+
+static void begin(void)
+{
+    memset(&driver, 0, sizeof driver);
+    nicx_task("sender", send_frame, NULL);
+    nicx_task("reader", read_statistics, NULL);
+}
+
+static const char *end(void)
+{
+    return went_out(1);
+}
+
+static const nicx_scenario scenario = {
+    .name = "lock_order",
+    .fifo = 8,
+    .blocks = 16,
+    .queues = 1,
+    .bring_up = bring_up,
+    .begin = begin,
+    .end = end,
+};
+
+int main(int argc, char **argv)
+{
+    return nicx_main(argc, argv, &scenario);
+}

@@ -1,0 +1,93 @@
+/* A receiver hands frames to a worker by a ring of its own whose index both threads access as plain memory. In each
+   order of their steps it works, as long as the compiler and the processor keep the order of the stores; C promises
+   neither. It is seen as a data race where each access is known: built with -fsanitize=thread. A right ring has an index
+   that is stored with release and loaded with acquire. */
+#include "card.h"
+
+enum { FRAMES = 1, HANDED = 4 };
+
+static struct {
+    unsigned next;
+    struct {
+        unsigned lengths[HANDED];
+        unsigned head; /* of the receiver */
+        unsigned tail; /* of the worker */
+    } ring;
+    unsigned worked;
+} driver;
+
+static void put_head(unsigned head)
+{
+#ifdef FIXED
+    __atomic_store_n(&driver.ring.head, head, __ATOMIC_RELEASE);
+#else
+    driver.ring.head = head;
+#endif
+}
+
+static unsigned get_head(void)
+{
+#ifdef FIXED
+    return __atomic_load_n(&driver.ring.head, __ATOMIC_ACQUIRE);
+#else
+    return driver.ring.head;
+#endif
+}
+
+static void receive(void *unused)
+{
+    (void)unused;
+    for (unsigned head = 0; head < FRAMES; head++) {
+        while (!is_done(RX_RING, driver.next, RX_DONE))
+            nicx_wait();
+        driver.ring.lengths[head % HANDED] = nicx_get64(RX_RING + 16 * driver.next++ + 8) >> 32 & 0xFFFF;
+        nicx_point();
+        put_head(head + 1);
+    }
+}
+
+static void work(void *unused)
+{
+    (void)unused;
+    while (driver.worked < FRAMES) {
+        while (driver.ring.tail == get_head())
+            nicx_wait();
+        nicx_check(driver.ring.lengths[driver.ring.tail++ % HANDED] == FRAME, "a length is another");
+        driver.worked++;
+    }
+}
+
+static const char *bring_up(void)
+{
+    lend_blocks(FRAMES);
+    bring_up_receive(FRAMES);
+    return NULL;
+}
+
+static void begin(void)
+{
+    memset(&driver, 0, sizeof driver);
+    nicx_task("receive", receive, NULL);
+    nicx_task("work", work, NULL);
+    frames_come(FRAMES);
+}
+
+static const char *end(void)
+{
+    return driver.worked == FRAMES ? NULL : "a frame wasn't worked on";
+}
+
+static const nicx_scenario scenario = {
+    .name = "ring_index_race",
+    .fifo = 8,
+    .blocks = 16,
+    .queues = 1,
+    .bring_up = bring_up,
+    .begin = begin,
+    .end = end,
+};
+
+int main(int argc, char **argv)
+{
+    return nicx_main(argc, argv, &scenario);
+}

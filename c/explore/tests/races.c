@@ -1,0 +1,312 @@
+/* `races MODE words..`, built with -fsanitize=thread: what orders two accesses of the same memory, and what doesn't. A
+   mode whose name begins with "no_" has a race, for c/explore/check.py: how it is told. */
+#define _GNU_SOURCE
+#include <pthread.h>
+#include <semaphore.h>
+#include <stdatomic.h>
+#include <stdlib.h>
+#include <string.h>
+
+#include "card.h"
+
+#if defined(__GNUC__) && !defined(__clang__)
+#pragma GCC diagnostic ignored "-Wtsan" /* fences are known here */
+#endif
+
+static const char *mode;
+
+static bool is(const char *name)
+{
+    return !strcmp(mode, name);
+}
+
+static struct {
+    unsigned value, other;
+    uint8_t bytes[64];
+} data;
+
+static pthread_mutex_t lock = PTHREAD_MUTEX_INITIALIZER;
+static pthread_rwlock_t shared = PTHREAD_RWLOCK_INITIALIZER;
+static pthread_cond_t changed = PTHREAD_COND_INITIALIZER;
+static pthread_barrier_t barrier;
+static sem_t semaphore;
+static nicx_mutex own_lock;
+static atomic_int flag;
+static bool is_set;
+
+static pthread_t make(void *(*function)(void *), void *argument)
+{
+    pthread_t thread = 0;
+    nicx_check(pthread_create(&thread, NULL, function, argument) == 0, "no thread");
+    return thread;
+}
+
+static void join(pthread_t thread)
+{
+    pthread_join(thread, NULL);
+}
+
+/* --- two threads write: under a lock, or not --- */
+
+static void *write_both(void *unused)
+{
+    bool locks = !is("no_lock"), is_shared = is("rwlock") || is("no_writer"), is_own = is("own_lock");
+    if (is_own)
+        nicx_lock(&own_lock);
+    else if (is("no_writer"))
+        pthread_rwlock_rdlock(&shared);
+    else if (is_shared)
+        pthread_rwlock_wrlock(&shared);
+    else if (locks)
+        pthread_mutex_lock(&lock);
+    data.value++;
+    if (is_own)
+        nicx_unlock(&own_lock);
+    else if (is_shared)
+        pthread_rwlock_unlock(&shared);
+    else if (locks)
+        pthread_mutex_unlock(&lock);
+    return unused;
+}
+
+static void two_write(void)
+{
+    pthread_t one = make(write_both, NULL), two = make(write_both, NULL);
+    join(one);
+    join(two);
+    nicx_check(data.value == 2, "one is lost");
+}
+
+/* --- one writes, and tells the other one --- */
+
+static void tell(void)
+{
+    if (is("release") || is("no_acquire"))
+        atomic_store_explicit(&flag, 1, memory_order_release);
+    if (is("no_release"))
+        atomic_store_explicit(&flag, 1, memory_order_relaxed);
+    if (is("fences")) {
+        atomic_thread_fence(memory_order_release);
+        atomic_store_explicit(&flag, 1, memory_order_relaxed);
+    }
+    if (is("exchange"))
+        atomic_fetch_add_explicit(&flag, 1, memory_order_acq_rel);
+    if (is("semaphore"))
+        sem_post(&semaphore);
+    if (is("barrier"))
+        pthread_barrier_wait(&barrier);
+    if (is("condition"))
+        is_set = true;
+}
+
+static void *write_and_tell(void *unused)
+{
+    if (is("cond"))
+        pthread_mutex_lock(&lock);
+    data.value = 1;
+    memset(data.bytes, 1, sizeof data.bytes);
+    tell();
+    if (is("cond")) {
+        data.other = 1;
+        pthread_cond_signal(&changed);
+        pthread_mutex_unlock(&lock);
+    }
+    return unused;
+}
+
+static void hear(void)
+{
+    int order = is("no_acquire") || is("fences") ? memory_order_relaxed : memory_order_acquire;
+    if (is("semaphore"))
+        sem_wait(&semaphore);
+    else if (is("barrier"))
+        pthread_barrier_wait(&barrier);
+    else if (is("condition"))
+        nicx_wait_until(nicx_is_set, &is_set);
+    else
+        while (!atomic_load_explicit(&flag, order))
+            continue;
+    if (is("fences"))
+        atomic_thread_fence(memory_order_acquire);
+}
+
+static void one_tells(void)
+{
+    sem_init(&semaphore, 0, 0);
+    pthread_barrier_init(&barrier, NULL, 2);
+    pthread_t other = make(write_and_tell, NULL);
+    if (is("cond")) {
+        pthread_mutex_lock(&lock);
+        while (!data.other)
+            pthread_cond_wait(&changed, &lock);
+        pthread_mutex_unlock(&lock);
+    } else if (is("join")) {
+        join(other);
+    } else if (!is("no_join")) {
+        hear();
+    }
+    nicx_check(data.value == 1 || is("no_join"), "it isn't there");
+    uint8_t copied[64];
+    memcpy(copied, data.bytes, sizeof copied);
+    nicx_check(copied[63] == 1 || is("no_join"), "it isn't there");
+}
+
+/* --- memory of the heap and of stacks: given back, it may be another's --- */
+
+static void *use_heap(void *unused)
+{
+    unsigned *own = malloc(sizeof *own);
+    if (own)
+        *own = 1;
+    nicx_point();
+    if (own)
+        *own += 1;
+    free(own);
+    return unused;
+}
+
+static void heap(void)
+{
+    pthread_t one = make(use_heap, NULL), two = make(use_heap, NULL);
+    join(one);
+    join(two);
+}
+
+static void *free_it(void *memory)
+{
+    free(memory);
+    return NULL;
+}
+
+static void *write_it(void *memory)
+{
+    *(unsigned *)memory = 2;
+    return NULL;
+}
+
+static void free_used(void)
+{
+    unsigned *memory = malloc(sizeof *memory);
+    pthread_t one = make(write_it, memory), two = make(free_it, memory);
+    join(one);
+    join(two);
+}
+
+static void stack(void)
+{
+    unsigned local = 0;
+    pthread_t other = make(write_it, &local);
+    if (!is("no_stack"))
+        join(other);
+    nicx_check(local <= 2, "another value");
+}
+
+/* --- the device: what is before a tail is before the frame, and a descriptor that is done before its bytes --- */
+
+static void *post_buffer(void *unused)
+{
+    data.value = 1;
+    nicx_put64(RX_RING, buffer(0));
+    nicx_write32(NIC_RDT(0), 1);
+    return unused;
+}
+
+static void device(void)
+{
+    uint8_t bytes[FRAME];
+    make(post_buffer, NULL);
+    if (is("no_done"))
+        nicx_wait();
+    else
+        while (!is_done(RX_RING, 0, RX_DONE))
+            nicx_wait();
+    nicx_dma_read(buffer(0), bytes, sizeof bytes);
+    nicx_check(is("no_done") || data.value == 1, "it isn't there");
+}
+
+static void *write_late(void *unused)
+{
+    nicx_put64(RX_RING + 8, 0);
+    return unused;
+}
+
+static void late(void)
+{
+    nicx_put64(RX_RING, buffer(0));
+    make(write_late, NULL);
+    nicx_write32(NIC_RDT(0), 1);
+}
+
+/* A handler comes behind what was before its message, and on a task between two steps of that. */
+static void isr(void *unused)
+{
+    (void)unused;
+    data.value++;
+    nicx_write32(NIC_EIMC, CAUSE);
+}
+
+static void message(void)
+{
+    if (!is("no_message"))
+        data.value = 1;
+    nicx_write32(NIC_EIMS, CAUSE);
+    if (is("no_message"))
+        data.value = 1;
+}
+
+/* --- */
+
+static const struct {
+    const char *name;
+    void (*run)(void);
+} modes[] = {
+    {"mutex", two_write},     {"no_lock", two_write},  {"own_lock", two_write},   {"rwlock", two_write},
+    {"no_writer", two_write}, {"release", one_tells},  {"no_release", one_tells}, {"no_acquire", one_tells},
+    {"fences", one_tells},    {"exchange", one_tells}, {"semaphore", one_tells},  {"barrier", one_tells},
+    {"condition", one_tells}, {"cond", one_tells},     {"join", one_tells},       {"no_join", one_tells},
+    {"heap", heap},           {"no_free", free_used},  {"stack", stack},          {"no_stack", stack},
+    {"device", device},       {"no_done", device},     {"no_late", late},         {"message", message},
+    {"no_message", message},
+};
+
+enum { MODES = sizeof modes / sizeof *modes };
+
+static void run(void *unused)
+{
+    (void)unused;
+    for (unsigned k = 0; k < MODES; k++)
+        if (is(modes[k].name))
+            modes[k].run();
+}
+
+static const char *bring_up(void)
+{
+    lend_blocks(2);
+    bring_up_receive(0);
+    bring_up_interrupt();
+    nicx_write32(NIC_EIMC, CAUSE);
+    return NULL;
+}
+
+static void begin(void)
+{
+    nicx_task("run", run, NULL);
+    if (is("message") || is("no_message"))
+        nicx_handler("isr", 0, 5, isr, NULL, NICX_BESIDE);
+    if (is("message") || is("no_message"))
+        nicx_write32(NIC_EICS, CAUSE);
+    frames_come(1);
+}
+
+static const char *end(void)
+{
+    return NULL;
+}
+
+int main(int argc, char **argv)
+{
+    static const nicx_scenario scenario = {
+        .name = "races", .fifo = 8, .blocks = 8, .queues = 1, .bring_up = bring_up, .begin = begin, .end = end};
+    mode = argc > 1 ? argv[1] : "";
+    return nicx_main(argc - 1, argv + 1, &scenario);
+}

@@ -651,7 +651,7 @@ def check_form(kit: Kit) -> str:
     for mode in ("orders", "again", "held", "lost"):
         ran([program, mode, *words], 1)
         told(ran([program, mode, "--replay", out / "pthreads.schedule"], 1), f"FAILED {FORM_FAULTS[mode]}", mode)
-    told(ran([program, "early", "--quiet"], 2), r"pthread_create at pthreads\.c:\d+: threads are made in tasks", "early")
+    told(ran([program, "early", "--quiet"], 2), "pthread_create at .*: threads are made in tasks", "early")
     real = replace(kit, flags=[*kit.flags, "-pthread"]).build(HERE / "tests/real_threads.c")
     for mode, wanted in REAL_FAULTS.items():
         if mode != "stack" or "-fsanitize=address,undefined" not in kit.flags:
@@ -676,10 +676,11 @@ def check_races(kit: Kit) -> str:
         points = ["--points", "memory:data"]
         told(ran([program, "no_lock", *words, *points], 1), f"again: .* {' '.join(points)}\n", "points")
         told(ran([program, "no_lock", "--replay", out / "races.schedule", *points], 1), "FAILED race: data", "points")
-        made = [ran([program, "mutex", *words, "--points", points, "--runs", 100]) for points in ("memory", "memory:data")]
+        ways = [["--points", "memory"], points, []]
+        made = [ran([program, "mutex", *words, "--runs", 100, *one]) for one in ways]
         counts = [int(re.findall(r"(\d+) points", one)[0]) for one in made]
-        if not counts[0] >= counts[1] > int(re.findall(r"(\d+) points", ran([program, "mutex", *words, "--runs", 100]))[0]):
-            raise Wrong(f"--points memory makes {counts} points")
+        if not counts[0] >= counts[1] > counts[2]:
+            raise Wrong(f"--points makes {counts} points")
     return f"{len(modes)} orders of accesses"
 
 
@@ -688,7 +689,7 @@ def check_program(kit: Kit, runs: int) -> str:
     source, out = HERE / "examples/forwarder.c", kit.folder / "program"
     out.mkdir(exist_ok=True)
     words = ["--quiet", "--jobs", 2, "--out", out]
-    for of_memory, wanted in ((False, "end: main returns 1"), (True, r"race: transmit.*, 4 bytes: thread-\d at forwarder")):
+    for of_memory, wanted in ((False, "end: main returns 1"), (True, r"race: transmit.*: thread-\d at forwarder")):
         program = kit.build_form(source, form="program", of_memory=of_memory)
         said = ran([program, *words], 1)
         told(said, f"FAILED {wanted}", "forwarder")

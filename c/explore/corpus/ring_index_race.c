@@ -1,7 +1,7 @@
-/* A receiver hands frames to a worker by a ring of its own whose index both threads access as plain memory. In each
-   order of their steps it works, as long as the compiler and the processor keep the order of the stores; C promises
-   neither. It is seen as a data race where each access is known: built with -fsanitize=thread. A right ring has an index
-   that is stored with release and loaded with acquire. */
+/* A receiver hands frames to a worker by a ring whose index both threads access as plain memory. In each order of their
+   steps it works, as long as the compiler and the processor keep the order of the stores; C promises neither. It is
+   seen as a data race where each access is known: built with -fsanitize=thread. A right ring has an index stored
+   with release and loaded with acquire. */
 #include "card.h"
 
 enum { FRAMES = 1, HANDED = 4 };

@@ -1,6 +1,6 @@
 /* Threads as a driver makes them: calls of the C library's threads become tasks, locks and points. The linker puts
-   the functions __wrap_NAME here in the place of NAME (--wrap), in the driver's code alone: what else is in this archive
-   calls __real_NAME. docs/explore.md says how a program is linked. */
+   the functions __wrap_NAME here in the place of NAME (--wrap), in the driver's code alone: what else is in this
+   archive calls __real_NAME. docs/explore.md says how a program is linked. */
 #ifndef NICX_THREADS_FORM_H
 #define NICX_THREADS_FORM_H
 

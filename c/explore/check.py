@@ -660,6 +660,20 @@ def check_form(kit: Kit) -> str:
     return f"{len(modes)} uses of a driver's own threads"
 
 
+def check_cpp(kit: Kit) -> str:
+    """Threads of C++, where its compiler is here."""
+    if not shutil.which("g++"):
+        return "no threads of C++, whose compiler isn't here"
+    source, words = HERE / "tests/std_threads.cc", ["--quiet", "--jobs", 2, "--out", kit.folder]
+    for name, defines, status in (("std_threads", [], 0), ("std_threads-lost", ["-DLOST"], 1)):
+        program = kit.folder / name
+        line = ["g++", "-std=c++11", *STRICT[1:], "-g", *defines, "-static-libstdc++", f"-I{C}/include", source]
+        ran([*line, f"-L{C}/out", f"@{C}/out/nic82599_threads.opts", "-o", program])
+        said = ran([program, *words, "--runs", 1000], status)
+        told(said, "FAILED deadlock: run waits in pthread_cond_wait" if defines else "nothing was found", name)
+    return "threads of C++"
+
+
 def check_races(kit: Kit) -> str:
     """What orders two accesses isn't told as a race, and what doesn't is, by each compiler."""
     source, out = HERE / "tests/races.c", kit.folder / "races"
@@ -780,6 +794,7 @@ def check_all(kit: Kit, amount: str) -> list[str]:
         check_examples(kit, runs),
         check_threads(kit, searches),
         check_form(kit),
+        check_cpp(kit),
         check_races(kit),
         check_program(kit, runs // 10),
     ]

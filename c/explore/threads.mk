@@ -34,11 +34,11 @@ $(OUT)/libnic82599_threads.a: $(THREADS_ALL) $(OUT)/threads/not-turned/device.o
 	$(AR) rcs $@ $^
 
 $(OUT)/nic82599_threads.opts: $(OUT)/threads/turned
-	{ sed -n '/^main$$/!s/.*/-Wl,--wrap=&/p' $<; \
+	{ sed -n '/^main$$/!s/.*/-Wl,--wrap=&,-u,__wrap_&/p' $<; \
 	  echo '-Wl,-u,nicxi_threads_form -Wl,-T,nic82599_threads.ld -l:libnic82599_threads.a'; } >$@
 
 $(OUT)/nic82599_program.opts: $(OUT)/threads/turned
-	{ sed 's/.*/-Wl,--wrap=&/' $<; \
+	{ sed 's/.*/-Wl,--wrap=&,-u,__wrap_&/' $<; \
 	  echo '-Wl,-u,nicxi_threads_form -Wl,-T,nic82599_threads.ld -l:libnic82599_threads.a'; } >$@
 
 $(OUT)/nic82599_threads.ld: $(HERE)/explore/threads/nic82599_threads.ld

@@ -48,12 +48,21 @@ void nicxi_refuse(const char *call, const void *at)
                      nicxi_line(at, where));
 }
 
+static const char *base_name(const char *path)
+{
+    const char *slash = strrchr(path, '/');
+    return slash ? slash + 1 : path;
+}
+
+/* Of several lines, since functions were inlined there, the first that isn't of this library's headers. */
 const char *nicxi_line(const void *at, char room[MOST_NAMED])
 {
-    struct source_line line;
-    if (nicxi_lines(at, &line, 1)) {
-        const char *slash = strrchr(line.file, '/');
-        snprintf(room, MOST_NAMED, "%.60s:%u", slash ? slash + 1 : line.file, line.line);
+    struct source_line lines[8];
+    unsigned count = nicxi_lines(at, lines, sizeof lines / sizeof *lines), k = 0;
+    while (k + 1 < count && !strncmp(base_name(lines[k].file), "nic82599", 8))
+        k++;
+    if (count) {
+        snprintf(room, MOST_NAMED, "%.60s:%u", base_name(lines[k].file), lines[k].line);
     } else if (!nicxi_symbol(at, room, MOST_NAMED)) {
         snprintf(room, MOST_NAMED, "an unknown place");
     }

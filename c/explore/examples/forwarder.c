@@ -1,7 +1,7 @@
 /* A program as one is written without a thought of any search: a forwarder with a receiver and two senders, on POSIX
    threads with locks, conditions and atomics of its own. Each frame that comes goes back to its sender. It runs by
    itself, and prints how many frames came and went. Linked as docs/explore.md says, the same file is searched. Built
-   without -DFIXED it has a bug, which a run by itself hardly ever shows. */
+   without -DFIXED it has a bug, which a run by itself seldom shows. */
 #include <pthread.h>
 #include <sched.h>
 #include <stdatomic.h>

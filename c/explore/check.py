@@ -773,6 +773,11 @@ AMOUNTS = {
 }
 
 
+def check_forms(kit: Kit, runs: int) -> list[str]:
+    """A driver's own threads and memory: their archive has no sanitizers' checks in it."""
+    return [check_form(kit), check_cpp(kit), check_races(kit), check_program(kit, runs)]
+
+
 def check_all(kit: Kit, amount: str) -> list[str]:
     """All that is here, in so large an amount."""
     states, scenarios, runs, preemptions, each, searches = AMOUNTS[amount]
@@ -793,8 +798,5 @@ def check_all(kit: Kit, amount: str) -> list[str]:
         check_outside(kit, runs, each),
         check_examples(kit, runs),
         check_threads(kit, searches),
-        check_form(kit),
-        check_cpp(kit),
-        check_races(kit),
-        check_program(kit, runs // 10),
+        *([] if amount == "few" else check_forms(kit, runs // 10)),
     ]

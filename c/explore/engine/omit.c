@@ -44,12 +44,21 @@ static bool omit_of(struct shrinking *it, bool *list, uint32_t count)
     return any;
 }
 
+/* Without those that the driver makes itself: they begin once it does. */
+static uint32_t named_tasks(void)
+{
+    uint32_t count = 0;
+    while (count < nicxi.tasks && !nicxi.threads[count].is_made)
+        count++;
+    return count;
+}
+
 bool nicxi_omit(struct shrinking *it)
 {
     it->omitted = it->best->omitted;
     if (it->best->result.outcome == NICX_HANG || !can_be_fine(it, &it->omitted))
         return false;
-    bool any = omit_of(it, it->omitted.threads, nicxi.tasks);
+    bool any = omit_of(it, it->omitted.threads, named_tasks());
     any |= omit_of(it, it->omitted.threads + NICX_TASKS, nicxi.handlers);
     any |= omit_of(it, it->omitted.links, nicxi.link_count);
     any |= omit_of(it, it->omitted.frames, nicxi.frame_count);

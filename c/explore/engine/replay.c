@@ -8,6 +8,7 @@
 #include <string.h>
 
 #include "files.h"
+#include "process.h"
 #include "strategy.h"
 #include "words.h"
 
@@ -215,6 +216,7 @@ static int follow(struct replay *it)
         chooser.argument = it;
     }
     nicxi.omitted = it->file.omitted;
+    nicxi_catch_overflows(NULL);
     nicxi.listener = print_point;
     nicxi.listener_argument = it;
     nicx_run(&chooser, &result);

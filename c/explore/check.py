@@ -405,6 +405,7 @@ CHOICES = {
     "bound": (0, "note: timer other never fired\n.*nothing was found"),
     "never": (0, "note: timer timer never fired\n.*note: timer other never fired"),
     "disarm": (1, "check: a timer fires that was disarmed"),
+    "disarmed": (0, "note: timer timer never fired\n.*note: timer other never fired"),
     "sixth": (1, "check: the sixth point"),
     "first": (1, "check: the first point"),
     "unknown": (1, "misuse: there is no timer 99"),

@@ -70,9 +70,10 @@ static void fire(void *unused)
     fired++;
     at_point = points;
     nicx_check(!is("rest") || !is_running, "a timer at rest fires while a task can go on");
-    nicx_check(!is("disarm"), "a timer fires that was disarmed");
+    nicx_check(!is("disarm") && !is("disarmed"), "a timer fires that was disarmed");
     nicx_check(!is("sixth") || points < BOUND, "the sixth point");
     nicx_check(!is("first") || points > 0, "the first point");
+    nicx_check(!is("bound") || points <= BOUND, "it fires behind its last point");
     if (is("again") && fired < 3)
         nicx_arm(timer);
 }
@@ -82,7 +83,7 @@ static void arm(void *unused)
     (void)unused;
     is_running = true;
     nicx_arm(timer);
-    if (is("disarm"))
+    if (is("disarm") || is("disarmed"))
         was_armed = nicx_disarm(timer);
     for (points = 0; points < READS; points++)
         nicx_read32(NIC_RDH(points % 4));
@@ -95,8 +96,8 @@ static void arm(void *unused)
 
 static bool has_timer(void)
 {
-    static const char *const modes[] = {"rest",  "bound", "disarm", "sixth",   "first",
-                                        "again", "twice", "begin",  "unknown", "never"};
+    static const char *const modes[] = {"rest",  "bound", "disarm", "disarmed", "sixth", "first",
+                                        "again", "twice", "begin",  "unknown",  "never"};
     for (size_t k = 0; k < sizeof modes / sizeof *modes; k++)
         if (is(modes[k]))
             return true;
@@ -105,7 +106,7 @@ static bool has_timer(void)
 
 static void begin_timers(void)
 {
-    bool rests = is("rest") || is("again") || is("begin") || is("never");
+    bool rests = is("rest") || is("again") || is("begin") || is("never") || is("disarmed");
     if (!is("begin") && !is("never"))
         nicx_task("arms", arm, NULL);
     else
@@ -141,7 +142,7 @@ static const char *end(void)
 {
     if (is("late"))
         nicx_choose(2);
-    if (is("disarm") && !was_armed && !fired)
+    if ((is("disarm") && !was_armed && !fired) || (is("disarmed") && !was_armed))
         return "a timer that was armed wasn't";
     if (is("again") && fired != 3)
         return "a timer that is armed anew doesn't fire anew";

@@ -478,7 +478,7 @@ void nicxi_wait_outside(void)
 {
     if ((nicxi.phase != BRINGING_UP && nicxi.phase != BEGINNING) || nicxi.is_program)
         return;
-    if (nicxi.phase == BRINGING_UP && !nicxi.is_settled)
+    if (!nicxi.is_settled)
         settle();
     if (++nicxi.waits > MOST_WAITS)
         give_up();

@@ -85,8 +85,11 @@ void nicxi_told(const struct step *step)
     bool is_point = nicxi.phase == RUNNING || (nicxi.phase == BEGINNING && step->kind == STEP_VALUE);
     if (is_point && nicxi.steps && !step->is_beside)
         nicxi.steps[point] = *step;
+    uint16_t actor = is_point ? nicxi.schedule[point] : (uint16_t)NOBODY;
+    if (nicxi.watch && nicxi.phase != ENDING)
+        nicxi.watch(NULL, actor, step);
     if (nicxi.listener && nicxi.phase != ENDING)
-        nicxi.listener(nicxi.listener_argument, is_point ? nicxi.schedule[point] : NOBODY, step);
+        nicxi.listener(nicxi.listener_argument, actor, step);
     if (nicxi_races)
         nicxi_races->told(step);
 }

@@ -208,8 +208,11 @@ static bool is_idle(void)
 /* The tasks are looked at once: a scenario without any is none. */
 static const char *try_begin(void)
 {
+    nicxi_listener *listener = nicxi.listener;
     nicxi.tasks = nicxi.handlers = nicxi.timers = 0;
+    nicxi.listener = NULL; /* no script has what is tried */
     nicxi_begin();
+    nicxi.listener = listener;
     if (nicxi.result.outcome)
         return nicxi.result.words;
     for (int k = NICX_TASKS; k < NICX_TASKS + nicxi.handlers; k++) {

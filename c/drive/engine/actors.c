@@ -1,0 +1,414 @@
+/* The threads that call the driver: they take frames, send, and start and stop; and its handlers and own threads. */
+#include <string.h>
+
+#include "drive.h"
+
+enum { VECTORS = 16 };
+
+static const uint16_t numbers[VECTORS] = {0, 1, 2, 3, 4, 5, 6, 7, 8, 9, 10, 11, 12, 13, 14, 15};
+
+static void *argument(unsigned number)
+{
+    return (void *)(uintptr_t)&numbers[number];
+}
+
+static uint16_t number_of(const void *given)
+{
+    return *(const uint16_t *)given;
+}
+
+/* --- open and close --- */
+
+bool nicd_open(void)
+{
+    nicd.is_ended = false;
+    if (!nicd.driver->open(&nicd.setup))
+        return false;
+    nicd.life++;
+    nicd.is_open = nicd.is_running = true;
+    return true;
+}
+
+void nicd_close(void)
+{
+    nicd.life++;
+    nicd.driver->close();
+    nicd.is_open = nicd.is_running = false;
+    nicd.is_ended = true;
+}
+
+static bool is_quiet(void *unused)
+{
+    (void)unused;
+    for (unsigned k = 0; k < NICD_QUEUES; k++)
+        if (nicd.pollers[k].busy)
+            return false;
+    return !nicd.calls;
+}
+
+void nicd_hold(void)
+{
+    nicd.life++;
+    nicd.is_running = false;
+    nicx_wait_until(is_quiet, NULL);
+}
+
+void nicd_go_on(void)
+{
+    nicd.life++;
+    nicd.is_running = nicd.is_open;
+    for (unsigned k = 0; k < NICD_QUEUES; k++)
+        nicd.pollers[k].scheduled = true;
+}
+
+/* --- receiving --- */
+
+bool nicd_receive(uint16_t queue)
+{
+    nicd_frame *frame = &nicd.frame[queue];
+    frame->length = 0;
+    if (!nicd.driver->receive(queue, frame))
+        return false;
+    nicd_deliver(queue, frame->bytes, frame->length);
+    return true;
+}
+
+static bool may_run(void *unused)
+{
+    (void)unused;
+    return nicd.is_running;
+}
+
+/* A thread that looks again after each act of another. */
+static void poll(void *given)
+{
+    struct poller *poller = &nicd.pollers[number_of(given)];
+    for (;;) {
+        nicx_wait_until(may_run, NULL);
+        poller->busy = true;
+        while (nicd.is_running && nicd_receive(poller->queue))
+            continue;
+        poller->busy = false;
+        nicx_wait();
+    }
+}
+
+static bool is_scheduled(void *given)
+{
+    return nicd.is_running && nicd.pollers[number_of(given)].scheduled;
+}
+
+/* A thread that looks where a handler says so. */
+static void serve(void *given)
+{
+    uint16_t queue = number_of(given);
+    struct poller *poller = &nicd.pollers[queue];
+    for (;;) {
+        nicx_wait_until(is_scheduled, given);
+        poller->busy = true;
+        poller->scheduled = false;
+        while (nicd.driver->receive && nicd_receive(queue))
+            continue;
+        if (nicd.driver->reclaim)
+            nicd_reclaim(queue);
+        if (nicd.driver->rearm)
+            nicd.driver->rearm(queue);
+        poller->busy = false;
+    }
+}
+
+static void handle(void *given)
+{
+    if (!nicd.is_open)
+        return;
+    uint32_t queues = nicd.driver->interrupt((uint8_t)number_of(given));
+    for (unsigned k = 0; k < nicd.setup.queues; k++)
+        if (queues >> k & 1)
+            nicd.pollers[k].scheduled = true;
+}
+
+/* --- vectors that something has: all of them where the driver isn't open yet --- */
+
+static bool is_vector(uint32_t byte, unsigned vector)
+{
+    return byte & 0x80 && (byte & 0x3F) == vector;
+}
+
+static bool is_in_word(uint32_t address, unsigned vector)
+{
+    uint32_t word = nicd_peek(address);
+    for (unsigned k = 0; k < 32; k += 8)
+        if (is_vector(word >> k, vector))
+            return true;
+    return false;
+}
+
+static bool is_used(unsigned vector)
+{
+    if (!nicd.is_open)
+        return nicd.setup.port ? vector < 3 : true;
+    if (nicd.setup.port)
+        return is_in_word(NIC_PVTIVAR(nicd.base / 2u), vector) || is_in_word(NIC_PVTIVAR_MISC(nicd.setup.port - 1u), vector);
+    for (unsigned queue = 0; queue < nicd.setup.queues; queue += 2)
+        if (is_in_word(NIC_IVAR(queue / 2), vector))
+            return true;
+    return is_in_word(NIC_IVAR_MISC, vector);
+}
+
+static void add_handlers(void)
+{
+    static const char *const names[VECTORS] = {"vector0",  "vector1",  "vector2",  "vector3", "vector4",  "vector5",
+                                               "vector6",  "vector7",  "vector8",  "vector9", "vector10", "vector11",
+                                               "vector12", "vector13", "vector14", "vector15"};
+    for (unsigned vector = 0; vector < VECTORS; vector++)
+        if (is_used(vector))
+            nicx_handler(names[vector], nicd.setup.port, (uint8_t)vector, handle, argument(vector),
+                         nicd.is_open ? NICX_ANYWHERE : NICX_BESIDE);
+}
+
+void nicd_take_frames(void)
+{
+    static const char *const names[NICD_QUEUES] = {"receive0", "receive1", "receive2", "receive3"};
+    bool serves = nicd.setup.interrupts && nicd.driver->interrupt;
+    for (uint16_t queue = 0; queue < nicd.setup.queues && (nicd.driver->receive || serves); queue++)
+        nicx_service(names[queue], serves ? serve : poll, argument(queue));
+}
+
+/* --- sending --- */
+
+uint32_t nicd_reclaim(uint16_t queue)
+{
+    struct poller *poller = &nicd.pollers[queue];
+    uint32_t accepted = nicd.accepted[queue];
+    if (!nicd.driver->reclaim)
+        return nicd.out[queue] = nicd.accepted[queue] - nicd.went[queue];
+    nicd.calls++;
+    nicx_lock(&poller->lock);
+    uint32_t left = nicd.driver->reclaim(queue);
+    nicx_unlock(&poller->lock);
+    nicd.calls--;
+    if (!left && !(nicd.scenario->ways & (LOSSY | FAULTY)) && nicd.went[queue] < accepted)
+        nicd_failed("reclaim says that all of queue %u went out, and %u frames haven't", queue,
+                    (unsigned)(accepted - nicd.went[queue]));
+    return nicd.out[queue] = left;
+}
+
+bool nicd_send(uint16_t queue, uint32_t length)
+{
+    static uint8_t rooms[NICX_TASKS][NICD_FRAME_MOST];
+    uint8_t *bytes = rooms[nicxi.self ? (nicxi.self - nicxi.threads) % NICX_TASKS : 0];
+    bool is_shared = (nicd.driver->can & NICD_SHARED_SEND) != 0;
+    struct poller *poller = &nicd.pollers[queue];
+    uint16_t number = (uint16_t)nicd.numbers++;
+    nicd_make_sent(number, length, bytes);
+    nicd.calls++;
+    if (!is_shared)
+        nicx_lock(&poller->lock);
+    bool is_taken = nicd.driver->send(queue, bytes, length);
+    if (is_taken) {
+        struct sent *sent = &nicd.sent[queue][nicd.accepted[queue]++ % MOST_OUT];
+        sent->number = number;
+        sent->length = length;
+        sent->life = nicd.life;
+        nicd.out[queue]++;
+    }
+    if (!is_shared)
+        nicx_unlock(&poller->lock);
+    nicd.calls--;
+    memset(bytes, 0xA5, length);
+    return is_taken;
+}
+
+struct sender {
+    uint16_t queue;
+    uint32_t count, length;
+    uint8_t number;
+};
+
+static struct sender senders[NICX_TASKS];
+static uint32_t sender_count;
+
+void nicd_make_room(uint16_t queue)
+{
+    uint32_t out = nicd.out[queue];
+    if (!nicd.is_running || nicd_reclaim(queue) >= out)
+        nicx_wait();
+}
+
+static bool may_send(void *unused)
+{
+    (void)unused;
+    return nicd.is_running || nicd.is_ended;
+}
+
+/* Until the driver runs: false where it was closed. */
+static bool wait_to_send(void)
+{
+    nicx_wait_until(may_send, NULL);
+    return nicd.is_running;
+}
+
+static void send_all(void *given)
+{
+    const struct sender *it = given;
+    for (uint32_t k = 0; k < it->count;) {
+        if (!wait_to_send())
+            return;
+        bool is_taken = nicd_send(it->queue, it->length);
+        k += is_taken;
+        if (is_taken)
+            continue;
+        nicd_make_room(it->queue);
+    }
+    while (wait_to_send() && nicd_reclaim(it->queue))
+        nicx_wait();
+}
+
+void nicd_send_frames(uint16_t queue, uint32_t count, uint32_t length)
+{
+    static const char *const names[] = {"send0", "send1", "send2", "send3", "send4", "send5", "send6", "send7"};
+    struct sender *it = &senders[sender_count % 8];
+    it->queue = queue;
+    it->count = count;
+    it->length = length;
+    nicx_task(names[sender_count++ % 8], send_all, it);
+}
+
+/* --- the scenario's own threads --- */
+
+static void (*control)(void);
+
+static void run_control(void *unused)
+{
+    (void)unused;
+    control();
+}
+
+void nicd_control(void (*function)(void))
+{
+    control = function;
+    nicx_task("control", run_control, NULL);
+}
+
+static void (*other)(void);
+
+static void run_other(void *unused)
+{
+    (void)unused;
+    other();
+}
+
+void nicd_other(const char *name, void (*function)(void), bool waits_for_ever)
+{
+    other = function;
+    int number = waits_for_ever ? nicx_service(name, run_other, NULL) : nicx_task(name, run_other, NULL);
+    nicd.cards |= 1u << number;
+}
+
+static bool has_come(void *unused)
+{
+    (void)unused;
+    for (unsigned queue = 0; queue < NICD_QUEUES; queue++)
+        if (nicd.went[queue] < nicd.accepted[queue])
+            return false;
+    return nicd.delivered == nicd.count;
+}
+
+void nicd_wait_for_rest(void)
+{
+    nicx_wait_until(has_come, NULL);
+}
+
+static bool has_so_many(void *given)
+{
+    return nicd.delivered >= *(const uint32_t *)given;
+}
+
+void nicd_wait_for(uint32_t delivered)
+{
+    static uint32_t wanted;
+    wanted = delivered;
+    nicx_wait_until(has_so_many, &wanted);
+}
+
+/* --- threads of the driver's own --- */
+
+static bool was_open(void *unused)
+{
+    (void)unused;
+    return nicd.is_open;
+}
+
+static void run_thread(void *given)
+{
+    nicx_wait_until(was_open, NULL);
+    nicd.driver->thread(number_of(given));
+}
+
+static void add_threads(void)
+{
+    static const char *const names[MOST_THREAD] = {"thread0", "thread1", "thread2", "thread3"};
+    for (uint32_t k = 0; k < nicd.driver->threads && k < MOST_THREAD; k++)
+        nicx_service(names[k], run_thread, argument(k));
+}
+
+/* --- a schedule begins --- */
+
+static uint32_t or_else(uint32_t given, uint32_t usual)
+{
+    return given ? given : usual;
+}
+
+static void set_up(void)
+{
+    static const uint8_t address[6] = {2, 0, 0, 0, 0, 1};
+    nicd.setup = nicd.scenario->setup;
+    nicd.setup.queues = (uint16_t)or_else(nicd.setup.queues, 1);
+    nicd.setup.slots = (uint16_t)or_else(nicd.setup.slots, 8);
+    nicd.setup.frame = or_else(nicd.setup.frame, 1514);
+    memcpy(nicd.setup.address, address, 6);
+    nicd.base = nicd.setup.port ? (uint16_t)(2 * (nicd.setup.port - 1)) : 0;
+}
+
+static void forget(void)
+{
+    nicd.is_open = nicd.is_running = nicd.is_ended = false;
+    nicd.life = nicd.cards = nicd.calls = 0;
+    nicd.by_card = false;
+    sender_count = 0;
+    memset(nicd.pollers, 0, sizeof nicd.pollers);
+    for (uint16_t k = 0; k < NICD_QUEUES; k++) {
+        nicd.pollers[k].queue = k;
+        nicd.pollers[k].lock.name = "queue";
+    }
+    nicxi_forget_polls(&nicxi.outside);
+    nicxi.waits = 0;
+}
+
+void nicd_begin(void)
+{
+    set_up();
+    forget();
+    nicd_memory_begin();
+    nicd_judge_begin();
+    nicd_watch_begin();
+    if (!(nicd.scenario->ways & OPENS) && !nicd_open())
+        nicd_note("open answered false");
+    nicd.scenario->begin();
+    add_threads();
+    if (nicd.setup.interrupts && nicd.driver->interrupt)
+        add_handlers();
+}
+
+const char *nicd_always(void)
+{
+    return nicd.fault;
+}
+
+const char *nicd_end(void)
+{
+    const char *fault = nicd_judge_end();
+    if (!fault && nicd.scenario->end)
+        fault = nicd.scenario->end();
+    return fault;
+}

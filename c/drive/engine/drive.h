@@ -1,0 +1,224 @@
+/* What the files of the report card share: the one scenario of the process, its driver, and what is known of the
+   schedule that is being made. */
+#ifndef NICD_DRIVE_H
+#define NICD_DRIVE_H
+
+#include "../../explore/engine/engine.h"
+#include "nic82599_drive.h"
+
+enum {
+    BLOCKS = 256, /* of packet memory; a script of a failure has no more */
+    OTHERS = 248, /* from this block on they are of others, for whom the card acts */
+    FIFO = 64,    /* frames that may wait in the device */
+    MOST_PIECES = 128,
+    MOST_OUT = 128, /* frames that are sent in a schedule */
+    MOST_REACHED = 8,
+    MOST_THREAD = 4,
+    DEVICE_QUEUES = 128,
+    WORDS = 240
+};
+
+/* --- a scenario --- */
+
+/* What a driver must have, beside open and close. */
+enum needs {
+    RECEIVES = 1 << 0, /* receive, or threads that deliver */
+    PULLS = 1 << 1,    /* receive */
+    SENDS = 1 << 2,
+    RECLAIMS = 1 << 3,
+    INTERRUPTS = 1 << 4,
+    FILTER = 1 << 5,
+    RSS = 1 << 6,
+    MTU = 1 << 7,
+    RESIZE = 1 << 8,
+    RESET = 1 << 9,
+    SUSPEND = 1 << 10,
+    LINK = 1 << 11,
+    MAILBOX = 1 << 12,
+    FUNCTIONS = 1 << 13,
+    SHARED_SEND = 1 << 14,
+    SHARED_DEVICE = 1 << 15,
+    READY_BIT = 1 << 16,
+    PHYSICAL = 1 << 17 /* not a driver of functions alone: told by NICD_FUNCTIONS and a mailbox only as function */
+};
+
+enum ways {
+    OPENS = 1,      /* the scenario calls open itself, in a task; else it is open when the schedule begins */
+    LOSSY = 2,      /* frames that came or were sent before the last interruption may be lost */
+    DROPS = 4,      /* the device may drop frames: the scenario judges which */
+    FAULTY = 8,     /* faults of a queue are part of it, and of memory that isn't lent */
+    NEIGHBOUR = 16, /* another driver has a queue beside, and each access of the driver to it fails */
+    UNPOLLED = 32   /* the scenario receives by itself */
+};
+
+struct scenario {
+    const char *name, *family;
+    const char *title;  /* what is tried, in some words */
+    const char *rule;   /* the sentence that it stands for */
+    const char *source; /* where that sentence comes from: a section of the datasheet, or a rule of the adapter */
+    uint32_t needs, ways;
+    nicd_setup setup; /* 0 in queues, slots or frame stands for 1, 8 and 1,514 */
+    uint32_t points;
+    void (*begin)(void);                                    /* names tasks and frames; the card's own are there */
+    const char *(*end)(void);                               /* judges more, or null */
+    void (*see)(const struct step *step, bool is_drivers);  /* hears of each step, or null */
+    const char *reaches[MOST_REACHED];                      /* what should come up in some schedule */
+};
+
+/* The families' tables; each ends with a scenario without a name. */
+extern const struct scenario *const nicd_families[];
+
+/* --- frames that come --- */
+
+enum to { TO_OWN, TO_OTHER, TO_BROADCAST, TO_MULTICAST, TO_SECOND };
+
+struct come {
+    uint8_t to;
+    uint8_t type; /* enum nic_rss_type, of a frame whose flow is hashed so */
+    uint16_t flow;
+    uint32_t length;
+};
+
+enum frame_state { ON_ITS_WAY, WAITS, IS_WRITTEN, IS_DELIVERED, IS_DROPPED, IS_LOST };
+
+struct frame_now {
+    uint8_t state;
+    uint8_t why;   /* it was dropped */
+    uint8_t queue; /* the device's, of one that was written */
+    uint32_t life; /* how often the driver was interrupted as it arrived */
+};
+
+/* --- what is known of the schedule --- */
+
+struct piece {
+    uint64_t bus;
+    uint32_t first, blocks; /* 0 blocks: it isn't taken */
+};
+
+struct poller {
+    uint16_t queue;
+    bool scheduled, busy;
+    nicx_mutex lock;
+};
+
+struct sent {
+    uint16_t number;
+    uint32_t length, life;
+};
+
+struct drive {
+    const nicd_driver *driver;
+    const struct scenario *scenario;
+    nicd_setup setup; /* as open was asked */
+    uint16_t base;    /* the device's queue that is the port's queue 0 */
+    bool is_open;     /* from open's return to close's call */
+    bool is_running;  /* frames may be taken and sent */
+    bool is_ended;    /* close has returned */
+    uint32_t life;    /* how often all was interrupted: close, reset, resize */
+    uint32_t calls;   /* of send and reclaim that are being made */
+    uint32_t cards;   /* bit k: task k is the card's own, and acts for others than the driver */
+    bool by_card;     /* outside of tasks: the card acts */
+    const char *fault;
+    char words[WORDS];
+
+    struct piece pieces[MOST_PIECES];
+    uint32_t taken, own_taken; /* pieces that are taken; of nicd_alloc */
+    uint32_t allocations, refuse; /* how many were asked for; the one that is refused, from 1 on */
+    size_t own_used;
+
+    struct come coming[NICX_FRAMES];
+    struct frame_now frames[NICX_FRAMES];
+    uint16_t count;
+    uint16_t waiting[NICX_FRAMES];
+    uint16_t oldest, let_in;
+    int partial; /* the device's queue in whose ring a frame is begun, or -1 */
+    uint16_t written[NICD_QUEUES][NICX_FRAMES];
+    uint16_t written_count[NICD_QUEUES], next[NICD_QUEUES]; /* of written: the one to be delivered next */
+    uint32_t delivered;
+
+    struct sent sent[NICD_QUEUES][MOST_OUT];
+    uint32_t accepted[NICD_QUEUES], went[NICD_QUEUES]; /* taken by send; sent by the device */
+    uint32_t out[NICD_QUEUES]; /* as reclaim told last, and what was taken since */
+    uint32_t numbers;
+
+    struct poller pollers[NICD_QUEUES];
+    nicd_frame frame[NICD_QUEUES];
+};
+
+extern struct drive nicd;
+
+/* The schedule fails with these words: at once in a task, else at its next step. */
+void nicd_failed(const char *form, ...);
+/* A reason for failing that is kept for the next look; it never leaves the caller. */
+void nicd_note(const char *form, ...);
+
+/* Counts that something of the scenario's `reaches` came up. */
+void nicd_reach(unsigned number);
+
+/* --- parts --- */
+
+void nicd_memory_begin(void);
+/* Null, or what of the driver's memory is left. */
+const char *nicd_memory_left(void);
+/* Whether a bus address lies in a piece of the driver's. */
+bool nicd_memory_has(uint64_t bus);
+
+void nicd_watch_begin(void);
+void nicd_watch(void *unused, uint16_t actor, const struct step *step);
+/* What all searches of the process saw, written to a file. */
+bool nicd_coverage_open(void);
+bool nicd_coverage_write(const char *path);
+
+void nicd_delivered_one(void);
+
+void nicd_judge_begin(void);
+const char *nicd_judge_end(void);
+/* Makes frame `number` of those that come, or of those that are sent; answers its length. */
+uint32_t nicd_make(const struct come *come, uint16_t number, uint8_t *bytes);
+void nicd_make_sent(uint16_t number, uint32_t length, uint8_t *bytes);
+
+/* What the explorer is given of a scenario. */
+const char *nicd_bring_up(void);
+void nicd_begin(void);
+const char *nicd_always(void);
+const char *nicd_end(void);
+
+/* --- for scenarios: in begin --- */
+
+/* A frame will come: to whom, of what kind and length. Answers its number. */
+uint16_t nicd_come(struct come come);
+/* So many to the port's own address, of 60 bytes or of this length. */
+void nicd_come_plain(uint32_t count, uint32_t length);
+/* Threads that take frames, one a queue, and handlers of the vectors in use. */
+void nicd_take_frames(void);
+/* A thread that sends so many frames by a queue and waits until they went out. */
+void nicd_send_frames(uint16_t queue, uint32_t count, uint32_t length);
+/* A thread of the scenario's own that calls the driver. */
+void nicd_control(void (*function)(void));
+/* A thread that acts for another: a host, another driver. */
+void nicd_other(const char *name, void (*function)(void), bool waits_for_ever);
+
+/* --- for scenarios: in a task --- */
+
+bool nicd_open(void);
+void nicd_close(void);
+/* Interrupts the flow: no receive, send or reclaim runs when it returns, nor before nicd_go_on. */
+void nicd_hold(void);
+void nicd_go_on(void);
+/* Sends one frame of this length, if it is taken. */
+bool nicd_send(uint16_t queue, uint32_t length);
+uint32_t nicd_reclaim(uint16_t queue);
+/* Where send was refused: takes back what went out, or else waits until somebody has acted. */
+void nicd_make_room(uint16_t queue);
+/* Takes one frame, if one is there. */
+bool nicd_receive(uint16_t queue);
+/* Waits until all that came was taken and all that was sent went out. */
+void nicd_wait_for_rest(void);
+/* Waits until so many frames were delivered in all. */
+void nicd_wait_for(uint32_t delivered);
+
+/* --- for scenarios: looking at the device without effects --- */
+
+uint32_t nicd_peek(uint32_t address);
+
+#endif

@@ -1,0 +1,228 @@
+/* A whole program: which scenarios there are, and one of them searched. */
+#include <inttypes.h>
+#include <stdio.h>
+#include <stdlib.h>
+#include <string.h>
+
+#include "drive.h"
+
+enum { DONE = 0, REFUSED = 2, NOT_APPLICABLE = 4, MOST_WORDS_GIVEN = 64 };
+
+struct drive nicd;
+
+/* --- the device, before the driver comes --- */
+
+/* The host of a function: 64 pools of two queues, each function's frames to its own. */
+static void set_up_host(unsigned function)
+{
+    nicx_write32(NIC_GCR_EXT, NIC_GCR_EXT_VT_MODE_IS(3));
+    nicx_write32(NIC_VT_CTL, NIC_VT_CTL_VT_ENA);
+    nicx_write32(NIC_MRQC, NIC_MRQC_MRQE_IS(8));
+    nicx_write32(NIC_FCTRL, NIC_FCTRL_BAM);
+    nicx_write32(NIC_RAL(0), 0x00000002);
+    nicx_write32(NIC_RAH(0), NIC_RAH_AV | 0x0100);
+    nicx_write32(NIC_MPSAR(2 * 0), UINT32_C(1) << function);
+    nicx_write32(NIC_VFRE(0), UINT32_C(1) << function);
+    nicx_write32(NIC_VFTE(0), UINT32_C(1) << function);
+    nicx_write32(NIC_DMATXCTL, nicx_read32(NIC_DMATXCTL) | NIC_DMATXCTL_TE);
+    nicx_write32(NIC_GPIE, NIC_GPIE_MULTIPLE_MSIX | NIC_GPIE_EIAME);
+    nicx_write32(NIC_RXCTRL, NIC_RXCTRL_RXEN);
+    nicx_write32(NIC_CTRL_EXT, NIC_CTRL_EXT_PFRSTD);
+}
+
+const char *nicd_bring_up(void)
+{
+    unsigned port = nicd.scenario->setup.port;
+    nicxi.watch = nicd_watch;
+    nicd.by_card = true;
+    if (port)
+        set_up_host(port - 1);
+    nicd.by_card = false;
+    return NULL;
+}
+
+/* --- which scenarios apply --- */
+
+static const struct scenario *next_of(const struct scenario *it, unsigned *family)
+{
+    if (it && (++it)->name)
+        return it;
+    for (;;) {
+        it = nicd_families[(*family)++];
+        if (!it || it->name)
+            return it;
+    }
+}
+
+#define EACH(it)                                                                                                       \
+    unsigned nicd_family = 0;                                                                                          \
+    for (const struct scenario *it = next_of(NULL, &nicd_family); it; it = next_of(it, &nicd_family))
+
+struct need {
+    uint32_t need;
+    bool is_there;
+    const char *name;
+};
+
+/* What it lacks, or null. */
+static const char *lack_of(const struct scenario *it)
+{
+    const nicd_driver *d = nicd.driver;
+    const struct need needs[] = {
+        {RECEIVES, d->receive || d->threads, "no receive"},
+        {PULLS, d->receive, "no receive"},
+        {SENDS, d->send, "no send"},
+        {RECLAIMS, d->reclaim, "no reclaim"},
+        {INTERRUPTS, d->interrupt, "no interrupt"},
+        {FILTER, d->filter, "no filter"},
+        {RSS, d->rss, "no rss"},
+        {MTU, d->mtu, "no mtu"},
+        {RESIZE, d->resize, "no resize"},
+        {RESET, d->reset, "no reset"},
+        {SUSPEND, d->suspend && d->resume, "no suspend and resume"},
+        {LINK, d->link, "no link"},
+        {MAILBOX, d->mailbox_send && d->mailbox_receive, "no mailbox_send and mailbox_receive"},
+        {READY_BIT, d->mailbox_ready, "no mailbox_ready"},
+        {FUNCTIONS, d->can & NICD_FUNCTIONS, "no NICD_FUNCTIONS"},
+        {SHARED_SEND, d->can & NICD_SHARED_SEND, "no NICD_SHARED_SEND"},
+        {SHARED_DEVICE, d->can & NICD_SHARED_DEVICE, "no NICD_SHARED_DEVICE"},
+    };
+    for (unsigned k = 0; k < sizeof needs / sizeof *needs; k++)
+        if (it->needs & needs[k].need && !needs[k].is_there)
+            return needs[k].name;
+    if (it->setup.queues > 1 && it->setup.queues > d->queues)
+        return "fewer queues";
+    if (it->setup.frame > 1514 && it->setup.frame > d->frame)
+        return "shorter frames";
+    return NULL;
+}
+
+static void list(void)
+{
+    EACH(it)
+    {
+        const char *lack = lack_of(it);
+        printf("%s\t%s\t%s\t%s\t%s\t%s\n", it->name, it->family, lack ? lack : "-", it->title, it->rule, it->source);
+    }
+}
+
+static const struct scenario *find(const char *name)
+{
+    EACH(it)
+    {
+        if (!strcmp(it->name, name))
+            return it;
+    }
+    return NULL;
+}
+
+/* --- one of them --- */
+
+/* Those below the last that the driver or its neighbour has. */
+static uint16_t queues_of(const struct scenario *it)
+{
+    uint16_t queues = it->setup.queues ? it->setup.queues : 1;
+    uint16_t before = it->setup.port ? (uint16_t)(2 * (it->setup.port - 1)) : 0;
+    return (uint16_t)(before + queues + (it->ways & NEIGHBOUR ? 1 : 0));
+}
+
+static int search(int argc, char **argv, const char *coverage)
+{
+    const struct scenario *it = nicd.scenario;
+    nicx_scenario scenario;
+    memset(&scenario, 0, sizeof scenario);
+    scenario.name = it->name;
+    scenario.vfs = it->setup.port || it->needs & MAILBOX ? 2 : 0;
+    scenario.fifo = FIFO;
+    scenario.blocks = BLOCKS;
+    scenario.queues = queues_of(it);
+    scenario.bring_up = nicd_bring_up;
+    scenario.begin = nicd_begin;
+    scenario.always = nicd_always;
+    scenario.end = nicd_end;
+    scenario.points = it->points ? it->points : 6000;
+    scenario.allowed = it->ways & FAULTY ? NICX_FAULTS | NICX_NOT_LENT : 0;
+    if (!nicd_coverage_open()) {
+        fprintf(stderr, "%s: there is no memory\n", it->name);
+        return REFUSED;
+    }
+    int status = nicx_main(argc, argv, &scenario);
+    if (coverage && !nicd_coverage_write(coverage)) {
+        fprintf(stderr, "%s: it can't be written\n", coverage);
+        return REFUSED;
+    }
+    return status;
+}
+
+static int row(int argc, char **argv)
+{
+    char *words[MOST_WORDS_GIVEN] = {argv[0]};
+    const char *coverage = NULL;
+    int count = 1;
+    nicd.scenario = find(argv[2]);
+    if (!nicd.scenario) {
+        fprintf(stderr, "%s: there is no scenario %s: --list has them\n", argv[0], argv[2]);
+        return REFUSED;
+    }
+    const char *lack = lack_of(nicd.scenario);
+    if (lack) {
+        printf("%s: not applicable: the driver has %s\n", argv[2], lack);
+        return NOT_APPLICABLE;
+    }
+    for (int k = 3; k < argc && count < MOST_WORDS_GIVEN - 1; k++) {
+        if (!strcmp(argv[k], "--coverage") && k + 1 < argc)
+            coverage = argv[++k];
+        else
+            words[count++] = argv[k];
+    }
+    return search(count, words, coverage);
+}
+
+/* --- what is plugged in --- */
+
+static const char *fault_of(const nicd_driver *d)
+{
+    size_t length = d->name ? strlen(d->name) : 0;
+    if (!length || length > 40 ||
+        strspn(d->name, "abcdefghijklmnopqrstuvwxyzABCDEFGHIJKLMNOPQRSTUVWXYZ0123456789_-") != length)
+        return "its name isn't of 1 to 40 letters, digits, '-' and '_'";
+    if (!d->open || !d->close)
+        return "it has no open or no close";
+    if (!d->receive && !d->threads && !d->send)
+        return "it has neither receive nor send";
+    if (d->queues > NICD_QUEUES)
+        return "its queues are above 4";
+    if (d->frame && (d->frame < 1514 || d->frame > NICD_FRAME_MOST))
+        return "its frame isn't 1,514 to 9,724";
+    if (d->threads > MOST_THREAD || (d->threads && !d->thread))
+        return "its threads are above 4, or it has no thread";
+    if (d->can & ~(uint32_t)(NICD_SHARED_SEND | NICD_FUNCTIONS | NICD_SHARED_DEVICE))
+        return "its can has bits that enum nicd_can hasn't";
+    return NULL;
+}
+
+static const char usage[] = "usage: %s --list\n"
+                            "       %s --row NAME [--coverage FILE] [options of a search: --help]\n"
+                            "c/drive/nicdrive makes all rows, and the card.\n";
+
+int nicd_main(int argc, char **argv, const nicd_driver *driver)
+{
+    const char *fault = fault_of(driver);
+    nicd.driver = driver;
+    if (fault) {
+        fprintf(stderr, "%s: the driver can't be taken: %s\n", argv[0], fault);
+        return REFUSED;
+    }
+    if (argc == 2 && !strcmp(argv[1], "--list")) {
+        list();
+        return DONE;
+    }
+    if (argc == 2 && !strcmp(argv[1], "--name")) {
+        printf("%s\n", driver->name);
+        return DONE;
+    }
+    if (argc >= 3 && !strcmp(argv[1], "--row"))
+        return row(argc, argv);
+    fprintf(stderr, usage, argv[0], argv[0]);
+    return REFUSED;
+}

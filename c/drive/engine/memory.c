@@ -1,0 +1,140 @@
+/* The driver's memory: pieces of packet memory that end where a block does, with a block behind that isn't lent; and
+   memory of its own. Both are counted, and both can be refused. */
+#include <string.h>
+
+#include "drive.h"
+
+enum { ALIGNED = 128, MOST_BYTES = 131072, OWN_ROOM = 1 << 20, OWN_HEAD = 16 };
+
+static union {
+    uint64_t aligned;
+    uint8_t bytes[OWN_ROOM];
+} own;
+
+void nicd_memory_begin(void)
+{
+    memset(nicd.pieces, 0, sizeof nicd.pieces);
+    nicd.taken = nicd.own_taken = nicd.allocations = nicd.refuse = 0;
+    nicd.own_used = 0;
+}
+
+static bool is_refused(void)
+{
+    return ++nicd.allocations == nicd.refuse;
+}
+
+/* Whether blocks first .. first + count, the one behind included, are nobody's. */
+static bool is_free(uint32_t first, uint32_t count)
+{
+    for (unsigned k = 0; k < MOST_PIECES; k++) {
+        const struct piece *it = &nicd.pieces[k];
+        if (it->blocks && first <= it->first + it->blocks && it->first <= first + count)
+            return false;
+    }
+    return first + count < OTHERS;
+}
+
+/* Block 0 is nobody's, so no address is 0. */
+static struct piece *place(uint32_t blocks)
+{
+    struct piece *piece = NULL;
+    for (unsigned k = 0; k < MOST_PIECES && !piece; k++)
+        if (!nicd.pieces[k].blocks)
+            piece = &nicd.pieces[k];
+    if (!piece)
+        return NULL;
+    for (uint32_t first = 1; first + blocks < OTHERS; first++)
+        if (is_free(first, blocks)) {
+            piece->first = first;
+            piece->blocks = blocks;
+            return piece;
+        }
+    return NULL;
+}
+
+uint64_t nicd_dma_alloc(size_t bytes)
+{
+    if (!bytes || bytes > MOST_BYTES)
+        nicd_failed("nicd_dma_alloc is asked for %lu bytes: it gives 1 to 131,072", (unsigned long)bytes);
+    if (is_refused())
+        return 0;
+    size_t rounded = (bytes + ALIGNED - 1) / ALIGNED * ALIGNED;
+    uint32_t blocks = (uint32_t)((rounded + NIC_BLOCK_BYTES - 1) / NIC_BLOCK_BYTES);
+    struct piece *piece = place(blocks);
+    if (!piece)
+        return 0;
+    nicd.taken++;
+    piece->bus = (uint64_t)(piece->first + blocks) * NIC_BLOCK_BYTES - rounded;
+    uint64_t bus = piece->bus;
+    for (uint32_t k = 0; k < blocks; k++)
+        nicx_lend(piece->first + k);
+    return bus;
+}
+
+void nicd_dma_free(uint64_t bus)
+{
+    struct piece *piece = NULL;
+    for (unsigned k = 0; k < MOST_PIECES; k++)
+        if (nicd.pieces[k].blocks && nicd.pieces[k].bus == bus)
+            piece = &nicd.pieces[k];
+    if (!piece) {
+        nicd_failed("nicd_dma_free of 0x%llx, which nicd_dma_alloc didn't give", (unsigned long long)bus);
+        return;
+    }
+    uint32_t first = piece->first, blocks = piece->blocks;
+    piece->bus = 0;
+    for (uint32_t k = 0; k < blocks; k++)
+        nicx_take(first + k);
+    piece->blocks = 0;
+    nicd.taken--;
+}
+
+bool nicd_memory_has(uint64_t bus)
+{
+    for (unsigned k = 0; k < MOST_PIECES; k++) {
+        const struct piece *it = &nicd.pieces[k];
+        if (it->blocks && bus / NIC_BLOCK_BYTES >= it->first && bus / NIC_BLOCK_BYTES < it->first + it->blocks)
+            return true;
+    }
+    return false;
+}
+
+/* A piece has its size before it; one that is given back is only counted. */
+void *nicd_alloc(size_t bytes)
+{
+    size_t whole = OWN_HEAD + (bytes + OWN_HEAD - 1) / OWN_HEAD * OWN_HEAD;
+    if (is_refused() || bytes > OWN_ROOM || whole > OWN_ROOM - nicd.own_used)
+        return NULL;
+    uint8_t *piece = own.bytes + nicd.own_used;
+    memset(piece, 0, whole);
+    piece[0] = 1;
+    nicd.own_used += whole;
+    nicd.own_taken++;
+    return piece + OWN_HEAD;
+}
+
+void nicd_free(void *memory)
+{
+    uint8_t *piece = (uint8_t *)memory - OWN_HEAD;
+    if (!memory)
+        return;
+    if (piece < own.bytes || piece >= own.bytes + nicd.own_used || piece[0] != 1) {
+        nicd_failed("nicd_free of memory that nicd_alloc didn't give, or that was given back");
+        return;
+    }
+    piece[0] = 0;
+    nicd.own_taken--;
+}
+
+const char *nicd_memory_left(void)
+{
+    if (nicd.taken) {
+        nicd_note("%u pieces of DMA memory weren't given back", (unsigned)nicd.taken);
+        return nicd.fault;
+    }
+    if (nicd.own_taken) {
+        nicd_note("%u pieces of nicd_alloc weren't given back", (unsigned)nicd.own_taken);
+        return nicd.fault;
+    }
+    return NULL;
+}

@@ -1,0 +1,158 @@
+/* A report card for a driver. An author names his driver's functions in a struct, and the card tries them in its own
+   scenarios: each under many orders of steps (nic82599_explore.h), each judged by what the device did.
+   docs/report-card.md begins with an example.
+
+       static const nicd_driver driver = {.name = "mine", .open = my_open, .close = my_close, ..};
+
+       int main(int argc, char **argv)
+       {
+           return nicd_main(argc, argv, &driver);
+       }
+
+       c/drive/nicdrive my_driver.c
+
+   The driver reaches its controller by the calls of nic82599_explore.h that are for tasks: nicx_read32 and nicx_write32
+   (a virtual function nicx_vf_read32 and nicx_vf_write32), nicx_dma_read and its like, nicx_lock, nicx_wait, nicx_pause,
+   nicx_point. Each of them is a point at which anybody may act. DMA memory it takes by nicd_dma_alloc, below. It names no
+   tasks, handlers or frames: the card does.
+
+   Each schedule begins with `open`, on a controller as after power-up: what the driver keeps is made anew there. What a
+   schedule leaves behind isn't ended: take memory from nicd_alloc, which gives it back by itself, or have it static.
+
+   This part is tested, not proved. */
+#ifndef NIC82599_DRIVE_H
+#define NIC82599_DRIVE_H
+
+#include "nic82599_explore.h"
+
+#ifdef __cplusplus
+extern "C" {
+#endif
+
+enum {
+    NICD_FRAME_MOST =
+        9724,        /* bytes of the longest frame: 9,728 with the check sequence, which frames don't have here */
+    NICD_QUEUES = 4, /* the most queues that the card opens */
+    NICD_WORDS = 16  /* of a mailbox */
+};
+
+/* What `open` is asked for. */
+typedef struct nicd_setup {
+    uint8_t port;       /* 0: the physical function; v + 1: virtual function v, of 64 */
+    uint16_t queues;    /* receive and transmit queues 0 .. queues - 1 of that port, 1 to NICD_QUEUES */
+    uint16_t slots;     /* descriptors of each ring: 8, 16, .. 64 */
+    uint32_t frame;     /* bytes of the longest frame: 1,514 to NICD_FRAME_MOST */
+    bool interrupts;    /* whether `interrupt` will be called; else the driver leaves all causes masked */
+    uint8_t address[6]; /* the port's own, as its EEPROM or its host gives it */
+} nicd_setup;
+
+/* A frame that was received. */
+typedef struct nicd_frame {
+    uint32_t length; /* 1 to NICD_FRAME_MOST */
+    uint32_t hash;   /* of receive side scaling; 0 where the driver doesn't tell */
+    uint8_t bytes[NICD_FRAME_MOST];
+} nicd_frame;
+
+/* Which frames come in, beside those to the port's own address. */
+typedef struct nicd_filter {
+    bool all_unicast, all_multicast, broadcast;
+    uint32_t count;        /* 0 to 4 */
+    uint8_t address[4][6]; /* unicast or multicast, besides the port's own */
+} nicd_filter;
+
+/* Receive side scaling. A type is 1 << enum nic_rss_type (nic82599_desc.h). */
+typedef struct nicd_rss {
+    uint8_t key[40];
+    uint8_t table[128]; /* queues */
+    uint32_t types;
+} nicd_rss;
+
+enum nicd_can {
+    NICD_SHARED_SEND = 1,  /* several threads may call `send` for one queue at a time */
+    NICD_FUNCTIONS = 2,    /* `open` takes the port of a virtual function */
+    NICD_SHARED_DEVICE = 4 /* `open` and `close` leave what they aren't asked for to others: they reset no device */
+};
+
+/* A driver: its functions, null where it has none. What a missing one would be tried by isn't applicable, and the card
+   says so. open, close, and receive or send are needed.
+
+   The card calls `receive` of a queue on one thread at a time, and so `send` and `reclaim` of a queue; those of other
+   queues beside them. `interrupt` comes at any time between open and close, on top of any thread or beside all. The
+   others (close, reset, filter, rss, mtu, resize, suspend, resume) are called by one thread, and no receive, send or
+   reclaim runs meanwhile. Threads of the driver's own are its own to keep apart. */
+typedef struct nicd_driver {
+    const char *name; /* letters, digits, '-' and '_', at most 40 */
+    uint32_t can;     /* of enum nicd_can */
+    uint16_t queues;  /* the most that `open` takes, 1 to NICD_QUEUES; 0 stands for 1 */
+    uint32_t frame;   /* the longest frame that it takes; 0 stands for 1,514 */
+
+    /* Sets the controller up, from power-up or from what `close` left, and answers when frames can come and go. False
+       where it can't, as where memory is refused: then nothing is left behind, and it may be called again. */
+    bool (*open)(const nicd_setup *setup);
+    /* Ends it: on return the device touches no memory of the driver's, which is given back, and sends no message. */
+    void (*close)(void);
+
+    /* The frame that came next in a queue, whole: true. False where none is there, at once. A driver that hands its
+       frames up from threads of its own calls nicd_deliver there, and has no `receive`. */
+    bool (*receive)(uint16_t queue, nicd_frame *frame);
+    /* Sends a frame of 60 bytes to those of the setup: true, and its bytes may change from then on. False where the ring
+       has no room now, or the frame is longer than that. */
+    bool (*send)(uint16_t queue, const uint8_t *bytes, uint32_t length);
+    /* Takes back what went out. Answers how many frames of the queue haven't gone out yet, as far as it knows. */
+    uint32_t (*reclaim)(uint16_t queue);
+
+    /* The handler of a vector: which queues are to be polled, bit q for queue q. The card calls `receive` until it is
+       false, and `reclaim`, and then `rearm`: the queue's interrupts may come again. */
+    uint32_t (*interrupt)(uint8_t vector);
+    void (*rearm)(uint16_t queue);
+
+    /* Threads of the driver's own, 0 .. threads - 1 (at most 4), which run from open on and may wait for ever. */
+    uint32_t threads;
+    void (*thread)(uint32_t number);
+
+    /* Beside it. Each answers whether it is done; false leaves all as it was. */
+    bool (*filter)(const nicd_filter *filter);
+    bool (*rss)(const nicd_rss *rss);
+    bool (*mtu)(uint32_t frame);    /* the longest frame from now on; frames on their way may be lost */
+    bool (*resize)(uint16_t slots); /* other rings; the same */
+    bool (*reset)(void);            /* makes all anew after a fault; the same, and the setup stays */
+    bool (*suspend)(void);          /* the device rests: no frame, no message, no access until `resume` */
+    bool (*resume)(void);
+    bool (*link)(void); /* whether the link is up, as far as the driver knows; it makes no access */
+
+    /* The mailbox, as host (port 0, to function vf) or as function (its own; vf is 0). mailbox_send puts 1 to NICD_WORDS
+       words in it, for the other side: false where the mailbox isn't free now. mailbox_receive takes a message of the
+       other side, and acknowledges it: false where none is there. */
+    bool (*mailbox_send)(uint8_t vf, const uint32_t *words, uint32_t count);
+    bool (*mailbox_receive)(uint8_t vf, uint32_t words[NICD_WORDS]);
+    /* Of a function: whether the device is ready, since its host has set it up (RSTD, or a host that was there). */
+    bool (*mailbox_ready)(void);
+} nicd_driver;
+
+/* --- in the driver's functions --- */
+
+/* DMA memory: the bus address of its first byte, a multiple of 128, and its bytes are 0. Behind it nothing is lent, so an
+   access of the driver or the device there is told. 0: it is refused, by a scenario that tries that or since all is
+   taken (some 500 KB). `bytes` is 1 to 131,072. */
+uint64_t nicd_dma_alloc(size_t bytes);
+/* Gives it back: by its first address. The device must not touch it any more. */
+void nicd_dma_free(uint64_t bus);
+
+/* Memory of the driver's own, as calloc: null where it is refused. */
+void *nicd_alloc(size_t bytes);
+void nicd_free(void *memory);
+
+/* Hands a frame up that came in a queue, from a thread of the driver's own, where `receive` is null. */
+void nicd_deliver(uint16_t queue, const uint8_t *bytes, uint32_t length);
+
+/* --- a whole program --- */
+
+/* PROGRAM --list tells the scenarios; PROGRAM --row NAME makes one, by the options of nicx_main behind it. Status as
+   nicx_main's; 4: the scenario isn't applicable. c/drive/nicdrive makes all, and the card. */
+int nicd_main(int argc, char **argv, const nicd_driver *driver);
+
+#ifdef __cplusplus
+}
+#endif
+
+#endif

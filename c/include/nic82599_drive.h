@@ -44,6 +44,8 @@ typedef struct nicd_setup {
     uint32_t frame;     /* bytes of the longest frame: 1,514 to NICD_FRAME_MOST */
     bool interrupts;    /* whether `interrupt` will be called; else the driver leaves all causes masked */
     uint8_t address[6]; /* the port's own, as its EEPROM or its host gives it */
+    uint8_t functions;  /* of port 0: it is the host of so many virtual functions, 0 or 2, with 64 pools of queues
+                           (GCR_EXT 3), and tells them that the device is ready (CTRL_EXT.PFRSTD) */
 } nicd_setup;
 
 /* A frame that was received. */
@@ -70,6 +72,7 @@ typedef struct nicd_rss {
 enum nicd_can {
     NICD_SHARED_SEND = 1,  /* several threads may call `send` for one queue at a time */
     NICD_FUNCTIONS = 2,    /* `open` takes the port of a virtual function */
+    NICD_HOST = 8,         /* `open` takes functions above 0 */
     NICD_SHARED_DEVICE = 4 /* `open` and `close` leave what they aren't asked for to others: they reset no device */
 };
 

@@ -56,6 +56,7 @@ enum { PART = 2048, MOST_SLOTS = 64, ENABLE = 1 << 25, OTHER_VECTOR = 8 };
 struct ring {
     uint64_t bus;
     uint64_t buffers[MOST_SLOTS];
+    uint32_t lengths[MOST_SLOTS]; /* receive: of what lies in the slots that were looked at */
     uint16_t next; /* receive: the slot that is looked at; transmit: the first free one */
 };
 
@@ -311,7 +312,9 @@ static void set_up_device(void)
     mask_all();
     nicx_write32(NIC_CTRL, NIC_CTRL_RST);
     mask_all();
-    nicx_write32(NIC_CTRL_EXT, NIC_CTRL_EXT_DRV_LOAD);
+    if (driver.setup.functions)
+        nicx_write32(NIC_GCR_EXT, NIC_GCR_EXT_VT_MODE_IS(3));
+    nicx_write32(NIC_CTRL_EXT, NIC_CTRL_EXT_DRV_LOAD | (driver.setup.functions ? NIC_CTRL_EXT_PFRSTD : 0));
     set_filter();
     set_lengths();
     nicx_write32(NIC_RDRXCTL,
@@ -408,11 +411,12 @@ static uint64_t look(const struct ring *ring, unsigned slot)
 }
 
 /* Whether a whole frame lies in the ring; its slots are those up to `last`. */
-static bool find(const struct ring *ring, unsigned *last)
+static bool find(struct ring *ring, unsigned *last)
 {
     unsigned slot = ring->next;
     for (unsigned k = 0; k < driver.setup.slots; k++, slot = after(slot)) {
         uint64_t second = look(ring, slot);
+        ring->lengths[slot] = (uint32_t)nic_desc_field(second, NIC_RXWB_PKT_LEN);
         bool is_done = second & NIC_RXWB_DD || BUG == SLOT_WITHOUT_DD || (BUG == FIRST_DD_OF_A_CHAIN && k);
         if (!is_done)
             return false;
@@ -425,9 +429,8 @@ static bool find(const struct ring *ring, unsigned *last)
     return false;
 }
 
-static void append(const struct ring *ring, unsigned slot, nicd_frame *frame)
+static void append(const struct ring *ring, unsigned slot, uint32_t length, nicd_frame *frame)
 {
-    uint32_t length = (uint32_t)nic_desc_field(look(ring, slot), NIC_RXWB_PKT_LEN);
     if (frame->length + length > sizeof frame->bytes)
         return;
     nicx_dma_read(ring->buffers[slot], frame->bytes + frame->length, length);
@@ -455,7 +458,7 @@ static bool receive_by_parts(unsigned queue, nicd_frame *frame)
         uint64_t second = look(ring, ring->next);
         if (!(second & NIC_RXWB_DD))
             return false;
-        append(ring, ring->next, &driver.partial);
+        append(ring, ring->next, (uint32_t)nic_desc_field(second, NIC_RXWB_PKT_LEN), &driver.partial);
         give_back(queue, ring->next);
         ring->next = (uint16_t)after(ring->next);
         if (!(second & NIC_RXWB_EOP))
@@ -476,7 +479,7 @@ static bool take_frame(unsigned queue, nicd_frame *frame)
         return false;
     frame->length = 0;
     for (unsigned slot = ring->next;; slot = after(slot)) {
-        append(ring, slot, frame);
+        append(ring, slot, ring->lengths[slot], frame);
         if (slot == last)
             break;
     }
@@ -910,7 +913,7 @@ int main(int argc, char **argv)
 {
     static const nicd_driver card = {
         .name = "driver",
-        .can = NICD_SHARED_SEND | NICD_FUNCTIONS,
+        .can = NICD_SHARED_SEND | NICD_FUNCTIONS | NICD_HOST,
         .queues = 4,
         .frame = NICD_FRAME_MOST,
         .open = open_driver,

@@ -56,6 +56,7 @@ void nicd_hold(void)
 void nicd_go_on(void)
 {
     nicd.life++;
+    nicd.events++;
     nicd.is_running = nicd.is_open;
     for (unsigned k = 0; k < NICD_QUEUES; k++)
         nicd.pollers[k].scheduled = true;
@@ -79,17 +80,32 @@ static bool may_run(void *unused)
     return nicd.is_running;
 }
 
-/* A thread that looks again after each act of another. */
+static bool has_happened(void *seen)
+{
+    return nicd.events != *(const uint32_t *)seen;
+}
+
+void nicd_wait_for_event(uint32_t seen)
+{
+    if (nicd.driver->threads)
+        nicx_wait(); /* what they do is no event */
+    else
+        nicx_wait_until(has_happened, &seen);
+}
+
+/* A thread that looks again after each step of the device. */
 static void poll(void *given)
 {
     struct poller *poller = &nicd.pollers[number_of(given)];
     for (;;) {
+        uint32_t seen;
         nicx_wait_until(may_run, NULL);
         poller->busy = true;
-        while (nicd.is_running && nicd_receive(poller->queue))
-            continue;
+        do
+            seen = nicd.events;
+        while (nicd_receive(poller->queue) && nicd.is_running);
         poller->busy = false;
-        nicx_wait();
+        nicd_wait_for_event(seen);
     }
 }
 
@@ -190,6 +206,7 @@ uint32_t nicd_reclaim(uint16_t queue)
     if (!left && !(nicd.scenario->ways & (LOSSY | FAULTY)) && nicd.went[queue] < accepted)
         nicd_failed("reclaim says that all of queue %u went out, and %u frames haven't", queue,
                     (unsigned)(accepted - nicd.went[queue]));
+    nicd.events += left < nicd.out[queue];
     return nicd.out[queue] = left;
 }
 
@@ -215,6 +232,7 @@ bool nicd_send(uint16_t queue, uint32_t length)
     if (!is_shared)
         nicx_unlock(&poller->lock);
     nicd.calls--;
+    nicd.is_refused[queue] = !is_taken;
     memset(bytes, 0xA5, length);
     return is_taken;
 }
@@ -228,11 +246,39 @@ struct sender {
 static struct sender senders[NICX_TASKS];
 static uint32_t sender_count;
 
-void nicd_make_room(uint16_t queue)
+/* Where it isn't taken, and nothing comes back, until something happens. */
+static bool try_to_send(uint16_t queue, uint32_t length)
 {
+    uint32_t seen = nicd.events;
+    if (nicd_send(queue, length))
+        return true;
     uint32_t out = nicd.out[queue];
     if (!nicd.is_running || nicd_reclaim(queue) >= out)
-        nicx_wait();
+        nicd_wait_for_event(seen);
+    return false;
+}
+
+void nicd_send_surely(uint16_t queue, uint32_t length)
+{
+    while (!try_to_send(queue, length))
+        continue;
+}
+
+/* Whether some haven't gone out: then it waits until something happens. */
+static bool wait_for_some(uint16_t queue)
+{
+    uint32_t seen = nicd.events;
+    nicd.is_awaited[queue] = true;
+    if (!nicd_reclaim(queue))
+        return false;
+    nicd_wait_for_event(seen);
+    return true;
+}
+
+void nicd_wait_until_out(uint16_t queue)
+{
+    while (wait_for_some(queue))
+        continue;
 }
 
 static bool may_send(void *unused)
@@ -251,17 +297,10 @@ static bool wait_to_send(void)
 static void send_all(void *given)
 {
     const struct sender *it = given;
-    for (uint32_t k = 0; k < it->count;) {
-        if (!wait_to_send())
-            return;
-        bool is_taken = nicd_send(it->queue, it->length);
-        k += is_taken;
-        if (is_taken)
-            continue;
-        nicd_make_room(it->queue);
-    }
-    while (wait_to_send() && nicd_reclaim(it->queue))
-        nicx_wait();
+    for (uint32_t k = 0; k < it->count && wait_to_send();)
+        k += try_to_send(it->queue, it->length);
+    while (wait_to_send() && wait_for_some(it->queue))
+        continue;
 }
 
 void nicd_send_frames(uint16_t queue, uint32_t count, uint32_t length)
@@ -373,7 +412,7 @@ static void set_up(void)
 static void forget(void)
 {
     nicd.is_open = nicd.is_running = nicd.is_ended = false;
-    nicd.life = nicd.cards = nicd.calls = 0;
+    nicd.life = nicd.cards = nicd.calls = nicd.events = 0;
     nicd.by_card = false;
     sender_count = 0;
     memset(nicd.pollers, 0, sizeof nicd.pollers);

@@ -39,7 +39,8 @@ enum needs {
     SHARED_SEND = 1 << 14,
     SHARED_DEVICE = 1 << 15,
     READY_BIT = 1 << 16,
-    PHYSICAL = 1 << 17 /* not a driver of functions alone: told by NICD_FUNCTIONS and a mailbox only as function */
+    PHYSICAL = 1 << 17, /* the registers of the physical function */
+    HOST = 1 << 18
 };
 
 enum ways {
@@ -115,6 +116,7 @@ struct drive {
     bool is_running;  /* frames may be taken and sent */
     bool is_ended;    /* close has returned */
     uint32_t life;    /* how often all was interrupted: close, reset, resize */
+    uint32_t events;  /* steps of the device, and what else may make a call succeed that failed */
     uint32_t calls;   /* of send and reclaim that are being made */
     uint32_t cards;   /* bit k: task k is the card's own, and acts for others than the driver */
     bool by_card;     /* outside of tasks: the card acts */
@@ -138,6 +140,7 @@ struct drive {
 
     struct sent sent[NICD_QUEUES][MOST_OUT];
     uint32_t accepted[NICD_QUEUES], went[NICD_QUEUES]; /* taken by send; sent by the device */
+    bool is_refused[NICD_QUEUES], is_awaited[NICD_QUEUES]; /* send answered false; somebody waits until all went out */
     uint32_t out[NICD_QUEUES]; /* as reclaim told last, and what was taken since */
     uint32_t numbers;
 
@@ -177,6 +180,10 @@ const char *nicd_judge_end(void);
 uint32_t nicd_make(const struct come *come, uint16_t number, uint8_t *bytes);
 void nicd_make_sent(uint16_t number, uint32_t length, uint8_t *bytes);
 
+/* As the host of a function: 64 pools of two queues, each function's frames to its own. It is told that all is ready,
+   or not yet. */
+void nicd_set_up_host(unsigned function, bool is_ready);
+
 /* What the explorer is given of a scenario. */
 const char *nicd_bring_up(void);
 void nicd_begin(void);
@@ -208,10 +215,13 @@ void nicd_go_on(void);
 /* Sends one frame of this length, if it is taken. */
 bool nicd_send(uint16_t queue, uint32_t length);
 uint32_t nicd_reclaim(uint16_t queue);
-/* Where send was refused: takes back what went out, or else waits until somebody has acted. */
-void nicd_make_room(uint16_t queue);
+/* The same until it is taken; and until all of a queue went out. */
+void nicd_send_surely(uint16_t queue, uint32_t length);
+void nicd_wait_until_out(uint16_t queue);
 /* Takes one frame, if one is there. */
 bool nicd_receive(uint16_t queue);
+/* Waits until something happened since there were so many events. */
+void nicd_wait_for_event(uint32_t seen);
 /* Waits until all that came was taken and all that was sent went out. */
 void nicd_wait_for_rest(void);
 /* Waits until so many frames were delivered in all. */

@@ -194,12 +194,26 @@ static void judge_sent(void)
                           queue);
 }
 
+/* Somebody waits for the driver, and the device has nothing to do. */
+static void judge_stuck(unsigned queue)
+{
+    if (nicd.went[queue] != nicd.accepted[queue] || !nicd.is_open)
+        return;
+    if (nicd.is_refused[queue])
+        nicd_note("send is refused in queue %u for ever, and all of its frames went out", queue);
+    else if (nicd.is_awaited[queue] && nicd.out[queue])
+        nicd_note("reclaim says that %u frames of queue %u haven't gone out, and all have", (unsigned)nicd.out[queue],
+                  queue);
+}
+
 const char *nicd_judge_end(void)
 {
     for (uint16_t k = 0; k < nicd.count && !nicd.fault; k++)
         judge_frame(k);
     if (!nicd.fault)
         judge_sent();
+    for (unsigned queue = 0; queue < nicd.setup.queues && !nicd.fault; queue++)
+        judge_stuck(queue);
     return nicd.fault;
 }
 
@@ -207,6 +221,8 @@ void nicd_judge_begin(void)
 {
     memset(nicd.accepted, 0, sizeof nicd.accepted);
     memset(nicd.out, 0, sizeof nicd.out);
+    memset(nicd.is_refused, 0, sizeof nicd.is_refused);
+    memset(nicd.is_awaited, 0, sizeof nicd.is_awaited);
     nicd.delivered = nicd.numbers = 0;
     nicd.fault = NULL;
 }

@@ -12,8 +12,7 @@ struct drive nicd;
 
 /* --- the device, before the driver comes --- */
 
-/* The host of a function: 64 pools of two queues, each function's frames to its own. */
-static void set_up_host(unsigned function)
+void nicd_set_up_host(unsigned function, bool is_ready)
 {
     nicx_write32(NIC_GCR_EXT, NIC_GCR_EXT_VT_MODE_IS(3));
     nicx_write32(NIC_VT_CTL, NIC_VT_CTL_VT_ENA);
@@ -27,7 +26,8 @@ static void set_up_host(unsigned function)
     nicx_write32(NIC_DMATXCTL, nicx_read32(NIC_DMATXCTL) | NIC_DMATXCTL_TE);
     nicx_write32(NIC_GPIE, NIC_GPIE_MULTIPLE_MSIX | NIC_GPIE_EIAME);
     nicx_write32(NIC_RXCTRL, NIC_RXCTRL_RXEN);
-    nicx_write32(NIC_CTRL_EXT, NIC_CTRL_EXT_PFRSTD);
+    if (is_ready)
+        nicx_write32(NIC_CTRL_EXT, NIC_CTRL_EXT_PFRSTD);
 }
 
 const char *nicd_bring_up(void)
@@ -36,7 +36,7 @@ const char *nicd_bring_up(void)
     nicxi.watch = nicd_watch;
     nicd.by_card = true;
     if (port)
-        set_up_host(port - 1);
+        nicd_set_up_host(port - 1, true);
     nicd.by_card = false;
     return NULL;
 }
@@ -85,6 +85,7 @@ static const char *lack_of(const struct scenario *it)
         {READY_BIT, d->mailbox_ready, "no mailbox_ready"},
         {FUNCTIONS, d->can & NICD_FUNCTIONS, "no NICD_FUNCTIONS"},
         {SHARED_SEND, d->can & NICD_SHARED_SEND, "no NICD_SHARED_SEND"},
+        {HOST, d->can & NICD_HOST, "no NICD_HOST"},
         {SHARED_DEVICE, d->can & NICD_SHARED_DEVICE, "no NICD_SHARED_DEVICE"},
     };
     for (unsigned k = 0; k < sizeof needs / sizeof *needs; k++)
@@ -196,7 +197,7 @@ static const char *fault_of(const nicd_driver *d)
         return "its frame isn't 1,514 to 9,724";
     if (d->threads > MOST_THREAD || (d->threads && !d->thread))
         return "its threads are above 4, or it has no thread";
-    if (d->can & ~(uint32_t)(NICD_SHARED_SEND | NICD_FUNCTIONS | NICD_SHARED_DEVICE))
+    if (d->can & ~(uint32_t)(NICD_SHARED_SEND | NICD_FUNCTIONS | NICD_HOST | NICD_SHARED_DEVICE))
         return "its can has bits that enum nicd_can hasn't";
     return NULL;
 }

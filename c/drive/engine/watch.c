@@ -192,6 +192,7 @@ void nicd_watch(void *unused, uint16_t actor, const struct step *step)
     (void)unused;
     bool is_of_driver = step->kind < STEP_RX && is_drivers(actor);
     cover(step, is_of_driver);
+    nicd.events += step->kind >= STEP_RX;
     switch (step->kind) {
     case STEP_ARRIVE: see_arrival(step); break;
     case STEP_RX: see_receive(step); break;

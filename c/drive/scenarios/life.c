@@ -98,9 +98,8 @@ static void close_amid_all(void)
 
 static void send_two(void)
 {
-    for (unsigned k = 0; k < 2; k++)
-        while (nicd.driver->send && !nicd_send(0, 60))
-            nicd_make_room(0);
+    for (unsigned k = 0; k < 2 && nicd.driver->send; k++)
+        nicd_send_surely(0, 60);
 }
 
 static bool all_went(void *unused)

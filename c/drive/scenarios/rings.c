@@ -32,8 +32,9 @@ static void take_late(void)
     if (nicd.written_count[0] >= nicd.setup.slots - 1u)
         nicd_reach(0);
     while (nicd.delivered < nicd.count) {
+        uint32_t seen = nicd.events;
         if (!nicd_receive(0))
-            nicx_wait();
+            nicd_wait_for_event(seen);
     }
 }
 
@@ -74,15 +75,9 @@ static void fill_up(void)
         taken++;
     if (taken < 2u * nicd.setup.slots)
         nicd_reach(0);
-    for (uint32_t k = 0; k < 4;) {
-        if (nicd_send(0, 60)) {
-            k++;
-        } else {
-            nicd_make_room(0);
-        }
-    }
-    while (nicd_reclaim(0))
-        nicx_wait();
+    for (uint32_t k = 0; k < 4; k++)
+        nicd_send_surely(0, 60);
+    nicd_wait_until_out(0);
 }
 
 static void send_to_a_full_ring(void)
@@ -119,8 +114,7 @@ static void use_two_queues(void)
 static void send_too_long(void)
 {
     nicx_check(!nicd_send(0, nicd.setup.frame + 1), "send takes a frame that is longer than the setup says");
-    while (!nicd_send(0, nicd.setup.frame))
-        nicd_make_room(0);
+    nicd_send_surely(0, nicd.setup.frame);
 }
 
 static void try_too_long(void)
@@ -170,5 +164,5 @@ const struct scenario nicd_rings[] = {
      .needs = RECEIVES | SENDS, .begin = go_both_ways},
     {.name = "two-queues", .family = "rings", .title = "two queues on threads of their own, both ways",
      .rule = "Queues have nothing in common but the registers of the device", .source = "Multiple Queues",
-     .needs = RECEIVES | SENDS, .setup = {.queues = 2}, .begin = use_two_queues},
+     .needs = RECEIVES | SENDS, .setup = {.queues = 2, .slots = 16}, .begin = use_two_queues},
     {0}};

@@ -1,0 +1,40 @@
+"""A driver's program, from what an author has: a source, an object, or the program itself."""
+
+from __future__ import annotations
+
+import os
+import shlex
+import subprocess
+from pathlib import Path
+
+from .rows import Refused
+
+C = Path(__file__).resolve().parents[2]
+ARCHIVES = ("libnic82599_drive.a", "libnic82599_explore.a", "libnic82599.a")
+
+
+def archives(folder: Path) -> list[Path]:
+    found = [folder / name for name in ARCHIVES]
+    for path in found:
+        if not path.exists():
+            raise Refused(f"{path}: there is no such file: `make -C c` makes it")
+    return found
+
+
+def build(given: list[Path], folder: Path, compiler: str, flags: str, libraries: Path) -> Path:
+    """The program of what is given; Refused with the compiler's words where there is none."""
+    for path in given:
+        if not path.exists():
+            raise Refused(f"{path}: there is no such file")
+    if len(given) == 1 and given[0].suffix not in (".c", ".o", ".a") and os.access(given[0], os.X_OK):
+        return given[0]
+    program = folder / "program"
+    words = [*shlex.split(compiler), "-g", "-O1", f"-I{C / 'include'}", *shlex.split(flags), *map(str, given)]
+    words += [str(path) for path in archives(libraries)] + ["-lpthread", "-o", str(program)]
+    try:
+        made = subprocess.run(words, capture_output=True, text=True, check=False)
+    except OSError as fault:
+        raise Refused(f"{compiler}: it can't be run: {fault.strerror}") from fault
+    if made.returncode:
+        raise Refused(f"it doesn't compile:\n{made.stderr.rstrip()}")
+    return program

@@ -1,0 +1,117 @@
+"""The command `nicdrive`."""
+
+from __future__ import annotations
+
+import argparse
+import os
+import subprocess
+import sys
+import time
+from pathlib import Path
+
+from . import page, report
+from .build import C, build
+from .rows import FAILED, Budget, Refused, Row, Runner, listed, make_all, name_of
+
+ALL_PASSED, ONE_FAILED, REFUSED = 0, 1, 2
+
+
+def words() -> argparse.Namespace:
+    parser = argparse.ArgumentParser(
+        prog="nicdrive",
+        description="Makes a driver's report card. Status 0: each row that applies passed; 1: one failed, or with "
+        "--compare one that passed no longer does; 2: the driver or the words can't be taken.",
+    )
+    parser.add_argument("driver", nargs="*", type=Path, help="sources and objects of the driver, or its program")
+    parser.add_argument("-o", "--out", type=Path, default=Path("card"), help="the folder of the card (card)")
+    parser.add_argument("--rows", help="these rows alone: names or families, with commas between")
+    parser.add_argument("--list", action="store_true", help="tells the rows, and makes none")
+    parser.add_argument("--runs", type=int, default=Budget.runs, help="schedules by chance of a row (%(default)s)")
+    parser.add_argument("--seconds", type=float, default=Budget.seconds, help="at most so long (%(default)s)")
+    parser.add_argument("--every", type=int, default=Budget.every, help="schedules of the exhaustive search (%(default)s)")
+    parser.add_argument("--seed", type=int, default=1, help="what chance begins with (1)")
+    parser.add_argument("--jobs", type=int, default=os.cpu_count() or 1, help="rows at a time (one for each core)")
+    parser.add_argument("--cc", default=os.environ.get("CC", "cc"), help="the compiler (cc)")
+    parser.add_argument("--flags", default="", help="more words for it, in quotes")
+    parser.add_argument("--libraries", type=Path, default=C / "out", help="the folder of the archives (c/out)")
+    parser.add_argument("--no-pages", action="store_true", help="no page of the run of a failed row")
+    parser.add_argument("--compare", nargs=2, type=Path, metavar=("OLD", "NEW"), help="two cards that were made")
+    return parser.parse_args()
+
+
+def chosen(rows: list[Row], names: str | None) -> list[Row]:
+    """The rows that are asked for."""
+    if names is None:
+        return rows
+    wanted = [name for name in names.split(",") if name]
+    for name in wanted:
+        if not any(name in (row.name, row.family) for row in rows):
+            raise Refused(f"--rows: there is no row and no family {name}")
+    return [row for row in rows if row.name in wanted or row.family in wanted]
+
+
+def draw(row: Row, folder: Path) -> None:
+    """The page of a failed row's run, by tools/nicview."""
+    script = folder / f"{row.name}.nic"
+    if row.state != FAILED or not script.exists():
+        return
+    target = folder / f"{row.name}.html"
+    made = subprocess.run(
+        [sys.executable, C.parent / "tools/nicview", script, "-o", target], capture_output=True, text=True, check=False
+    )
+    if made.returncode == 0 and target.exists():
+        row.page = target.name
+    else:
+        said = (made.stderr.strip() or "nicview wrote nothing").splitlines()[-1]
+        row.notes.append(f"no page of the run: {said}")
+
+
+def tell(row: Row) -> None:
+    print(report.line(row), flush=True)
+
+
+def make(given: argparse.Namespace) -> int:
+    folder: Path = given.out
+    try:
+        folder.mkdir(parents=True, exist_ok=True)
+    except OSError as fault:
+        raise Refused(f"{folder}: it can't be made: {fault.strerror}") from fault
+    program = build(given.driver, folder, given.cc, given.flags, given.libraries)
+    rows = chosen(listed(program.resolve()), given.rows)
+    if given.list:
+        for row in rows:
+            print(f"{row.name:26} {row.family:12} {row.lack or row.title}")
+        return ALL_PASSED
+    budget = Budget(runs=given.runs, seconds=given.seconds, every=given.every, seed=given.seed)
+    began = time.monotonic()
+    make_all(Runner(program, folder, budget), rows, given.jobs, tell)
+    card = report.Card(name_of(program.resolve()), rows, budget, time.monotonic() - began)
+    if not given.no_pages:
+        for row in rows:
+            draw(row, folder)
+    card.write(folder / "card.json")
+    (folder / "card.txt").write_text(report.text(card))
+    report.write_junit(card, folder / "card.xml")
+    (folder / "card.html").write_text(page.page(card))
+    print(report.summary(card))
+    print(f"the card is {folder / 'card.html'}, as text card.txt, for a gate card.xml")
+    return ONE_FAILED if card.count(FAILED) else ALL_PASSED
+
+
+def command() -> int:
+    given = words()
+    try:
+        if given.compare:
+            told, is_worse = report.compare(report.read(given.compare[0]), report.read(given.compare[1]))
+            print(told, end="")
+            return ONE_FAILED if is_worse else ALL_PASSED
+        if not given.driver:
+            raise Refused("which driver? a source, objects, or a program (--help)")
+        if given.jobs < 1 or given.runs < 1 or given.every < 1 or given.seconds <= 0:
+            raise Refused("--jobs, --runs, --every and --seconds are above 0")
+        return make(given)
+    except Refused as fault:
+        print(f"nicdrive: {fault}", file=sys.stderr)
+        return REFUSED
+    except BrokenPipeError:
+        return REFUSED

@@ -1,0 +1,193 @@
+"""The card as data, text and JUnit, and two cards compared."""
+
+from __future__ import annotations
+
+import json
+import xml.etree.ElementTree as ElementTree
+from dataclasses import dataclass
+from pathlib import Path
+from typing import Any
+
+from nic82599.tools.regs import function_register, register_at
+from nic82599.tools.tables import TABLE
+
+from .rows import FAILED, NOT_APPLICABLE, PASSED, Budget, Refused, Row
+
+ANY = 1000  # preemptions: all schedules whatever
+
+# What the device can answer to a step of its own or of the link.
+REPLIES = [
+    *("rx wrote", "tx advanced", "tx sent", "int message", "qstep_rx done", "qstep_tx done", "eestep done"),
+    *("arrive done", "link done", "link idle"),
+    *(f"arrive dropped {why}" for why in ("link down", "off", "short", "long", "filter", "no pool", "pool off", "full")),
+    *(f"rx dropped {why}" for why in ("queue off", "no slot")),
+    *(f"rx fault {why}" for why in ("outside", "not lent", "type", "no buffer size")),
+    *(f"tx fault {why}" for why in ("outside", "not lent", "offload", "legacy", "too long", "unknown type")),
+]
+
+
+@dataclass
+class Card:
+    """A driver's rows, with how long they were searched."""
+
+    driver: str
+    rows: list[Row]
+    budget: Budget
+    seconds: float
+
+    def count(self, state: str) -> int:
+        return sum(row.state == state for row in self.rows)
+
+    def families(self) -> list[str]:
+        return list(dict.fromkeys(row.family for row in self.rows))
+
+    def of(self, family: str) -> list[Row]:
+        return [row for row in self.rows if row.family == family]
+
+    def registers(self) -> dict[str, list[int]]:
+        """Of each row of the register table how often the driver read and wrote it, over all rows of the card."""
+        counts: dict[str, list[int]] = {row.name: [0, 0] for row in TABLE}
+        for row in self.rows:
+            for access, count in row.registers.items():
+                kind, address = access.split()
+                place = int(address, 16)
+                found = function_register(2, 0, place) if kind.startswith("vf_") else register_at(place)
+                if found:
+                    counts[found.row.name][kind.endswith("write")] += count
+        return counts
+
+    def replies(self) -> dict[str, int]:
+        counts = dict.fromkeys(REPLIES, 0)
+        for row in self.rows:
+            for reply, count in row.replies.items():
+                counts[reply] = counts.get(reply, 0) + count
+        return counts
+
+    def write(self, path: Path) -> None:
+        data = {
+            "driver": self.driver,
+            "seconds": round(self.seconds, 1),
+            "budget": vars(self.budget),
+            "rows": [row.data() for row in self.rows],
+        }
+        path.write_text(json.dumps(data, indent=1) + "\n")
+
+
+def read(path: Path) -> Card:
+    """A card that was written: a folder, or its card.json."""
+    path = path / "card.json" if path.is_dir() else path
+    try:
+        data: dict[str, Any] = json.loads(path.read_text())
+        rows = [Row(**row) for row in data["rows"]]
+        return Card(str(data["driver"]), rows, Budget(**data["budget"]), float(data["seconds"]))
+    except (OSError, ValueError, KeyError, TypeError) as fault:
+        raise Refused(f"{path}: it is no card: {fault}") from fault
+
+
+def extent(row: Row) -> str:
+    """How much of a row's schedules was made."""
+    text = f"{row.schedules:,} schedules"
+    if row.every >= ANY:
+        return f"{text}: all there are"
+    if row.every >= 0:
+        return f"{text}, all with at most {row.every} preemption{'' if row.every == 1 else 's'} among them"
+    return text
+
+
+def missed(row: Row) -> list[str]:
+    """What a row should have come to, and didn't."""
+    return [name for name, count in row.reached.items() if not count]
+
+
+def line(row: Row) -> str:
+    if row.state == NOT_APPLICABLE:
+        return f"  -     {row.name:26} not applicable: {row.lack}"
+    if row.state == FAILED:
+        return f"  FAIL  {row.name:26} {row.cause}"
+    never = "".join(f"; never reached: {one}" for one in missed(row))
+    return f"  ok    {row.name:26} {extent(row)}{never}"
+
+
+def summary(card: Card) -> str:
+    return (
+        f"{card.driver}: {card.count(PASSED)} passed, {card.count(FAILED)} failed, "
+        f"{card.count(NOT_APPLICABLE)} not applicable, {card.seconds:.0f} s"
+    )
+
+
+def text(card: Card) -> str:
+    lines = [summary(card), ""]
+    for family in card.families():
+        lines += [family, *map(line, card.of(family)), ""]
+    for row in card.rows:
+        if row.state != FAILED:
+            continue
+        lines += [f"{row.name}: {row.title}", f"  rule: {row.rule} ({row.source})", f"  cause: {row.cause}"]
+        lines += [f"  again: {row.again}"] if row.again else []
+        lines += ["  " + one for one in row.schedule.strip().splitlines()] + [""]
+    registers, replies = card.registers(), card.replies()
+    touched = [name for name, (reads, writes) in registers.items() if reads or writes]
+    seen = [name for name, count in replies.items() if count]
+    lines += [
+        f"registers of the table that the driver touched: {len(touched)} of {len(registers)}",
+        f"replies of the device that came up: {len(seen)} of {len(replies)}",
+        "never came up: " + ", ".join(name for name, count in replies.items() if not count),
+    ]
+    return "\n".join(lines) + "\n"
+
+
+def write_junit(card: Card, path: Path) -> None:
+    suite = ElementTree.Element("testsuite", name=card.driver, tests=str(len(card.rows)), errors="0")
+    suite.set("failures", str(card.count(FAILED)))
+    suite.set("skipped", str(card.count(NOT_APPLICABLE)))
+    suite.set("time", f"{card.seconds:.3f}")
+    for row in card.rows:
+        case = ElementTree.SubElement(
+            suite, "testcase", classname=row.family, name=row.name, time=f"{row.seconds:.3f}"
+        )
+        if row.state == NOT_APPLICABLE:
+            ElementTree.SubElement(case, "skipped", message=row.lack)
+        elif row.state == FAILED:
+            kind, _, message = row.cause.partition(": ")
+            ElementTree.SubElement(case, "failure", type=kind, message=message or row.cause).text = row.schedule
+        else:
+            ElementTree.SubElement(case, "system-out").text = extent(row)
+    ElementTree.indent(suite)
+    ElementTree.ElementTree(suite).write(path, encoding="UTF-8", xml_declaration=True)
+
+
+def compare(old: Card, new: Card) -> tuple[str, bool]:
+    """What became of each row, and whether one that passed no longer does."""
+    before = {row.name: row for row in old.rows}
+    after = {row.name: row for row in new.rows}
+    kinds: dict[str, list[str]] = {
+        "fails now": [],
+        "passes now": [],
+        "fails as before": [],
+        "fails otherwise": [],
+        "no longer applicable": [],
+        "applicable now": [],
+        "new": [],
+        "gone": [name for name in before if name not in after],
+    }
+    for name, row in after.items():
+        former = before.get(name)
+        if former is None:
+            kinds["new"].append(f"{name}: {row.state}")
+        elif row.state == former.state == FAILED:
+            kind = "fails as before" if row.cause == former.cause else "fails otherwise"
+            kinds[kind].append(f"{name}: {row.cause}")
+        elif row.state == former.state:
+            continue
+        elif row.state == FAILED:
+            kinds["fails now"].append(f"{name}: {row.cause}")
+        elif row.state == NOT_APPLICABLE:
+            kinds["no longer applicable"].append(f"{name}: {row.lack}")
+        elif former.state == NOT_APPLICABLE:
+            kinds["applicable now"].append(f"{name}: {row.state}")
+        else:
+            kinds["passes now"].append(f"{name}: it failed by {former.cause}")
+    lines = [f"before: {summary(old)}", f"now:    {summary(new)}"]
+    for kind, rows in kinds.items():
+        lines += [f"{kind}:"] + [f"  {row}" for row in rows] if rows else []
+    return "\n".join(lines) + "\n", bool(kinds["fails now"] or kinds["no longer applicable"])

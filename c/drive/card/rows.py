@@ -1,0 +1,186 @@
+"""The scenarios of a driver's program, each searched in a process of its own."""
+
+from __future__ import annotations
+
+import re
+import signal
+import subprocess
+import xml.etree.ElementTree
+from concurrent.futures import ThreadPoolExecutor
+from dataclasses import asdict, dataclass, field
+from pathlib import Path
+from typing import Any, Callable
+
+PASSED, FAILED, NOT_APPLICABLE = "passed", "failed", "not applicable"
+
+
+class Refused(Exception):
+    """The driver, or what the command was given, can't be taken."""
+
+
+@dataclass
+class Budget:
+    """How long a row is searched: by chance, and then each schedule with at most one preemption."""
+
+    runs: int = 2000
+    seconds: float = 8
+    every: int = 20000
+    every_seconds: float = 4
+    hang: int = 3
+    seed: int = 1
+
+
+@dataclass
+class Row:
+    """A scenario, and what came out."""
+
+    name: str
+    family: str
+    lack: str
+    title: str
+    rule: str
+    source: str
+    state: str = ""
+    schedules: int = 0
+    distinct: str = ""
+    points: int = 0
+    every: int = -1  # all schedules with at most so many preemptions were made; -1: not all
+    seconds: float = 0
+    cause: str = ""
+    schedule: str = ""
+    schedule_file: str = ""
+    again: str = ""
+    page: str = ""
+    reached: dict[str, int] = field(default_factory=dict)
+    notes: list[str] = field(default_factory=list)
+    delivered: int = 0
+    sent: int = 0
+    registers: dict[str, int] = field(default_factory=dict)
+    replies: dict[str, int] = field(default_factory=dict)
+
+    def data(self) -> dict[str, Any]:
+        return asdict(self)
+
+
+def listed(program: Path) -> list[Row]:
+    """The scenarios that a driver's program tells of."""
+    try:
+        made = subprocess.run([program, "--list"], capture_output=True, text=True, timeout=20, check=False)
+    except OSError as fault:
+        raise Refused(f"{program}: it can't be run: {fault.strerror}") from fault
+    except subprocess.TimeoutExpired as fault:
+        raise Refused(f"{program} --list makes no end: does its main call nicd_main?") from fault
+    if made.returncode:
+        raise Refused((made.stderr.strip() or f"{program} --list ends with status {made.returncode}").splitlines()[0])
+    lines = [line.split("\t") for line in made.stdout.splitlines()]
+    if not lines or any(len(line) != 6 for line in lines):
+        raise Refused(f"{program} --list tells no scenarios: does its main call nicd_main?")
+    return [Row(name, family, "" if lack == "-" else lack, title, rule, source) for name, family, lack, title, rule, source in lines]
+
+
+def name_of(program: Path) -> str:
+    made = subprocess.run([program, "--name"], capture_output=True, text=True, timeout=20, check=False)
+    return made.stdout.strip() or program.name
+
+
+class Runner:
+    """Makes rows of a program; its files go to a folder."""
+
+    def __init__(self, program: Path, folder: Path, budget: Budget) -> None:
+        self.program, self.folder, self.budget = program.resolve(), folder, budget
+
+    def words(self, row: Row, more: list[object]) -> list[str]:
+        budget = self.budget
+        words: list[object] = [self.program, "--row", row.name, "--quiet", "--jobs", 1, "--seed", budget.seed]
+        words += ["--hang", budget.hang, "--out", self.folder, "--junit", self.folder / f"{row.name}.xml"]
+        return [str(word) for word in [*words, "--coverage", self.folder / f"{row.name}.seen", *more]]
+
+    def search(self, row: Row, more: list[object], seconds: float) -> bool:
+        """One search of a row; whether it may go on."""
+        try:
+            made = subprocess.run(
+                self.words(row, more), capture_output=True, text=True, errors="replace", timeout=seconds, check=False
+            )
+        except subprocess.TimeoutExpired:
+            fail(row, "hang: nothing came of it: a call that the card makes before the first schedule has no end")
+            return False
+        self.read_seen(row)
+        self.read_junit(row)
+        row.notes += [found for found in re.findall(r": note: (.+)", made.stdout) if found not in row.notes]
+        if made.returncode == 1:
+            self.read_failure(row, made.stdout)
+        elif made.returncode == 4:
+            row.state, row.lack = NOT_APPLICABLE, row.lack or "something that it needs"
+        elif made.returncode < 0:
+            fail(row, f"crash: before the first schedule: {signal.strsignal(-made.returncode)}")
+        elif made.returncode:
+            fail(row, "refused: " + (made.stderr.strip() or f"status {made.returncode}").splitlines()[-1])
+        if found := re.search(r"these are all schedules(?: with at most (\d+) preemptions)?", made.stdout):
+            row.every = int(found[1]) if found[1] else 1000
+        return not made.returncode
+
+    def make(self, row: Row) -> Row:
+        if row.lack:
+            row.state = NOT_APPLICABLE
+            return row
+        budget = self.budget
+        by_chance: list[object] = ["--runs", budget.runs, "--seconds", budget.seconds]
+        every: list[object] = ["--strategy", "exhaustive", "--runs", budget.every, "--seconds", budget.every_seconds]
+        if self.search(row, by_chance, 60 + 3 * budget.seconds):
+            if not self.search(row, [*every, "--preemptions", 1], 60 + 3 * budget.every_seconds):
+                return row
+            row.state = PASSED
+        return row
+
+    def read_junit(self, row: Row) -> None:
+        path = self.folder / f"{row.name}.xml"
+        try:
+            suite = xml.etree.ElementTree.parse(path).getroot()
+        except (OSError, xml.etree.ElementTree.ParseError):
+            return
+        path.unlink()
+        told = {one.get("name"): one.get("value", "") for one in suite.iter("property")}
+        row.schedules += int(told.get("schedules") or 0)
+        row.points += int(told.get("points") or 0)
+        row.distinct = row.distinct or told.get("distinct") or ""
+        row.seconds += float(suite.get("time") or 0)
+        if (failure := suite.find("testcase/failure")) is not None:
+            row.schedule = failure.text or ""
+
+    def read_failure(self, row: Row, printed: str) -> None:
+        found = re.search(r": FAILED (.+)", printed)
+        fail(row, found[1] if found else "it failed")
+        row.schedule_file = f"{row.name}.schedule"
+        row.again = f"{self.program} --row {row.name} --replay {self.folder / row.schedule_file}"
+
+    def read_seen(self, row: Row) -> None:
+        path = self.folder / f"{row.name}.seen"
+        if not path.exists():
+            return
+        for line in path.read_text().splitlines():
+            kind, *rest = line.split()
+            if kind == "reached":
+                name = " ".join(rest[1:])
+                row.reached[name] = row.reached.get(name, 0) + int(rest[0])
+            elif kind == "reply":
+                name = " ".join(rest[1:])
+                row.replies[name] = row.replies.get(name, 0) + int(rest[0])
+            elif kind == "delivered":
+                row.delivered += int(rest[0])
+            elif kind == "sent":
+                row.sent += int(rest[0])
+            else:
+                name = f"{kind} {rest[0]}"
+                row.registers[name] = row.registers.get(name, 0) + int(rest[1])
+        path.unlink()
+
+
+def fail(row: Row, cause: str) -> None:
+    row.state, row.cause = FAILED, cause
+
+
+def make_all(runner: Runner, rows: list[Row], jobs: int, tell: Callable[[Row], None]) -> None:
+    """All rows, so many at a time."""
+    with ThreadPoolExecutor(jobs) as pool:
+        for row in pool.map(runner.make, rows):
+            tell(row)

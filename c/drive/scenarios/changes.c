@@ -1,0 +1,294 @@
+/* Link, reset, faults, other lengths and other rings, amid traffic. */
+#include "../engine/drive.h"
+
+static void use_both_ways(void)
+{
+    nicd_take_frames();
+    if (nicd.driver->send)
+        nicd_send_frames(0, 3, 60);
+    nicd_come_plain(4, 60);
+}
+
+/* --- the link --- */
+
+static const char *judge_link(void)
+{
+    bool is_up = nicd_peek(NIC_LINKS) & NIC_LINKS_LINK_UP;
+    if (nicd.driver->link() == is_up)
+        return NULL;
+    return is_up ? "the link is up, and the driver has it down" : "the link is down, and the driver has it up";
+}
+
+static void go_down(void)
+{
+    nicd_take_frames();
+    nicx_link_change(false);
+}
+
+static void go_down_and_up(void)
+{
+    use_both_ways();
+    nicx_link_change(false);
+    nicx_link_change(true);
+}
+
+static void reset_once(void)
+{
+    nicd_hold();
+    nicx_check(nicd.driver->reset(), "reset answered false");
+    nicd_go_on();
+}
+
+static void reset_amid_link(void)
+{
+    nicd_control(reset_once);
+    nicd_take_frames();
+    nicx_link_change(false);
+}
+
+/* --- resets --- */
+
+static void reset_amid_receive(void)
+{
+    nicd_control(reset_once);
+    nicd_take_frames();
+    nicd_come_plain(6, 60);
+}
+
+static void reset_amid_send(void)
+{
+    nicd_control(reset_once);
+    nicd_send_frames(0, 6, 60);
+}
+
+static void reset_amid_all(void)
+{
+    nicd_control(reset_once);
+    use_both_ways();
+}
+
+static void reset_twice(void)
+{
+    reset_once();
+    reset_once();
+    for (unsigned k = 0; k < 2 && nicd.driver->send; k++)
+        nicd_send_surely(0, 60);
+}
+
+static void reset_and_go_on(void)
+{
+    nicd_control(reset_twice);
+    nicd_take_frames();
+    nicd_come_plain(5, 60);
+}
+
+/* --- a fault: the device finds memory gone, and the queue is off --- */
+
+static uint32_t ring_block(bool transmit)
+{
+    return nicd_peek(transmit ? NIC_TDBAL(nicd.base) : NIC_RDBAL(nicd.base)) / NIC_BLOCK_BYTES;
+}
+
+static uint8_t kept[NIC_BLOCK_BYTES];
+
+static bool is_off(bool transmit)
+{
+    return !(nicd_peek(transmit ? NIC_TXDCTL(nicd.base) : NIC_RXDCTL(nicd.base)) & NIC_RXDCTL_ENABLE);
+}
+
+/* It met the fault, or the frame had come or gone before. */
+static bool is_over(void *transmit)
+{
+    bool is_gone = *(bool *)transmit ? nicd.went[0] == nicd.accepted[0]
+                                     : nicd.frames[0].state != ON_ITS_WAY && nicd.frames[0].state != WAITS;
+    return is_gone || is_off(*(bool *)transmit);
+}
+
+/* The ring's block is away until the queue has met the fault; then it is there again, and the driver is told. */
+static void break_and_reset(bool transmit)
+{
+    uint32_t block = ring_block(transmit);
+    nicd_hold();
+    nic_dma_read(nicx_device(), (uint64_t)block * NIC_BLOCK_BYTES, kept, sizeof kept);
+    nicx_take(block);
+    nicd.is_running = true; /* a call may fail now: the memory is the card's fault */
+    nicx_wait_until(is_over, &transmit);
+    if (is_off(transmit))
+        nicd_reach(0);
+    nicd_hold();
+    nicx_lend(block);
+    nic_dma_write(nicx_device(), (uint64_t)block * NIC_BLOCK_BYTES, kept, sizeof kept);
+    nicx_check(nicd.driver->reset(), "reset answered false");
+    nicd_go_on();
+}
+
+static void break_receive(void)
+{
+    break_and_reset(false);
+}
+
+static void fault_in_receive(void)
+{
+    nicd_control(break_receive);
+    nicd_come_plain(1, 60);
+}
+
+static const char *judge_recovery(void)
+{
+    for (unsigned queue = 0; queue < nicd.setup.queues; queue++) {
+        if (nicd.driver->receive && !(nicd_peek(NIC_RXDCTL(nicd.base + queue)) & NIC_RXDCTL_ENABLE))
+            return "a receive queue is off, and reset has returned";
+        if (nicd.driver->send && !(nicd_peek(NIC_TXDCTL(nicd.base + queue)) & NIC_TXDCTL_ENABLE))
+            return "a transmit queue is off, and reset has returned";
+    }
+    return NULL;
+}
+
+static void break_send(void)
+{
+    bool transmit = true;
+    uint32_t block = ring_block(true);
+    nicd_hold();
+    nicx_check(nicd_send(0, 60), "send answers false, and the ring is empty");
+    if (nicd.went[0])
+        return;
+    nic_dma_read(nicx_device(), (uint64_t)block * NIC_BLOCK_BYTES, kept, sizeof kept);
+    nicx_take(block);
+    nicx_wait_until(is_over, &transmit);
+    if (is_off(transmit))
+        nicd_reach(0);
+    nicx_lend(block);
+    nic_dma_write(nicx_device(), (uint64_t)block * NIC_BLOCK_BYTES, kept, sizeof kept);
+    nicx_check(nicd.driver->reset(), "reset answered false");
+    nicd_go_on();
+    for (unsigned k = 0; k < 3; k++)
+        nicd_send_surely(0, 60);
+}
+
+static void fault_in_send(void)
+{
+    nicd_control(break_send);
+}
+
+/* --- other lengths, other rings --- */
+
+static void grow_frames(void)
+{
+    nicd_hold();
+    nicx_check(nicd.driver->mtu(4096), "mtu answered false");
+    nicd.setup.frame = 4096;
+    nicd_go_on();
+    if (nicd.driver->send)
+        nicd_send_surely(0, 4096);
+}
+
+static void grow_amid_traffic(void)
+{
+    nicd_control(grow_frames);
+    nicd_take_frames();
+    nicd_come_plain(3, 60);
+}
+
+static void shrink_frames(void)
+{
+    nicd_hold();
+    nicx_check(nicd.driver->mtu(1514), "mtu answered false");
+    nicd.setup.frame = 1514;
+    nicd_go_on();
+}
+
+/* A long frame that comes afterwards is dropped. */
+static const char *judge_shrunk(void)
+{
+    for (uint16_t k = 0; k < nicd.count; k++)
+        if (nicd.frames[k].life == nicd.life && nicd.coming[k].length > 1514 && nicd.frames[k].state == IS_DELIVERED)
+            return "a frame came in that is longer than the new limit";
+    return NULL;
+}
+
+static void shrink_amid_traffic(void)
+{
+    nicd_control(shrink_frames);
+    nicd_take_frames();
+    nicd_come_plain(1, 4096);
+    nicd_come_plain(2, 60);
+    nicd_come_plain(1, 4096);
+}
+
+static void make_rings_longer(void)
+{
+    nicd_hold();
+    nicx_check(nicd.driver->resize(16), "resize answered false");
+    nicd.setup.slots = 16;
+    nicd_go_on();
+}
+
+static const char *judge_rings(void)
+{
+    uint32_t length = nicd_peek(NIC_RDLEN(nicd.base));
+    if (length == 16u * NIC_DESC_BYTES)
+        return NULL;
+    nicd_note("the receive ring has %u bytes, and 16 slots were asked for", (unsigned)length);
+    return nicd.fault;
+}
+
+static void resize_amid_traffic(void)
+{
+    nicd_control(make_rings_longer);
+    use_both_ways();
+}
+
+static void resize_amid_chains(void)
+{
+    nicd_control(make_rings_longer);
+    nicd_take_frames();
+    nicd_come_plain(4, 5000);
+}
+
+static const char reset_rule[] = "A reset ends all queues, masks and filters: software sets all up anew, and throws away "
+                                 "what was on its way";
+static const char resize_rule[] = "While a queue is on its base and length don't change, and its memory is the device's";
+
+const struct scenario nicd_changes[] = {
+    {.name = "link-down", .family = "link", .title = "the link goes down, and the driver knows",
+     .rule = "A change of the link raises LSC; LINKS says how it is", .source = "Link Status", .needs = RECEIVES | LINK | INTERRUPTS,
+     .setup = {.interrupts = true}, .begin = go_down, .end = judge_link},
+    {.name = "link-down-up", .family = "link", .title = "down and up amid traffic",
+     .rule = "A change of the link raises LSC; LINKS says how it is", .source = "Link Status",
+     .needs = RECEIVES | LINK | INTERRUPTS, .ways = LOSSY | DROPS, .setup = {.interrupts = true},
+     .begin = go_down_and_up, .end = judge_link},
+    {.name = "link-amid-reset", .family = "link", .title = "the link goes down while the device is reset",
+     .rule = "A reset takes the causes that were raised before it, so the link is looked at after it",
+     .source = "Link Status", .needs = RECEIVES | LINK | INTERRUPTS | RESET, .ways = LOSSY | DROPS,
+     .setup = {.interrupts = true}, .begin = reset_amid_link, .end = judge_link},
+    {.name = "reset-amid-receive", .family = "reset", .title = "a reset while frames come", .rule = reset_rule,
+     .source = "Software Reset", .needs = RECEIVES | RESET, .ways = LOSSY | DROPS, .begin = reset_amid_receive},
+    {.name = "reset-amid-send", .family = "reset", .title = "a reset while frames are sent", .rule = reset_rule,
+     .source = "Software Reset", .needs = SENDS | RESET, .ways = LOSSY | DROPS, .begin = reset_amid_send},
+    {.name = "reset-amid-interrupts", .family = "reset", .title = "a reset amid both, with interrupts", .rule = reset_rule,
+     .source = "Software Reset", .needs = RECEIVES | RESET | INTERRUPTS, .ways = LOSSY | DROPS,
+     .setup = {.interrupts = true}, .begin = reset_amid_all},
+    {.name = "reset-twice", .family = "reset", .title = "two resets, and traffic after them", .rule = reset_rule,
+     .source = "Software Reset", .needs = RECEIVES | RESET, .ways = LOSSY | DROPS, .begin = reset_and_go_on},
+    {.name = "fault-receive", .family = "reset", .title = "a receive queue met a fault, and is reset",
+     .rule = "A queue that met a fault is off until software sets it up anew", .source = "reset of the adapter",
+     .needs = RECEIVES | RESET, .ways = LOSSY | DROPS | FAULTY, .begin = fault_in_receive, .end = judge_recovery,
+     .reaches = {"the queue met the fault"}},
+    {.name = "fault-send", .family = "reset", .title = "a transmit queue met a fault, and is reset",
+     .rule = "A queue that met a fault is off until software sets it up anew", .source = "reset of the adapter",
+     .needs = SENDS | RESET, .ways = LOSSY | DROPS | FAULTY, .begin = fault_in_send, .end = judge_recovery,
+     .reaches = {"the queue met the fault"}},
+    {.name = "mtu-grows", .family = "changes", .title = "longer frames from now on, amid traffic",
+     .rule = "MAXFRS and JUMBOEN are set before longer frames come", .source = "Maximum Frame Size",
+     .needs = RECEIVES | MTU, .ways = LOSSY | DROPS, .begin = grow_amid_traffic},
+    {.name = "mtu-shrinks", .family = "changes", .title = "shorter frames from now on, amid traffic",
+     .rule = "A frame above MAXFRS is dropped", .source = "Maximum Frame Size", .needs = RECEIVES | MTU,
+     .ways = LOSSY | DROPS, .setup = {.frame = 4096}, .begin = shrink_amid_traffic, .end = judge_shrunk},
+    {.name = "resize-amid-traffic", .family = "changes", .title = "other rings amid traffic", .rule = resize_rule,
+     .source = "Dynamic Disabling of Receive Queues", .needs = RECEIVES | RESIZE, .ways = LOSSY | DROPS,
+     .begin = resize_amid_traffic, .end = judge_rings},
+    {.name = "resize-amid-chains", .family = "changes", .title = "other rings amid frames of several buffers",
+     .rule = "A frame whose end was lost with its ring is thrown away", .source = "Dynamic Disabling of Receive Queues",
+     .needs = RECEIVES | RESIZE, .ways = LOSSY | DROPS, .setup = {.frame = 5000}, .begin = resize_amid_chains,
+     .end = judge_rings},
+    {0}};

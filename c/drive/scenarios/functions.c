@@ -1,0 +1,321 @@
+/* The driver of a virtual function: its queues, its host's resets, its mailbox. The card is its host. */
+#include "../engine/drive.h"
+
+enum { VF = 0, PORT = VF + 1 };
+
+static void use_both_ways(void)
+{
+    nicd_take_frames();
+    if (nicd.driver->send)
+        nicd_send_frames(0, 4, 60);
+    nicd_come_plain(5, 60);
+}
+
+static void come_over_a_wrap(void)
+{
+    nicd_take_frames();
+    nicd_come_plain(12, 60);
+}
+
+static void close_it(void)
+{
+    nicd_hold();
+    nicd_close();
+    for (unsigned queue = 0; queue < nicd.setup.queues; queue++)
+        nicx_check(!((nicd_peek(NIC_RXDCTL(nicd.base + queue)) | nicd_peek(NIC_TXDCTL(nicd.base + queue))) &
+                     NIC_RXDCTL_ENABLE),
+                   "a queue of the function is on, and its driver is closed");
+    nicx_check(!nicd_peek(NIC_PVTEIMS(VF)), "causes of the function are enabled, and its driver is closed");
+    if (nicd_memory_left())
+        nicx_fail(nicd.fault);
+}
+
+static void close_amid_traffic(void)
+{
+    nicd_control(close_it);
+    use_both_ways();
+}
+
+/* --- the host resets the pool under it, as a host does that takes the function away --- */
+
+static void reset_pool(void)
+{
+    nicx_write32(NIC_PVFCTRL(VF), NIC_PVFCTRL_RST);
+}
+
+static bool pool_was_reset(void *unused)
+{
+    (void)unused;
+    return !(nicd_peek(NIC_RXDCTL(nicd.base)) & NIC_RXDCTL_ENABLE);
+}
+
+/* What tells a driver of it is its host's business: here it is called. */
+static void be_reset(void)
+{
+    nicx_wait_until(pool_was_reset, NULL);
+    nicd_hold();
+    nicx_check(nicd.driver->reset(), "reset answered false");
+    nicd_go_on();
+    for (unsigned k = 0; k < 2 && nicd.driver->send; k++)
+        nicd_send_surely(0, 60);
+}
+
+static void reset_under_it(void)
+{
+    nicd_control(be_reset);
+    nicd_other("host", reset_pool, false);
+    nicd_take_frames();
+    nicd_come_plain(4, 60);
+}
+
+/* --- what isn't the function's --- */
+
+static void see_foreign(const struct step *step, bool is_drivers)
+{
+    if (!is_drivers)
+        return;
+    if (step->kind == STEP_READ || step->kind == STEP_WRITE)
+        nicd_note("the function's driver reaches register 0x%05x of the physical function", (unsigned)step->address);
+    else if ((step->kind == STEP_VF_READ || step->kind == STEP_VF_WRITE) && step->vf != VF)
+        nicd_note("the driver of function %u reaches function %u", VF, step->vf);
+    else if ((step->kind == STEP_VF_READ || step->kind == STEP_VF_WRITE) && step->status == NIC_STRAY)
+        nicd_note("offset 0x%04x is no register of a function", (unsigned)step->address);
+}
+
+/* --- the mailbox: the card is the host --- */
+
+static struct {
+    uint32_t taken, sent;     /* messages that the host took, and sent */
+    uint32_t given, received; /* messages that the driver put in, and took */
+} mail;
+
+static bool is_asked(void)
+{
+    if (!(nicx_read32(NIC_PFMBICR(0)) & NIC_PFMBICR_VFREQ_IS(1u << VF)))
+        return false;
+    nicx_write32(NIC_PFMBICR(0), NIC_PFMBICR_VFREQ_IS(1u << VF));
+    return true;
+}
+
+/* Two words that belong together, of message k; the host's and the function's are told apart. */
+static uint32_t word(bool of_host, uint32_t k, uint32_t number)
+{
+    return (of_host ? 0xB0000000u : 0xF0000000u) | k << 8 | number;
+}
+
+static void check_words(const uint32_t *words, bool of_host, uint32_t k)
+{
+    for (uint32_t number = 0; number < 2; number++)
+        if (words[number] != word(of_host, k, number))
+            nicd_failed("message %u of the %s is read as 0x%08x 0x%08x: it was mixed or overwritten", (unsigned)k,
+                        of_host ? "host" : "function", (unsigned)words[0], (unsigned)words[1]);
+}
+
+static bool has_request(void *unused)
+{
+    (void)unused;
+    return nicd_peek(NIC_PFMBICR(0)) & NIC_PFMBICR_VFREQ_IS(1u << VF);
+}
+
+static void host_takes_messages(void)
+{
+    for (;;) {
+        nicx_wait_until(has_request, NULL);
+        if (!is_asked())
+            continue;
+        uint32_t words[2] = {nicx_read32(NIC_PFMBMEM(16 * VF)), nicx_read32(NIC_PFMBMEM(16 * VF + 1))};
+        check_words(words, false, mail.taken);
+        mail.taken++;
+        nicx_write32(NIC_PFMAILBOX(VF), NIC_PFMAILBOX_ACK);
+    }
+}
+
+static bool is_free(void *unused)
+{
+    (void)unused;
+    return !(nicd_peek(NIC_PVFMAILBOX(VF)) & (NIC_PVFMAILBOX_VFU | NIC_PVFMAILBOX_PFSTS)) && !has_request(NULL);
+}
+
+static void host_sends(uint32_t k)
+{
+    for (;;) {
+        nicx_wait_until(is_free, NULL);
+        nicx_write32(NIC_PFMAILBOX(VF), NIC_PFMAILBOX_PFU);
+        if (nicx_read32(NIC_PFMAILBOX(VF)) & NIC_PFMAILBOX_PFU && !has_request(NULL))
+            break;
+        nicx_write32(NIC_PFMAILBOX(VF), 0);
+    }
+    for (uint32_t number = 0; number < 2; number++)
+        nicx_write32(NIC_PFMBMEM(16 * VF + number), word(true, k, number));
+    mail.sent++;
+    nicx_write32(NIC_PFMAILBOX(VF), NIC_PFMAILBOX_STS);
+}
+
+static void host_sends_two(void)
+{
+    host_sends(0);
+    host_sends(1);
+}
+
+/* --- the driver's side --- */
+
+static void give(uint32_t k)
+{
+    uint32_t words[2] = {word(false, k, 0), word(false, k, 1)};
+    while (!nicd.driver->mailbox_send(0, words, 2))
+        nicx_wait();
+    mail.given++;
+}
+
+static void give_two(void *unused)
+{
+    (void)unused;
+    give(0);
+    give(1);
+}
+
+static void take_two(void *unused)
+{
+    uint32_t words[NICD_WORDS] = {0};
+    (void)unused;
+    while (mail.received < 2) {
+        if (!nicd.driver->mailbox_receive(0, words)) {
+            nicx_wait();
+            continue;
+        }
+        check_words(words, true, mail.received);
+        mail.received++;
+    }
+}
+
+/* One thread of the driver serves its mailbox: it sends where it can, and takes what is there. */
+static void give_and_take(void *unused)
+{
+    uint32_t words[NICD_WORDS] = {0};
+    (void)unused;
+    while (mail.given < 2 || mail.received < 1) {
+        uint32_t own[2] = {word(false, mail.given, 0), word(false, mail.given, 1)};
+        bool acted = mail.given < 2 && nicd.driver->mailbox_send(0, own, 2);
+        mail.given += acted;
+        if (nicd.driver->mailbox_receive(0, words)) {
+            check_words(words, true, mail.received);
+            mail.received++;
+            acted = true;
+        }
+        if (!acted)
+            nicx_wait();
+    }
+}
+
+static void begin_mail(void)
+{
+    mail.taken = mail.sent = mail.given = mail.received = 0;
+}
+
+static const char *judge_mail(void)
+{
+    if (mail.taken < mail.given)
+        return "a message of the function was put into the mailbox, and the host never got it";
+    if (mail.received < mail.sent)
+        return "a message of the host was put into the mailbox, and the driver never took it";
+    return NULL;
+}
+
+static void send_messages(void)
+{
+    begin_mail();
+    nicx_task("mailbox", give_two, NULL);
+    nicd_other("host", host_takes_messages, true);
+}
+
+static void receive_messages(void)
+{
+    begin_mail();
+    nicx_task("mailbox", take_two, NULL);
+    nicd_other("host", host_sends_two, false);
+}
+
+/* The host sends a message of its own, and serves requests, while the function asks. */
+static void host_does_both(void)
+{
+    host_sends(0);
+    host_takes_messages();
+}
+
+static void collide(void)
+{
+    begin_mail();
+    nicx_task("mailbox", give_and_take, NULL);
+    nicd_other("host", host_does_both, true);
+}
+
+/* --- the device's own reset, and what tells that it is done --- */
+
+static void host_gets_ready(void)
+{
+    nicx_write32(NIC_CTRL_EXT, NIC_CTRL_EXT_PFRSTD);
+}
+
+static void wait_for_ready(void *unused)
+{
+    (void)unused;
+    while (!nicd.driver->mailbox_ready())
+        nicx_wait();
+}
+
+/* Another thread of the driver looks for messages meanwhile. */
+static void look_for_messages(void *unused)
+{
+    uint32_t words[NICD_WORDS] = {0};
+    (void)unused;
+    for (unsigned k = 0; k < 3; k++) {
+        nicd.driver->mailbox_receive(0, words);
+        nicx_point();
+    }
+}
+
+static void be_ready_once(void)
+{
+    nicd.by_card = true;
+    nicx_write32(NIC_CTRL, NIC_CTRL_RST);
+    nicd_set_up_host(VF, false);
+    nicd.by_card = false;
+    nicx_task("ready", wait_for_ready, NULL);
+    nicx_task("look", look_for_messages, NULL);
+    nicd_other("host", host_gets_ready, false);
+}
+
+#define ROW(row, what, words, section, need, way, function, judge)                                                     \
+    {.name = row, .family = "function", .title = what, .rule = words, .source = section, .needs = FUNCTIONS | (need),  \
+     .ways = way, .setup = {.port = PORT}, .begin = function, .end = judge, .see = see_foreign}
+
+const struct scenario nicd_functions[] = {
+    ROW("function-both-ways", "a function's frames come and go",
+        "A virtual function reaches its own queues by offsets of its own", "Virtual Function Registers",
+        RECEIVES, 0, use_both_ways, NULL),
+    ROW("function-wrap", "frames over each slot of a function's ring",
+        "A function's rings are as the physical function's", "Virtual Function Registers", RECEIVES, 0, come_over_a_wrap,
+        NULL),
+    {.name = "function-interrupts", .family = "function", .title = "a function's messages",
+     .rule = "A function's causes and masks are its own; what a message masks is enabled again",
+     .source = "Virtual Function Interrupt Registers", .needs = FUNCTIONS | RECEIVES | INTERRUPTS,
+     .setup = {.port = PORT, .interrupts = true}, .begin = use_both_ways, .see = see_foreign},
+    {.name = "function-two-queues", .family = "function", .title = "a function with both queues of its pool",
+     .rule = "A function has the queues of its pool", .source = "Virtual Function Registers",
+     .needs = FUNCTIONS | RECEIVES, .setup = {.port = PORT, .queues = 2}, .begin = use_both_ways, .see = see_foreign},
+    ROW("function-close", "a function closes amid traffic",
+        "A queue that is asked to go off may receive and send until ENABLE reads 0; only then is its memory software's",
+        "Dynamic Disabling of Receive Queues", RECEIVES, LOSSY | DROPS, close_amid_traffic, NULL),
+    ROW("function-reset-under-it", "its host resets its pool amid traffic",
+        "A reset of the pool ends its queues; the function sets them up anew", "Virtual Function Reset",
+        RECEIVES | RESET, LOSSY | DROPS, reset_under_it, NULL),
+    ROW("mailbox-function-sends", "two messages to the host",
+        "A side takes the mailbox before it writes, and writes the next message once the last one is acknowledged",
+        "Mailbox", MAILBOX, 0, send_messages, judge_mail),
+    ROW("mailbox-function-receives", "two messages of the host",
+        "PFSTS is told by one read: what is read once is kept", "Mailbox", MAILBOX, 0, receive_messages, judge_mail),
+    ROW("mailbox-function-collides", "both sides send at once",
+        "VFU and PFU are never both 1: who comes second tries again", "Mailbox", MAILBOX, 0, collide, judge_mail),
+    ROW("mailbox-ready-once", "the device's reset is done, while another thread reads the mailbox",
+        "RSTD is told by one read, whoever reads it", "Mailbox", MAILBOX | READY_BIT, 0, be_ready_once, NULL),
+    {0}};

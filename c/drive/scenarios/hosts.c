@@ -1,0 +1,220 @@
+/* The driver as the host of two functions: their mailboxes. The card is the functions. */
+#include "../engine/drive.h"
+
+enum { FUNCTIONS_THERE = 2, PATIENCE = 3 };
+
+static struct {
+    uint32_t given[FUNCTIONS_THERE], taken[FUNCTIONS_THERE];     /* by functions; by the host's driver */
+    uint32_t answered[FUNCTIONS_THERE], read[FUNCTIONS_THERE];   /* by the driver; by functions */
+    uint32_t wanted; /* messages of each function */
+} mail;
+
+static uint32_t word(uint8_t vf, bool of_host, uint32_t k, uint32_t number)
+{
+    return (of_host ? 0xB0000000u : 0xF0000000u) | (uint32_t)vf << 16 | k << 8 | number;
+}
+
+/* --- a function --- */
+
+static bool function_puts(uint8_t vf, uint32_t k)
+{
+    nicx_vf_write32(vf, NIC_VFMAILBOX, NIC_PVFMAILBOX_VFU);
+    if (!(nicx_vf_read32(vf, NIC_VFMAILBOX) & NIC_PVFMAILBOX_VFU))
+        return false;
+    for (uint32_t number = 0; number < 2; number++)
+        nicx_vf_write32(vf, NIC_VFMBMEM(number), word(vf, false, k, number));
+    mail.given[vf]++;
+    nicx_vf_write32(vf, NIC_VFMAILBOX, NIC_PVFMAILBOX_REQ);
+    return true;
+}
+
+static void function_gives(uint8_t vf, uint32_t k)
+{
+    while (!function_puts(vf, k))
+        nicx_wait();
+    while (!(nicx_vf_read32(vf, NIC_VFMAILBOX) & NIC_PVFMAILBOX_PFACK))
+        nicx_wait();
+}
+
+static void function0(void)
+{
+    function_gives(0, 0);
+    function_gives(0, 1);
+}
+
+static void function1(void *unused)
+{
+    (void)unused;
+    function_gives(1, 0);
+    function_gives(1, 1);
+}
+
+/* It reads the answer of its second request; of the first one it has had enough, and resets itself. */
+static void function_withdraws(void)
+{
+    uint32_t answer = 0;
+    while (!function_puts(0, 0))
+        nicx_wait();
+    for (unsigned k = 0; k < PATIENCE; k++)
+        nicx_pause();
+    nicx_vf_write32(0, NIC_VFCTRL, NIC_PVFCTRL_RST);
+    while (!function_puts(0, 1))
+        nicx_wait();
+    while (answer != word(0, true, 1, 0)) {
+        while (!(nicx_vf_read32(0, NIC_VFMAILBOX) & NIC_PVFMAILBOX_PFSTS))
+            nicx_wait();
+        answer = nicx_vf_read32(0, NIC_VFMBMEM(0));
+    }
+    mail.read[0]++;
+}
+
+static void function_reads(void)
+{
+    for (uint32_t k = 0; k < 2; k++) {
+        while (!(nicx_vf_read32(0, NIC_VFMAILBOX) & NIC_PVFMAILBOX_PFSTS))
+            nicx_wait();
+        uint32_t first = nicx_vf_read32(0, NIC_VFMBMEM(0)), second = nicx_vf_read32(0, NIC_VFMBMEM(1));
+        if (first != word(0, true, k, 0) || second != word(0, true, k, 1))
+            nicd_failed("message %u of the host is read as 0x%08x 0x%08x by the function", (unsigned)k, (unsigned)first,
+                        (unsigned)second);
+        mail.read[0]++;
+        nicx_vf_write32(0, NIC_VFMAILBOX, NIC_PVFMAILBOX_ACK);
+    }
+}
+
+static void function_does_both(void)
+{
+    function_gives(0, 0);
+    function_reads();
+}
+
+/* --- the host's driver --- */
+
+/* Whether a message was there: it is one that the function gave, whole. Answers its number. */
+static bool take(uint8_t vf, uint32_t *number)
+{
+    uint32_t words[NICD_WORDS] = {0};
+    if (!nicd.driver->mailbox_receive(vf, words))
+        return false;
+    *number = words[0] >> 8 & 0xFF;
+    if (words[0] != word(vf, false, *number, 0) || words[1] != word(vf, false, *number, 1))
+        nicd_failed("a message of function %u is taken as 0x%08x 0x%08x: it was mixed or overwritten", vf,
+                    (unsigned)words[0], (unsigned)words[1]);
+    mail.taken[vf]++;
+    return true;
+}
+
+static void serve(void *unused)
+{
+    uint32_t number;
+    (void)unused;
+    for (;;) {
+        bool acted = false;
+        for (uint8_t vf = 0; vf < FUNCTIONS_THERE; vf++)
+            acted |= take(vf, &number);
+        if (!acted)
+            nicx_wait();
+    }
+}
+
+static bool answer(uint8_t vf, uint32_t number)
+{
+    uint32_t words[2] = {word(vf, true, number, 0), word(vf, true, number, 1)};
+    return nicd.driver->mailbox_send(vf, words, 2);
+}
+
+/* Answers each request; a new request in place of the answered one is taken first. */
+static void serve_and_answer(void *unused)
+{
+    uint32_t number = 0;
+    bool owes = false;
+    (void)unused;
+    for (;;) {
+        bool acted = take(0, &number);
+        owes |= acted;
+        if (owes && !acted && answer(0, number)) {
+            owes = false;
+            acted = true;
+        }
+        if (!acted)
+            nicx_wait();
+    }
+}
+
+static bool was_read(void *number)
+{
+    return mail.read[0] > *(uint32_t *)number;
+}
+
+static void tell_two(void *unused)
+{
+    (void)unused;
+    for (uint32_t k = 0; k < 2; k++) {
+        while (!answer(0, k))
+            nicx_wait();
+        nicx_wait_until(was_read, &k);
+    }
+}
+
+static const char *judge(void)
+{
+    for (unsigned vf = 0; vf < FUNCTIONS_THERE; vf++)
+        if (mail.taken[vf] < mail.given[vf])
+            return "a message of a function was put into the mailbox, and the host's driver never took it";
+    return NULL;
+}
+
+static const char *judge_answer(void)
+{
+    return mail.read[0] ? NULL : "the function waits for the answer to its request, and none comes";
+}
+
+static void begin(void (*function)(void), const char *name)
+{
+    mail.given[0] = mail.given[1] = mail.taken[0] = mail.taken[1] = mail.read[0] = mail.read[1] = 0;
+    nicd_other(name, function, false);
+}
+
+static void take_from_two(void)
+{
+    begin(function0, "function0");
+    nicd.cards |= 1u << nicx_task("function1", function1, NULL);
+    nicx_service("mailbox", serve, NULL);
+}
+
+static void tell_one(void)
+{
+    begin(function_reads, "function0");
+    nicx_task("mailbox", tell_two, NULL);
+}
+
+static void collide(void)
+{
+    begin(function_does_both, "function0");
+    nicx_service("mailbox", serve, NULL);
+    nicx_task("tell", tell_two, NULL);
+}
+
+static void withdraw(void)
+{
+    begin(function_withdraws, "function0");
+    nicx_service("mailbox", serve_and_answer, NULL);
+}
+
+#define ROW(row, what, words, function, judges)                                                                        \
+    {.name = row, .family = "host", .title = what, .rule = words, .source = "Mailbox", .needs = HOST | MAILBOX,        \
+     .setup = {.functions = FUNCTIONS_THERE}, .begin = function, .end = judges}
+
+const struct scenario nicd_hosts[] = {
+    ROW("host-takes-messages", "two functions send two messages each",
+        "Each function has a mailbox and a bit of PFMBICR of its own; an acknowledgement lets it send again", take_from_two,
+        judge),
+    ROW("host-sends-messages", "two messages to a function",
+        "A side takes the mailbox before it writes, and writes the next message once the last one is read", tell_one,
+        NULL),
+    ROW("host-collides", "both sides send at once",
+        "VFU and PFU are never both 1: who comes second tries again, and a request that waits isn't overwritten", collide,
+        judge),
+    ROW("host-withdrawn-request", "a function resets itself and asks anew",
+        "An answer to a request that was withdrawn doesn't overwrite the next one", withdraw, judge_answer),
+    {0}};

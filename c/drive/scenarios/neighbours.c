@@ -1,0 +1,129 @@
+/* Another driver has the queue behind the driver's last one, with memory, a vector and a mask of its own. */
+#include "../engine/drive.h"
+
+enum { VECTOR = 15, SLOTS = 8, RING = OTHERS * NIC_BLOCK_BYTES };
+
+static const uint8_t mark = 0x5C;
+
+static unsigned others(void)
+{
+    return nicd.base + nicd.setup.queues;
+}
+
+static void move_in(void)
+{
+    unsigned queue = others(), shift = 16 * (queue % 2);
+    uint8_t bytes[64];
+    for (unsigned k = 0; k < sizeof bytes; k++)
+        bytes[k] = mark;
+    nicd.by_card = true;
+    for (uint32_t block = OTHERS; block < OTHERS + 2; block++)
+        nicx_lend(block);
+    nicx_dma_write(RING + NIC_BLOCK_BYTES, bytes, sizeof bytes);
+    nicx_write32(NIC_RDBAL(queue), RING);
+    nicx_write32(NIC_RDLEN(queue), NIC_DESC_BYTES * SLOTS);
+    nicx_write32(NIC_SRRCTL(queue), NIC_SRRCTL_DESCTYPE_IS(1) | NIC_SRRCTL_BSIZEPACKET_IS(2));
+    nicx_write32(NIC_RXDCTL(queue), NIC_RXDCTL_ENABLE);
+    nicx_write32(NIC_TDBAL(queue), RING + 1024);
+    nicx_write32(NIC_TDLEN(queue), NIC_DESC_BYTES * SLOTS);
+    nicx_write32(NIC_TXDCTL(queue), NIC_TXDCTL_ENABLE);
+    nicx_write32(NIC_IVAR(queue / 2), (nicd_peek(NIC_IVAR(queue / 2)) & ~(0xFFFFu << shift)) |
+                                          (uint32_t)(0x80 | VECTOR) << shift | (uint32_t)(0x80 | VECTOR) << (shift + 8));
+    nicx_write32(NIC_EIMS, 1u << VECTOR);
+    while (!(nicx_read32(NIC_RXDCTL(queue)) & nicx_read32(NIC_TXDCTL(queue)) & NIC_RXDCTL_ENABLE))
+        nicx_wait();
+    nicd.by_card = false;
+}
+
+/* What the other driver finds when all is over. */
+static const char *judge(void)
+{
+    unsigned queue = others(), shift = 16 * (queue % 2);
+    uint8_t byte = 0;
+    if (!(nicd_peek(NIC_RXDCTL(queue)) & nicd_peek(NIC_TXDCTL(queue)) & NIC_RXDCTL_ENABLE))
+        return "the other driver's queue is off";
+    if (nicd_peek(NIC_RDBAL(queue)) != RING || nicd_peek(NIC_TDBAL(queue)) != RING + 1024)
+        return "the other driver's rings are elsewhere";
+    if ((nicd_peek(NIC_IVAR(queue / 2)) >> shift & 0xFFFF) != (0x80 | VECTOR) * 0x101u)
+        return "the other driver's bytes of IVAR are changed";
+    if (!(nicd_peek(NIC_EIMS) >> VECTOR & 1))
+        return "the other driver's cause is masked";
+    nic_dma_read(nicx_device(), RING + NIC_BLOCK_BYTES, &byte, 1);
+    return byte == mark ? NULL : "the other driver's memory is changed";
+}
+
+static bool is_in_set(uint32_t address, uint32_t first)
+{
+    return address >= first && address < first + 0x40;
+}
+
+static void see(const struct step *step, bool is_drivers)
+{
+    uint32_t address = step->address;
+    if (!is_drivers || !nicd.is_open)
+        return;
+    if (step->kind == STEP_WRITE && (is_in_set(address, NIC_RDBAL(others())) || is_in_set(address, NIC_TDBAL(others()))))
+        nicd_note("the driver writes register 0x%05x of queue %u, which isn't its own", (unsigned)address, others());
+    if ((step->kind == STEP_POKE || step->kind == STEP_PEEK || step->kind == STEP_TAKE) && step->bus >= RING)
+        nicd_note("the driver reaches 0x%llx, memory of another", (unsigned long long)step->bus);
+    if (step->kind == STEP_WRITE && address == NIC_EICR && step->word >> VECTOR & 1 && step->word != 0x7FFFFFFF)
+        nicd_note("the driver clears the cause of another in EICR");
+    if (step->kind == STEP_WRITE && (address == NIC_EIMS || address == NIC_EIMC) && step->word >> VECTOR & 1)
+        nicd_note("the driver writes the mask of another's cause: 0x%08x", (unsigned)step->word);
+}
+
+static void use_both_ways(void)
+{
+    move_in();
+    nicd_take_frames();
+    if (nicd.driver->send)
+        nicd_send_frames(0, 10, 60);
+    nicd_come_plain(10, 60);
+}
+
+static void close_it(void)
+{
+    nicd_hold();
+    nicd_close();
+}
+
+static void close_beside(void)
+{
+    move_in();
+    nicd_control(close_it);
+    nicd_take_frames();
+    nicd_come_plain(3, 60);
+}
+
+static void resize_it(void)
+{
+    nicd_hold();
+    nicx_check(nicd.driver->resize(16), "resize answered false");
+    nicd.setup.slots = 16;
+    nicd_go_on();
+}
+
+static void resize_beside(void)
+{
+    move_in();
+    nicd_control(resize_it);
+    nicd_take_frames();
+    nicd_come_plain(3, 60);
+}
+
+static const char rule[] = "What a driver wasn't asked for is another's: its queues, its bytes of IVAR, its masks, its memory";
+
+const struct scenario nicd_neighbours[] = {
+    {.name = "neighbour-traffic", .family = "neighbour", .title = "traffic beside another's queue", .rule = rule,
+     .source = "open of the adapter", .needs = RECEIVES | PHYSICAL, .ways = NEIGHBOUR, .begin = use_both_ways,
+     .end = judge, .see = see},
+    {.name = "neighbour-interrupts", .family = "neighbour", .title = "the same with interrupts", .rule = rule,
+     .source = "open of the adapter", .needs = RECEIVES | PHYSICAL | INTERRUPTS, .ways = NEIGHBOUR,
+     .setup = {.interrupts = true}, .begin = use_both_ways, .end = judge, .see = see},
+    {.name = "neighbour-close", .family = "neighbour", .title = "it closes beside another's queue", .rule = rule,
+     .source = "NICD_SHARED_DEVICE", .needs = RECEIVES | PHYSICAL | SHARED_DEVICE, .ways = NEIGHBOUR | LOSSY | DROPS,
+     .begin = close_beside, .end = judge, .see = see},
+    {.name = "neighbour-resize", .family = "neighbour", .title = "other rings beside another's queue", .rule = rule,
+     .source = "NICD_SHARED_DEVICE", .needs = RECEIVES | PHYSICAL | SHARED_DEVICE | RESIZE,
+     .ways = NEIGHBOUR | LOSSY | DROPS, .begin = resize_beside, .end = judge, .see = see},
+    {0}};

@@ -1,0 +1,123 @@
+/* Receive side scaling: each type to each queue, and another table amid traffic. */
+#include <string.h>
+
+#include "../engine/drive.h"
+
+enum { FLOWS = 10 };
+
+static nicd_rss wanted;
+
+static void choose(uint32_t types, unsigned shift)
+{
+    for (unsigned k = 0; k < sizeof wanted.key; k++)
+        wanted.key[k] = (uint8_t)(k * 59 + 7 + shift);
+    for (unsigned k = 0; k < sizeof wanted.table; k++)
+        wanted.table[k] = (uint8_t)((k + shift) % nicd.setup.queues);
+    wanted.types = types;
+}
+
+static unsigned hashed_bytes(const struct come *come)
+{
+    bool is_ipv6 = come->type == NIC_RSS_TCP_IPV6 || come->type == NIC_RSS_IPV6 || come->type == NIC_RSS_UDP_IPV6;
+    bool has_ports = come->type != NIC_RSS_IPV4 && come->type != NIC_RSS_IPV6;
+    return (is_ipv6 ? 32u : 8u) + (has_ports ? 4u : 0u);
+}
+
+/* The queue that a frame belongs to, by the key and the table that were asked for. */
+static unsigned queue_of(const struct come *come, uint16_t number)
+{
+    static uint8_t bytes[NICD_FRAME_MOST];
+    uint32_t hash = 0;
+    if (!(wanted.types >> come->type & 1) || come->type == NIC_RSS_NONE)
+        return 0;
+    nicd_make(come, number, bytes);
+    bool is_ipv6 = bytes[12] == 0x86;
+    nic_hash(wanted.key, bytes + (is_ipv6 ? 22 : 26), hashed_bytes(come), &hash);
+    return wanted.table[hash % sizeof wanted.table];
+}
+
+static const char *judge_queues(void)
+{
+    for (uint16_t k = 0; k < nicd.count; k++) {
+        unsigned queue = queue_of(&nicd.coming[k], k);
+        if (nicd.frames[k].state == IS_DELIVERED && nicd.frames[k].queue != queue) {
+            nicd_note("frame %u came by queue %u, and its hash says %u", k, nicd.frames[k].queue, queue);
+            return nicd.fault;
+        }
+        if (queue < MOST_REACHED && nicd.frames[k].state == IS_DELIVERED)
+            nicd_reach(queue);
+    }
+    return NULL;
+}
+
+static uint8_t type_of(const char *name)
+{
+    static const struct {
+        const char *name;
+        uint8_t type;
+    } types[] = {{"rss-tcp-ipv4", NIC_RSS_TCP_IPV4}, {"rss-udp-ipv4", NIC_RSS_UDP_IPV4}, {"rss-ipv4", NIC_RSS_IPV4},
+                 {"rss-tcp-ipv6", NIC_RSS_TCP_IPV6}, {"rss-udp-ipv6", NIC_RSS_UDP_IPV6}, {"rss-ipv6", NIC_RSS_IPV6}};
+    for (unsigned k = 0; k < sizeof types / sizeof *types; k++)
+        if (!strcmp(types[k].name, name))
+            return types[k].type;
+    return NIC_RSS_NONE;
+}
+
+static void come_of(uint8_t type)
+{
+    for (uint16_t flow = 0; flow < FLOWS; flow++) {
+        struct come come = {TO_OWN, type, flow, 0};
+        nicd_come(come);
+    }
+}
+
+static void come_of_type(void)
+{
+    uint8_t type = type_of(nicd.scenario->name);
+    choose(1u << type, 0);
+    if (!nicd.driver->rss(&wanted))
+        nicd_note("rss answered false");
+    nicd_take_frames();
+    come_of(type);
+}
+
+static void change_table(void)
+{
+    nicd_hold();
+    choose(1u << NIC_RSS_TCP_IPV4, 1);
+    nicx_check(nicd.driver->rss(&wanted), "rss answered false");
+    nicd_go_on();
+}
+
+static void change_amid_frames(void)
+{
+    choose(1u << NIC_RSS_TCP_IPV4, 0);
+    if (!nicd.driver->rss(&wanted))
+        nicd_note("rss answered false");
+    nicd_control(change_table);
+    nicd_take_frames();
+    come_of(NIC_RSS_TCP_IPV4);
+}
+
+static const char rule[] = "The low seven bits of a frame's hash name the entry of RETA that names its queue; MRQC says "
+                           "which types are hashed";
+
+#define TYPE(row, what)                                                                                                \
+    {.name = row, .family = "rss", .title = "flows of " what " over the queues", .rule = rule,                         \
+     .source = "Receive Side Scaling", .needs = RECEIVES | RSS, .setup = {.queues = 2, .slots = 16}, .begin = come_of_type,         \
+     .end = judge_queues, .reaches = {"queue 0", "queue 1"}}
+
+const struct scenario nicd_rss_rows[] = {
+    TYPE("rss-tcp-ipv4", "TCP over IPv4"),
+    TYPE("rss-udp-ipv4", "UDP over IPv4"),
+    TYPE("rss-ipv4", "IPv4 without ports"),
+    TYPE("rss-tcp-ipv6", "TCP over IPv6"),
+    TYPE("rss-udp-ipv6", "UDP over IPv6"),
+    TYPE("rss-ipv6", "IPv6 without ports"),
+    {.name = "rss-none", .family = "rss", .title = "frames that aren't hashed", .rule = rule,
+     .source = "Receive Side Scaling", .needs = RECEIVES | RSS, .setup = {.queues = 2, .slots = 16}, .begin = come_of_type,
+     .end = judge_queues, .reaches = {"queue 0"}},
+    {.name = "rss-changed", .family = "rss", .title = "another key and table while frames come",
+     .rule = "A write of RETA takes effect at no particular frame: each is handed up by the queue that it came by",
+     .source = "Redirection Table", .needs = RECEIVES | RSS, .setup = {.queues = 2, .slots = 16}, .begin = change_amid_frames},
+    {0}};

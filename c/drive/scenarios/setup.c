@@ -1,0 +1,375 @@
+/* How a driver sets the controller up: order and values, also where the bench forgives what the card doesn't. */
+#include "../engine/drive.h"
+
+static struct {
+    bool is_masked;    /* EIMC was written with all causes, since the last reset */
+    bool was_reset;
+    uint32_t causes;   /* in EICR before the driver's access */
+} seen;
+
+static bool is_queue_register(uint32_t address, uint32_t (*of)(unsigned), unsigned *queue)
+{
+    for (*queue = 0; *queue < NICD_QUEUES; (*queue)++)
+        if (address == of(*queue))
+            return true;
+    return false;
+}
+
+static uint32_t rdt(unsigned queue)
+{
+    return NIC_RDT(queue);
+}
+
+static uint32_t rdh(unsigned queue)
+{
+    return NIC_RDH(queue);
+}
+
+static uint32_t tdh(unsigned queue)
+{
+    return NIC_TDH(queue);
+}
+
+static uint32_t txdctl(unsigned queue)
+{
+    return NIC_TXDCTL(queue);
+}
+
+static bool is_write(const struct step *step, bool is_drivers)
+{
+    return is_drivers && step->kind == STEP_WRITE;
+}
+
+/* --- order --- */
+
+static void see_transmit_enable(const struct step *step, bool is_drivers)
+{
+    unsigned queue;
+    if (is_write(step, is_drivers) && is_queue_register(step->address, txdctl, &queue) &&
+        step->word & NIC_TXDCTL_ENABLE && !(nicd_peek(NIC_DMATXCTL) & NIC_DMATXCTL_TE))
+        nicd_note("TXDCTL(%u) asks for the queue while DMATXCTL.TE is 0", queue);
+}
+
+static void see_tail(const struct step *step, bool is_drivers)
+{
+    unsigned queue;
+    if (is_write(step, is_drivers) && is_queue_register(step->address, rdt, &queue) && step->word &&
+        !(nicd_peek(NIC_RXDCTL(queue)) & NIC_RXDCTL_ENABLE))
+        nicd_note("RDT(%u) is moved to %u while RXDCTL.ENABLE reads 0", queue, (unsigned)step->word);
+}
+
+static void see_head(const struct step *step, bool is_drivers)
+{
+    unsigned queue;
+    if (!is_write(step, is_drivers))
+        return;
+    if (is_queue_register(step->address, rdh, &queue) && nicd_peek(NIC_RXDCTL(queue)) & NIC_RXDCTL_ENABLE)
+        nicd_note("RDH(%u) is written while the queue is on", queue);
+    else if (is_queue_register(step->address, tdh, &queue) && nicd_peek(NIC_TXDCTL(queue)) & NIC_TXDCTL_ENABLE)
+        nicd_note("TDH(%u) is written while the queue is on", queue);
+}
+
+/* What has to stand before reception is enabled. */
+static bool is_before_reception(uint32_t address)
+{
+    return address == NIC_HLREG0 || address == NIC_MAXFRS || address == NIC_RDRXCTL || address == NIC_RXCSUM ||
+           address == NIC_MRQC || (address >= NIC_RSSRK(0) && address <= NIC_RSSRK(9)) ||
+           (address >= NIC_RETA(0) && address <= NIC_RETA(31)) || (address >= NIC_SRRCTL(0) && address % 0x40 == 0x14 && address < 0x2000);
+}
+
+static void see_reception(const struct step *step, bool is_drivers)
+{
+    if (is_write(step, is_drivers) && is_before_reception(step->address) && nicd_peek(NIC_RXCTRL) & NIC_RXCTRL_RXEN)
+        nicd_note("register 0x%05x is set up after RXCTRL.RXEN", (unsigned)step->address);
+}
+
+static void see_masks(const struct step *step, bool is_drivers)
+{
+    bool is_reset = step->address == NIC_CTRL && step->word & (NIC_CTRL_RST | NIC_CTRL_LRST);
+    if (!is_write(step, is_drivers))
+        return;
+    if (step->address == NIC_EIMC && (step->word & 0x7FFFFFFF) == 0x7FFFFFFF)
+        seen.is_masked = true;
+    if (is_reset && !seen.is_masked)
+        nicd_note("CTRL.RST is written, and EIMC didn't mask all causes before");
+    if (!is_reset)
+        return;
+    seen.was_reset = true;
+    seen.is_masked = false;
+}
+
+/* In the mode for MSI-X a read of EICR leaves the causes of queues on the card; the bench clears them. */
+static void see_cause_read(const struct step *step, bool is_drivers)
+{
+    uint32_t mode = nicd_peek(NIC_GPIE);
+    if (is_drivers && step->kind == STEP_READ && step->address == NIC_EICR && step->word & NIC_EICR_RTXQ &&
+        mode & NIC_GPIE_MULTIPLE_MSIX && !(mode & NIC_GPIE_OCD))
+        nicd_note("a read of EICR takes the causes 0x%04x of queues: with MSI-X the card leaves them",
+                  (unsigned)(step->word & NIC_EICR_RTXQ));
+}
+
+/* --- values, each with the access --- */
+
+static bool is_one_of(uint32_t address, uint32_t first, uint32_t at)
+{
+    return address >= first && address < first + NICD_QUEUES * 0x40 && address % 0x40 == at;
+}
+
+static void see_ring(const struct step *step, bool is_drivers)
+{
+    uint32_t address = step->address, word = step->word;
+    if (!is_write(step, is_drivers))
+        return;
+    if ((is_one_of(address, NIC_RDBAL(0), 0) || is_one_of(address, NIC_TDBAL(0), 0)) && word % 128)
+        nicd_note("a ring begins at 0x%x, which is no multiple of 128", (unsigned)word);
+    if ((is_one_of(address, NIC_RDLEN(0), 8) || is_one_of(address, NIC_TDLEN(0), 8)) &&
+        (word % 128 || word != NIC_DESC_BYTES * (uint32_t)nicd.setup.slots))
+        nicd_note("a ring has %u bytes, and %u slots were asked for", (unsigned)word, nicd.setup.slots);
+    if ((is_one_of(address, NIC_RDT(0), 0x18) || is_one_of(address, NIC_TDT(0), 0x18)) && word >= nicd.setup.slots)
+        nicd_note("a tail is moved to %u, and the ring has %u slots", (unsigned)word, nicd.setup.slots);
+}
+
+static void see_buffers(const struct step *step, bool is_drivers)
+{
+    if (!is_write(step, is_drivers) || !is_one_of(step->address, NIC_SRRCTL(0), 0x14))
+        return;
+    if (nic_field(step->word, NIC_SRRCTL_DESCTYPE) != 1)
+        nicd_note("SRRCTL.DESCTYPE is %u, and 1 is the advanced one with one buffer",
+                  (unsigned)nic_field(step->word, NIC_SRRCTL_DESCTYPE));
+    if (!nic_field(step->word, NIC_SRRCTL_BSIZEPACKET) || nic_field(step->word, NIC_SRRCTL_BSIZEPACKET) > 16)
+        nicd_note("SRRCTL.BSIZEPACKET is %u: it is 1 to 16, in KB",
+                  (unsigned)nic_field(step->word, NIC_SRRCTL_BSIZEPACKET));
+}
+
+static void see_address(const struct step *step, bool is_drivers)
+{
+    if (is_write(step, is_drivers) && step->address >= NIC_RAH(0) && step->address <= NIC_RAH(127) &&
+        step->address % 8 == 4 && step->word & 0x7FFF0000)
+        nicd_note("RAH(%u) is written with 0x%08x: bits 30:16 are reserved", (unsigned)(step->address - NIC_RAH(0)) / 8,
+                  (unsigned)step->word);
+}
+
+static void see_thresholds(const struct step *step, bool is_drivers)
+{
+    unsigned queue;
+    uint32_t word = step->word;
+    if (!is_write(step, is_drivers) || !is_queue_register(step->address, txdctl, &queue) || !(word & NIC_TXDCTL_ENABLE))
+        return;
+    if (nic_field(word, NIC_TXDCTL_PTHRESH) && !nic_field(word, NIC_TXDCTL_HTHRESH))
+        nicd_note("TXDCTL(%u) has PTHRESH %u and HTHRESH 0: the card wants 1 at least", queue,
+                  (unsigned)nic_field(word, NIC_TXDCTL_PTHRESH));
+    if (nic_field(word, NIC_TXDCTL_WTHRESH) && nicd_peek(NIC_TDWBAL(queue)) & NIC_TDWBAL_HEAD_WB_EN)
+        nicd_note("TXDCTL(%u) has WTHRESH %u beside a head that is written back", queue,
+                  (unsigned)nic_field(word, NIC_TXDCTL_WTHRESH));
+}
+
+static void see_alignment(const struct step *step, bool is_drivers)
+{
+    if (is_drivers && step->kind >= STEP_READ && step->kind <= STEP_VF_WRITE && step->address % 4)
+        nicd_note("0x%05x is no multiple of 4, so it is no register", (unsigned)step->address);
+}
+
+/* --- values, once it is open --- */
+
+static void check_crc(void)
+{
+    bool strips = nicd_peek(NIC_RDRXCTL) & NIC_RDRXCTL_CRCSTRIP, said = nicd_peek(NIC_HLREG0) & NIC_HLREG0_RXCRCSTRP;
+    nicx_check(strips == said, "RDRXCTL.CRCSTRIP isn't what HLREG0.RXCRCSTRP is");
+}
+
+static void check_fixes(void)
+{
+    uint32_t word = nicd_peek(NIC_RDRXCTL);
+    nicx_check(word & NIC_RDRXCTL_RSCACKC && word & NIC_RDRXCTL_FCOE_WRFIX,
+               "RDRXCTL.RSCACKC or FCOE_WRFIX is 0: software sets both after each reset");
+}
+
+static void check_mode(void)
+{
+    nicx_check(nicd_peek(NIC_GPIE) & NIC_GPIE_MULTIPLE_MSIX,
+               "GPIE.MULTIPLE_MSIX is 0: the card has no message for each vector then");
+}
+
+static void check_vectors(void)
+{
+    for (unsigned queue = 0; queue < nicd.setup.queues; queue++) {
+        uint32_t byte = nicd_peek(NIC_IVAR(queue / 2)) >> 16 * (queue % 2);
+        if (!(byte & 0x80))
+            nicd_failed("the byte of IVAR for receive queue %u isn't valid: 0x%02x", queue, (unsigned)byte & 0xFF);
+    }
+}
+
+static void check_enables(void)
+{
+    for (unsigned queue = 0; queue < nicd.setup.queues; queue++) {
+        if (nicd.driver->receive && !(nicd_peek(NIC_RXDCTL(queue)) & NIC_RXDCTL_ENABLE))
+            nicd_failed("open returns, and receive queue %u isn't on", queue);
+        if (nicd.driver->send && !(nicd_peek(NIC_TXDCTL(queue)) & NIC_TXDCTL_ENABLE))
+            nicd_failed("open returns, and transmit queue %u isn't on", queue);
+    }
+}
+
+static void check_length(void)
+{
+    uint32_t most = nic_field(nicd_peek(NIC_MAXFRS), NIC_MAXFRS_MFS);
+    nicx_check(nicd_peek(NIC_HLREG0) & NIC_HLREG0_JUMBOEN, "HLREG0.JUMBOEN is 0, and longer frames were asked for");
+    if (most < nicd.setup.frame + 4)
+        nicd_failed("MAXFRS.MFS is %u, and frames of %u bytes have 4 more on the wire", (unsigned)most,
+                    (unsigned)nicd.setup.frame);
+}
+
+static void check_masks(void)
+{
+    nicx_check(!nicd_peek(NIC_EIMS), "causes are enabled, and the setup asks for no interrupts");
+}
+
+static void check_after_reset(void)
+{
+    nicx_check(!seen.was_reset || seen.is_masked, "after CTRL.RST the causes weren't masked again");
+}
+
+static void check_loaded(void)
+{
+    nicx_check(nicd_peek(NIC_CTRL_EXT) & NIC_CTRL_EXT_DRV_LOAD, "CTRL_EXT.DRV_LOAD is 0, and the driver is open");
+    nicd_close();
+    nicx_check(!(nicd_peek(NIC_CTRL_EXT) & NIC_CTRL_EXT_DRV_LOAD), "CTRL_EXT.DRV_LOAD is 1, and the driver is closed");
+}
+
+static void check_hash(void)
+{
+    uint32_t mode = nicd_peek(NIC_MRQC);
+    nicx_check(!(mode & NIC_MRQC_MRQE) || nicd_peek(NIC_RXCSUM) & NIC_RXCSUM_PCSD,
+               "RXCSUM.PCSD is 0: the descriptor has a checksum in place of the hash");
+}
+
+static void check_drop(void)
+{
+    for (unsigned queue = 0; queue < nicd.setup.queues; queue++)
+        if (!(nicd_peek(NIC_SRRCTL(queue)) & NIC_SRRCTL_DROP_EN))
+            nicd_failed("SRRCTL(%u).DROP_EN is 0: once that queue is full, no other gets a frame", queue);
+}
+
+static void (*check)(void);
+
+static void open_and_check(void)
+{
+    nicx_check(nicd_open(), "open answered false");
+    if (check)
+        check();
+}
+
+static void open_with(void (*function)(void))
+{
+    seen.is_masked = seen.was_reset = false;
+    check = function;
+    nicd_control(open_and_check);
+}
+
+static void open_alone(void)
+{
+    open_with(NULL);
+}
+
+#define OPEN_WITH(function)                                                                                            \
+    static void open_##function(void)                                                                                  \
+    {                                                                                                                  \
+        open_with(function);                                                                                           \
+    }
+OPEN_WITH(check_crc)
+OPEN_WITH(check_fixes)
+OPEN_WITH(check_mode)
+OPEN_WITH(check_vectors)
+OPEN_WITH(check_enables)
+OPEN_WITH(check_length)
+OPEN_WITH(check_masks)
+OPEN_WITH(check_after_reset)
+OPEN_WITH(check_loaded)
+OPEN_WITH(check_hash)
+OPEN_WITH(check_drop)
+
+static void come_with_messages(void)
+{
+    nicd_take_frames();
+    nicd_come_plain(3, 60);
+}
+
+static void use_rings(void)
+{
+    nicd_take_frames();
+    nicd_send_frames(0, nicd.driver->send ? 10 : 0, 60);
+    nicd_come_plain(10, 60);
+}
+
+#define SEES(row, need, what, function, words, section)                                                                \
+    {.name = row, .family = "setup", .title = what, .rule = words, .source = section, .needs = need, .ways = OPENS,    \
+     .begin = open_alone, .see = function}
+#define CHECKS(row, need, what, function, words, section, ...)                                                         \
+    {.name = row, .family = "setup", .title = what, .rule = words, .source = section, .needs = need, .ways = OPENS,    \
+     .begin = open_##function, .setup = {__VA_ARGS__}}
+
+const struct scenario nicd_setup_rows[] = {
+    SEES("setup-transmit-order", SENDS | PHYSICAL, "the device's transmit enable comes before a queue's",
+         see_transmit_enable, "DMATXCTL.TE is set before TXDCTL.ENABLE of any queue; the bench takes any order",
+         "Transmit Initialization"),
+    SEES("setup-tail-order", RECEIVES | PHYSICAL, "the tail moves once the queue is on", see_tail,
+         "RDT is bumped after RXDCTL.ENABLE reads 1; the bench takes any order", "Receive Initialization"),
+    SEES("setup-head-order", RECEIVES | PHYSICAL, "heads are written while their queue is off", see_head,
+         "RDH and TDH are written before the enable: while the queue is on the bench keeps them as they are",
+         "Receive Descriptor Head"),
+    SEES("setup-reception-last", RECEIVES | PHYSICAL, "reception is enabled when all else is set", see_reception,
+         "RXCTRL.RXEN is set after all other settings of the receive path; the bench takes any order",
+         "Receive Initialization"),
+    SEES("setup-masked-before-reset", PHYSICAL, "causes are masked before a reset", see_masks,
+         "Software masks all causes before it resets the device", "Interrupts During Initialization"),
+    CHECKS("setup-masked-after-reset", PHYSICAL, "and again after it", check_after_reset,
+           "After a reset all causes are masked once more before the device is set up", "Interrupts During Initialization",
+           .queues = 1),
+    CHECKS("setup-masked-polling", PHYSICAL, "a driver that polls enables no cause", check_masks,
+           "EIMS enables the causes that a handler is there for", "open of the adapter", .queues = 1),
+    SEES("setup-ring-values", RECEIVES | PHYSICAL, "where rings lie, how long they are, where tails are", see_ring,
+         "A ring begins at a multiple of 128 and has a multiple of 128 bytes; the bench drops the low bits",
+         "Receive Descriptor Base Address"),
+    SEES("setup-buffer-values", RECEIVES | PHYSICAL, "the kind and size of receive buffers", see_buffers,
+         "DESCTYPE 1 is the advanced descriptor with one buffer, BSIZEPACKET its size in KB",
+         "Split Receive Control"),
+    SEES("setup-address-values", PHYSICAL, "reserved bits of the receive addresses", see_address,
+         "Bits 30:16 of RAH are reserved and written as 0; the bench keeps them", "Receive Address High"),
+    SEES("setup-thresholds", SENDS | PHYSICAL, "thresholds of transmit descriptors", see_thresholds,
+         "PTHRESH above 0 wants HTHRESH of 1 at least, and a head that is written back wants WTHRESH 0; no threshold has "
+         "an effect on the bench", "Transmit Descriptor Control"),
+    SEES("setup-alignment", 0, "registers are words", see_alignment,
+         "A register's address is a multiple of 4", "Register Conventions"),
+    CHECKS("setup-enables-polled", PHYSICAL, "open waits for its queues", check_enables,
+           "ENABLE becomes 1 some time after it is written, and software polls it", "Receive Descriptor Control",
+           .queues = 1),
+    CHECKS("setup-crc", RECEIVES | PHYSICAL, "both places agree on the check sequence", check_crc,
+           "RDRXCTL.CRCSTRIP and HLREG0.RXCRCSTRP are set alike; RDRXCTL has no effect on the bench",
+           "Receive DMA Control", .queues = 1),
+    CHECKS("setup-rdrxctl", RECEIVES | PHYSICAL, "the bits of RDRXCTL that software has to set", check_fixes,
+           "RSCACKC and FCOE_WRFIX are set by software after each reset; RDRXCTL has no effect on the bench",
+           "Receive DMA Control", .queues = 1),
+    CHECKS("setup-gpie", INTERRUPTS | PHYSICAL, "the mode for MSI-X", check_mode,
+           "GPIE.MULTIPLE_MSIX is 1 for a message of each vector; the bench has them whatever GPIE is",
+           "General Purpose Interrupt Enable", .interrupts = true),
+    CHECKS("setup-vectors", INTERRUPTS | RECEIVES | PHYSICAL, "each receive queue has a vector", check_vectors,
+           "A byte of IVAR counts where its valid bit is 1", "Interrupt Vector Allocation", .interrupts = true),
+    {.name = "setup-cause-read", .family = "setup", .title = "causes of queues aren't taken by reads",
+     .rule = "With MSI-X a queue's cause is cleared by EIAC or by a write of EICR; the bench clears it by a read too",
+     .source = "Extended Interrupt Cause", .needs = RECEIVES | INTERRUPTS | PHYSICAL,
+     .setup = {.interrupts = true}, .begin = come_with_messages, .see = see_cause_read},
+    {.name = "setup-tails-in-use", .family = "setup", .title = "tails stay within the ring, also over a wrap",
+     .rule = "A tail is a slot of the ring; behind the last comes slot 0", .source = "Receive Descriptor Tail",
+     .needs = RECEIVES | PHYSICAL, .begin = use_rings, .see = see_ring},
+    CHECKS("setup-long-frames", PHYSICAL, "the limit for longer frames", check_length,
+           "Frames above 1,518 bytes on the wire want HLREG0.JUMBOEN, and MAXFRS counts the check sequence",
+           "Maximum Frame Size", .frame = 4096),
+    CHECKS("setup-hash", PHYSICAL, "the hash stands in the descriptor", check_hash,
+           "RXCSUM.PCSD chooses the hash in place of the checksum of a fragment", "Receive Checksum Control",
+           .queues = 2),
+    CHECKS("setup-drop", RECEIVES | PHYSICAL, "with several queues a full one drops", check_drop,
+           "With DROP_EN a frame that finds no descriptor is dropped; without it all behind it wait",
+           "Split Receive Control", .queues = 2),
+    CHECKS("setup-loaded", PHYSICAL, "the firmware is told that a driver is there", check_loaded,
+           "DRV_LOAD is set by a driver when it is loaded, and cleared when it is unloaded; it has no effect on the bench",
+           "Extended Device Control", .queues = 1),
+    {0}};

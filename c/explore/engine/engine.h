@@ -128,7 +128,8 @@ struct thread {
     bool is_timed;   /* its wait may end without its condition, where nobody can act, */
     unsigned rested; /* and did so, or paused, so often since there were so many changes */
     uint64_t rested_at;
-    uint64_t own, seen; /* acts of its own; acts of others as it last went on */
+    uint64_t own;          /* acts of its own */
+    uint64_t seen, looked; /* acts of others as it last went on from a wait, and from a wait or a pause */
     bool (*condition)(void *);
     void *condition_argument;
     nicx_mutex *lock;

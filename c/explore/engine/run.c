@@ -105,7 +105,9 @@ void nicxi_went_on(struct thread *self)
     self->next.waits = is_waiting(self);
     if (self->next.waits) {
         self->is_void = true;
-        self->seen = nicxi.acts - self->own;
+        self->looked = nicxi.acts - self->own;
+        if (self->state == WAITING) /* a pause that a loop's reads made takes no act from the wait behind them */
+            self->seen = self->looked;
     }
     if (nicxi.is_weak && self->state != READY)
         nicxi_acquired(self);
@@ -400,7 +402,7 @@ static void begin_threads(void)
         thread->state = is_task && !thread->is_made && !nicxi.omitted.threads[k] ? READY : OFF;
         thread->interrupted_by = thread->on = -1;
         thread->masked = 0;
-        thread->own = thread->seen = 0;
+        thread->own = thread->seen = thread->looked = 0;
         thread->voided = 0;
         nicxi_forget_polls(&thread->polls);
         thread->locks = 0;

@@ -82,7 +82,7 @@ void nicxi_threads_close(void)
 
 bool nicxi_others_acted(const struct thread *thread)
 {
-    return nicxi.acts - thread->own != thread->seen;
+    return nicxi.acts - thread->own != (thread->state == PAUSED ? thread->looked : thread->seen);
 }
 
 /* --- points without an access --- */

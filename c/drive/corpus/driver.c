@@ -817,9 +817,13 @@ static bool host_sends(uint8_t vf, const uint32_t *words, uint32_t count)
     return true;
 }
 
+/* While the mailbox is the host's, no function writes another request over the one that is read. */
 static bool host_receives(uint8_t vf, uint32_t words[NICD_WORDS])
 {
     if (!is_asked(vf))
+        return false;
+    nicx_write32(NIC_PFMAILBOX(vf), NIC_PFMAILBOX_PFU);
+    if (!(nicx_read32(NIC_PFMAILBOX(vf)) & NIC_PFMAILBOX_PFU))
         return false;
     nicx_write32(NIC_PFMBICR(vf / 16u), NIC_PFMBICR_VFREQ_IS(1u << vf % 16));
     for (unsigned k = 0; k < NICD_WORDS; k++)

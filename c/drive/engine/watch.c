@@ -162,9 +162,12 @@ static bool is_reset(const struct step *step)
     return step->kind == STEP_WRITE && step->address == NIC_CTRL && step->word & (NIC_CTRL_RST | NIC_CTRL_LRST);
 }
 
+/* By the function itself or by its host: what waits for the pool is gone, and all that comes is for it. */
 static bool is_pool_reset(const struct step *step)
 {
-    return step->kind == STEP_VF_WRITE && step->address == NIC_VFCTRL && step->word & NIC_PVFCTRL_RST;
+    bool is_functions = step->kind == STEP_VF_WRITE && step->address == NIC_VFCTRL;
+    bool is_hosts = step->kind == STEP_WRITE && nicd.setup.port && step->address == NIC_PVFCTRL(nicd.setup.port - 1u);
+    return (is_functions || is_hosts) && step->word & NIC_PVFCTRL_RST;
 }
 
 static void see_sent(const struct step *step)
@@ -199,10 +202,8 @@ void nicd_watch(void *unused, uint16_t actor, const struct step *step)
     case STEP_TX: see_sent(step); break;
     case STEP_RX_ENABLE: see_enable(step); break;
     default:
-        if (is_reset(step))
+        if (is_reset(step) || is_pool_reset(step))
             see_reset();
-        else if (is_pool_reset(step) && nicd.partial >= 0)
-            leave(IS_LOST);
     }
     if (nicd.scenario->see)
         nicd.scenario->see(step, is_of_driver);

@@ -117,38 +117,58 @@ static bool has_request(void *unused)
     return nicd_peek(NIC_PFMBICR(0)) & NIC_PFMBICR_VFREQ_IS(1u << VF);
 }
 
+static void host_takes_one(void)
+{
+    if (!is_asked())
+        return;
+    uint32_t words[2] = {nicx_read32(NIC_PFMBMEM(16 * VF)), nicx_read32(NIC_PFMBMEM(16 * VF + 1))};
+    check_words(words, false, mail.taken);
+    mail.taken++;
+    nicx_write32(NIC_PFMAILBOX(VF), NIC_PFMAILBOX_ACK);
+}
+
 static void host_takes_messages(void)
 {
     for (;;) {
         nicx_wait_until(has_request, NULL);
-        if (!is_asked())
-            continue;
-        uint32_t words[2] = {nicx_read32(NIC_PFMBMEM(16 * VF)), nicx_read32(NIC_PFMBMEM(16 * VF + 1))};
-        check_words(words, false, mail.taken);
-        mail.taken++;
-        nicx_write32(NIC_PFMAILBOX(VF), NIC_PFMAILBOX_ACK);
+        host_takes_one();
     }
 }
 
 static bool is_free(void *unused)
 {
     (void)unused;
-    return !(nicd_peek(NIC_PVFMAILBOX(VF)) & (NIC_PVFMAILBOX_VFU | NIC_PVFMAILBOX_PFSTS)) && !has_request(NULL);
+    return !(nicd_peek(NIC_PVFMAILBOX(VF)) & NIC_PVFMAILBOX_VFU) && !has_request(NULL);
 }
 
-static void host_sends(uint32_t k)
+/* Whether the mailbox was free, and the message is in it. */
+static bool host_puts(uint32_t k)
 {
-    for (;;) {
-        nicx_wait_until(is_free, NULL);
-        nicx_write32(NIC_PFMAILBOX(VF), NIC_PFMAILBOX_PFU);
-        if (nicx_read32(NIC_PFMAILBOX(VF)) & NIC_PFMAILBOX_PFU && !has_request(NULL))
-            break;
+    nicx_write32(NIC_PFMAILBOX(VF), NIC_PFMAILBOX_PFU);
+    if (!(nicx_read32(NIC_PFMAILBOX(VF)) & NIC_PFMAILBOX_PFU) || has_request(NULL)) {
         nicx_write32(NIC_PFMAILBOX(VF), 0);
+        return false;
     }
     for (uint32_t number = 0; number < 2; number++)
         nicx_write32(NIC_PFMBMEM(16 * VF + number), word(true, k, number));
     mail.sent++;
     nicx_write32(NIC_PFMAILBOX(VF), NIC_PFMAILBOX_STS);
+    return true;
+}
+
+static bool is_acknowledged(void *unused)
+{
+    (void)unused;
+    return nicd_peek(NIC_PFMBICR(0)) & NIC_PFMBICR_VFACK_IS(1u << VF);
+}
+
+static void host_sends(uint32_t k)
+{
+    do
+        nicx_wait_until(is_free, NULL);
+    while (!host_puts(k));
+    nicx_wait_until(is_acknowledged, NULL);
+    nicx_write32(NIC_PFMBICR(0), NIC_PFMBICR_VFACK_IS(1u << VF));
 }
 
 static void host_sends_two(void)
@@ -235,11 +255,22 @@ static void receive_messages(void)
     nicd_other("host", host_sends_two, false);
 }
 
+static bool has_work(void *unused)
+{
+    (void)unused;
+    return has_request(NULL) || (!mail.sent && is_free(NULL));
+}
+
 /* The host sends a message of its own, and serves requests, while the function asks. */
 static void host_does_both(void)
 {
-    host_sends(0);
-    host_takes_messages();
+    for (;;) {
+        nicx_wait_until(has_work, NULL);
+        if (has_request(NULL))
+            host_takes_one();
+        else
+            host_puts(0);
+    }
 }
 
 static void collide(void)

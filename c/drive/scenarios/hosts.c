@@ -16,11 +16,28 @@ static uint32_t word(uint8_t vf, bool of_host, uint32_t k, uint32_t number)
 
 /* --- a function --- */
 
+/* What a read of the mailbox tells once is kept. */
+static uint32_t kept[FUNCTIONS_THERE];
+
+static bool was_told(uint8_t vf, uint32_t bit)
+{
+    kept[vf] |= nicx_vf_read32(vf, NIC_VFMAILBOX) & (NIC_PVFMAILBOX_PFSTS | NIC_PVFMAILBOX_PFACK);
+    bool is_told = kept[vf] & bit;
+    kept[vf] &= ~bit;
+    return is_told;
+}
+
 static bool function_puts(uint8_t vf, uint32_t k)
 {
     nicx_vf_write32(vf, NIC_VFMAILBOX, NIC_PVFMAILBOX_VFU);
-    if (!(nicx_vf_read32(vf, NIC_VFMAILBOX) & NIC_PVFMAILBOX_VFU))
+    uint32_t told = nicx_vf_read32(vf, NIC_VFMAILBOX);
+    kept[vf] |= told & (NIC_PVFMAILBOX_PFSTS | NIC_PVFMAILBOX_PFACK);
+    if (!(told & NIC_PVFMAILBOX_VFU))
         return false;
+    if (kept[vf] & NIC_PVFMAILBOX_PFSTS) { /* what the host sent is read first */
+        nicx_vf_write32(vf, NIC_VFMAILBOX, 0);
+        return false;
+    }
     for (uint32_t number = 0; number < 2; number++)
         nicx_vf_write32(vf, NIC_VFMBMEM(number), word(vf, false, k, number));
     mail.given[vf]++;
@@ -32,7 +49,7 @@ static void function_gives(uint8_t vf, uint32_t k)
 {
     while (!function_puts(vf, k))
         nicx_wait();
-    while (!(nicx_vf_read32(vf, NIC_VFMAILBOX) & NIC_PVFMAILBOX_PFACK))
+    while (!was_told(vf, NIC_PVFMAILBOX_PFACK))
         nicx_wait();
 }
 
@@ -58,34 +75,50 @@ static void function_withdraws(void)
     for (unsigned k = 0; k < PATIENCE; k++)
         nicx_pause();
     nicx_vf_write32(0, NIC_VFCTRL, NIC_PVFCTRL_RST);
-    while (!function_puts(0, 1))
+    kept[0] = 0;
+    while (!function_puts(0, 1)) {
+        was_told(0, NIC_PVFMAILBOX_PFSTS); /* an answer to the first one is of no interest any more */
         nicx_wait();
+    }
     while (answer != word(0, true, 1, 0)) {
-        while (!(nicx_vf_read32(0, NIC_VFMAILBOX) & NIC_PVFMAILBOX_PFSTS))
+        while (!was_told(0, NIC_PVFMAILBOX_PFSTS))
             nicx_wait();
         answer = nicx_vf_read32(0, NIC_VFMBMEM(0));
     }
     mail.read[0]++;
 }
 
+static void function_reads_one(uint32_t k)
+{
+    uint32_t first = nicx_vf_read32(0, NIC_VFMBMEM(0)), second = nicx_vf_read32(0, NIC_VFMBMEM(1));
+    if (first != word(0, true, k, 0) || second != word(0, true, k, 1))
+        nicd_failed("message %u of the host is read as 0x%08x 0x%08x by the function", (unsigned)k, (unsigned)first,
+                    (unsigned)second);
+    mail.read[0]++;
+    nicx_vf_write32(0, NIC_VFMAILBOX, NIC_PVFMAILBOX_ACK);
+}
+
 static void function_reads(void)
 {
     for (uint32_t k = 0; k < 2; k++) {
-        while (!(nicx_vf_read32(0, NIC_VFMAILBOX) & NIC_PVFMAILBOX_PFSTS))
+        while (!was_told(0, NIC_PVFMAILBOX_PFSTS))
             nicx_wait();
-        uint32_t first = nicx_vf_read32(0, NIC_VFMBMEM(0)), second = nicx_vf_read32(0, NIC_VFMBMEM(1));
-        if (first != word(0, true, k, 0) || second != word(0, true, k, 1))
-            nicd_failed("message %u of the host is read as 0x%08x 0x%08x by the function", (unsigned)k, (unsigned)first,
-                        (unsigned)second);
-        mail.read[0]++;
-        nicx_vf_write32(0, NIC_VFMAILBOX, NIC_PVFMAILBOX_ACK);
+        function_reads_one(k);
     }
 }
 
+/* A message of its own, and two of the host, in whatever order they come. */
 static void function_does_both(void)
 {
-    function_gives(0, 0);
-    function_reads();
+    bool has_given = false;
+    while (!has_given || mail.read[0] < 2) {
+        if (!has_given && function_puts(0, 0))
+            has_given = true;
+        else if (was_told(0, NIC_PVFMAILBOX_PFSTS))
+            function_reads_one(mail.read[0]);
+        else
+            nicx_wait();
+    }
 }
 
 /* --- the host's driver --- */
@@ -141,18 +174,19 @@ static void serve_and_answer(void *unused)
     }
 }
 
-static bool was_read(void *number)
+/* Sends two messages, each once the function has read the one before, and takes what comes meanwhile. */
+static void tell_and_serve(void *unused)
 {
-    return mail.read[0] > *(uint32_t *)number;
-}
-
-static void tell_two(void *unused)
-{
+    uint32_t told = 0, number;
     (void)unused;
-    for (uint32_t k = 0; k < 2; k++) {
-        while (!answer(0, k))
+    for (;;) {
+        bool acted = take(0, &number);
+        if (told < 2 && mail.read[0] == told && answer(0, told)) {
+            told++;
+            acted = true;
+        }
+        if (!acted)
             nicx_wait();
-        nicx_wait_until(was_read, &k);
     }
 }
 
@@ -172,6 +206,7 @@ static const char *judge_answer(void)
 static void begin(void (*function)(void), const char *name)
 {
     mail.given[0] = mail.given[1] = mail.taken[0] = mail.taken[1] = mail.read[0] = mail.read[1] = 0;
+    kept[0] = kept[1] = 0;
     nicd_other(name, function, false);
 }
 
@@ -185,14 +220,13 @@ static void take_from_two(void)
 static void tell_one(void)
 {
     begin(function_reads, "function0");
-    nicx_task("mailbox", tell_two, NULL);
+    nicx_service("mailbox", tell_and_serve, NULL);
 }
 
 static void collide(void)
 {
     begin(function_does_both, "function0");
-    nicx_service("mailbox", serve, NULL);
-    nicx_task("tell", tell_two, NULL);
+    nicx_service("mailbox", tell_and_serve, NULL);
 }
 
 static void withdraw(void)

@@ -110,7 +110,7 @@ bool nicxi_start(struct post *post, uint32_t hang, void (*work)(struct post *, v
 {
     fflush(NULL);
     post->at = 0;
-    post->is_running = post->is_found = false;
+    post->is_running = post->is_found = post->is_done = false;
     pid_t process = fork();
     if (process) {
         post->process = process;
@@ -123,6 +123,7 @@ bool nicxi_start(struct post *post, uint32_t hang, void (*work)(struct post *, v
     watch(post, hang);
     nicxi_catch_overflows(&post->overflow);
     work(post, argument);
+    post->is_done = true;
     fflush(stdout);
     _exit(0);
 }
@@ -186,7 +187,7 @@ void nicxi_refuse_thread(void)
 bool nicxi_ended(struct post *post, int status)
 {
     nicx_result *result = &post->result;
-    if (WIFEXITED(status) && WEXITSTATUS(status) == 0)
+    if (WIFEXITED(status) && WEXITSTATUS(status) == 0 && post->is_done)
         return post->is_found;
     memset(result, 0, sizeof *result);
     result->points = post->at;

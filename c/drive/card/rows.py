@@ -88,11 +88,14 @@ class Runner:
 
     def __init__(self, program: Path, folder: Path, budget: Budget) -> None:
         self.program, self.folder, self.budget = program.resolve(), folder, budget
+        self.hangs = 0
 
     def words(self, row: Row, more: list[object]) -> list[str]:
         budget = self.budget
         words: list[object] = [self.program, "--row", row.name, "--quiet", "--jobs", 1, "--seed", budget.seed]
         words += ["--hang", budget.hang, "--out", self.folder, "--junit", self.folder / f"{row.name}.xml"]
+        if self.hangs > 2:  # each try of a shorter schedule would take as long as the hang is waited for
+            words.append("--no-shrink")
         return [str(word) for word in [*words, "--coverage", self.folder / f"{row.name}.seen", *more]]
 
     def search(self, row: Row, more: list[object], seconds: float) -> bool:
@@ -113,8 +116,11 @@ class Runner:
             row.state, row.lack = NOT_APPLICABLE, row.lack or "something that it needs"
         elif made.returncode < 0:
             fail(row, f"crash: before the first schedule: {signal.strsignal(-made.returncode)}")
+        elif made.returncode == 5:
+            fail(row, made.stderr.strip().splitlines()[-1])
         elif made.returncode:
             fail(row, "refused: " + (made.stderr.strip() or f"status {made.returncode}").splitlines()[-1])
+        self.hangs += row.cause.startswith("hang")
         if found := re.search(r"these are all schedules(?: with at most (\d+) preemptions)?", made.stdout):
             row.every = int(found[1]) if found[1] else 1000
         return not made.returncode

@@ -64,11 +64,21 @@ void nicd_go_on(void)
 
 /* --- receiving --- */
 
+static void judge_behind(uint16_t queue)
+{
+    const uint8_t *behind = nicd.room[queue].behind;
+    for (unsigned k = 0; k < sizeof nicd.room[queue].behind; k++)
+        if (behind[k])
+            nicd_failed("receive of queue %u writes behind the bytes of its frame", queue);
+}
+
 bool nicd_receive(uint16_t queue)
 {
-    nicd_frame *frame = &nicd.frame[queue];
+    nicd_frame *frame = &nicd.room[queue].frame;
     frame->length = 0;
-    if (!nicd.driver->receive(queue, frame))
+    bool is_there = nicd.driver->receive(queue, frame);
+    judge_behind(queue);
+    if (!is_there)
         return false;
     nicd_deliver(queue, frame->bytes, frame->length);
     return true;
@@ -416,6 +426,8 @@ static void forget(void)
     nicd.by_card = false;
     sender_count = 0;
     memset(nicd.pollers, 0, sizeof nicd.pollers);
+    for (unsigned k = 0; k < NICD_QUEUES; k++)
+        memset(nicd.room[k].behind, 0, sizeof nicd.room[k].behind);
     for (uint16_t k = 0; k < NICD_QUEUES; k++) {
         nicd.pollers[k].queue = k;
         nicd.pollers[k].lock.name = "queue";

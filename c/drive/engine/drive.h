@@ -145,7 +145,10 @@ struct drive {
     uint32_t numbers;
 
     struct poller pollers[NICD_QUEUES];
-    nicd_frame frame[NICD_QUEUES];
+    struct {
+        nicd_frame frame;
+        uint8_t behind[64]; /* what the driver must not write */
+    } room[NICD_QUEUES];
 };
 
 extern struct drive nicd;
@@ -226,6 +229,9 @@ void nicd_wait_for_event(uint32_t seen);
 void nicd_wait_for_rest(void);
 /* Waits until so many frames were delivered in all. */
 void nicd_wait_for(uint32_t delivered);
+
+/* For `see`: fails where a ring's registers are written while its queue is on. */
+void nicd_see_held(const struct step *step, bool is_drivers);
 
 /* --- for scenarios: looking at the device without effects --- */
 

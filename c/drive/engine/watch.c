@@ -190,12 +190,59 @@ static bool is_drivers(uint16_t actor)
     return it->kind == BY_THREAD && (it->of >= NICX_TASKS || !(nicd.cards >> it->of & 1));
 }
 
+/* Memory is lent where nicd_dma_alloc gives it, and nowhere else. */
+static void judge_lent(const struct step *step)
+{
+    if ((step->kind == STEP_LEND || step->kind == STEP_TAKE) && !nicd_memory_has(step->bus))
+        nicd_note("the driver %s block %u, which nicd_dma_alloc didn't give",
+                  step->kind == STEP_LEND ? "lends" : "takes back", (unsigned)step->address);
+}
+
+static __thread char mark;
+static char *card_thread;
+
+/* Calls come on the card's threads, which are stacks of one thread of the process. */
+static void judge_thread(void)
+{
+    if (card_thread && card_thread != &mark)
+        nicd_note("a call comes from a thread that the driver made itself: the card's are those of `threads`");
+}
+
+/* A write that the device drops since the queue is on. */
+void nicd_see_held(const struct step *step, bool is_drivers)
+{
+    static const struct {
+        uint32_t first, at;
+        const char *name;
+    } held[] = {{NIC_RDBAL(0), 0, "RDBAL"}, {NIC_RDLEN(0), 8, "RDLEN"}, {NIC_RDH(0), 0x10, "RDH"},
+                {NIC_TDBAL(0), 0, "TDBAL"}, {NIC_TDLEN(0), 8, "TDLEN"}, {NIC_TDH(0), 0x10, "TDH"}};
+    if (!is_drivers || step->kind != STEP_WRITE || nicd_peek(step->address) == step->word)
+        return;
+    for (unsigned k = 0; k < sizeof held / sizeof *held; k++)
+        for (unsigned queue = 0; queue < nicd.setup.queues; queue++)
+            if (step->address == held[k].first + 0x40 * queue)
+                nicd_note("%s(%u) is written while the queue is on: the device keeps what it had", held[k].name, queue);
+}
+
+/* Once close has returned nothing of the driver acts but a handler that ran already. */
+static void judge_ended(uint16_t actor, const struct step *step)
+{
+    bool is_access = step->kind >= STEP_READ && step->kind <= STEP_TAKE;
+    if (nicd.is_ended && is_access && actor != NOBODY && nicxi.actors[actor].of < NICX_TASKS)
+        nicd_note("%s acts for the driver, and close has returned", nicxi.threads[nicxi.actors[actor].of].name);
+}
+
 void nicd_watch(void *unused, uint16_t actor, const struct step *step)
 {
     (void)unused;
     bool is_of_driver = step->kind < STEP_RX && is_drivers(actor);
     cover(step, is_of_driver);
     nicd.events += step->kind >= STEP_RX;
+    if (is_of_driver) {
+        judge_ended(actor, step);
+        judge_lent(step);
+        judge_thread();
+    }
     switch (step->kind) {
     case STEP_ARRIVE: see_arrival(step); break;
     case STEP_RX: see_receive(step); break;
@@ -215,6 +262,7 @@ void nicd_watch_begin(void)
     memset(nicd.written_count, 0, sizeof nicd.written_count);
     memset(nicd.next, 0, sizeof nicd.next);
     memset(nicd.went, 0, sizeof nicd.went);
+    card_thread = &mark;
     nicd.count = nicd.oldest = nicd.let_in = 0;
     nicd.partial = -1;
 }

@@ -36,11 +36,6 @@ static void see_nothing_left(void)
         nicx_fail(words);
 }
 
-static const char *end_with_nothing_left(void)
-{
-    return left();
-}
-
 /* --- the scenarios --- */
 
 static void open_and_close(void)
@@ -190,17 +185,13 @@ const struct scenario nicd_life[] = {
      .setup = {.interrupts = true}, .begin = close_amid_all},
     {.name = "restart", .family = "life", .title = "three lives, then a fourth that goes on",
      .rule = "What an earlier life left, in rings, heads and causes, isn't taken for news",
-     .source = "open of the adapter", .needs = RECEIVES, .ways = OPENS | LOSSY | DROPS, .begin = restart},
+     .source = "open of the adapter", .needs = RECEIVES, .ways = OPENS | LOSSY | DROPS, .begin = restart,
+     .see = nicd_see_held},
     {.name = "memory-refused", .family = "life", .title = "each request for memory is refused once",
      .rule = "An open that is refused memory leaves nothing behind, and the next one succeeds",
      .source = "open of the adapter", .needs = RECEIVES, .ways = OPENS | LOSSY | DROPS, .begin = refuse_memory,
      .reaches = {"memory was refused"}, .points = 60000},
     {.name = "suspend", .family = "life", .title = "suspend and resume amid traffic", .rule = stop_rule,
      .source = "suspend of the adapter", .needs = RECEIVES | SENDS | SUSPEND, .ways = LOSSY | DROPS,
-     .begin = suspend_amid_all},
+     .begin = suspend_amid_all, .see = nicd_see_held},
     {0}};
-
-const char *nicd_left(void)
-{
-    return end_with_nothing_left();
-}

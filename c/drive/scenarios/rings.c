@@ -47,7 +47,7 @@ static void come_to_a_full_ring(void)
 static void look_at_nothing(void)
 {
     for (unsigned k = 0; k < 3; k++) {
-        nicd_frame *frame = &nicd.frame[0];
+        nicd_frame *frame = &nicd.room[0].frame;
         nicx_check(!nicd.driver->receive(0, frame), "receive answers true, and no frame came");
     }
 }

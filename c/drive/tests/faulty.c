@@ -1,0 +1,177 @@
+/* Drivers that the card must survive: with -DMODE=name each is one that crashes, hangs, or reaches what isn't its own,
+   in a call that the name says. All else is the smallest driver that receives. */
+#include <pthread.h>
+#include <stdlib.h>
+#include <string.h>
+
+#include "nic82599_drive.h"
+
+enum mode {
+    RIGHT,
+    CRASH_IN_RECEIVE,
+    CRASH_IN_OPEN,
+    HANG_IN_RECEIVE,
+    HANG_IN_OPEN,
+    WAIT_IN_OPEN,
+    EXIT_IN_RECEIVE,
+    ABORT_IN_CLOSE,
+    OUTSIDE_DMA,
+    OTHERS_DMA,
+    BEHIND_THE_FRAME,
+    NO_LENGTH,
+    OTHER_QUEUE,
+    FREE_TWICE,
+    FREE_OTHERS,
+    OPEN_FALSE,
+    FROM_A_THREAD,
+    THREAD_LEFT,
+    LOCK_LEFT,
+    MEMORY_LEFT,
+    LENDS_IN_PLACE,
+    STATE_LEFT
+};
+
+#ifndef MODE
+#define MODE RIGHT
+#endif
+
+enum { SLOTS = 8, ENABLE = 1 << 25 };
+
+static struct {
+    uint64_t ring, buffers[SLOTS];
+    uint16_t next;
+    nicx_mutex lock;
+} driver;
+
+static int calls; /* of receive, over all schedules: open doesn't make it anew */
+
+static void *touch(void *unused)
+{
+    nicx_read32(NIC_STATUS);
+    return unused;
+}
+
+static void touch_from_a_thread(void)
+{
+    pthread_t other;
+    if (!pthread_create(&other, NULL, touch, NULL))
+        pthread_join(other, NULL);
+}
+
+static void fault_in_open(void)
+{
+    static uint8_t memory[4096];
+    volatile int *nowhere = NULL;
+    if (MODE == CRASH_IN_OPEN)
+        *nowhere = 1;
+    while (MODE == HANG_IN_OPEN)
+        continue;
+    while (MODE == WAIT_IN_OPEN && !(nicx_read32(NIC_EERD) & 2))
+        nicx_wait();
+    if (MODE == LENDS_IN_PLACE)
+        nic_lend_memory(nicx_device(), 0x40000, memory, 4096);
+}
+
+static bool open_driver(const nicd_setup *setup)
+{
+    memset(&driver, 0, sizeof driver);
+    fault_in_open();
+    if (MODE == OPEN_FALSE || setup->slots != SLOTS)
+        return false;
+    driver.ring = nicd_dma_alloc(NIC_DESC_BYTES * SLOTS);
+    nicx_write32(NIC_FCTRL, NIC_FCTRL_UPE);
+    nicx_write32(NIC_RDBAL(0), (uint32_t)driver.ring);
+    nicx_write32(NIC_RDLEN(0), NIC_DESC_BYTES * SLOTS);
+    nicx_write32(NIC_SRRCTL(0), NIC_SRRCTL_DESCTYPE_IS(1) | NIC_SRRCTL_BSIZEPACKET_IS(2));
+    for (unsigned slot = 0; slot < SLOTS; slot++) {
+        driver.buffers[slot] = nicd_dma_alloc(2048);
+        nicx_put64(driver.ring + NIC_DESC_BYTES * slot, driver.buffers[slot]);
+    }
+    nicx_write32(NIC_RXDCTL(0), ENABLE);
+    while (!(nicx_read32(NIC_RXDCTL(0)) & ENABLE))
+        nicx_wait();
+    nicx_write32(NIC_RDT(0), SLOTS - 1);
+    nicx_write32(NIC_RXCTRL, NIC_RXCTRL_RXEN);
+    return true;
+}
+
+static void close_driver(void)
+{
+    if (MODE == ABORT_IN_CLOSE)
+        abort();
+    nicx_write32(NIC_RXDCTL(0), 0);
+    while (nicx_read32(NIC_RXDCTL(0)) & ENABLE)
+        nicx_wait();
+    for (unsigned slot = 0; slot < SLOTS; slot++)
+        nicd_dma_free(driver.buffers[slot]);
+    if (MODE == FREE_TWICE)
+        nicd_dma_free(driver.buffers[0]);
+    if (MODE != MEMORY_LEFT)
+        nicd_dma_free(MODE == FREE_OTHERS ? 0x1000 : driver.ring);
+}
+
+static void fault_in_receive(void)
+{
+    volatile int *nowhere = NULL;
+    uint8_t bytes[16] = {0};
+    if (MODE == CRASH_IN_RECEIVE)
+        *nowhere = 1;
+    if (MODE == EXIT_IN_RECEIVE)
+        exit(0);
+    while (MODE == HANG_IN_RECEIVE)
+        continue;
+    if (MODE == OUTSIDE_DMA)
+        nicx_dma_write(driver.ring + NIC_DESC_BYTES * SLOTS, bytes, sizeof bytes);
+    if (MODE == OTHERS_DMA)
+        nicx_lend(200);
+    if (MODE == FROM_A_THREAD)
+        touch_from_a_thread();
+    if (MODE == LOCK_LEFT)
+        nicx_lock(&driver.lock);
+}
+
+static bool receive(uint16_t queue, nicd_frame *frame)
+{
+    unsigned slot = driver.next;
+    uint64_t second = nicx_get64(driver.ring + NIC_DESC_BYTES * slot + 8);
+    if (!(second & NIC_RXWB_DD))
+        return false;
+    fault_in_receive();
+    calls++;
+    frame->length = MODE == NO_LENGTH ? 0 : (uint32_t)nic_desc_field(second, NIC_RXWB_PKT_LEN);
+    nicx_dma_read(driver.buffers[slot], frame->bytes, frame->length);
+    if (MODE == BEHIND_THE_FRAME)
+        memset(frame->bytes + NICD_FRAME_MOST, 1, 8);
+    if (MODE == STATE_LEFT && calls == 400)
+        frame->bytes[20] ^= 1;
+    nicx_put64(driver.ring + NIC_DESC_BYTES * slot, driver.buffers[slot]);
+    nicx_put64(driver.ring + NIC_DESC_BYTES * slot + 8, 0);
+    driver.next = (uint16_t)((slot + 1) % SLOTS);
+    nicx_write32(NIC_RDT(0), slot);
+    if (MODE == OTHER_QUEUE)
+        nicd_deliver((uint16_t)(queue + 3), frame->bytes, frame->length);
+    return true;
+}
+
+/* It goes on whatever happens, also once the driver is closed. */
+static void thread(uint32_t number)
+{
+    (void)number;
+    for (unsigned k = 0; k < 200; k++) {
+        nicx_read32(NIC_GPRC);
+        nicx_pause();
+    }
+}
+
+int main(int argc, char **argv)
+{
+    static const nicd_driver card = {
+        .name = "faulty",
+        .open = open_driver,
+        .close = close_driver,
+        .receive = receive,
+        .threads = MODE == THREAD_LEFT ? 1 : 0,
+        .thread = thread,
+    };
+    return nicd_main(argc, argv, &card);
+}

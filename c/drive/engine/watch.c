@@ -211,11 +211,11 @@ static void judge_thread(void)
 /* A write that the device drops since the queue is on. */
 void nicd_see_held(const struct step *step, bool is_drivers)
 {
-    static const struct {
-        uint32_t first, at;
+    const struct {
+        uint32_t first;
         const char *name;
-    } held[] = {{NIC_RDBAL(0), 0, "RDBAL"}, {NIC_RDLEN(0), 8, "RDLEN"}, {NIC_RDH(0), 0x10, "RDH"},
-                {NIC_TDBAL(0), 0, "TDBAL"}, {NIC_TDLEN(0), 8, "TDLEN"}, {NIC_TDH(0), 0x10, "TDH"}};
+    } held[] = {{NIC_RDBAL(0), "RDBAL"}, {NIC_RDLEN(0), "RDLEN"}, {NIC_RDH(0), "RDH"},
+                {NIC_TDBAL(0), "TDBAL"}, {NIC_TDLEN(0), "TDLEN"}, {NIC_TDH(0), "TDH"}};
     if (!is_drivers || step->kind != STEP_WRITE || nicd_peek(step->address) == step->word)
         return;
     for (unsigned k = 0; k < sizeof held / sizeof *held; k++)

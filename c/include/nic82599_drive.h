@@ -97,7 +97,8 @@ typedef struct nicd_driver {
     void (*close)(void);
 
     /* The frame that came next in a queue, whole: true. False where none is there, at once. A driver that hands its
-       frames up from threads of its own calls nicd_deliver there, and has no `receive`. */
+       frames up from threads of its own calls nicd_deliver there, and has no `receive`; it is opened with interrupts
+       always. */
     bool (*receive)(uint16_t queue, nicd_frame *frame);
     /* Sends a frame of 60 bytes to those of the setup: true, and its bytes may change from then on. False where the ring
        has no room now, or the frame is longer than that. */

@@ -48,8 +48,12 @@ enum bug {
 
 enum { PART = 2048, MOST_SLOTS = 64, ENABLE = 1 << 25, OTHER_VECTOR = 8 };
 
-/* Of these bugs the driver has threads of its own, which take the frames. */
+/* With -DTHREADS, and of these bugs, the driver has threads of its own, which take the frames. */
+#ifdef THREADS
+#define HAS_THREADS 1
+#else
 #define HAS_THREADS (BUG == UNMASKED_BEFORE_LAST_LOOK || BUG == INTERRUPT_MODERATION)
+#endif
 #define HAS_WATCHDOG (BUG == TRANSMIT_WATCHDOG)
 #define WRITES_HEAD (BUG == WRITTEN_HEAD_STALE)
 
@@ -79,7 +83,7 @@ static struct {
     bool has_rss, link_is_up;
     bool waits_for_ack;
     uint32_t seen; /* of VFMAILBOX: what a read tells once */
-    bool scheduled;
+    bool scheduled[NICD_QUEUES], polls[NICD_QUEUES], rests; /* of threads of its own */
     uint32_t interrupts, looked;
     nicd_frame partial;
     nicx_mutex counters, other;
@@ -357,6 +361,9 @@ static void look_at_link(void)
 
 /* --- open and close --- */
 
+static void rest_threads(void);
+static void wake_threads(void);
+
 static void spread_over_queues(void)
 {
     for (unsigned k = 0; k < sizeof driver.rss.key; k++)
@@ -386,6 +393,7 @@ static bool open_driver(const nicd_setup *setup)
 
 static void close_driver(void)
 {
+    rest_threads();
     mask_all();
     stop_queues();
     if (!driver.setup.port) {
@@ -441,9 +449,9 @@ static void give_back(unsigned queue, unsigned slot)
 {
     struct ring *ring = &driver.rx[queue];
     unsigned tail = BUG == TAIL_MEETS_HEAD ? after(slot) : slot;
-    if (BUG == TAIL_BEFORE_DESCRIPTOR) {
-        put(NIC_RDT(queue), after(slot) == ring->next ? slot : after(slot));
-        post(ring, slot);
+    if (BUG == TAIL_BEFORE_DESCRIPTOR) { /* of the slot before, which the tail hands over */
+        put(NIC_RDT(queue), slot);
+        post(ring, (slot + driver.setup.slots - 1u) % driver.setup.slots);
         return;
     }
     post(ring, slot);
@@ -622,9 +630,9 @@ static uint32_t interrupt(uint8_t vector)
     }
     if (BUG == DOUBLE_CLEANER)
         clean(0);
-    if (HAS_THREADS) {
+    if (HAS_THREADS && vector < NICD_QUEUES) {
         driver.interrupts++;
-        driver.scheduled = true;
+        driver.scheduled[vector] = true;
         return 0;
     }
     if (vector == OTHER_VECTOR && !driver.setup.port) {
@@ -668,6 +676,7 @@ static bool rss(const nicd_rss *wanted)
 /* Stops all, and starts it with what the setup says now. */
 static bool start_anew(bool takes_memory)
 {
+    rest_threads();
     mask_all();
     stop_queues();
     if (takes_memory) {
@@ -676,6 +685,7 @@ static bool start_anew(bool takes_memory)
             return false;
     }
     start_all();
+    wake_threads();
     if (driver.setup.port)
         return true;
     if (BUG != LINK_CHANGE_LOST)
@@ -725,6 +735,7 @@ static bool reset(void)
 
 static bool suspend(void)
 {
+    rest_threads();
     mask_all();
     stop_queues();
     return true;
@@ -733,6 +744,7 @@ static bool suspend(void)
 static bool resume(void)
 {
     start_all();
+    wake_threads();
     if (!driver.setup.port)
         look_at_link();
     return true;
@@ -842,29 +854,60 @@ static bool mailbox_receive(uint8_t vf, uint32_t words[NICD_WORDS])
     return driver.setup.port ? function_receives(words) : host_receives(vf, words);
 }
 
-/* --- threads of its own, where a bug needs them --- */
+/* --- threads of its own: one for each queue --- */
 
-static void deliver_all(void)
+static const uint16_t queue_numbers[NICD_QUEUES] = {0, 1, 2, 3};
+
+static bool has_work(void *queue)
 {
-    static nicd_frame frame;
-    while (receive(0, &frame))
-        nicd_deliver(0, frame.bytes, frame.length);
+    return driver.scheduled[*(const uint16_t *)queue] && !driver.rests;
 }
 
-static void poll(void)
+static void deliver_all(uint16_t queue)
+{
+    static nicd_frame frames[NICD_QUEUES];
+    while (!driver.rests && receive(queue, &frames[queue]))
+        nicd_deliver(queue, frames[queue].bytes, frames[queue].length);
+}
+
+static void poll(uint16_t queue)
 {
     for (;;) {
-        nicx_wait_until(nicx_is_set, &driver.scheduled);
-        if (BUG == UNMASKED_BEFORE_LAST_LOOK) {
-            driver.scheduled = false;
-            rearm(0);
-            deliver_all();
-        } else {
-            deliver_all();
-            driver.scheduled = false;
-            rearm(0);
-        }
+        nicx_wait_until(has_work, (void *)(uintptr_t)&queue_numbers[queue]);
+        driver.polls[queue] = true;
+        if (BUG != INTERRUPT_MODERATION)
+            driver.scheduled[queue] = false;
+        if (BUG == UNMASKED_BEFORE_LAST_LOOK)
+            rearm(queue);
+        deliver_all(queue);
+        driver.scheduled[queue] = driver.scheduled[queue] && BUG != INTERRUPT_MODERATION;
+        if (BUG != UNMASKED_BEFORE_LAST_LOOK && !driver.rests)
+            rearm(queue);
+        driver.polls[queue] = false;
     }
+}
+
+static bool nobody_polls(void *unused)
+{
+    (void)unused;
+    for (unsigned queue = 0; queue < NICD_QUEUES; queue++)
+        if (driver.polls[queue])
+            return false;
+    return true;
+}
+
+/* No thread of its own acts from here on, until wake_threads. */
+static void rest_threads(void)
+{
+    driver.rests = true;
+    nicx_wait_until(nobody_polls, NULL);
+}
+
+static void wake_threads(void)
+{
+    for (unsigned queue = 0; queue < driver.setup.queues; queue++)
+        driver.scheduled[queue] = HAS_THREADS;
+    driver.rests = false;
 }
 
 static bool are_many(void *unused)
@@ -910,7 +953,7 @@ static void thread(uint32_t number)
     else if (BUG == INTERRUPT_MODERATION && number)
         moderate();
     else
-        poll();
+        poll(BUG == UNMASKED_BEFORE_LAST_LOOK || BUG == INTERRUPT_MODERATION ? 0 : (uint16_t)number);
 }
 
 int main(int argc, char **argv)
@@ -927,7 +970,7 @@ int main(int argc, char **argv)
         .reclaim = reclaim,
         .interrupt = interrupt,
         .rearm = HAS_THREADS ? NULL : rearm,
-        .threads = HAS_THREADS ? 2 : HAS_WATCHDOG ? 1 : 0,
+        .threads = BUG == NONE && HAS_THREADS ? NICD_QUEUES : HAS_THREADS ? 2 : HAS_WATCHDOG ? 1 : 0,
         .thread = thread,
         .filter = filter,
         .rss = rss,

@@ -139,7 +139,8 @@ struct drive {
     uint32_t delivered;
 
     struct sent sent[NICD_QUEUES][MOST_OUT];
-    uint32_t accepted[NICD_QUEUES], went[NICD_QUEUES]; /* taken by send; sent by the device */
+    uint32_t accepted[NICD_QUEUES], went[NICD_QUEUES];         /* taken by send; sent by the device */
+    uint32_t accepted_now[NICD_QUEUES], went_now[NICD_QUEUES]; /* the same since the last interruption */
     bool is_refused[NICD_QUEUES], is_awaited[NICD_QUEUES]; /* send answered false; somebody waits until all went out */
     uint32_t out[NICD_QUEUES]; /* as reclaim told last, and what was taken since */
     uint32_t numbers;

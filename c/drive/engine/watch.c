@@ -175,6 +175,7 @@ static void see_sent(const struct step *step)
     unsigned queue = (unsigned)(step->told.queue - nicd.base);
     if (step->status == NIC_SENT && queue < NICD_QUEUES) {
         nicd.went[queue]++;
+        nicd.went_now[queue]++;
         seen->sent++;
     }
 }

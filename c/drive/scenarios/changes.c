@@ -70,9 +70,13 @@ static void reset_amid_all(void)
 static void reset_twice(void)
 {
     reset_once();
+    for (unsigned k = 0; k < 2 && nicd.driver->send; k++)
+        nicd_send_surely(0, 60);
     reset_once();
     for (unsigned k = 0; k < 2 && nicd.driver->send; k++)
         nicd_send_surely(0, 60);
+    if (nicd.driver->send)
+        nicd_wait_until_out(0);
 }
 
 static void reset_and_go_on(void)

@@ -324,7 +324,7 @@ const struct scenario nicd_setup_rows[] = {
     CHECKS("setup-masked-after-reset", PHYSICAL, "and again after it", check_after_reset,
            "After a reset all causes are masked once more before the device is set up", "Interrupts During Initialization",
            .queues = 1),
-    CHECKS("setup-masked-polling", PHYSICAL, "a driver that polls enables no cause", check_masks,
+    CHECKS("setup-masked-polling", PULLS | PHYSICAL, "a driver that polls enables no cause", check_masks,
            "EIMS enables the causes that a handler is there for", "open of the adapter", .queues = 1),
     SEES("setup-ring-values", RECEIVES | PHYSICAL, "where rings lie, how long they are, where tails are", see_ring,
          "A ring begins at a multiple of 128 and has a multiple of 128 bytes; the bench drops the low bits",

@@ -546,6 +546,8 @@ static void clean(unsigned queue)
         uint16_t next = (uint16_t)after(tx->last[tx->clean]);
         if (BUG == DOUBLE_CLEANER)
             nicx_point();
+        if (!WRITES_HEAD)
+            nicx_put64(tx->ring.bus + NIC_DESC_BYTES * tx->last[tx->clean] + 8, 0);
         tx->clean = next;
         tx->frames--;
     }
@@ -695,6 +697,7 @@ static bool start_anew(bool takes_memory)
 
 static bool mtu(uint32_t frame)
 {
+    rest_threads();
     driver.setup.frame = frame;
     return start_anew(false);
 }
@@ -715,6 +718,7 @@ static void move_rings(void)
 
 static bool resize(uint16_t slots)
 {
+    rest_threads();
     if (BUG != RING_RESIZE_JUMBO)
         driver.partial.length = 0;
     driver.setup.slots = slots;
@@ -863,14 +867,16 @@ static bool has_work(void *queue)
     return driver.scheduled[*(const uint16_t *)queue] && !driver.rests;
 }
 
-static void deliver_all(uint16_t queue)
+static void deliver_all(uint32_t thread, uint16_t queue)
 {
     static nicd_frame frames[NICD_QUEUES];
-    while (!driver.rests && receive(queue, &frames[queue]))
-        nicd_deliver(queue, frames[queue].bytes, frames[queue].length);
+    nicd_frame *frame = &frames[thread];
+    while (!driver.rests && receive(queue, frame))
+        nicd_deliver(queue, frame->bytes, frame->length);
+    nicx_point(); /* the handler touches what comes next */
 }
 
-static void poll(uint16_t queue)
+static void poll(uint32_t thread, uint16_t queue)
 {
     for (;;) {
         nicx_wait_until(has_work, (void *)(uintptr_t)&queue_numbers[queue]);
@@ -879,7 +885,7 @@ static void poll(uint16_t queue)
             driver.scheduled[queue] = false;
         if (BUG == UNMASKED_BEFORE_LAST_LOOK)
             rearm(queue);
-        deliver_all(queue);
+        deliver_all(thread, queue);
         driver.scheduled[queue] = driver.scheduled[queue] && BUG != INTERRUPT_MODERATION;
         if (BUG != UNMASKED_BEFORE_LAST_LOOK && !driver.rests)
             rearm(queue);
@@ -953,7 +959,7 @@ static void thread(uint32_t number)
     else if (BUG == INTERRUPT_MODERATION && number)
         moderate();
     else
-        poll(BUG == UNMASKED_BEFORE_LAST_LOOK || BUG == INTERRUPT_MODERATION ? 0 : (uint16_t)number);
+        poll(number, BUG == UNMASKED_BEFORE_LAST_LOOK || BUG == INTERRUPT_MODERATION ? 0 : (uint16_t)number);
 }
 
 int main(int argc, char **argv)

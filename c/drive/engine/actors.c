@@ -65,6 +65,8 @@ void nicd_hold(void)
 void nicd_go_on(void)
 {
     next_life();
+    nicxi.frame_count = (uint16_t)(nicxi.frame_count + nicd.late);
+    nicd.late = 0;
     nicd.is_running = nicd.is_open;
     for (unsigned k = 0; k < NICD_QUEUES; k++)
         nicd.pollers[k].scheduled = true;
@@ -456,6 +458,7 @@ void nicd_begin(void)
     if (!(nicd.scenario->ways & OPENS) && !nicd_open())
         nicd_note("open answered false");
     nicd.scenario->begin();
+    nicxi.frame_count = (uint16_t)(nicxi.frame_count - nicd.late); /* the link has no more yet */
     add_threads();
     if (nicd.setup.interrupts && nicd.driver->interrupt)
         add_handlers();

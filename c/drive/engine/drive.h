@@ -130,7 +130,7 @@ struct drive {
 
     struct come coming[NICX_FRAMES];
     struct frame_now frames[NICX_FRAMES];
-    uint16_t count;
+    uint16_t count, late; /* the last ones come only once the flow goes on */
     uint16_t waiting[NICX_FRAMES];
     uint16_t oldest, let_in;
     int partial; /* the device's queue in whose ring a frame is begun, or -1 */
@@ -200,6 +200,8 @@ const char *nicd_end(void);
 uint16_t nicd_come(struct come come);
 /* So many to the port's own address, of 60 bytes or of this length. */
 void nicd_come_plain(uint32_t count, uint32_t length);
+/* The same, once the flow goes on: these are named last. */
+void nicd_come_late(uint32_t count, uint32_t length);
 /* Threads that take frames, one a queue, and handlers of the vectors in use. */
 void nicd_take_frames(void);
 /* A thread that sends so many frames by a queue and waits until they went out. */

@@ -107,6 +107,12 @@ uint16_t nicd_come(struct come come)
     return number;
 }
 
+void nicd_come_late(uint32_t count, uint32_t length)
+{
+    nicd_come_plain(count, length);
+    nicd.late = (uint16_t)(nicd.late + count);
+}
+
 void nicd_come_plain(uint32_t count, uint32_t length)
 {
     for (uint32_t k = 0; k < count; k++) {

@@ -114,8 +114,10 @@ static void tell_waiting(uint16_t number)
 {
     static char why[400];
     nic_why(&nicxi.device, why, sizeof why);
-    why[strcspn(why, "\n")] = 0;
-    nicd_note("frame %u waits inside the device at rest: %.150s", number, *why ? why : "nothing takes it");
+    for (char *at = why; *at; at++)
+        if (*at == '\n')
+            *at = at[1] ? ';' : 0;
+    nicd_note("frame %u waits inside the device at rest: %.190s", number, *why ? why : "nothing takes it");
 }
 
 static void judge_frame(uint16_t number)
@@ -123,7 +125,8 @@ static void judge_frame(uint16_t number)
     const struct frame_now *frame = &nicd.frames[number];
     bool may_be_lost = is_lossy() && (frame->life != nicd.life || !nicd.is_open);
     switch (frame->state) {
-    case IS_DELIVERED: return;
+    case IS_DELIVERED:
+    case ON_ITS_WAY: return;
     case IS_DROPPED:
         if (!may_be_lost && !(nicd.scenario->ways & DROPS))
             nicd_note("frame %u was dropped: %s", number, nic_why_name(frame->why));

@@ -264,7 +264,7 @@ void nicd_watch_begin(void)
     memset(nicd.next, 0, sizeof nicd.next);
     memset(nicd.went, 0, sizeof nicd.went);
     card_thread = &mark;
-    nicd.count = nicd.oldest = nicd.let_in = 0;
+    nicd.count = nicd.late = nicd.oldest = nicd.let_in = 0;
     nicd.partial = -1;
 }
 

@@ -52,7 +52,8 @@ static void reset_amid_receive(void)
 {
     nicd_control(reset_once);
     nicd_take_frames();
-    nicd_come_plain(6, 60);
+    nicd_come_plain(4, 60);
+    nicd_come_late(2, 60);
 }
 
 static void reset_amid_send(void)
@@ -65,6 +66,7 @@ static void reset_amid_all(void)
 {
     nicd_control(reset_once);
     use_both_ways();
+    nicd_come_late(2, 60);
 }
 
 static void reset_twice(void)
@@ -83,7 +85,8 @@ static void reset_and_go_on(void)
 {
     nicd_control(reset_twice);
     nicd_take_frames();
-    nicd_come_plain(5, 60);
+    nicd_come_plain(3, 60);
+    nicd_come_late(2, 60);
 }
 
 /* --- a fault: the device finds memory gone, and the queue is off --- */
@@ -129,12 +132,18 @@ static void break_and_reset(bool transmit)
 static void break_receive(void)
 {
     break_and_reset(false);
+    while (nicd.frames[nicd.count - 1].state != IS_DELIVERED) {
+        uint32_t seen = nicd.events;
+        if (!nicd_receive(0))
+            nicd_wait_for_event(seen);
+    }
 }
 
 static void fault_in_receive(void)
 {
     nicd_control(break_receive);
     nicd_come_plain(1, 60);
+    nicd_come_late(2, 60);
 }
 
 static const char *judge_recovery(void)
@@ -190,7 +199,9 @@ static void grow_amid_traffic(void)
 {
     nicd_control(grow_frames);
     nicd_take_frames();
-    nicd_come_plain(3, 60);
+    nicd_come_plain(2, 60);
+    nicd_come_late(1, 4096);
+    nicd_come_late(1, 60);
 }
 
 static void shrink_frames(void)
@@ -215,8 +226,9 @@ static void shrink_amid_traffic(void)
     nicd_control(shrink_frames);
     nicd_take_frames();
     nicd_come_plain(1, 4096);
-    nicd_come_plain(2, 60);
-    nicd_come_plain(1, 4096);
+    nicd_come_plain(1, 60);
+    nicd_come_late(1, 4096);
+    nicd_come_late(1, 60);
 }
 
 static void make_rings_longer(void)
@@ -240,13 +252,15 @@ static void resize_amid_traffic(void)
 {
     nicd_control(make_rings_longer);
     use_both_ways();
+    nicd_come_late(12, 60);
 }
 
 static void resize_amid_chains(void)
 {
     nicd_control(make_rings_longer);
     nicd_take_frames();
-    nicd_come_plain(4, 5000);
+    nicd_come_plain(2, 5000);
+    nicd_come_late(2, 5000);
 }
 
 static const char reset_rule[] = "A reset ends all queues, masks and filters: software sets all up anew, and throws away "
@@ -276,7 +290,7 @@ const struct scenario nicd_changes[] = {
      .source = "Software Reset", .needs = RECEIVES | RESET, .ways = LOSSY | DROPS, .begin = reset_and_go_on, .see = nicd_see_held},
     {.name = "fault-receive", .family = "reset", .title = "a receive queue met a fault, and is reset",
      .rule = "A queue that met a fault is off until software sets it up anew", .source = "reset of the adapter",
-     .needs = RECEIVES | RESET, .ways = LOSSY | DROPS | FAULTY, .begin = fault_in_receive, .end = judge_recovery,
+     .needs = PULLS | RESET, .ways = LOSSY | DROPS | FAULTY, .begin = fault_in_receive, .end = judge_recovery,
      .reaches = {"the queue met the fault"}},
     {.name = "fault-send", .family = "reset", .title = "a transmit queue met a fault, and is reset",
      .rule = "A queue that met a fault is off until software sets it up anew", .source = "reset of the adapter",

@@ -65,7 +65,8 @@ static void reset_under_it(void)
     nicd_control(be_reset);
     nicd_other("host", reset_pool, false);
     nicd_take_frames();
-    nicd_come_plain(4, 60);
+    nicd_come_plain(3, 60);
+    nicd_come_late(2, 60);
 }
 
 /* --- what isn't the function's --- */

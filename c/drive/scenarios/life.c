@@ -161,7 +161,8 @@ static void suspend_amid_all(void)
     nicd_control(rest_and_go_on);
     nicd_take_frames();
     nicd_send_frames(0, 3, 60);
-    nicd_come_plain(4, 60);
+    nicd_come_plain(3, 60);
+    nicd_come_late(2, 60);
 }
 
 static const char stop_rule[] = "A queue that is asked to go off may receive and send until ENABLE reads 0; only then is "

@@ -1,0 +1,258 @@
+"""Checks the report card: a right driver passes each row, each bug of the corpus fails a row that names it, and what a
+driver does that is no driver's to do is told, with the other rows going on.
+
+`c/test` calls these; `c/drive/table` takes the bugs from here too.
+"""
+
+from __future__ import annotations
+
+import json
+import re
+import subprocess
+import sys
+import xml.etree.ElementTree
+from dataclasses import dataclass
+from pathlib import Path
+from typing import Any
+
+HERE = Path(__file__).resolve().parent
+C = HERE.parent
+STRICT = ["-std=c99", "-Wall", "-Wextra", "-pedantic", "-Werror"]
+
+
+class Wrong(Exception):
+    """Something isn't as it should be."""
+
+
+@dataclass(frozen=True)
+class Bug:
+    """A bug of corpus/driver.c: the row that names it, and by what words."""
+
+    name: str
+    row: str
+    cause: str
+    what: str
+
+
+BUGS = [
+    Bug("BUFFER_AGAIN_BEFORE_DD", "send-one", "reclaim says that all of queue 0 went out, and 1 frames haven't", "A buffer is taken back before the device has said that it went out"),
+    Bug("EICR_CLEARED_BEHIND_POLL", "interrupt-receive", "frame \\d lies in memory, in queue 0, and was never handed up", "A poll that found its ring empty clears EICR, and then unmasks"),
+    Bug("ENABLE_NOT_POLLED", "resize-amid-traffic", "RDBAL.0. is written while the queue is on|isn't lent", "A queue that is asked to go off is on for a while yet, and its ring is moved meanwhile"),
+    Bug("LENGTH_BEFORE_DD", "receive-one", "a frame of 0 bytes is handed up in queue 0", "The length of a frame is read before DD"),
+    Bug("LINK_CHANGE_LOST", "link-amid-reset", "the link is down, and the driver has it up", "A reset takes the cause of a change of the link"),
+    Bug("LOCK_IN_HANDLER_AND_POLL", "interrupt-spurious", "deadlock: .* waits for a lock, which .* holds", "A handler wants the lock that the poll holds which it interrupts"),
+    Bug("MAILBOX_NOT_TAKEN", "mailbox-function-collides", "it was mixed or overwritten", "Both sides write the same mailbox"),
+    Bug("MESSAGE_BEFORE_ACK", "mailbox-function-sends", "message 0 of the function is read as 0xf0000100", "The next message is written before the last one is acknowledged"),
+    Bug("RS_ON_EVERY_FOURTH", "send-one", "reclaim says that 1 frames of queue 0 haven't gone out, and all have", "Every fourth descriptor asks for a report, and the others wait for it"),
+    Bug("RSTD_TOLD_ONCE", "mailbox-ready-once", "deadlock: ready waits", "RSTD is told by one read, and another thread reads it"),
+    Bug("STOP_THAT_DOES_NOT_WAIT", "close-amid-frames", "queue 0 is on, and the driver is closed|isn't lent", "A stop that doesn't wait until the queue is off"),
+    Bug("TAIL_BEFORE_DESCRIPTOR", "receive-wrap", "fault: queue 0: 0x\\w+ isn't lent", "The tail moves before the descriptor behind it is written"),
+    Bug("TAIL_MEETS_HEAD", "receive-burst", "head and tail meet", "A driver that gives the device every slot gives it none"),
+    Bug("TWO_THREADS_ONE_RING", "send-two-threads", "sent frame \\d|went out by queue 0", "Two threads send by one ring, and nothing keeps them apart"),
+    Bug("UNMASKED_BEFORE_LAST_LOOK", "interrupt-receive", "handed up a second time", "A poll unmasks before its last look, and another one starts beside it"),
+    Bug("WRITTEN_HEAD_STALE", "reset-twice", "reclaim says that all of queue 0 went out, and \\d frames haven't", "The head that the device wrote in an earlier life is taken for news"),
+    Bug("INTERRUPT_MODERATION", "interrupt-receive", "lies in memory, in queue 0, and was never handed up", "A poll forgets a message, since it isn't the only one that unmasks"),
+    Bug("MAILBOX_WITHDRAWN_REQUEST", "host-withdrawn-request", "it was mixed or overwritten", "The answer to a request that was withdrawn overwrites the next one"),
+    Bug("RING_RESIZE_JUMBO", "resize-amid-chains", "frame \\d of 5000 bytes is handed up with|other bytes", "Half a frame is left over as a ring is replaced"),
+    Bug("TRANSMIT_WATCHDOG", "send-one", "sent frame 0 went out a second time", "A watchdog gives a queue anew what went out before it is off"),
+    Bug("SLOT_WITHOUT_DD", "receive-empty", "receive answers true, and no frame came", "A slot is taken without DD"),
+    Bug("SLOT_TAKEN_TWICE", "receive-one", "frame 0 is handed up a second time", "A slot is taken twice"),
+    Bug("ACCEPTED_AND_DROPPED", "send-full", "never went out|reclaim says that all of queue 0 went out", "A full ring: the frame is accepted, and dropped"),
+    Bug("IDLE_TOLD_EARLY", "send-wrap", "reclaim says that all of queue 0 went out, and \\d+ frames haven't", "All is told to be out after the first of several"),
+    Bug("CAUSE_READ_AWAY", "setup-cause-read", "a read of EICR takes the causes 0x0001 of queues", "A handler reads EICR, which the card keeps with MSI-X"),
+    Bug("EIMS_OF_ALL_QUEUES", "interrupt-rearm-alone", "rearm of queue 0 enables the cause of queue 1 too", "One queue's poll enables the causes of all"),
+    Bug("IVAR_BYTE_LOST", "interrupt-two-queues", "frame \\d lies in memory, in queue 0, and was never handed up", "The vector of one queue is written over the other's"),
+    Bug("FIRST_DD_OF_A_CHAIN", "receive-4096", "frame 0 of 4096 bytes is handed up with 2048", "Of a frame in several buffers only the first one's DD is looked at"),
+    Bug("HEAD_CACHED_OVER_A_WRAP", "send-wrap", "send is refused in queue 0 for ever, and all of its frames went out", "The head is compared with a slot beyond the wrap"),
+    Bug("DOUBLE_CLEANER", "interrupt-both-ways", "never went out|reclaim says|went out by|second time|deadlock|endless", "The handler takes back slots beside the poll"),
+    Bug("LOCK_ORDER", "both-ways", "deadlock: .* waits for a lock, which .* holds", "Two locks are taken in two orders"),
+]
+
+# Of tests/faulty.c: the row and the words by which each is told. The row after it still passes.
+FAULTS = {
+    "CRASH_IN_RECEIVE": ("receive-one", "crash: .*signal 11"),
+    "CRASH_IN_OPEN": ("open-close", "crash: .*signal 11"),
+    "HANG_IN_RECEIVE": ("receive-one", "hang: task receive0 made no further point"),
+    "HANG_IN_OPEN": ("receive-one", "hang: open makes no end, before the first schedule"),
+    "WAIT_IN_OPEN": ("receive-one", "refused: .*waits for ever.*r EERD"),
+    "EXIT_IN_RECEIVE": ("receive-one", "crash: the process ended with status 0"),
+    "ABORT_IN_CLOSE": ("open-close", "crash: .*signal 6"),
+    "OUTSIDE_DMA": ("receive-one", "memory: receive0 writes 0x1000, which isn't lent"),
+    "OTHERS_DMA": ("receive-one", "the driver lends block 200, which nicd_dma_alloc didn't give"),
+    "BEHIND_THE_FRAME": ("receive-one", "receive of queue 0 writes behind the bytes of its frame"),
+    "NO_LENGTH": ("receive-one", "a frame of 0 bytes is handed up in queue 0"),
+    "OTHER_QUEUE": ("receive-one", "a frame is handed up in queue 3, and there are 1"),
+    "FREE_TWICE": ("open-close", "nicd_dma_free of 0x\\w+, which nicd_dma_alloc didn't give"),
+    "FREE_OTHERS": ("open-close", "nicd_dma_free of 0x1000, which nicd_dma_alloc didn't give"),
+    "OPEN_FALSE": ("receive-one", "open answered false"),
+    "FROM_A_THREAD": ("receive-one", "a call comes from a thread that the driver made itself"),
+    "THREAD_LEFT": ("open-close", "thread0 acts for the driver, and close has returned"),
+    "LOCK_LEFT": ("receive-wrap", "deadlock: receive0 waits for a lock, which receive0 holds"),
+    "MEMORY_LEFT": ("open-close", "1 pieces of DMA memory weren't given back"),
+    "LENDS_IN_PLACE": ("open-close", "misuse: control calls nic_lend_memory"),
+    "STATE_LEFT": ("receive-wrap", "misuse: begin doesn't make all of the driver's state anew"),
+}
+
+# Words that the command refuses, with the status 2, and drivers that can't be taken.
+REFUSALS = {
+    "": "which driver\\?",
+    "/nowhere.c": "/nowhere.c: there is no such file",
+    "{source} --rows nothing": "--rows: there is no row and no family nothing",
+    "{source} --jobs 0": "are above 0",
+    "{source} --cc /nowhere": "/nowhere: it can't be run",
+    "{source} --libraries /nowhere": "there is no such file: `make -C c` makes it",
+    "{broken}": "it doesn't compile",
+    "/bin/true": "tells no scenarios: does its main call nicd_main\\?",
+    "--compare /nowhere /nowhere": "it is no card",
+}
+
+
+def nicdrive(folder: Path, words: list[object], wanted: int | None) -> str:
+    """What the command prints; Wrong where it ends with another status."""
+    called = [sys.executable, HERE / "nicdrive", *words, "-o", folder] if "--compare" not in words else [sys.executable, HERE / "nicdrive", *words]
+    made = subprocess.run([str(word) for word in called], stdout=subprocess.PIPE, stderr=subprocess.STDOUT, text=True, check=False)
+    if wanted is not None and made.returncode != wanted:
+        shown = " ".join(str(word) for word in called)
+        raise Wrong(f"status {made.returncode} and not {wanted} of: {shown}\n{made.stdout}".rstrip())
+    return made.stdout
+
+
+def rows_of(folder: Path) -> dict[str, dict[str, Any]]:
+    return {row["name"]: row for row in json.loads((folder / "card.json").read_text())["rows"]}
+
+
+@dataclass
+class Kit:
+    """Where programs and cards go, and how programs are made."""
+
+    folder: Path
+    compiler: str
+    flags: list[str]
+    jobs: int = 2
+
+    def build(self, source: Path, *defines: str) -> Path:
+        name = "-".join([source.stem, *defines]).lower().replace("=", "-")
+        program = self.folder / name
+        archives = [C / "out" / f"libnic82599{part}.a" for part in ("_drive", "_explore", "")]
+        words = [self.compiler, *STRICT, *self.flags, f"-I{C}/include", *(f"-D{one}" for one in defines), source]
+        made = subprocess.run(
+            [str(word) for word in [*words, *archives, "-lpthread", "-o", program]],
+            stdout=subprocess.PIPE, stderr=subprocess.STDOUT, text=True, check=False,
+        )
+        if made.returncode:
+            raise Wrong(f"{source} {' '.join(defines)} doesn't compile:\n{made.stdout}")
+        return program
+
+    def card(self, program: Path, wanted: int | None, *words: object) -> dict[str, dict[str, Any]]:
+        """The rows of a program's card."""
+        folder = self.folder / f"card-{program.name}"
+        nicdrive(folder, [program, "--jobs", self.jobs, "--no-pages", *words], wanted)
+        return rows_of(folder)
+
+
+def expect(row: dict[str, Any], cause: str, what: str) -> None:
+    if row["state"] != "failed" or not re.search(cause, row["cause"]):
+        raise Wrong(f"{what}: row {row['name']} is {row['state']} by \"{row['cause']}\", and not by \"{cause}\"")
+
+
+def check_right(kit: Kit, runs: int) -> str:
+    """The right driver passes each row that applies, by calls and by threads of its own."""
+    said = []
+    for defines in ((), ("THREADS",)):
+        rows = kit.card(kit.build(HERE / "corpus/driver.c", *defines), 0, "--runs", runs, "--every", runs)
+        states = [row["state"] for row in rows.values()]
+        for row in rows.values():
+            for name, count in row["reached"].items():
+                if not count:
+                    raise Wrong(f"{row['name']} never reached: {name}")
+        said.append(f"{states.count('passed')} of {len(states)} rows")
+    return f"a right driver passes {said[0]}, with threads of its own {said[1]}"
+
+
+def check_bugs(kit: Kit, runs: int, each: int = 1) -> str:
+    """Each bug fails in the row that names it."""
+    for bug in BUGS[::each]:
+        program = kit.build(HERE / "corpus/driver.c", f"BUG={bug.name}")
+        rows = kit.card(program, 1, "--rows", bug.row, "--runs", runs)
+        expect(rows[bug.row], bug.cause, bug.name)
+        schedule = kit.folder / f"card-{program.name}" / f"{bug.row}.schedule"
+        again = subprocess.run(
+            [program, "--row", bug.row, "--replay", schedule], stdout=subprocess.PIPE, text=True, check=False
+        )
+        if again.returncode != 1:
+            raise Wrong(f"{bug.name}: the schedule of {bug.row} doesn't fail again: {again.stdout[-300:]}")
+    return f"{len(BUGS[::each])} bugs, each found in the row that names it"
+
+
+def check_faults(kit: Kit, each: int = 1) -> str:
+    """What no driver may do is told in its row, and the other rows go on."""
+    for mode in list(FAULTS)[::each]:
+        name, cause = FAULTS[mode]
+        program = kit.build(HERE / "tests/faulty.c", f"MODE={mode}")
+        rows = kit.card(program, 1, "--rows", "receive-one,open-close,receive-wrap", "--runs", 400, "--every", 50)
+        expect(rows[name], cause, mode)
+        if any(not row["state"] for row in rows.values()):
+            raise Wrong(f"{mode}: a row wasn't made")
+    rows = kit.card(kit.build(HERE / "tests/faulty.c"), None, "--runs", 100, "--every", 50)
+    if rows["receive-wrap"]["state"] != "passed":
+        raise Wrong(f"tests/faulty.c without a fault: {rows['receive-wrap']}")
+    return f"{len(list(FAULTS)[::each])} drivers that do what no driver may"
+
+
+def check_refusals(kit: Kit) -> str:
+    broken = kit.folder / "broken.c"
+    broken.write_text("int main(void) { return nothing; }\n")
+    for words, wanted in REFUSALS.items():
+        given = words.format(source=HERE / "examples/small.c", broken=broken).split()
+        printed = nicdrive(kit.folder / "refused", list(given), 2)
+        if not re.search(wanted, printed):
+            raise Wrong(f"nicdrive {words}: it isn't told that \"{wanted}\":\n{printed}")
+    return f"{len(REFUSALS)} refusals"
+
+
+def check_files(kit: Kit) -> str:
+    """The card as text, JUnit and page, and two cards compared."""
+    small = HERE / "examples/small.c"
+    before, after = kit.folder / "before", kit.folder / "after"
+    rows: list[object] = ["--rows", "receive-one,setup-crc,send-one", "--runs", 50, "--no-pages"]
+    nicdrive(before, [small, *rows], 1)
+    nicdrive(after, [kit.build(HERE / "corpus/driver.c", "BUG=SLOT_TAKEN_TWICE"), *rows], 1)
+    suite = xml.etree.ElementTree.parse(before / "card.xml").getroot()
+    if (suite.get("tests"), suite.get("failures"), suite.get("skipped")) != ("3", "1", "1"):
+        raise Wrong(f"card.xml counts {suite.attrib}")
+    page = (before / "card.html").read_text()
+    for wanted in ("setup-crc", "RDRXCTL.CRCSTRIP isn&#x27;t what HLREG0.RXCRCSTRP is", "not applicable: no send"):
+        if wanted not in page:
+            raise Wrong(f"card.html has no {wanted}")
+    said = nicdrive(kit.folder, ["--compare", before, after], 1)
+    for wanted in ("fails now:\n  receive-one: ", "passes now:\n  setup-crc: it failed by", "applicable now:\n  send-one: passed"):
+        if wanted not in said:
+            raise Wrong(f"--compare doesn't tell \"{wanted}\":\n{said}")
+    nicdrive(kit.folder, ["--compare", before, before], 0)
+    return "text, JUnit, page, and two cards compared"
+
+
+def check_all(kit: Kit, full: bool) -> list[str]:
+    few = 1 if full else 6
+    return [
+        check_refusals(kit),
+        check_files(kit),
+        check_faults(kit, few),
+        check_bugs(kit, 2000, few),
+        check_right(kit, 500 if full else 40),
+    ]
+
+
+def main() -> int:
+    folder = C / "out/drive-check"
+    folder.mkdir(parents=True, exist_ok=True)
+    for said in check_all(Kit(folder, "gcc", ["-O2"]), "--full" in sys.argv[1:]):
+        print(f"c/drive/check.py: {said}", flush=True)
+    return 0
+
+
+if __name__ == "__main__":
+    try:
+        sys.exit(main())
+    except Wrong as fault:
+        sys.exit(f"c/drive/check.py: {fault}")

@@ -35,37 +35,192 @@ class Bug:
 
 
 BUGS = [
-    Bug("BUFFER_AGAIN_BEFORE_DD", "send-one", "reclaim says that all of queue 0 went out, and 1 frames haven't", "A buffer is taken back before the device has said that it went out"),
-    Bug("EICR_CLEARED_BEHIND_POLL", "interrupt-receive", "frame \\d lies in memory, in queue 0, and was never handed up", "A poll that found its ring empty clears EICR, and then unmasks"),
-    Bug("ENABLE_NOT_POLLED", "resize-amid-traffic", "RDBAL.0. is written while the queue is on|isn't lent", "A queue that is asked to go off is on for a while yet, and its ring is moved meanwhile"),
-    Bug("LENGTH_BEFORE_DD", "receive-one", "a frame of 0 bytes is handed up in queue 0", "The length of a frame is read before DD"),
-    Bug("LINK_CHANGE_LOST", "link-amid-reset", "the link is down, and the driver has it up", "A reset takes the cause of a change of the link"),
-    Bug("LOCK_IN_HANDLER_AND_POLL", "interrupt-spurious", "deadlock: .* waits for a lock, which .* holds", "A handler wants the lock that the poll holds which it interrupts"),
-    Bug("MAILBOX_NOT_TAKEN", "mailbox-function-collides", "it was mixed or overwritten", "Both sides write the same mailbox"),
-    Bug("MESSAGE_BEFORE_ACK", "mailbox-function-sends", "message 0 of the function is read as 0xf0000100", "The next message is written before the last one is acknowledged"),
-    Bug("RS_ON_EVERY_FOURTH", "send-one", "reclaim says that 1 frames of queue 0 haven't gone out, and all have", "Every fourth descriptor asks for a report, and the others wait for it"),
-    Bug("RSTD_TOLD_ONCE", "mailbox-ready-once", "deadlock: ready waits", "RSTD is told by one read, and another thread reads it"),
-    Bug("STOP_THAT_DOES_NOT_WAIT", "close-amid-frames", "queue 0 is on, and the driver is closed|isn't lent", "A stop that doesn't wait until the queue is off"),
-    Bug("TAIL_BEFORE_DESCRIPTOR", "receive-wrap", "fault: queue 0: 0x\\w+ isn't lent", "The tail moves before the descriptor behind it is written"),
-    Bug("TAIL_MEETS_HEAD", "receive-burst", "head and tail meet", "A driver that gives the device every slot gives it none"),
-    Bug("TWO_THREADS_ONE_RING", "send-two-threads", "sent frame \\d|went out by queue 0", "Two threads send by one ring, and nothing keeps them apart"),
-    Bug("UNMASKED_BEFORE_LAST_LOOK", "interrupt-receive", "handed up a second time", "A poll unmasks before its last look, and another one starts beside it"),
-    Bug("WRITTEN_HEAD_STALE", "reset-twice", "reclaim says that all of queue 0 went out, and \\d frames haven't", "The head that the device wrote in an earlier life is taken for news"),
-    Bug("INTERRUPT_MODERATION", "interrupt-receive", "lies in memory, in queue 0, and was never handed up", "A poll forgets a message, since it isn't the only one that unmasks"),
-    Bug("MAILBOX_WITHDRAWN_REQUEST", "host-withdrawn-request", "it was mixed or overwritten", "The answer to a request that was withdrawn overwrites the next one"),
-    Bug("RING_RESIZE_JUMBO", "resize-amid-chains", "frame \\d of 5000 bytes is handed up with|other bytes", "Half a frame is left over as a ring is replaced"),
-    Bug("TRANSMIT_WATCHDOG", "send-one", "sent frame 0 went out a second time", "A watchdog gives a queue anew what went out before it is off"),
-    Bug("SLOT_WITHOUT_DD", "receive-empty", "receive answers true, and no frame came", "A slot is taken without DD"),
-    Bug("SLOT_TAKEN_TWICE", "receive-one", "frame 0 is handed up a second time", "A slot is taken twice"),
-    Bug("ACCEPTED_AND_DROPPED", "send-full", "never went out|reclaim says that all of queue 0 went out", "A full ring: the frame is accepted, and dropped"),
-    Bug("IDLE_TOLD_EARLY", "send-wrap", "reclaim says that all of queue 0 went out, and \\d+ frames haven't", "All is told to be out after the first of several"),
-    Bug("CAUSE_READ_AWAY", "setup-cause-read", "a read of EICR takes the causes 0x0001 of queues", "A handler reads EICR, which the card keeps with MSI-X"),
-    Bug("EIMS_OF_ALL_QUEUES", "interrupt-rearm-alone", "rearm of queue 0 enables the cause of queue 1 too", "One queue's poll enables the causes of all"),
-    Bug("IVAR_BYTE_LOST", "interrupt-two-queues", "frame \\d lies in memory, in queue 0, and was never handed up", "The vector of one queue is written over the other's"),
-    Bug("FIRST_DD_OF_A_CHAIN", "receive-4096", "frame 0 of 4096 bytes is handed up with 2048", "Of a frame in several buffers only the first one's DD is looked at"),
-    Bug("HEAD_CACHED_OVER_A_WRAP", "send-wrap", "send is refused in queue 0 for ever, and all of its frames went out", "The head is compared with a slot beyond the wrap"),
-    Bug("DOUBLE_CLEANER", "interrupt-both-ways", "never went out|reclaim says|went out by|second time|deadlock|endless", "The handler takes back slots beside the poll"),
-    Bug("LOCK_ORDER", "both-ways", "deadlock: .* waits for a lock, which .* holds", "Two locks are taken in two orders"),
+    Bug(
+        "BUFFER_AGAIN_BEFORE_DD",
+        "send-one",
+        "reclaim says that all of queue 0 went out, and 1 frames haven't",
+        "A buffer is taken back before the device has said that it went out",
+    ),
+    Bug(
+        "EICR_CLEARED_BEHIND_POLL",
+        "interrupt-receive",
+        "frame \\d lies in memory, in queue 0, and was never handed up",
+        "A poll that found its ring empty clears EICR, and then unmasks",
+    ),
+    Bug(
+        "ENABLE_NOT_POLLED",
+        "resize-amid-traffic",
+        "RDBAL.0. is written while the queue is on|isn't lent",
+        "A queue that is asked to go off is on for a while yet, and its ring is moved meanwhile",
+    ),
+    Bug(
+        "LENGTH_BEFORE_DD",
+        "receive-one",
+        "a frame of 0 bytes is handed up in queue 0",
+        "The length of a frame is read before DD",
+    ),
+    Bug(
+        "LINK_CHANGE_LOST",
+        "link-amid-reset",
+        "the link is down, and the driver has it up",
+        "A reset takes the cause of a change of the link",
+    ),
+    Bug(
+        "LOCK_IN_HANDLER_AND_POLL",
+        "interrupt-spurious",
+        "deadlock: .* waits for a lock, which .* holds",
+        "A handler wants the lock that the poll holds which it interrupts",
+    ),
+    Bug(
+        "MAILBOX_NOT_TAKEN",
+        "mailbox-function-collides",
+        "it was mixed or overwritten",
+        "Both sides write the same mailbox",
+    ),
+    Bug(
+        "MESSAGE_BEFORE_ACK",
+        "mailbox-function-sends",
+        "message 0 of the function is read as 0xf0000100",
+        "The next message is written before the last one is acknowledged",
+    ),
+    Bug(
+        "RS_ON_EVERY_FOURTH",
+        "send-one",
+        "reclaim says that 1 frames of queue 0 haven't gone out, and all have",
+        "Every fourth descriptor asks for a report, and the others wait for it",
+    ),
+    Bug(
+        "RSTD_TOLD_ONCE",
+        "mailbox-ready-once",
+        "deadlock: ready waits",
+        "RSTD is told by one read, and another thread reads it",
+    ),
+    Bug(
+        "STOP_THAT_DOES_NOT_WAIT",
+        "close-amid-frames",
+        "queue 0 is on, and the driver is closed|isn't lent",
+        "A stop that doesn't wait until the queue is off",
+    ),
+    Bug(
+        "TAIL_BEFORE_DESCRIPTOR",
+        "receive-wrap",
+        "fault: queue 0: 0x\\w+ isn't lent",
+        "The tail moves before the descriptor behind it is written",
+    ),
+    Bug(
+        "TAIL_MEETS_HEAD",
+        "receive-burst",
+        "head and tail meet",
+        "A driver that gives the device every slot gives it none",
+    ),
+    Bug(
+        "TWO_THREADS_ONE_RING",
+        "send-two-threads",
+        "sent frame \\d|went out by queue 0",
+        "Two threads send by one ring, and nothing keeps them apart",
+    ),
+    Bug(
+        "UNMASKED_BEFORE_LAST_LOOK",
+        "interrupt-receive",
+        "handed up a second time",
+        "A poll unmasks before its last look, and another one starts beside it",
+    ),
+    Bug(
+        "WRITTEN_HEAD_STALE",
+        "reset-twice",
+        "reclaim says that all of queue 0 went out, and \\d frames haven't",
+        "The head that the device wrote in an earlier life is taken for news",
+    ),
+    Bug(
+        "INTERRUPT_MODERATION",
+        "interrupt-receive",
+        "lies in memory, in queue 0, and was never handed up",
+        "A poll forgets a message, since it isn't the only one that unmasks",
+    ),
+    Bug(
+        "MAILBOX_WITHDRAWN_REQUEST",
+        "host-withdrawn-request",
+        "it was mixed or overwritten",
+        "The answer to a request that was withdrawn overwrites the next one",
+    ),
+    Bug(
+        "RING_RESIZE_JUMBO",
+        "resize-amid-chains",
+        "frame \\d of 5000 bytes is handed up with|other bytes",
+        "Half a frame is left over as a ring is replaced",
+    ),
+    Bug(
+        "TRANSMIT_WATCHDOG",
+        "send-one",
+        "sent frame 0 went out a second time",
+        "A watchdog gives a queue anew what went out before it is off",
+    ),
+    Bug(
+        "SLOT_WITHOUT_DD",
+        "receive-empty",
+        "receive answers true, and no frame came",
+        "A slot is taken without DD",
+    ),
+    Bug(
+        "SLOT_TAKEN_TWICE",
+        "receive-one",
+        "frame 0 is handed up a second time",
+        "A slot is taken twice",
+    ),
+    Bug(
+        "ACCEPTED_AND_DROPPED",
+        "send-full",
+        "never went out|reclaim says that all of queue 0 went out",
+        "A full ring: the frame is accepted, and dropped",
+    ),
+    Bug(
+        "IDLE_TOLD_EARLY",
+        "send-wrap",
+        "reclaim says that all of queue 0 went out, and \\d+ frames haven't",
+        "All is told to be out after the first of several",
+    ),
+    Bug(
+        "CAUSE_READ_AWAY",
+        "setup-cause-read",
+        "a read of EICR takes the causes 0x0001 of queues",
+        "A handler reads EICR, which the card keeps with MSI-X",
+    ),
+    Bug(
+        "EIMS_OF_ALL_QUEUES",
+        "interrupt-rearm-alone",
+        "rearm of queue 0 enables the cause of queue 1 too",
+        "One queue's poll enables the causes of all",
+    ),
+    Bug(
+        "IVAR_BYTE_LOST",
+        "interrupt-two-queues",
+        "frame \\d lies in memory, in queue 0, and was never handed up",
+        "The vector of one queue is written over the other's",
+    ),
+    Bug(
+        "FIRST_DD_OF_A_CHAIN",
+        "receive-4096",
+        "frame 0 of 4096 bytes is handed up with 2048",
+        "Of a frame in several buffers only the first one's DD is looked at",
+    ),
+    Bug(
+        "HEAD_CACHED_OVER_A_WRAP",
+        "send-wrap",
+        "send is refused in queue 0 for ever, and all of its frames went out",
+        "The head is compared with a slot beyond the wrap",
+    ),
+    Bug(
+        "DOUBLE_CLEANER",
+        "interrupt-both-ways",
+        "never went out|reclaim says|went out by|second time|deadlock|endless",
+        "The handler takes back slots beside the poll",
+    ),
+    Bug(
+        "LOCK_ORDER",
+        "both-ways",
+        "deadlock: .* waits for a lock, which .* holds",
+        "Two locks are taken in two orders",
+    ),
 ]
 
 # Of tests/faulty.c: the row and the words by which each is told. The row after it still passes.
@@ -109,8 +264,10 @@ REFUSALS = {
 
 def nicdrive(folder: Path, words: list[object], wanted: int | None) -> str:
     """What the command prints; Wrong where it ends with another status."""
-    called = [sys.executable, HERE / "nicdrive", *words, "-o", folder] if "--compare" not in words else [sys.executable, HERE / "nicdrive", *words]
-    made = subprocess.run([str(word) for word in called], stdout=subprocess.PIPE, stderr=subprocess.STDOUT, text=True, check=False)
+    called = [sys.executable, HERE / "nicdrive", *words] + ([] if "--compare" in words else ["-o", folder])
+    made = subprocess.run(
+        [str(word) for word in called], stdout=subprocess.PIPE, stderr=subprocess.STDOUT, text=True, check=False
+    )
     if wanted is not None and made.returncode != wanted:
         shown = " ".join(str(word) for word in called)
         raise Wrong(f"status {made.returncode} and not {wanted} of: {shown}\n{made.stdout}".rstrip())
@@ -137,7 +294,10 @@ class Kit:
         words = [self.compiler, *STRICT, *self.flags, f"-I{C}/include", *(f"-D{one}" for one in defines), source]
         made = subprocess.run(
             [str(word) for word in [*words, *archives, "-lpthread", "-o", program]],
-            stdout=subprocess.PIPE, stderr=subprocess.STDOUT, text=True, check=False,
+            stdout=subprocess.PIPE,
+            stderr=subprocess.STDOUT,
+            text=True,
+            check=False,
         )
         if made.returncode:
             raise Wrong(f"{source} {' '.join(defines)} doesn't compile:\n{made.stdout}")
@@ -225,7 +385,8 @@ def check_files(kit: Kit) -> str:
         if wanted not in page:
             raise Wrong(f"card.html has no {wanted}")
     said = nicdrive(kit.folder, ["--compare", before, after], 1)
-    for wanted in ("fails now:\n  receive-one: ", "passes now:\n  setup-crc: it failed by", "applicable now:\n  send-one: passed"):
+    wanted_lines = ("fails now:\n  receive-one: ", "passes now:\n  setup-crc: it failed by", "now:\n  send-one: passed")
+    for wanted in wanted_lines:
         if wanted not in said:
             raise Wrong(f"--compare doesn't tell \"{wanted}\":\n{said}")
     nicdrive(kit.folder, ["--compare", before, before], 0)

@@ -105,10 +105,18 @@ def coverage(card: Card) -> str:
     )
 
 
+def family_of(card: Card, family: str) -> str:
+    """The rows of a family; those that don't apply are folded away."""
+    rows = card.of(family)
+    others = [row for row in rows if row.state == NOT_APPLICABLE]
+    tried = "".join(one(row) for row in rows if row.state != NOT_APPLICABLE)
+    folded = "".join(map(one, others))
+    more = f"<details><summary>{len(others)} not applicable</summary>{folded}</details>" if others else ""
+    return f"<h2>{escape(family)}</h2>{tried}{more}"
+
+
 def page(card: Card) -> str:
-    families = "".join(
-        f"<h2>{escape(family)}</h2>{''.join(map(one, card.of(family)))}" for family in card.families()
-    )
+    families = "".join(family_of(card, family) for family in card.families())
     failed = [row for row in card.rows if row.state == FAILED]
     links = ", ".join(f'<a href="#{row.name}">{row.name}</a>' for row in failed)
     return (

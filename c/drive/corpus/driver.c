@@ -61,16 +61,16 @@ struct ring {
     uint64_t bus;
     uint64_t buffers[MOST_SLOTS];
     uint32_t lengths[MOST_SLOTS]; /* receive: of what lies in the slots that were looked at */
-    uint16_t next; /* receive: the slot that is looked at; transmit: the first free one */
+    uint16_t next;                /* receive: the slot that is looked at; transmit: the first free one */
 };
 
 struct transmit {
     struct ring ring;
-    uint16_t clean;              /* the oldest slot that isn't taken back */
-    uint16_t last[MOST_SLOTS];   /* of the slot that a frame begins in: the one that it ends in */
-    uint32_t frames;             /* that are out */
-    uint32_t count;              /* descriptors so far */
-    uint64_t head;               /* where the device writes its head, if it does */
+    uint16_t clean;            /* the oldest slot that isn't taken back */
+    uint16_t last[MOST_SLOTS]; /* of the slot that a frame begins in: the one that it ends in */
+    uint32_t frames;           /* that are out */
+    uint32_t count;            /* descriptors so far */
+    uint64_t head;             /* where the device writes its head, if it does */
     nicx_mutex lock;
 };
 
@@ -82,7 +82,7 @@ static struct {
     nicd_rss rss;
     bool has_rss, link_is_up;
     bool waits_for_ack;
-    uint32_t seen; /* of VFMAILBOX: what a read tells once */
+    uint32_t seen;                                          /* of VFMAILBOX: what a read tells once */
     bool scheduled[NICD_QUEUES], polls[NICD_QUEUES], rests; /* of threads of its own */
     uint32_t interrupts, looked;
     nicd_frame partial;
@@ -246,8 +246,8 @@ static void set_rss(void)
         nicx_write32(NIC_RSSRK(k), low_of(it->key + 4 * k));
     for (unsigned k = 0; k < 32; k++) {
         const uint8_t *entry = it->table + 4 * k;
-        nicx_write32(NIC_RETA(k), entry[0] | (uint32_t)entry[1] << 8 | (uint32_t)entry[2] << 16 |
-                                      (uint32_t)entry[3] << 24);
+        nicx_write32(NIC_RETA(k),
+                     entry[0] | (uint32_t)entry[1] << 8 | (uint32_t)entry[2] << 16 | (uint32_t)entry[3] << 24);
     }
     nicx_write32(NIC_RXCSUM, NIC_RXCSUM_PCSD);
     nicx_write32(NIC_MRQC, NIC_MRQC_MRQE_IS(1) | hashed(it->types));
@@ -976,7 +976,10 @@ int main(int argc, char **argv)
         .reclaim = reclaim,
         .interrupt = interrupt,
         .rearm = HAS_THREADS ? NULL : rearm,
-        .threads = BUG == NONE && HAS_THREADS ? NICD_QUEUES : HAS_THREADS ? 2 : HAS_WATCHDOG ? 1 : 0,
+        .threads = BUG == NONE && HAS_THREADS ? NICD_QUEUES
+                   : HAS_THREADS              ? 2
+                   : HAS_WATCHDOG             ? 1
+                                              : 0,
         .thread = thread,
         .filter = filter,
         .rss = rss,

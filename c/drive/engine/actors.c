@@ -184,7 +184,8 @@ static bool is_used(unsigned vector)
     if (!nicd.is_open)
         return nicd.setup.port ? vector < 3 : true;
     if (nicd.setup.port)
-        return is_in_word(NIC_PVTIVAR(nicd.base / 2u), vector) || is_in_word(NIC_PVTIVAR_MISC(nicd.setup.port - 1u), vector);
+        return is_in_word(NIC_PVTIVAR(nicd.base / 2u), vector) ||
+               is_in_word(NIC_PVTIVAR_MISC(nicd.setup.port - 1u), vector);
     for (unsigned queue = 0; queue < nicd.setup.queues; queue += 2)
         if (is_in_word(NIC_IVAR(queue / 2), vector))
             return true;

@@ -60,10 +60,10 @@ struct scenario {
     uint32_t needs, ways;
     nicd_setup setup; /* 0 in queues, slots or frame stands for 1, 8 and 1,514 */
     uint32_t points;
-    void (*begin)(void);                                    /* names tasks and frames; the card's own are there */
-    const char *(*end)(void);                               /* judges more, or null */
-    void (*see)(const struct step *step, bool is_drivers);  /* hears of each step, or null */
-    const char *reaches[MOST_REACHED];                      /* what should come up in some schedule */
+    void (*begin)(void);                                   /* names tasks and frames; the card's own are there */
+    const char *(*end)(void);                              /* judges more, or null */
+    void (*see)(const struct step *step, bool is_drivers); /* hears of each step, or null */
+    const char *reaches[MOST_REACHED];                     /* what should come up in some schedule */
 };
 
 /* The families' tables; each ends with a scenario without a name. */
@@ -124,7 +124,7 @@ struct drive {
     char words[WORDS];
 
     struct piece pieces[MOST_PIECES];
-    uint32_t taken, own_taken; /* pieces that are taken; of nicd_alloc */
+    uint32_t taken, own_taken;    /* pieces that are taken; of nicd_alloc */
     uint32_t allocations, refuse; /* how many were asked for; the one that is refused, from 1 on */
     size_t own_used;
 
@@ -142,7 +142,7 @@ struct drive {
     uint32_t accepted[NICD_QUEUES], went[NICD_QUEUES];         /* taken by send; sent by the device */
     uint32_t accepted_now[NICD_QUEUES], went_now[NICD_QUEUES]; /* the same since the last interruption */
     bool is_refused[NICD_QUEUES], is_awaited[NICD_QUEUES]; /* send answered false; somebody waits until all went out */
-    uint32_t out[NICD_QUEUES]; /* as reclaim told last, and what was taken since */
+    uint32_t out[NICD_QUEUES];                             /* as reclaim told last, and what was taken since */
     uint32_t numbers;
 
     struct poller pollers[NICD_QUEUES];

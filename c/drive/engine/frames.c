@@ -101,7 +101,8 @@ uint16_t nicd_come(struct come come)
     static uint8_t bytes[NICD_FRAME_MOST];
     uint16_t number = nicd.count++;
     if (!come.length)
-        come.length = come.type == NIC_RSS_TCP_IPV6 || come.type == NIC_RSS_UDP_IPV6 || come.type == NIC_RSS_IPV6 ? 74 : 60;
+        come.length =
+            come.type == NIC_RSS_TCP_IPV6 || come.type == NIC_RSS_UDP_IPV6 || come.type == NIC_RSS_IPV6 ? 74 : 60;
     nicd.coming[number] = come;
     nicx_frame(bytes, nicd_make(&come, number, bytes));
     return number;

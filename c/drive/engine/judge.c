@@ -151,7 +151,8 @@ static void judge_out(const nic_told *told, uint32_t next[NICD_QUEUES])
 {
     unsigned queue = (unsigned)(told->queue - nicd.base);
     if (queue >= nicd.setup.queues) {
-        nicd_note("a frame of %u bytes went out by queue %u, which isn't the driver's", (unsigned)told->len, told->queue);
+        nicd_note("a frame of %u bytes went out by queue %u, which isn't the driver's", (unsigned)told->len,
+                  told->queue);
         return;
     }
     for (uint32_t k = next[queue]; k < nicd.accepted[queue]; k++) {

@@ -88,8 +88,8 @@ static void let_second_in(void)
 /* What was let in before isn't any more. */
 static void let_in_and_out(void)
 {
-    static const nicd_filter all = {.all_unicast = true, .all_multicast = true, .broadcast = true, .count = 1,
-                                    .address = {{2, 0, 0, 0, 0, 0x22}}};
+    static const nicd_filter all = {
+        .all_unicast = true, .all_multicast = true, .broadcast = true, .count = 1, .address = {{2, 0, 0, 0, 0, 0x22}}};
     if (!nicd.driver->filter(&all))
         nicd_note("filter answered false");
     let_own_in();
@@ -104,12 +104,14 @@ static void see_broadcast(const struct step *step, bool is_drivers)
 }
 
 #define FILTER_ROW(row, what, function, words, section)                                                                \
-    {.name = row, .family = "filters", .title = what, .rule = words, .source = section, .needs = RECEIVES | FILTER,    \
-     .ways = DROPS, .begin = function, .end = judge, .see = see_broadcast}
+    {                                                                                                                  \
+        .name = row, .family = "filters", .title = what, .rule = words, .source = section, .needs = RECEIVES | FILTER, \
+        .ways = DROPS, .begin = function, .end = judge, .see = see_broadcast                                           \
+    }
 
 const struct scenario nicd_filters[] = {
-    FILTER_ROW("filter-own", "its own address alone", let_own_in,
-               "A unicast frame comes in by a valid receive address", "Receive Address"),
+    FILTER_ROW("filter-own", "its own address alone", let_own_in, "A unicast frame comes in by a valid receive address",
+               "Receive Address"),
     FILTER_ROW("filter-broadcast", "the broadcast address too", let_broadcast_in,
                "Broadcast frames come in by FCTRL.BAM; on the bench MPE lets them in too", "Filter Control"),
     FILTER_ROW("filter-all-multicast", "all multicast frames", let_all_multicast_in, "FCTRL.MPE lets all of them in",

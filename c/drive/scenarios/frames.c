@@ -39,31 +39,46 @@ static void go_mixed(void)
 
 static const char length_rule[] = "PKT_LEN is how many bytes of the frame are in this buffer; a frame that is longer "
                                   "than a buffer goes on in the next descriptor, and EOP marks the last one";
-static const char send_rule[] = "A frame may have several descriptors: DTALEN is each buffer's, EOP stands in the last, "
-                                "PAYLEN is that of the whole";
+static const char send_rule[] =
+    "A frame may have several descriptors: DTALEN is each buffer's, EOP stands in the last, "
+    "PAYLEN is that of the whole";
 
 #define RECEIVE(bytes, most)                                                                                           \
-    {.name = "receive-" #bytes, .family = "frames", .title = "frames of " #bytes " bytes come", .rule = length_rule,   \
-     .source = "Receive Descriptor Write-Back", .needs = RECEIVES, .setup = {.frame = most}, .begin = come}
+    {                                                                                                                  \
+        .name = "receive-" #bytes, .family = "frames", .title = "frames of " #bytes " bytes come",                     \
+        .rule = length_rule, .source = "Receive Descriptor Write-Back", .needs = RECEIVES, .setup = {.frame = most},   \
+        .begin = come                                                                                                  \
+    }
 #define SEND(bytes, most)                                                                                              \
-    {.name = "send-" #bytes, .family = "frames", .title = "frames of " #bytes " bytes are sent", .rule = send_rule,    \
-     .source = "Advanced Transmit Data Descriptor", .needs = SENDS, .setup = {.frame = most}, .begin = go}
+    {                                                                                                                  \
+        .name = "send-" #bytes, .family = "frames", .title = "frames of " #bytes " bytes are sent", .rule = send_rule, \
+        .source = "Advanced Transmit Data Descriptor", .needs = SENDS, .setup = {.frame = most}, .begin = go           \
+    }
 
-const struct scenario nicd_frames[] = {
-    RECEIVE(60, 1514),
-    RECEIVE(1514, 1514),
-    RECEIVE(2048, 2048),
-    RECEIVE(4096, 4096),
-    RECEIVE(9014, 9014),
-    {.name = "receive-mixed", .family = "frames", .title = "short and chained frames one after the other",
-     .rule = length_rule, .source = "Receive Descriptor Write-Back", .needs = RECEIVES, .setup = {.frame = 4096},
-     .begin = come_mixed},
-    SEND(60, 1514),
-    SEND(1514, 1514),
-    SEND(2048, 2048),
-    SEND(4096, 4096),
-    SEND(9014, 9014),
-    {.name = "send-mixed", .family = "frames", .title = "three threads send frames of three lengths", .rule = send_rule,
-     .source = "Advanced Transmit Data Descriptor", .needs = SENDS | SHARED_SEND, .setup = {.frame = 4096},
-     .begin = go_mixed},
-    {0}};
+const struct scenario nicd_frames[] = {RECEIVE(60, 1514),
+                                       RECEIVE(1514, 1514),
+                                       RECEIVE(2048, 2048),
+                                       RECEIVE(4096, 4096),
+                                       RECEIVE(9014, 9014),
+                                       {.name = "receive-mixed",
+                                        .family = "frames",
+                                        .title = "short and chained frames one after the other",
+                                        .rule = length_rule,
+                                        .source = "Receive Descriptor Write-Back",
+                                        .needs = RECEIVES,
+                                        .setup = {.frame = 4096},
+                                        .begin = come_mixed},
+                                       SEND(60, 1514),
+                                       SEND(1514, 1514),
+                                       SEND(2048, 2048),
+                                       SEND(4096, 4096),
+                                       SEND(9014, 9014),
+                                       {.name = "send-mixed",
+                                        .family = "frames",
+                                        .title = "three threads send frames of three lengths",
+                                        .rule = send_rule,
+                                        .source = "Advanced Transmit Data Descriptor",
+                                        .needs = SENDS | SHARED_SEND,
+                                        .setup = {.frame = 4096},
+                                        .begin = go_mixed},
+                                       {0}};

@@ -318,23 +318,37 @@ static void be_ready_once(void)
 }
 
 #define ROW(row, what, words, section, need, way, function, judge)                                                     \
-    {.name = row, .family = "function", .title = what, .rule = words, .source = section, .needs = FUNCTIONS | (need),  \
-     .ways = way, .setup = {.port = PORT}, .begin = function, .end = judge, .see = see_foreign}
+    {                                                                                                                  \
+        .name = row, .family = "function", .title = what, .rule = words, .source = section,                            \
+        .needs = FUNCTIONS | (need), .ways = way, .setup = {.port = PORT}, .begin = function, .end = judge,            \
+        .see = see_foreign                                                                                             \
+    }
 
 const struct scenario nicd_functions[] = {
     ROW("function-both-ways", "a function's frames come and go",
-        "A virtual function reaches its own queues by offsets of its own", "Virtual Function Registers",
-        RECEIVES, 0, use_both_ways, NULL),
+        "A virtual function reaches its own queues by offsets of its own", "Virtual Function Registers", RECEIVES, 0,
+        use_both_ways, NULL),
     ROW("function-wrap", "frames over each slot of a function's ring",
-        "A function's rings are as the physical function's", "Virtual Function Registers", RECEIVES, 0, come_over_a_wrap,
-        NULL),
-    {.name = "function-interrupts", .family = "function", .title = "a function's messages",
+        "A function's rings are as the physical function's", "Virtual Function Registers", RECEIVES, 0,
+        come_over_a_wrap, NULL),
+    {.name = "function-interrupts",
+     .family = "function",
+     .title = "a function's messages",
      .rule = "A function's causes and masks are its own; what a message masks is enabled again",
-     .source = "Virtual Function Interrupt Registers", .needs = FUNCTIONS | RECEIVES | INTERRUPTS,
-     .setup = {.port = PORT, .interrupts = true}, .begin = use_both_ways, .see = see_foreign},
-    {.name = "function-two-queues", .family = "function", .title = "a function with both queues of its pool",
-     .rule = "A function has the queues of its pool", .source = "Virtual Function Registers",
-     .needs = FUNCTIONS | RECEIVES, .setup = {.port = PORT, .queues = 2}, .begin = use_both_ways, .see = see_foreign},
+     .source = "Virtual Function Interrupt Registers",
+     .needs = FUNCTIONS | RECEIVES | INTERRUPTS,
+     .setup = {.port = PORT, .interrupts = true},
+     .begin = use_both_ways,
+     .see = see_foreign},
+    {.name = "function-two-queues",
+     .family = "function",
+     .title = "a function with both queues of its pool",
+     .rule = "A function has the queues of its pool",
+     .source = "Virtual Function Registers",
+     .needs = FUNCTIONS | RECEIVES,
+     .setup = {.port = PORT, .queues = 2},
+     .begin = use_both_ways,
+     .see = see_foreign},
     ROW("function-close", "a function closes amid traffic",
         "A queue that is asked to go off may receive and send until ENABLE reads 0; only then is its memory software's",
         "Dynamic Disabling of Receive Queues", RECEIVES, LOSSY | DROPS, close_amid_traffic, NULL),
@@ -344,8 +358,8 @@ const struct scenario nicd_functions[] = {
     ROW("mailbox-function-sends", "two messages to the host",
         "A side takes the mailbox before it writes, and writes the next message once the last one is acknowledged",
         "Mailbox", MAILBOX, 0, send_messages, judge_mail),
-    ROW("mailbox-function-receives", "two messages of the host",
-        "PFSTS is told by one read: what is read once is kept", "Mailbox", MAILBOX, 0, receive_messages, judge_mail),
+    ROW("mailbox-function-receives", "two messages of the host", "PFSTS is told by one read: what is read once is kept",
+        "Mailbox", MAILBOX, 0, receive_messages, judge_mail),
     ROW("mailbox-function-collides", "both sides send at once",
         "VFU and PFU are never both 1: who comes second tries again", "Mailbox", MAILBOX, 0, collide, judge_mail),
     ROW("mailbox-ready-once", "the device's reset is done, while another thread reads the mailbox",

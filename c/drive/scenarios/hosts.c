@@ -4,9 +4,9 @@
 enum { FUNCTIONS_THERE = 2, PATIENCE = 3 };
 
 static struct {
-    uint32_t given[FUNCTIONS_THERE], taken[FUNCTIONS_THERE];     /* by functions; by the host's driver */
-    uint32_t answered[FUNCTIONS_THERE], read[FUNCTIONS_THERE];   /* by the driver; by functions */
-    uint32_t wanted; /* messages of each function */
+    uint32_t given[FUNCTIONS_THERE], taken[FUNCTIONS_THERE];   /* by functions; by the host's driver */
+    uint32_t answered[FUNCTIONS_THERE], read[FUNCTIONS_THERE]; /* by the driver; by functions */
+    uint32_t wanted;                                           /* messages of each function */
 } mail;
 
 static uint32_t word(uint8_t vf, bool of_host, uint32_t k, uint32_t number)
@@ -236,19 +236,21 @@ static void withdraw(void)
 }
 
 #define ROW(row, what, words, function, judges)                                                                        \
-    {.name = row, .family = "host", .title = what, .rule = words, .source = "Mailbox", .needs = HOST | MAILBOX,        \
-     .setup = {.functions = FUNCTIONS_THERE}, .begin = function, .end = judges}
+    {                                                                                                                  \
+        .name = row, .family = "host", .title = what, .rule = words, .source = "Mailbox", .needs = HOST | MAILBOX,     \
+        .setup = {.functions = FUNCTIONS_THERE}, .begin = function, .end = judges                                      \
+    }
 
 const struct scenario nicd_hosts[] = {
     ROW("host-takes-messages", "two functions send two messages each",
-        "Each function has a mailbox and a bit of PFMBICR of its own; an acknowledgement lets it send again", take_from_two,
-        judge),
+        "Each function has a mailbox and a bit of PFMBICR of its own; an acknowledgement lets it send again",
+        take_from_two, judge),
     ROW("host-sends-messages", "two messages to a function",
         "A side takes the mailbox before it writes, and writes the next message once the last one is read", tell_one,
         NULL),
     ROW("host-collides", "both sides send at once",
-        "VFU and PFU are never both 1: who comes second tries again, and a request that waits isn't overwritten", collide,
-        judge),
+        "VFU and PFU are never both 1: who comes second tries again, and a request that waits isn't overwritten",
+        collide, judge),
     ROW("host-withdrawn-request", "a function resets itself and asks anew",
         "An answer to a request that was withdrawn doesn't overwrite the next one", withdraw, judge_answer),
     {0}};

@@ -28,7 +28,8 @@ static void move_in(void)
     nicx_write32(NIC_TDLEN(queue), NIC_DESC_BYTES * SLOTS);
     nicx_write32(NIC_TXDCTL(queue), NIC_TXDCTL_ENABLE);
     nicx_write32(NIC_IVAR(queue / 2), (nicd_peek(NIC_IVAR(queue / 2)) & ~(0xFFFFu << shift)) |
-                                          (uint32_t)(0x80 | VECTOR) << shift | (uint32_t)(0x80 | VECTOR) << (shift + 8));
+                                          (uint32_t)(0x80 | VECTOR) << shift |
+                                          (uint32_t)(0x80 | VECTOR) << (shift + 8));
     nicx_write32(NIC_EIMS, 1u << VECTOR);
     while (!(nicx_read32(NIC_RXDCTL(queue)) & nicx_read32(NIC_TXDCTL(queue)) & NIC_RXDCTL_ENABLE))
         nicx_wait();
@@ -62,7 +63,8 @@ static void see(const struct step *step, bool is_drivers)
     uint32_t address = step->address;
     if (!is_drivers || !nicd.is_open)
         return;
-    if (step->kind == STEP_WRITE && (is_in_set(address, NIC_RDBAL(others())) || is_in_set(address, NIC_TDBAL(others()))))
+    if (step->kind == STEP_WRITE &&
+        (is_in_set(address, NIC_RDBAL(others())) || is_in_set(address, NIC_TDBAL(others()))))
         nicd_note("the driver writes register 0x%05x of queue %u, which isn't its own", (unsigned)address, others());
     if ((step->kind == STEP_POKE || step->kind == STEP_PEEK || step->kind == STEP_TAKE) && step->bus >= RING)
         nicd_note("the driver reaches 0x%llx, memory of another", (unsigned long long)step->bus);
@@ -111,19 +113,48 @@ static void resize_beside(void)
     nicd_come_plain(3, 60);
 }
 
-static const char rule[] = "What a driver wasn't asked for is another's: its queues, its bytes of IVAR, its masks, its memory";
+static const char rule[] =
+    "What a driver wasn't asked for is another's: its queues, its bytes of IVAR, its masks, its memory";
 
-const struct scenario nicd_neighbours[] = {
-    {.name = "neighbour-traffic", .family = "neighbour", .title = "traffic beside another's queue", .rule = rule,
-     .source = "open of the adapter", .needs = RECEIVES | PHYSICAL, .ways = NEIGHBOUR, .begin = use_both_ways,
-     .end = judge, .see = see},
-    {.name = "neighbour-interrupts", .family = "neighbour", .title = "the same with interrupts", .rule = rule,
-     .source = "open of the adapter", .needs = RECEIVES | PHYSICAL | INTERRUPTS, .ways = NEIGHBOUR,
-     .setup = {.interrupts = true}, .begin = use_both_ways, .end = judge, .see = see},
-    {.name = "neighbour-close", .family = "neighbour", .title = "it closes beside another's queue", .rule = rule,
-     .source = "NICD_SHARED_DEVICE", .needs = RECEIVES | PHYSICAL | SHARED_DEVICE, .ways = NEIGHBOUR | LOSSY | DROPS,
-     .begin = close_beside, .end = judge, .see = see},
-    {.name = "neighbour-resize", .family = "neighbour", .title = "other rings beside another's queue", .rule = rule,
-     .source = "NICD_SHARED_DEVICE", .needs = RECEIVES | PHYSICAL | SHARED_DEVICE | RESIZE,
-     .ways = NEIGHBOUR | LOSSY | DROPS, .begin = resize_beside, .end = judge, .see = see},
-    {0}};
+const struct scenario nicd_neighbours[] = {{.name = "neighbour-traffic",
+                                            .family = "neighbour",
+                                            .title = "traffic beside another's queue",
+                                            .rule = rule,
+                                            .source = "open of the adapter",
+                                            .needs = RECEIVES | PHYSICAL,
+                                            .ways = NEIGHBOUR,
+                                            .begin = use_both_ways,
+                                            .end = judge,
+                                            .see = see},
+                                           {.name = "neighbour-interrupts",
+                                            .family = "neighbour",
+                                            .title = "the same with interrupts",
+                                            .rule = rule,
+                                            .source = "open of the adapter",
+                                            .needs = RECEIVES | PHYSICAL | INTERRUPTS,
+                                            .ways = NEIGHBOUR,
+                                            .setup = {.interrupts = true},
+                                            .begin = use_both_ways,
+                                            .end = judge,
+                                            .see = see},
+                                           {.name = "neighbour-close",
+                                            .family = "neighbour",
+                                            .title = "it closes beside another's queue",
+                                            .rule = rule,
+                                            .source = "NICD_SHARED_DEVICE",
+                                            .needs = RECEIVES | PHYSICAL | SHARED_DEVICE,
+                                            .ways = NEIGHBOUR | LOSSY | DROPS,
+                                            .begin = close_beside,
+                                            .end = judge,
+                                            .see = see},
+                                           {.name = "neighbour-resize",
+                                            .family = "neighbour",
+                                            .title = "other rings beside another's queue",
+                                            .rule = rule,
+                                            .source = "NICD_SHARED_DEVICE",
+                                            .needs = RECEIVES | PHYSICAL | SHARED_DEVICE | RESIZE,
+                                            .ways = NEIGHBOUR | LOSSY | DROPS,
+                                            .begin = resize_beside,
+                                            .end = judge,
+                                            .see = see},
+                                           {0}};

@@ -99,13 +99,19 @@ static void change_amid_frames(void)
     come_of(NIC_RSS_TCP_IPV4);
 }
 
-static const char rule[] = "The low seven bits of a frame's hash name the entry of RETA that names its queue; MRQC says "
-                           "which types are hashed";
+static const char rule[] =
+    "The low seven bits of a frame's hash name the entry of RETA that names its queue; MRQC says "
+    "which types are hashed";
 
 #define TYPE(row, what)                                                                                                \
-    {.name = row, .family = "rss", .title = "flows of " what " over the queues", .rule = rule,                         \
-     .source = "Receive Side Scaling", .needs = RECEIVES | RSS, .setup = {.queues = 2, .slots = 16}, .begin = come_of_type,         \
-     .end = judge_queues, .reaches = {"queue 0", "queue 1"}}
+    {                                                                                                                  \
+        .name = row, .family = "rss", .title = "flows of " what " over the queues", .rule = rule,                      \
+        .source = "Receive Side Scaling", .needs = RECEIVES | RSS, .setup = {.queues = 2, .slots = 16},                \
+        .begin = come_of_type, .end = judge_queues, .reaches = {                                                       \
+            "queue 0",                                                                                                 \
+            "queue 1"                                                                                                  \
+        }                                                                                                              \
+    }
 
 const struct scenario nicd_rss_rows[] = {
     TYPE("rss-tcp-ipv4", "TCP over IPv4"),
@@ -114,10 +120,22 @@ const struct scenario nicd_rss_rows[] = {
     TYPE("rss-tcp-ipv6", "TCP over IPv6"),
     TYPE("rss-udp-ipv6", "UDP over IPv6"),
     TYPE("rss-ipv6", "IPv6 without ports"),
-    {.name = "rss-none", .family = "rss", .title = "frames that aren't hashed", .rule = rule,
-     .source = "Receive Side Scaling", .needs = RECEIVES | RSS, .setup = {.queues = 2, .slots = 16}, .begin = come_of_type,
-     .end = judge_queues, .reaches = {"queue 0"}},
-    {.name = "rss-changed", .family = "rss", .title = "another key and table while frames come",
+    {.name = "rss-none",
+     .family = "rss",
+     .title = "frames that aren't hashed",
+     .rule = rule,
+     .source = "Receive Side Scaling",
+     .needs = RECEIVES | RSS,
+     .setup = {.queues = 2, .slots = 16},
+     .begin = come_of_type,
+     .end = judge_queues,
+     .reaches = {"queue 0"}},
+    {.name = "rss-changed",
+     .family = "rss",
+     .title = "another key and table while frames come",
      .rule = "A write of RETA takes effect at no particular frame: each is handed up by the queue that it came by",
-     .source = "Redirection Table", .needs = RECEIVES | RSS, .setup = {.queues = 2, .slots = 16}, .begin = change_amid_frames},
+     .source = "Redirection Table",
+     .needs = RECEIVES | RSS,
+     .setup = {.queues = 2, .slots = 16},
+     .begin = change_amid_frames},
     {0}};

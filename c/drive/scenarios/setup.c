@@ -2,9 +2,9 @@
 #include "../engine/drive.h"
 
 static struct {
-    bool is_masked;    /* EIMC was written with all causes, since the last reset */
+    bool is_masked; /* EIMC was written with all causes, since the last reset */
     bool was_reset;
-    uint32_t causes;   /* in EICR before the driver's access */
+    uint32_t causes; /* in EICR before the driver's access */
 } seen;
 
 static bool is_queue_register(uint32_t address, uint32_t (*of)(unsigned), unsigned *queue)
@@ -74,7 +74,8 @@ static bool is_before_reception(uint32_t address)
 {
     return address == NIC_HLREG0 || address == NIC_MAXFRS || address == NIC_RDRXCTL || address == NIC_RXCSUM ||
            address == NIC_MRQC || (address >= NIC_RSSRK(0) && address <= NIC_RSSRK(9)) ||
-           (address >= NIC_RETA(0) && address <= NIC_RETA(31)) || (address >= NIC_SRRCTL(0) && address % 0x40 == 0x14 && address < 0x2000);
+           (address >= NIC_RETA(0) && address <= NIC_RETA(31)) ||
+           (address >= NIC_SRRCTL(0) && address % 0x40 == 0x14 && address < 0x2000);
 }
 
 static void see_reception(const struct step *step, bool is_drivers)
@@ -301,11 +302,17 @@ static void use_rings(void)
 }
 
 #define SEES(row, need, what, function, words, section)                                                                \
-    {.name = row, .family = "setup", .title = what, .rule = words, .source = section, .needs = need, .ways = OPENS,    \
-     .begin = open_alone, .see = function}
+    {                                                                                                                  \
+        .name = row, .family = "setup", .title = what, .rule = words, .source = section, .needs = need, .ways = OPENS, \
+        .begin = open_alone, .see = function                                                                           \
+    }
 #define CHECKS(row, need, what, function, words, section, ...)                                                         \
-    {.name = row, .family = "setup", .title = what, .rule = words, .source = section, .needs = need, .ways = OPENS,    \
-     .begin = open_##function, .setup = {__VA_ARGS__}}
+    {                                                                                                                  \
+        .name = row, .family = "setup", .title = what, .rule = words, .source = section, .needs = need, .ways = OPENS, \
+        .begin = open_##function, .setup = {                                                                           \
+            __VA_ARGS__                                                                                                \
+        }                                                                                                              \
+    }
 
 const struct scenario nicd_setup_rows[] = {
     SEES("setup-transmit-order", SENDS | PHYSICAL, "the device's transmit enable comes before a queue's",
@@ -322,23 +329,24 @@ const struct scenario nicd_setup_rows[] = {
     SEES("setup-masked-before-reset", PHYSICAL, "causes are masked before a reset", see_masks,
          "Software masks all causes before it resets the device", "Interrupts During Initialization"),
     CHECKS("setup-masked-after-reset", PHYSICAL, "and again after it", check_after_reset,
-           "After a reset all causes are masked once more before the device is set up", "Interrupts During Initialization",
-           .queues = 1),
+           "After a reset all causes are masked once more before the device is set up",
+           "Interrupts During Initialization", .queues = 1),
     CHECKS("setup-masked-polling", PULLS | PHYSICAL, "a driver that polls enables no cause", check_masks,
            "EIMS enables the causes that a handler is there for", "open of the adapter", .queues = 1),
     SEES("setup-ring-values", RECEIVES | PHYSICAL, "where rings lie, how long they are, where tails are", see_ring,
          "A ring begins at a multiple of 128 and has a multiple of 128 bytes; the bench drops the low bits",
          "Receive Descriptor Base Address"),
     SEES("setup-buffer-values", RECEIVES | PHYSICAL, "the kind and size of receive buffers", see_buffers,
-         "DESCTYPE 1 is the advanced descriptor with one buffer, BSIZEPACKET its size in KB",
-         "Split Receive Control"),
+         "DESCTYPE 1 is the advanced descriptor with one buffer, BSIZEPACKET its size in KB", "Split Receive Control"),
     SEES("setup-address-values", PHYSICAL, "reserved bits of the receive addresses", see_address,
          "Bits 30:16 of RAH are reserved and written as 0; the bench keeps them", "Receive Address High"),
     SEES("setup-thresholds", SENDS | PHYSICAL, "thresholds of transmit descriptors", see_thresholds,
-         "PTHRESH above 0 wants HTHRESH of 1 at least, and a head that is written back wants WTHRESH 0; no threshold has "
-         "an effect on the bench", "Transmit Descriptor Control"),
-    SEES("setup-alignment", 0, "registers are words", see_alignment,
-         "A register's address is a multiple of 4", "Register Conventions"),
+         "PTHRESH above 0 wants HTHRESH of 1 at least, and a head that is written back wants WTHRESH 0; no threshold "
+         "has "
+         "an effect on the bench",
+         "Transmit Descriptor Control"),
+    SEES("setup-alignment", 0, "registers are words", see_alignment, "A register's address is a multiple of 4",
+         "Register Conventions"),
     CHECKS("setup-enables-polled", PHYSICAL, "open waits for its queues", check_enables,
            "ENABLE becomes 1 some time after it is written, and software polls it", "Receive Descriptor Control",
            .queues = 1),
@@ -353,13 +361,23 @@ const struct scenario nicd_setup_rows[] = {
            "General Purpose Interrupt Enable", .interrupts = true),
     CHECKS("setup-vectors", INTERRUPTS | RECEIVES | PHYSICAL, "each receive queue has a vector", check_vectors,
            "A byte of IVAR counts where its valid bit is 1", "Interrupt Vector Allocation", .interrupts = true),
-    {.name = "setup-cause-read", .family = "setup", .title = "causes of queues aren't taken by reads",
+    {.name = "setup-cause-read",
+     .family = "setup",
+     .title = "causes of queues aren't taken by reads",
      .rule = "With MSI-X a queue's cause is cleared by EIAC or by a write of EICR; the bench clears it by a read too",
-     .source = "Extended Interrupt Cause", .needs = RECEIVES | INTERRUPTS | PHYSICAL,
-     .setup = {.interrupts = true}, .begin = come_with_messages, .see = see_cause_read},
-    {.name = "setup-tails-in-use", .family = "setup", .title = "tails stay within the ring, also over a wrap",
-     .rule = "A tail is a slot of the ring; behind the last comes slot 0", .source = "Receive Descriptor Tail",
-     .needs = RECEIVES | PHYSICAL, .begin = use_rings, .see = see_ring},
+     .source = "Extended Interrupt Cause",
+     .needs = RECEIVES | INTERRUPTS | PHYSICAL,
+     .setup = {.interrupts = true},
+     .begin = come_with_messages,
+     .see = see_cause_read},
+    {.name = "setup-tails-in-use",
+     .family = "setup",
+     .title = "tails stay within the ring, also over a wrap",
+     .rule = "A tail is a slot of the ring; behind the last comes slot 0",
+     .source = "Receive Descriptor Tail",
+     .needs = RECEIVES | PHYSICAL,
+     .begin = use_rings,
+     .see = see_ring},
     CHECKS("setup-long-frames", PHYSICAL, "the limit for longer frames", check_length,
            "Frames above 1,518 bytes on the wire want HLREG0.JUMBOEN, and MAXFRS counts the check sequence",
            "Maximum Frame Size", .frame = 4096),
@@ -369,7 +387,8 @@ const struct scenario nicd_setup_rows[] = {
     CHECKS("setup-drop", RECEIVES | PHYSICAL, "with several queues a full one drops", check_drop,
            "With DROP_EN a frame that finds no descriptor is dropped; without it all behind it wait",
            "Split Receive Control", .queues = 2),
-    CHECKS("setup-loaded", PHYSICAL, "the firmware is told that a driver is there", check_loaded,
-           "DRV_LOAD is set by a driver when it is loaded, and cleared when it is unloaded; it has no effect on the bench",
-           "Extended Device Control", .queues = 1),
+    CHECKS(
+        "setup-loaded", PHYSICAL, "the firmware is told that a driver is there", check_loaded,
+        "DRV_LOAD is set by a driver when it is loaded, and cleared when it is unloaded; it has no effect on the bench",
+        "Extended Device Control", .queues = 1),
     {0}};

@@ -244,7 +244,7 @@ struct engine {
     nicx_result result;
     nicxi_listener *listener;
     void *listener_argument;
-    nicxi_listener *watch; /* hears of each event beside the listener: a scenario that judges by them, from bring_up on */
+    nicxi_listener *watch; /* hears of each event beside the listener: for a scenario that judges by them */
 };
 
 extern struct engine nicxi;

@@ -11,10 +11,10 @@
 
        c/drive/nicdrive my_driver.c
 
-   The driver reaches its controller by the calls of nic82599_explore.h that are for tasks: nicx_read32 and nicx_write32
-   (a virtual function nicx_vf_read32 and nicx_vf_write32), nicx_dma_read and its like, nicx_lock, nicx_wait, nicx_pause,
-   nicx_point. Each of them is a point at which anybody may act. DMA memory it takes by nicd_dma_alloc, below. It names no
-   tasks, handlers or frames: the card does.
+   The driver reaches its controller by the calls of nic82599_explore.h that are for tasks: nicx_read32, nicx_write32 (a
+   virtual function nicx_vf_read32, nicx_vf_write32), nicx_dma_read and its like, nicx_lock, nicx_wait, nicx_pause,
+   nicx_point. Each of them is a point at which anybody may act. DMA memory it takes by nicd_dma_alloc, below. It names
+   no tasks, handlers or frames: the card does.
 
    Each schedule begins with `open`, on a controller as after power-up: what the driver keeps is made anew there. What a
    schedule leaves behind isn't ended: take memory from nicd_alloc, which gives it back by itself, or have it static.
@@ -88,6 +88,7 @@ typedef struct nicd_driver {
     const char *name; /* letters, digits, '-' and '_', at most 40 */
     uint32_t can;     /* of enum nicd_can */
     uint16_t queues;  /* the most that `open` takes, 1 to NICD_QUEUES; 0 stands for 1 */
+    uint16_t slots;   /* the fewest that `open` takes, 8, 16, .. 32; 0 stands for 8 */
     uint32_t frame;   /* the longest frame that it takes; 0 stands for 1,514 */
 
     /* Sets the controller up, from power-up or from what `close` left, and answers when frames can come and go. False
@@ -100,8 +101,8 @@ typedef struct nicd_driver {
        frames up from threads of its own calls nicd_deliver there, and has no `receive`; it is opened with interrupts
        always. */
     bool (*receive)(uint16_t queue, nicd_frame *frame);
-    /* Sends a frame of 60 bytes to those of the setup: true, and its bytes may change from then on. False where the ring
-       has no room now, or the frame is longer than that. */
+    /* Sends a frame of 60 bytes to those of the setup: true, and its bytes may change from then on. False where the
+       ring has no room now, or the frame is longer than that. */
     bool (*send)(uint16_t queue, const uint8_t *bytes, uint32_t length);
     /* Takes back what went out. Answers how many frames of the queue haven't gone out yet, as far as it knows. */
     uint32_t (*reclaim)(uint16_t queue);
@@ -125,9 +126,9 @@ typedef struct nicd_driver {
     bool (*resume)(void);
     bool (*link)(void); /* whether the link is up, as far as the driver knows; it makes no access */
 
-    /* The mailbox, as host (port 0, to function vf) or as function (its own; vf is 0). mailbox_send puts 1 to NICD_WORDS
-       words in it, for the other side: false where the mailbox isn't free now. mailbox_receive takes a message of the
-       other side, and acknowledges it: false where none is there. */
+    /* The mailbox, as host (port 0, to function vf) or as function (its own; vf is 0). mailbox_send puts 1 to
+       NICD_WORDS words in it, for the other side: false where the mailbox isn't free now. mailbox_receive takes a
+       message of the other side, and acknowledges it: false where none is there. */
     bool (*mailbox_send)(uint8_t vf, const uint32_t *words, uint32_t count);
     bool (*mailbox_receive)(uint8_t vf, uint32_t words[NICD_WORDS]);
     /* Of a function: whether the device is ready, since its host has set it up (RSTD, or a host that was there). */
@@ -136,9 +137,9 @@ typedef struct nicd_driver {
 
 /* --- in the driver's functions --- */
 
-/* DMA memory: the bus address of its first byte, a multiple of 128, and its bytes are 0. Behind it nothing is lent, so an
-   access of the driver or the device there is told. 0: it is refused, by a scenario that tries that or since all is
-   taken (some 500 KB). `bytes` is 1 to 131,072. */
+/* DMA memory: the bus address of its first byte, a multiple of 128, and its bytes are 0. Behind it nothing is lent, so
+   an access of the driver or the device there is told. 0: it is refused, by a scenario that tries that or since all is
+   taken (some 500 KB). `bytes` is 1 to 524,288. */
 uint64_t nicd_dma_alloc(size_t bytes);
 /* Gives it back: by its first address. The device must not touch it any more. */
 void nicd_dma_free(uint64_t bus);

@@ -28,7 +28,8 @@ def words() -> argparse.Namespace:
     parser.add_argument("--list", action="store_true", help="tells the rows, and makes none")
     parser.add_argument("--runs", type=int, default=Budget.runs, help="schedules by chance of a row (%(default)s)")
     parser.add_argument("--seconds", type=float, default=Budget.seconds, help="at most so long (%(default)s)")
-    parser.add_argument("--every", type=int, default=Budget.every, help="schedules of the exhaustive search (%(default)s)")
+    every = "schedules of the exhaustive search (%(default)s)"
+    parser.add_argument("--every", type=int, default=Budget.every, help=every)
     parser.add_argument("--seed", type=int, default=1, help="what chance begins with (1)")
     parser.add_argument("--jobs", type=int, default=os.cpu_count() or 1, help="rows at a time (one for each core)")
     parser.add_argument("--cc", default=os.environ.get("CC", "cc"), help="the compiler (cc)")

@@ -20,7 +20,8 @@ body { margin: 0 auto; max-width: 76rem; padding: 1.5rem 1rem 4rem; background: 
 h1 { font-size: 1.5rem; margin: 0 0 .25rem; } h2 { font-size: 1.1rem; margin: 2rem 0 .5rem; }
 p { margin: .25rem 0; } a { color: var(--link); } .dim { color: var(--dim); }
 .bar { display: flex; height: .6rem; border-radius: .3rem; overflow: hidden; margin: .75rem 0; background: var(--box); }
-.bar span { display: block; } .pass { --tone: var(--pass); } .fail { --tone: var(--fail); } .none { --tone: var(--none); }
+.bar span { display: block; } .none { --tone: var(--none); }
+.pass { --tone: var(--pass); } .fail { --tone: var(--fail); }
 .bar span { background: var(--tone); }
 .row { display: grid; grid-template-columns: 3rem 15rem 1fr; gap: .25rem .75rem; padding: .5rem 0;
   border-top: 1px solid var(--line); overflow-wrap: anywhere; }
@@ -30,7 +31,8 @@ details { margin-top: .35rem; } summary { cursor: pointer; color: var(--link); }
 pre { background: var(--box); border: 1px solid var(--line); border-radius: .4rem; padding: .6rem; overflow-x: auto;
   font-size: .85em; line-height: 1.4; margin: .4rem 0; }
 .chips { display: flex; flex-wrap: wrap; gap: .3rem; padding: 0; list-style: none; font-size: .85em; }
-.chips li { border: 1px solid var(--line); border-radius: .3rem; padding: 0 .4rem; font-family: ui-monospace, monospace; }
+.chips li { border: 1px solid var(--line); border-radius: .3rem; padding: 0 .4rem;
+  font-family: ui-monospace, monospace; }
 .chips li.off { color: var(--dim); text-decoration: line-through; }
 @media (max-width: 40rem) { .row { grid-template-columns: 2.5rem 1fr; } .row > .what { grid-column: 1 / -1; } }
 """
@@ -84,7 +86,8 @@ def one(row: Row) -> str:
 
 def chips(names: dict[str, int]) -> str:
     items = "".join(
-        f'<li{"" if count else " class=off"} title="{count:,} times">{escape(name)}</li>' for name, count in names.items()
+        f'<li{"" if count else " class=off"} title="{count:,} times">{escape(name)}</li>'
+        for name, count in names.items()
     )
     return f'<ul class="chips">{items}</ul>'
 

@@ -19,7 +19,8 @@ ANY = 1000  # preemptions: all schedules whatever
 REPLIES = [
     *("rx wrote", "tx advanced", "tx sent", "int message", "qstep_rx done", "qstep_tx done", "eestep done"),
     *("arrive done", "link done", "link idle"),
-    *(f"arrive dropped {why}" for why in ("link down", "off", "short", "long", "filter", "no pool", "pool off", "full")),
+    *(f"arrive dropped {why}" for why in ("link down", "off", "short", "long", "filter", "no pool", "pool off")),
+    "arrive dropped full",
     *(f"rx dropped {why}" for why in ("queue off", "no slot")),
     *(f"rx fault {why}" for why in ("outside", "not lent", "type", "no buffer size")),
     *(f"tx fault {why}" for why in ("outside", "not lent", "offload", "legacy", "too long", "unknown type")),

@@ -75,7 +75,7 @@ def listed(program: Path) -> list[Row]:
     lines = [line.split("\t") for line in made.stdout.splitlines()]
     if not lines or any(len(line) != 6 for line in lines):
         raise Refused(f"{program} --list tells no scenarios: does its main call nicd_main?")
-    return [Row(name, family, "" if lack == "-" else lack, title, rule, source) for name, family, lack, title, rule, source in lines]
+    return [Row(line[0], line[1], "" if line[2] == "-" else line[2], *line[3:]) for line in lines]
 
 
 def name_of(program: Path) -> str:

@@ -546,7 +546,7 @@ static void clean(unsigned queue)
         uint16_t next = (uint16_t)after(tx->last[tx->clean]);
         if (BUG == DOUBLE_CLEANER)
             nicx_point();
-        if (!WRITES_HEAD)
+        if (!WRITES_HEAD && BUG != BUFFER_AGAIN_BEFORE_DD)
             nicx_put64(tx->ring.bus + NIC_DESC_BYTES * tx->last[tx->clean] + 8, 0);
         tx->clean = next;
         tx->frames--;

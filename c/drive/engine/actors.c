@@ -426,6 +426,8 @@ static void set_up(void)
     nicd.setup = nicd.scenario->setup;
     nicd.setup.queues = (uint16_t)or_else(nicd.setup.queues, 1);
     nicd.setup.slots = (uint16_t)or_else(nicd.setup.slots, 8);
+    if (nicd.setup.slots < nicd.driver->slots)
+        nicd.setup.slots = nicd.driver->slots;
     nicd.setup.frame = or_else(nicd.setup.frame, 1514);
     nicd.setup.interrupts |= !nicd.driver->receive && nicd.driver->interrupt;
     memcpy(nicd.setup.address, address, 6);

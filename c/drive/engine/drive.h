@@ -9,7 +9,7 @@
 enum {
     BLOCKS = 256, /* of packet memory; a script of a failure has no more */
     OTHERS = 248, /* from this block on they are of others, for whom the card acts */
-    FIFO = 64,    /* frames that may wait in the device */
+    FIFO = 128,   /* frames that may wait in the device */
     MOST_PIECES = 128,
     MOST_OUT = 128, /* frames that are sent in a schedule */
     MOST_REACHED = 8,

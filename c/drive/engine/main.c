@@ -9,7 +9,7 @@
 
 #include "drive.h"
 
-enum { DONE = 0, REFUSED = 2, NOT_APPLICABLE = 4, NO_END = 5, MOST_WORDS_GIVEN = 64, PATIENCE = 5 };
+enum { DONE = 0, REFUSED = 2, NOT_APPLICABLE = 4, NO_END = 5, MOST_WORDS_GIVEN = 64, PATIENCE = 20 };
 
 struct drive nicd;
 
@@ -165,7 +165,7 @@ static int search(int argc, char **argv, const char *coverage)
     scenario.begin = begin;
     scenario.always = nicd_always;
     scenario.end = nicd_end;
-    scenario.points = it->points ? it->points : 6000;
+    scenario.points = it->points ? it->points : 20000;
     scenario.allowed = it->ways & FAULTY ? NICX_FAULTS | NICX_NOT_LENT : 0;
     if (!nicd_coverage_open()) {
         fprintf(stderr, "%s: there is no memory\n", it->name);
@@ -219,6 +219,8 @@ static const char *fault_of(const nicd_driver *d)
         return "it has neither receive nor send";
     if (d->queues > NICD_QUEUES)
         return "its queues are above 4";
+    if (d->slots % 8 || d->slots > 32)
+        return "its slots aren't 8, 16, 24 or 32";
     if (d->frame && (d->frame < 1514 || d->frame > NICD_FRAME_MOST))
         return "its frame isn't 1,514 to 9,724";
     if (d->threads > MOST_THREAD || (d->threads && !d->thread))

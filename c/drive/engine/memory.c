@@ -4,7 +4,7 @@
 
 #include "drive.h"
 
-enum { ALIGNED = 128, MOST_BYTES = 131072, OWN_ROOM = 1 << 20, OWN_HEAD = 16 };
+enum { ALIGNED = 128, MOST_BYTES = 524288, OWN_ROOM = 1 << 20, OWN_HEAD = 16 };
 
 static union {
     uint64_t aligned;
@@ -55,7 +55,7 @@ static struct piece *place(uint32_t blocks)
 uint64_t nicd_dma_alloc(size_t bytes)
 {
     if (!bytes || bytes > MOST_BYTES)
-        nicd_failed("nicd_dma_alloc is asked for %lu bytes: it gives 1 to 131,072", (unsigned long)bytes);
+        nicd_failed("nicd_dma_alloc is asked for %lu bytes: it gives 1 to 524,288", (unsigned long)bytes);
     if (is_refused())
         return 0;
     size_t rounded = (bytes + ALIGNED - 1) / ALIGNED * ALIGNED;

@@ -14,7 +14,7 @@ static void use_both_ways(void)
 static void come_over_a_wrap(void)
 {
     nicd_take_frames();
-    nicd_come_plain(12, 60);
+    nicd_come_plain(nicd.setup.slots + 4u, 60);
 }
 
 static void close_it(void)

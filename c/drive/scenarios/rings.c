@@ -4,13 +4,13 @@
 static void come_over_a_wrap(void)
 {
     nicd_take_frames();
-    nicd_come_plain(18, 60);
+    nicd_come_plain(2u * nicd.setup.slots + 2, 60);
 }
 
 static void come_in_a_burst(void)
 {
     nicd_take_frames();
-    nicd_come_plain(7, 60);
+    nicd_come_plain(nicd.setup.slots - 1u, 60);
 }
 
 static void come_one(void)
@@ -41,7 +41,7 @@ static void take_late(void)
 static void come_to_a_full_ring(void)
 {
     nicd_control(take_late);
-    nicd_come_plain(12, 60);
+    nicd_come_plain(nicd.setup.slots + 4u, 60);
 }
 
 static void look_at_nothing(void)
@@ -59,7 +59,7 @@ static void look_at_an_empty_ring(void)
 
 static void send_over_a_wrap(void)
 {
-    nicd_send_frames(0, 18, 60);
+    nicd_send_frames(0, 2u * nicd.setup.slots + 2, 60);
 }
 
 static void send_one(void)

@@ -106,7 +106,7 @@ void nicxi_went_on(struct thread *self)
     if (self->next.waits) {
         self->is_void = true;
         self->looked = nicxi.acts - self->own;
-        if (self->state == WAITING) /* a pause that a loop's reads made takes no act from the wait behind them */
+        if (self->state != PAUSED) /* a pause that a loop's reads made takes no act from the wait behind them */
             self->seen = self->looked;
     }
     if (nicxi.is_weak && self->state != READY)

@@ -88,7 +88,7 @@ typedef struct nicd_driver {
     const char *name; /* letters, digits, '-' and '_', at most 40 */
     uint32_t can;     /* of enum nicd_can */
     uint16_t queues;  /* the most that `open` takes, 1 to NICD_QUEUES; 0 stands for 1 */
-    uint16_t slots;   /* the fewest that `open` takes, 8, 16, .. 32; 0 stands for 8 */
+    uint16_t slots;   /* the fewest that `open` takes, 8, 16, .. 64; 0 stands for 8 */
     uint32_t frame;   /* the longest frame that it takes; 0 stands for 1,514 */
 
     /* Sets the controller up, from power-up or from what `close` left, and answers when frames can come and go. False

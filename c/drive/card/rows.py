@@ -25,7 +25,7 @@ class Budget:
     runs: int = 2000
     seconds: float = 8
     every: int = 20000
-    every_seconds: float = 4
+    every_seconds: float = 3
     hang: int = 3
     seed: int = 1
 

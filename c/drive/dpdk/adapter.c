@@ -121,7 +121,7 @@ static void close_driver(void)
 
 /* --- frames --- */
 
-static bool receive(uint16_t queue, nicd_frame *frame)
+static bool receive_frame(uint16_t queue, nicd_frame *frame)
 {
     struct rte_mbuf *packet = NULL;
     uint16_t count = port->rx_pkt_burst(port->data->rx_queues[queue], &packet, 1);
@@ -146,7 +146,7 @@ static struct rte_mbuf *segment(const uint8_t *bytes, uint32_t length)
     return packet;
 }
 
-static bool send(uint16_t queue, const uint8_t *bytes, uint32_t length)
+static bool send_frame(uint16_t queue, const uint8_t *bytes, uint32_t length)
 {
     uint32_t first = length > DATA_ROOM ? DATA_ROOM : length;
     if (length > 1514 || rte_mempool_avail_count(packets) < 2)
@@ -168,11 +168,11 @@ int main(int argc, char **argv)
 {
     static const nicd_driver card = {
         .name = "dpdk-ixgbe",
-        .slots = 32,
+        .slots = 64,
         .open = open_driver,
         .close = close_driver,
-        .receive = receive,
-        .send = send,
+        .receive = receive_frame,
+        .send = send_frame,
     };
     return nicd_main(argc, argv, &card);
 }

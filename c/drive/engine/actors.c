@@ -238,6 +238,7 @@ bool nicd_send(uint16_t queue, uint32_t length)
     bool is_shared = (nicd.driver->can & NICD_SHARED_SEND) != 0;
     struct poller *poller = &nicd.pollers[queue];
     uint16_t number = (uint16_t)nicd.numbers++;
+    uint32_t life = nicd.life;
     nicd_make_sent(number, length, bytes);
     nicd.calls++;
     if (!is_shared)
@@ -245,10 +246,10 @@ bool nicd_send(uint16_t queue, uint32_t length)
     bool is_taken = nicd.driver->send(queue, bytes, length);
     if (is_taken) {
         struct sent *sent = &nicd.sent[queue][nicd.accepted[queue]++ % MOST_OUT];
-        nicd.accepted_now[queue]++;
+        nicd.accepted_now[queue] += life == nicd.life;
         sent->number = number;
         sent->length = length;
-        sent->life = nicd.life;
+        sent->life = life;
         nicd.out[queue]++;
     }
     if (!is_shared)

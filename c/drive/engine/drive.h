@@ -9,9 +9,9 @@
 enum {
     BLOCKS = 256, /* of packet memory; a script of a failure has no more */
     OTHERS = 248, /* from this block on they are of others, for whom the card acts */
-    FIFO = 128,   /* frames that may wait in the device */
+    FIFO = 256,   /* frames that may wait in the device */
     MOST_PIECES = 128,
-    MOST_OUT = 128, /* frames that are sent in a schedule */
+    MOST_OUT = 160, /* frames that are sent in a schedule */
     MOST_REACHED = 8,
     MOST_THREAD = 4,
     DEVICE_QUEUES = 128,

@@ -219,8 +219,8 @@ static const char *fault_of(const nicd_driver *d)
         return "it has neither receive nor send";
     if (d->queues > NICD_QUEUES)
         return "its queues are above 4";
-    if (d->slots % 8 || d->slots > 32)
-        return "its slots aren't 8, 16, 24 or 32";
+    if (d->slots % 8 || d->slots > 64)
+        return "its slots aren't 8, 16, .. 64";
     if (d->frame && (d->frame < 1514 || d->frame > NICD_FRAME_MOST))
         return "its frame isn't 1,514 to 9,724";
     if (d->threads > MOST_THREAD || (d->threads && !d->thread))

@@ -262,6 +262,30 @@ REFUSALS = {
 }
 
 
+# Adapters that can't be taken: what stands in the struct beside a name and the functions, and what is told.
+ADAPTER = """#include "nic82599_drive.h"
+static bool my_open(const nicd_setup *setup) { return setup->slots == 8; }
+static void my_close(void) { }
+static bool my_receive(uint16_t queue, nicd_frame *frame) { return frame->length && queue; }
+int main(int argc, char **argv)
+{
+    static const nicd_driver card = {.open = my_open, FIELDS};
+    return nicd_main(argc, argv, &card);
+}
+"""
+ADAPTERS = {
+    ".close = my_close, .receive = my_receive": "its name isn't of 1 to 40 letters",
+    '.name = "a b", .close = my_close, .receive = my_receive': "its name isn't of 1 to 40 letters",
+    '.name = "a", .receive = my_receive': "it has no open or no close",
+    '.name = "a", .close = my_close': "it has neither receive nor send",
+    '.name = "a", .close = my_close, .receive = my_receive, .queues = 5': "its queues are above 4",
+    '.name = "a", .close = my_close, .receive = my_receive, .slots = 12': "its slots aren't 8, 16, .. 64",
+    '.name = "a", .close = my_close, .receive = my_receive, .frame = 9': "its frame isn't 1,514 to 9,724",
+    '.name = "a", .close = my_close, .receive = my_receive, .threads = 1': "its threads are above 4, or it has no thread",
+    '.name = "a", .close = my_close, .receive = my_receive, .can = 64': "its can has bits that enum nicd_can hasn't",
+}
+
+
 def nicdrive(folder: Path, words: list[object], wanted: int | None) -> str:
     """What the command prints; Wrong where it ends with another status."""
     called = [sys.executable, HERE / "nicdrive", *words] + ([] if "--compare" in words else ["-o", folder])
@@ -367,7 +391,13 @@ def check_refusals(kit: Kit) -> str:
         printed = nicdrive(kit.folder / "refused", list(given), 2)
         if not re.search(wanted, printed):
             raise Wrong(f"nicdrive {words}: it isn't told that \"{wanted}\":\n{printed}")
-    return f"{len(REFUSALS)} refusals"
+    for fields, wanted in ADAPTERS.items():
+        source = kit.folder / "refused.c"
+        source.write_text(ADAPTER.replace("FIELDS", fields))
+        told = nicdrive(kit.folder / "refused", [source], 2)
+        if wanted not in told:
+            raise Wrong(f"an adapter with {fields}: it isn't told that \"{wanted}\":\n{told}")
+    return f"{len(REFUSALS) + len(ADAPTERS)} refusals"
 
 
 def check_files(kit: Kit) -> str:

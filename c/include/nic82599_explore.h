@@ -53,7 +53,7 @@ typedef struct nicx_scenario {
        device make its steps, and so has a loop that reads the same over and over. */
     const char *(*bring_up)(void);
     /* For each schedule: makes the driver's own state anew, and names its tasks, its handlers, and what comes from the
-       link. */
+       link. Accesses are made at once, and waits are as in bring_up. */
     void (*begin)(void);
     /* After each step: null, or what is wrong. It may be null itself. It may look at the device by nicx_device() and
        calls without effects (nic_peek32, nic_dma_read); a call that acts fails as misuse. */

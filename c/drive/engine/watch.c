@@ -120,10 +120,10 @@ static void leave(uint8_t state)
 static void see_written(const struct step *step)
 {
     unsigned queue = (unsigned)(step->told.queue - nicd.base);
-    uint16_t number = nicd.waiting[nicd.oldest];
     nicd.partial = step->told.queue;
     if (!step->told.end || !oldest())
         return;
+    uint16_t number = nicd.waiting[nicd.oldest];
     nicd.frames[number].queue = (uint8_t)step->told.queue;
     leave(IS_WRITTEN);
     if (queue < NICD_QUEUES)

@@ -92,6 +92,11 @@ def chips(names: dict[str, int]) -> str:
     return f'<ul class="chips">{items}</ul>'
 
 
+def untried(rules: list[str]) -> str:
+    items = "".join(f"<li>{escape(rule)}</li>" for rule in rules)
+    return f"<details><summary>{len(rules)} not tried, for want of functions</summary><ul>{items}</ul></details>"
+
+
 def coverage(card: Card) -> str:
     registers = {name: reads + writes for name, (reads, writes) in card.registers().items()}
     replies = card.replies()
@@ -102,9 +107,7 @@ def coverage(card: Card) -> str:
         f"<h2>Registers of the table that the driver touched: {sum(map(bool, registers.values()))} of {len(registers)}"
         f"</h2>{chips(registers)}<h2>Replies of the device that came up: {sum(map(bool, replies.values()))} of "
         f"{len(replies)}</h2>{chips(replies)}<h2>Rules that were tried: {sum(rules.values())} of {len(rules)}</h2>"
-        + ('<p class="dim">Not tried, for want of what they need:</p><ul>' if not all(rules.values()) else "<ul>")
-        + "".join(f"<li>{escape(rule)}</li>" for rule, is_tried in rules.items() if not is_tried)
-        + "</ul>"
+        + untried([rule for rule, is_tried in rules.items() if not is_tried])
     )
 
 

@@ -87,7 +87,7 @@ def read(path: Path) -> Card:
 
 def extent(row: Row) -> str:
     """How much of a row's schedules was made."""
-    text = f"{row.schedules:,} schedules"
+    text = f"{row.schedules:,} schedule{'' if row.schedules == 1 else 's'}"
     if row.every >= ANY:
         return f"{text}: all there are"
     if row.every >= 0:

@@ -281,7 +281,7 @@ ADAPTERS = {
     '.name = "a", .close = my_close, .receive = my_receive, .queues = 5': "its queues are above 4",
     '.name = "a", .close = my_close, .receive = my_receive, .slots = 12': "its slots aren't 8, 16, .. 64",
     '.name = "a", .close = my_close, .receive = my_receive, .frame = 9': "its frame isn't 1,514 to 9,724",
-    '.name = "a", .close = my_close, .receive = my_receive, .threads = 1': "its threads are above 4, or it has no thread",
+    '.name = "a", .close = my_close, .receive = my_receive, .threads = 1': "or it has no thread",
     '.name = "a", .close = my_close, .receive = my_receive, .can = 64': "its can has bits that enum nicd_can hasn't",
 }
 

@@ -63,7 +63,8 @@ static unsigned end_of_thread(const struct frames *frames, const struct thread *
 static bool is_of_library(const char *file)
 {
     return strstr(file, "/nic82599/src/explore/") || has_prefix(file, "/rustc/") || strstr(file, "/library/core/") ||
-           strstr(file, "/library/std/") || strstr(file, "/library/alloc/") || strstr(file, "/explore/engine/");
+           strstr(file, "/library/std/") || strstr(file, "/library/alloc/") || strstr(file, "/explore/engine/") ||
+           strstr(file, "/explore/threads/");
 }
 
 static void add_lines(struct place *place, const void *call)

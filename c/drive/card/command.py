@@ -31,6 +31,8 @@ def words() -> argparse.Namespace:
     every = "schedules of the exhaustive search (%(default)s)"
     parser.add_argument("--every", type=int, default=Budget.every, help=every)
     parser.add_argument("--seed", type=int, default=1, help="what chance begins with (1)")
+    memory = "weak: stores to DMA memory may be late where no barrier orders them, and loads old (strong)"
+    parser.add_argument("--memory", choices=("strong", "weak"), default="strong", help=memory)
     parser.add_argument("--jobs", type=int, default=os.cpu_count() or 1, help="rows at a time (one for each core)")
     parser.add_argument("--cc", default=os.environ.get("CC", "cc"), help="the compiler (cc)")
     parser.add_argument("--flags", default="", help="more words for it, in quotes")
@@ -83,7 +85,7 @@ def make(given: argparse.Namespace) -> int:
         for row in rows:
             print(f"{row.name:26} {row.family:12} {row.lack or row.title}")
         return ALL_PASSED
-    budget = Budget(runs=given.runs, seconds=given.seconds, every=given.every, seed=given.seed)
+    budget = Budget(runs=given.runs, seconds=given.seconds, every=given.every, seed=given.seed, memory=given.memory)
     began = time.monotonic()
     make_all(Runner(program, folder, budget), rows, given.jobs, tell)
     card = report.Card(name_of(program.resolve()), rows, budget, time.monotonic() - began)

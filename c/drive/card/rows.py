@@ -28,6 +28,7 @@ class Budget:
     every_seconds: float = 3
     hang: int = 3
     seed: int = 1
+    memory: str = "strong"
 
 
 @dataclass
@@ -93,7 +94,7 @@ class Runner:
     def words(self, row: Row, more: list[object]) -> list[str]:
         budget = self.budget
         words: list[object] = [self.program, "--row", row.name, "--quiet", "--jobs", 1, "--seed", budget.seed]
-        words += ["--hang", budget.hang, "--out", self.folder, "--junit", self.folder / f"{row.name}.xml"]
+        words += ["--memory", budget.memory, "--hang", budget.hang, "--out", self.folder, "--junit", self.folder / f"{row.name}.xml"]
         if self.hangs > 2:  # each try of a shorter schedule would take as long as the hang is waited for
             words.append("--no-shrink")
         return [str(word) for word in [*words, "--coverage", self.folder / f"{row.name}.seen", *more]]
@@ -157,7 +158,8 @@ class Runner:
         found = re.search(r": FAILED (.+)", printed)
         fail(row, found[1] if found else "it failed")
         row.schedule_file = f"{row.name}.schedule"
-        row.again = f"{self.program} --row {row.name} --replay {self.folder / row.schedule_file}"
+        memory = " --memory weak" if self.budget.memory == "weak" else ""
+        row.again = f"{self.program} --row {row.name}{memory} --replay {self.folder / row.schedule_file}"
 
     def read_seen(self, row: Row) -> None:
         path = self.folder / f"{row.name}.seen"

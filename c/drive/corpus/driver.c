@@ -39,7 +39,10 @@ enum bug {
     FIRST_DD_OF_A_CHAIN,
     HEAD_CACHED_OVER_A_WRAP,
     DOUBLE_CLEANER,
-    LOCK_ORDER
+    LOCK_ORDER,
+    MISSING_WMB,
+    MISSING_RMB,
+    ENABLE_NOT_AWAITED
 };
 
 #ifndef BUG
@@ -186,7 +189,11 @@ static void start_receive(unsigned queue)
     put(NIC_RDT(queue), 0);
     put(NIC_SRRCTL(queue), NIC_SRRCTL_DESCTYPE_IS(1) | NIC_SRRCTL_BSIZEPACKET_IS(PART / 1024) |
                                (driver.setup.queues > 1 ? NIC_SRRCTL_DROP_EN : 0));
-    set_enable(NIC_RXDCTL(queue), ENABLE);
+    if (BUG == ENABLE_NOT_AWAITED)
+        put(NIC_RXDCTL(queue), ENABLE);
+    else
+        set_enable(NIC_RXDCTL(queue), ENABLE);
+    nicx_wmb();
     put(NIC_RDT(queue), driver.setup.slots - 1u);
 }
 
@@ -344,6 +351,8 @@ static void start_all(void)
 static void stop_queues(void)
 {
     for (unsigned queue = 0; queue < driver.setup.queues; queue++) {
+        if (BUG == ENABLE_NOT_AWAITED && !(get(NIC_RXDCTL(queue)) & ENABLE))
+            continue;
         if (BUG == STOP_THAT_DOES_NOT_WAIT) {
             put(NIC_RXDCTL(queue), 0);
             put(NIC_TXDCTL(queue), 0);
@@ -428,6 +437,8 @@ static bool find(struct ring *ring, unsigned *last)
         bool is_done = second & NIC_RXWB_DD || BUG == SLOT_WITHOUT_DD || (BUG == FIRST_DD_OF_A_CHAIN && k);
         if (!is_done)
             return false;
+        if (BUG != MISSING_RMB)
+            nicx_rmb(); /* the bytes are read behind DD */
         *last = slot;
         if (second & NIC_RXWB_EOP || BUG == SLOT_WITHOUT_DD)
             return true;
@@ -455,6 +466,7 @@ static void give_back(unsigned queue, unsigned slot)
         return;
     }
     post(ring, slot);
+    nicx_wmb(); /* the descriptor is written before the tail */
     put(NIC_RDT(queue), tail);
 }
 
@@ -571,6 +583,8 @@ static void fill(unsigned queue, const uint8_t *bytes, uint32_t length)
     }
     tx->ring.next = (uint16_t)slot;
     tx->frames++;
+    if (BUG != MISSING_WMB)
+        nicx_wmb();
     put(NIC_TDT(queue), slot);
 }
 

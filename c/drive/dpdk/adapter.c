@@ -1,6 +1,6 @@
 /* DPDK's driver plugged into the card: one queue each way, ixgbe_recv_pkts_lro_single_alloc and ixgbe_xmit_pkts, with
-   the driver's own set-up, start and stop of them. drivers/dpdk has DPDK's memory and port without a bus, and makes each
-   access of a register or a descriptor a point. */
+   the driver's own set-up, start and stop of them. drivers/dpdk has DPDK's memory and port without a bus, and makes
+   each access of a register or a descriptor a point. */
 #include <rte_ring.h>
 #include <rte_vect.h>
 #include <string.h>

@@ -113,6 +113,15 @@ void nicd_wait_for_event(uint32_t seen)
         nicx_wait_until(has_happened, &seen);
 }
 
+/* How many events there are, before a look: what it reads isn't older, since a thread that polls sees each store some
+   time. */
+uint32_t nicd_before_look(void)
+{
+    uint32_t seen = nicd.events;
+    nicx_rmb();
+    return seen;
+}
+
 /* A thread that looks again after each step of the device. */
 static void poll(void *given)
 {
@@ -122,7 +131,7 @@ static void poll(void *given)
         nicx_wait_until(may_run, NULL);
         poller->busy = true;
         do
-            seen = nicd.events;
+            seen = nicd_before_look();
         while (nicd_receive(poller->queue) && nicd.is_running);
         poller->busy = false;
         nicd_wait_for_event(seen);
@@ -143,6 +152,7 @@ static void serve(void *given)
         nicx_wait_until(is_scheduled, given);
         poller->busy = true;
         poller->scheduled = false;
+        nicx_rmb();
         while (nicd.driver->receive && nicd_receive(queue))
             continue;
         if (nicd.driver->reclaim)
@@ -272,7 +282,9 @@ static uint32_t sender_count;
 /* Where it isn't taken, and nothing comes back, until something happens. */
 static bool try_to_send(uint16_t queue, uint32_t length)
 {
-    uint32_t seen = nicd.events;
+    uint32_t seen = nicd_before_look();
+    if (!nicd.is_running)
+        return false;
     if (nicd_send(queue, length))
         return true;
     uint32_t out = nicd.out[queue];
@@ -290,8 +302,10 @@ void nicd_send_surely(uint16_t queue, uint32_t length)
 /* Whether some haven't gone out: then it waits until something happens. */
 static bool wait_for_some(uint16_t queue)
 {
-    uint32_t seen = nicd.events;
+    uint32_t seen = nicd_before_look();
     nicd.is_awaited[queue] = true;
+    if (!nicd.is_running)
+        return true;
     if (!nicd_reclaim(queue))
         return false;
     nicd_wait_for_event(seen);

@@ -226,6 +226,7 @@ void nicd_send_surely(uint16_t queue, uint32_t length);
 void nicd_wait_until_out(uint16_t queue);
 /* Takes one frame, if one is there. */
 bool nicd_receive(uint16_t queue);
+uint32_t nicd_before_look(void);
 /* Waits until something happened since there were so many events. */
 void nicd_wait_for_event(uint32_t seen);
 /* Waits until all that came was taken and all that was sent went out. */

@@ -133,7 +133,7 @@ static void break_receive(void)
 {
     break_and_reset(false);
     while (nicd.frames[nicd.count - 1].state != IS_DELIVERED) {
-        uint32_t seen = nicd.events;
+        uint32_t seen = nicd_before_look();
         if (!nicd_receive(0))
             nicd_wait_for_event(seen);
     }

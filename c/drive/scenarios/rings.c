@@ -32,7 +32,7 @@ static void take_late(void)
     if (nicd.written_count[0] >= nicd.setup.slots - 1u)
         nicd_reach(0);
     while (nicd.delivered < nicd.count) {
-        uint32_t seen = nicd.events;
+        uint32_t seen = nicd_before_look();
         if (!nicd_receive(0))
             nicd_wait_for_event(seen);
     }

@@ -94,7 +94,8 @@ class Runner:
     def words(self, row: Row, more: list[object]) -> list[str]:
         budget = self.budget
         words: list[object] = [self.program, "--row", row.name, "--quiet", "--jobs", 1, "--seed", budget.seed]
-        words += ["--memory", budget.memory, "--hang", budget.hang, "--out", self.folder, "--junit", self.folder / f"{row.name}.xml"]
+        words += ["--memory", budget.memory, "--hang", budget.hang, "--out", self.folder]
+        words += ["--junit", self.folder / f"{row.name}.xml"]
         if self.hangs > 2:  # each try of a shorter schedule would take as long as the hang is waited for
             words.append("--no-shrink")
         return [str(word) for word in [*words, "--coverage", self.folder / f"{row.name}.seen", *more]]

@@ -40,8 +40,7 @@ static void go_mixed(void)
 static const char length_rule[] = "PKT_LEN is how many bytes of the frame are in this buffer; a frame that is longer "
                                   "than a buffer goes on in the next descriptor, and EOP marks the last one";
 static const char send_rule[] =
-    "A frame may have several descriptors: DTALEN is each buffer's, EOP stands in the last, "
-    "PAYLEN is that of the whole";
+    "A frame may have several descriptors: DTALEN is each buffer's, and EOP stands in the last";
 
 #define RECEIVE(bytes, most)                                                                                           \
     {                                                                                                                  \

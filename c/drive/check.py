@@ -404,6 +404,16 @@ def check_faults(kit: Kit, each: int = 1) -> str:
     return f"{len(list(FAULTS)[::each])} drivers that do what no driver may"
 
 
+def check_words(kit: Kit) -> str:
+    """Words of the command that begin with a minus sign are taken as values too."""
+    source = HERE / "tests/faulty.c"
+    for words in (["--flags", "-DMODE=NO_LENGTH"], ["--flags=-DMODE=NO_LENGTH"]):
+        folder = kit.folder / "flags"
+        nicdrive(folder, [source, *words, "--rows", "receive-one", "--runs", 20, "--no-pages"], 1)
+        expect(rows_of(folder)["receive-one"], FAULTS["NO_LENGTH"][1], " ".join(words))
+    return "words of the command"
+
+
 def check_refusals(kit: Kit) -> str:
     broken = kit.folder / "broken.c"
     broken.write_text("int main(void) { return nothing; }\n")
@@ -448,6 +458,7 @@ def check_all(kit: Kit, full: bool) -> list[str]:
     few = 1 if full else 6
     return [
         check_refusals(kit),
+        check_words(kit),
         check_files(kit),
         check_faults(kit, few),
         check_bugs(kit, 2000, few),

@@ -16,6 +16,14 @@ from .rows import FAILED, Budget, Refused, Row, Runner, listed, make_all, name_o
 ALL_PASSED, ONE_FAILED, REFUSED = 0, 1, 2
 
 
+def joined(given: list[str]) -> list[str]:
+    """Words in which what follows --flags is joined to it: else one that begins with '-' isn't taken for its value."""
+    if "--flags" not in given[:-1]:
+        return given
+    place = given.index("--flags")
+    return [*given[:place], f"--flags={given[place + 1]}", *joined(given[place + 2 :])]
+
+
 def words() -> argparse.Namespace:
     parser = argparse.ArgumentParser(
         prog="nicdrive",
@@ -39,7 +47,7 @@ def words() -> argparse.Namespace:
     parser.add_argument("--libraries", type=Path, default=C / "out", help="the folder of the archives (c/out)")
     parser.add_argument("--no-pages", action="store_true", help="no page of the run of a failed row")
     parser.add_argument("--compare", nargs=2, type=Path, metavar=("OLD", "NEW"), help="two cards that were made")
-    return parser.parse_args()
+    return parser.parse_args(joined(sys.argv[1:]))
 
 
 def chosen(rows: list[Row], names: str | None) -> list[Row]:

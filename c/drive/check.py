@@ -273,7 +273,8 @@ FAULTS = {
 REFUSALS = {
     "": "which driver\\?",
     "/nowhere.c": "/nowhere.c: there is no such file",
-    "{source} --rows nothing": "--rows: there is no row and no family nothing",
+    "{source} --rows nothing": "there is no row and no family nothing; the families are setup, rings, frames",
+    "{source} --rows ,": "--rows: it names no row",
     "{source} --jobs 0": "are above 0",
     "{source} --cc /nowhere": "/nowhere: it can't be run",
     "{source} --libraries /nowhere": "there is no such file: `make -C c` makes it",
@@ -405,12 +406,16 @@ def check_faults(kit: Kit, each: int = 1) -> str:
 
 
 def check_words(kit: Kit) -> str:
-    """Words of the command that begin with a minus sign are taken as values too."""
+    """Flags that begin with a minus sign, rows by how their names begin, and the list without a driver."""
     source = HERE / "tests/faulty.c"
     for words in (["--flags", "-DMODE=NO_LENGTH"], ["--flags=-DMODE=NO_LENGTH"]):
         folder = kit.folder / "flags"
         nicdrive(folder, [source, *words, "--rows", "receive-one", "--runs", 20, "--no-pages"], 1)
         expect(rows_of(folder)["receive-one"], FAULTS["NO_LENGTH"][1], " ".join(words))
+    for words, wanted in ((["--rows", "interrupt"], 5), (["--rows", "suspend,receive-wra"], 3), ([], 108)):
+        lines = nicdrive(kit.folder, ["--list", *words], 0).splitlines()
+        if len(lines) != wanted or "not applicable" in "".join(lines):
+            raise Wrong(f"nicdrive --list {' '.join(words)} tells {len(lines)} rows, and not {wanted}")
     return "words of the command"
 
 

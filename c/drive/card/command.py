@@ -4,8 +4,10 @@ from __future__ import annotations
 
 import argparse
 import os
+import shutil
 import subprocess
 import sys
+import tempfile
 import time
 from pathlib import Path
 
@@ -14,6 +16,8 @@ from .build import C, build
 from .rows import FAILED, Budget, Refused, Row, Runner, listed, make_all, name_of
 
 ALL_PASSED, ONE_FAILED, REFUSED = 0, 1, 2
+# The programs that ./nicbench starts, proved or not.
+NICBENCH = [C.parent / "crates/nicbench/out" / name for name in ("nicbench", "unproved/current")]
 
 
 def joined(given: list[str]) -> list[str]:
@@ -32,8 +36,10 @@ def words() -> argparse.Namespace:
     )
     parser.add_argument("driver", nargs="*", type=Path, help="sources and objects of the driver, or its program")
     parser.add_argument("-o", "--out", type=Path, default=Path("card"), help="the folder of the card (card)")
-    parser.add_argument("--rows", help="these rows alone: names or families, with commas between")
-    parser.add_argument("--list", action="store_true", help="tells the rows, and makes none")
+    rows = "these rows alone, with commas between: names or families, or what names begin with"
+    parser.add_argument("--rows", help=rows)
+    every = "tells the rows, and makes none; with a driver also which of them aren't applicable"
+    parser.add_argument("--list", action="store_true", help=every)
     parser.add_argument("--runs", type=int, default=Budget.runs, help="schedules by chance of a row (%(default)s)")
     parser.add_argument("--seconds", type=float, default=Budget.seconds, help="at most so long (%(default)s)")
     every = "schedules of the exhaustive search (%(default)s)"
@@ -51,14 +57,20 @@ def words() -> argparse.Namespace:
 
 
 def chosen(rows: list[Row], names: str | None) -> list[Row]:
-    """The rows that are asked for."""
+    """The rows that are asked for: by a row, by a family, or else by what the names of rows begin with."""
     if names is None:
         return rows
-    wanted = [name for name in names.split(",") if name]
-    for name in wanted:
-        if not any(name in (row.name, row.family) for row in rows):
-            raise Refused(f"--rows: there is no row and no family {name}")
-    return [row for row in rows if row.name in wanted or row.family in wanted]
+    wanted = set()
+    for name in filter(None, names.split(",")):
+        found = [row.name for row in rows if name in (row.name, row.family)]
+        found = found or [row.name for row in rows if row.name.startswith(name)]
+        if not found:
+            families = ", ".join(dict.fromkeys(row.family for row in rows))
+            raise Refused(f"--rows: there is no row and no family {name}; the families are {families}")
+        wanted.update(found)
+    if not wanted:
+        raise Refused("--rows: it names no row")
+    return [row for row in rows if row.name in wanted]
 
 
 def draw(row: Row, folder: Path) -> None:
@@ -77,8 +89,32 @@ def draw(row: Row, folder: Path) -> None:
         row.notes.append(f"no page of the run: {said}")
 
 
+def draw_all(rows: list[Row], folder: Path) -> None:
+    """The pages of the runs of all failed rows. The first one waits until ./nicbench is there."""
+    if any(row.state == FAILED for row in rows) and shutil.which("rt") and not any(map(Path.exists, NICBENCH)):
+        print("nicdrive: compiling ./nicbench for the pages, once, some minutes", file=sys.stderr, flush=True)
+    for row in rows:
+        draw(row, folder)
+
+
 def tell(row: Row) -> None:
     print(report.line(row), flush=True)
+
+
+def tell_names(rows: list[Row]) -> int:
+    for row in rows:
+        print(f"{row.name:26} {row.family:12} {row.lack or row.title}")
+    return ALL_PASSED
+
+
+def list_all(given: argparse.Namespace) -> int:
+    """The rows without a driver: those of the corpus's driver, which has all functions."""
+    with tempfile.TemporaryDirectory() as folder:
+        source = [C / "drive/corpus/driver.c"]
+        rows = listed(build(source, Path(folder), given.cc, given.flags, given.libraries))
+    for row in rows:
+        row.lack = ""
+    return tell_names(chosen(rows, given.rows))
 
 
 def make(given: argparse.Namespace) -> int:
@@ -90,16 +126,13 @@ def make(given: argparse.Namespace) -> int:
     program = build(given.driver, folder, given.cc, given.flags, given.libraries)
     rows = chosen(listed(program.resolve()), given.rows)
     if given.list:
-        for row in rows:
-            print(f"{row.name:26} {row.family:12} {row.lack or row.title}")
-        return ALL_PASSED
+        return tell_names(rows)
     budget = Budget(runs=given.runs, seconds=given.seconds, every=given.every, seed=given.seed, memory=given.memory)
     began = time.monotonic()
     make_all(Runner(program, folder, budget), rows, given.jobs, tell)
-    card = report.Card(name_of(program.resolve()), rows, budget, time.monotonic() - began)
     if not given.no_pages:
-        for row in rows:
-            draw(row, folder)
+        draw_all(rows, folder)
+    card = report.Card(name_of(program.resolve()), rows, budget, time.monotonic() - began)
     card.write(folder / "card.json")
     (folder / "card.txt").write_text(report.text(card))
     report.write_junit(card, folder / "card.xml")
@@ -116,6 +149,8 @@ def command() -> int:
             told, is_worse = report.compare(report.read(given.compare[0]), report.read(given.compare[1]))
             print(told, end="")
             return ONE_FAILED if is_worse else ALL_PASSED
+        if given.list and not given.driver:
+            return list_all(given)
         if not given.driver:
             raise Refused("which driver? a source, objects, or a program (--help)")
         if given.jobs < 1 or given.runs < 1 or given.every < 1 or given.seconds <= 0:

@@ -419,6 +419,20 @@ def check_words(kit: Kit) -> str:
     return "words of the command"
 
 
+def check_places(kit: Kit) -> str:
+    """The last step of a failed row names a line of the driver, also where the card's task `control` called it."""
+    head = "static bool suspend(void)\n{\n"
+    text = (HERE / "corpus/driver.c").read_text()
+    source = kit.folder / "rests_badly.c"
+    source.write_text(text.replace(head, head + "    nicx_write32(NIC_RDBAL(0), 0);\n"))
+    row = kit.card(source, 1, "--rows", "suspend", "--runs", 20)["suspend"]  # compiled with -g
+    expect(row, "RDBAL.0. is written while the queue is on", source.name)
+    line = text[: text.index(head)].count("\n") + 3
+    if not re.search(rf"task control .* at (\S+ < )*{source.name}:{line}\b", row["schedule"]):
+        raise Wrong(f"{source.name}: no step of control is at line {line}:\n{row['schedule']}")
+    return "a failed row names the driver's line"
+
+
 def check_refusals(kit: Kit) -> str:
     broken = kit.folder / "broken.c"
     broken.write_text("int main(void) { return nothing; }\n")
@@ -464,6 +478,7 @@ def check_all(kit: Kit, full: bool) -> list[str]:
     return [
         check_refusals(kit),
         check_words(kit),
+        check_places(kit),
         check_files(kit),
         check_faults(kit, few),
         check_bugs(kit, 2000, few),

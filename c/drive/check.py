@@ -433,6 +433,31 @@ def check_places(kit: Kit) -> str:
     return "a failed row names the driver's line"
 
 
+# What the command does of pages, with a failed row, a toolchain, and the programs of ./nicbench that are there.
+PAGES = """import sys
+from pathlib import Path
+sys.path[:0] = [FOLDERS]
+from card import command
+from card.rows import FAILED, Row
+command.NICBENCH = [Path(sys.argv[1])]
+command.shutil.which = lambda name: name
+command.draw = lambda row, folder: print("drawn")
+command.draw_all([Row("a", "b", "", "c", "d", "e", state=FAILED)], Path())
+"""
+
+
+def check_pages() -> str:
+    """It is told that ./nicbench is compiled for the pages, where that is so."""
+    folders = ", ".join(repr(str(path)) for path in (HERE, C.parent / "python"))
+    told = "nicdrive: compiling ./nicbench for the pages, once, some minutes\n"
+    for there, wanted in (("/nowhere", told), ("/", "")):
+        words = [sys.executable, "-B", "-c", PAGES.replace("FOLDERS", folders), there]
+        made = subprocess.run(words, capture_output=True, text=True, check=False)
+        if (made.stdout, made.stderr) != ("drawn\n", wanted):
+            raise Wrong(f"of pages, with ./nicbench's program at {there}, it is told: {made.stdout}{made.stderr}")
+    return "what is told of pages"
+
+
 def check_refusals(kit: Kit) -> str:
     broken = kit.folder / "broken.c"
     broken.write_text("int main(void) { return nothing; }\n")
@@ -479,6 +504,7 @@ def check_all(kit: Kit, full: bool) -> list[str]:
         check_refusals(kit),
         check_words(kit),
         check_places(kit),
+        check_pages(),
         check_files(kit),
         check_faults(kit, few),
         check_bugs(kit, 2000, few),

@@ -646,7 +646,7 @@ def check_form(kit: Kit) -> str:
         if mode in FORM_FAULTS:
             told(ran([program, mode, *words, "--no-shrink"], 1), f"FAILED {FORM_FAULTS[mode]}", mode)
         else:
-            ran([program, mode, *words, "--runs", 1000])
+            told(ran([program, mode, *words, "--runs", 1000]), UNSEEN, mode)
     for mode in ("mutex", "cond", "rwlock", "barriers", "keys", "state"):
         ran([program, mode, *words, "--strategy", "exhaustive", "--preemptions", 1])
     for mode in ("orders", "again", "held", "lost"):
@@ -699,6 +699,9 @@ def check_races(kit: Kit) -> str:
     return f"{len(modes)} orders of accesses"
 
 
+UNSEEN = "note: plain accesses and atomics weren't seen: build with -fsanitize=thread to find data races"
+
+
 def check_program(kit: Kit, runs: int) -> str:
     """A whole program is searched as it stands: its bug is found by its end, and as a race; and its twin passes."""
     source, out = HERE / "examples/forwarder.c", kit.folder / "program"
@@ -711,7 +714,9 @@ def check_program(kit: Kit, runs: int) -> str:
         schedule = re.findall(r"the schedule is (\S+),", said)[0]
         told(ran([program, "--replay", schedule], 1), f"FAILED {wanted}", "forwarder")
         twin = kit.build_form(source, "FIXED", form="program", of_memory=of_memory)
-        ran([twin, *words, "--runs", runs])
+        said = ran([twin, *words, "--runs", runs, "--strict"])
+        if (UNSEEN in said) == of_memory:
+            raise Wrong(f"whether accesses are seen isn't told:\n{said}")
         told(ran([twin, *words, "--runs", 2, "--", 1]), "nothing was found", "forwarder with one frame")
     with open(schedule.replace(".schedule", ".nic"), encoding="ascii") as script:
         if not ran([kit.nicbench, "run", "--fifo", 64], stdin=script).splitlines()[-1].startswith("ok "):

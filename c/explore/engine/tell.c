@@ -3,6 +3,7 @@
 #include <inttypes.h>
 #include <stdio.h>
 
+#include "parts.h"
 #include "words.h"
 
 static void tell_never(void *argument, const char *line)
@@ -23,6 +24,9 @@ bool nicxi_tell_nothing(const struct options *options, const struct totals *tota
                coverage->fault);
     else if (allows_faults)
         printf("%s: note: faults are allowed, and none was met\n", name);
+    if (nicxi_form && !nicxi_races)
+        printf("%s: note: plain accesses and atomics weren't seen: build with -fsanitize=thread to find data races\n",
+               name);
     uint32_t never = nicxi_never(coverage, tell_never, stdout);
     bool fails = never && options->is_strict;
     printf("%s: nothing was found%s\n", name, fails ? ", and some of it never ran: --strict" : "");

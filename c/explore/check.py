@@ -192,6 +192,7 @@ def check_examples(kit: Kit, runs: int) -> str:
 
 FAULTS = {
     "end": "end: it ended <here> & \"now\"",
+    "lines": "end: rx 0: nobody\u00e9 takes it; int 5: no message\n",
     "always": "always: the head moved",
     "locks": "deadlock: (up|down) waits for (first|second), which (up|down) holds",
     "waits": "deadlock: faulty waits, and nobody can act",

@@ -80,6 +80,10 @@ def check_causes(kit: Kit) -> str:
     said = ran([faulty, "end", "--merge", *(out / one for one in ("end", "check", "fine")), "--out", out, "--junit",
                 out / "all.xml"], 1)  # fmt: skip
     told(said, r"it doesn't fail so in this program: the schedule is \S+/faulty-2.schedule", "another program's")
+    ran([faulty, "lines", "--quiet", "--jobs", 1, "--runs", 200, "--out", out, "--result", out / "lines"], 1)
+    said = ran([faulty, "lines", "--merge", out / "lines", "--out", out], 1)
+    told(said, r"FAILED end: rx 0: nobody\?\? takes it; int 5: no message\n", "words of several lines")
+    told(said, r"again: \S+ --replay \S+/faulty.schedule", "words of several lines")
     cases = xml.etree.ElementTree.parse(out / "all.xml").findall("testcase/failure")
     if [case.get("type") for case in cases] != ["end", "check"] or not all("scenario faulty" in (case.text or "")
                                                                           for case in cases):  # fmt: skip

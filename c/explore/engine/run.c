@@ -11,6 +11,7 @@
 #include "parts.h"
 #include "process.h"
 #include "weak.h"
+#include "words.h"
 
 enum { MOST_RESTS = 20 };
 
@@ -21,13 +22,15 @@ const char *(*nicxi_ask_for_memory)(const char *name);
 
 void nicxi_failed(uint8_t outcome, const char *form, ...)
 {
+    char words[sizeof nicxi.result.words];
     va_list list;
     if (nicxi.result.outcome)
         return;
     nicxi.result.outcome = outcome;
     va_start(list, form);
-    vsnprintf(nicxi.result.words, sizeof nicxi.result.words, form, list);
+    vsnprintf(words, sizeof words, form, list);
     va_end(list);
+    nicxi_one_line(words, nicxi.result.words, sizeof nicxi.result.words);
 }
 
 void nicxi_leave(void)

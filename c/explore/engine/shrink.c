@@ -76,10 +76,13 @@ static bool are_alike(const char *a, const char *b)
     }
 }
 
-/* Who came last in one without end is chance. */
+/* Who came last in one without end is chance. The words are compared as files have them. */
 bool nicxi_is_the_same(const nicx_result *a, const nicx_result *b)
 {
-    return a->outcome == b->outcome && (a->outcome == NICX_ENDLESS || are_alike(a->words, b->words));
+    char words[sizeof a->words], others[sizeof b->words];
+    nicxi_plain(a->words, words, sizeof words);
+    nicxi_plain(b->words, others, sizeof others);
+    return a->outcome == b->outcome && (a->outcome == NICX_ENDLESS || are_alike(words, others));
 }
 
 /* Without some of the scenario it is better as long as it isn't longer; else it has fewer switches, or fewer points.

@@ -139,6 +139,19 @@ void nicxi_plain(const char *words, char *room, unsigned size)
     room[at] = 0;
 }
 
+void nicxi_one_line(const char *words, char *room, unsigned size)
+{
+    unsigned at = 0;
+    for (; *words && at + 2 < size; words++) {
+        bool is_between = *words == '\n' && at && words[1] && words[1] != '\n';
+        if (is_between)
+            room[at++] = ';';
+        if (is_between || *words != '\n')
+            room[at++] = is_between ? ' ' : *words;
+    }
+    room[at] = 0;
+}
+
 const char *nicxi_outcome_name(uint8_t outcome)
 {
     static const char *const names[] = {"fine",   "end",   "always", "deadlock", "endless", "fault",

@@ -16,5 +16,7 @@ const char *nicxi_outcome_name(uint8_t outcome);
 
 /* Words of the driver's for a line of a file: what is no printable ASCII is a question mark. */
 void nicxi_plain(const char *words, char *room, unsigned size);
+/* Lines become one, with "; " between them. */
+void nicxi_one_line(const char *words, char *room, unsigned size);
 
 #endif

@@ -226,6 +226,8 @@ static const char *end(void)
         nicx_settle();
     if (is("handlers") && !(first_ran && second_ran && service_ran && nicx_read32(NIC_RDH(0)) == 1))
         return "a handler or the service didn't come to its end";
+    if (is("lines"))
+        return "rx 0: nobody\xC3\xA9 takes it\n\nint 5: no message\n";
     return is("end") ? "it ended <here> & \"now\"" : NULL;
 }
 

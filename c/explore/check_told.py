@@ -194,6 +194,12 @@ def check_lenient(kit: Kit, program: Path) -> str:
                 raise Wrong(f"told {mode} --lenient: it isn't told that {wanted}:\n{said}")
         if said.count("parts from the schedule") != 1:
             raise Wrong(f"told {mode} --lenient: it parts more than once:\n{said}")
+    other = schedule.with_name("other.schedule")
+    other.write_text(schedule.read_text().replace("scenario told\n", "scenario old\n"))
+    said = ran([program, "reader", "--replay", other, "--lenient"], 1)
+    told(said, r"^told: note: it is a schedule of scenario old\n", "another scenario's, --lenient")
+    told(said, "it never parts from the schedule", "another scenario's, --lenient")
+    told(ran([program, "reader", "--replay", other], 2), "it is a schedule of scenario old, and this is told", "other")
     told(ran([program, "reader", "--lenient"], 2), "--lenient: it is for --replay", "--lenient")
     return f"{len(PARTS)} drivers follow a schedule as far as it goes"
 

@@ -32,11 +32,12 @@ struct schedule_file {
     uint32_t last;  /* the last line */
     uint32_t cycle; /* the last so many points come over and over; 0: none do */
     bool is_weak;   /* it is one of weak memory */
+    char other[64]; /* the scenario that it is of, where that isn't this one; "" where it is */
     struct omitted omitted;
 };
 
-/* Reads one: null, or "PATH:LINE: why", kept until the next call. The actors must be listed. Leniently an actor that
-   the scenario hasn't is NOBODY, and what it hasn't is left out. */
+/* Reads one: null, or "PATH:LINE: why", kept until the next call. The actors must be listed. Leniently it may be
+   of another scenario, an actor that the scenario hasn't is NOBODY, and what it hasn't is left out. */
 const char *nicxi_read_schedule(const char *path, bool is_lenient, struct schedule_file *file);
 void nicxi_free_schedule(struct schedule_file *file);
 

@@ -238,6 +238,8 @@ int nicxi_replay(const char *path, bool is_lenient)
     const char *fault = nicxi_read_schedule(path, is_lenient, &it.file);
     if (fault)
         fprintf(stderr, "%s\n", fault);
+    else if (*it.file.other)
+        printf("%s: note: it is a schedule of scenario %s\n", nicxi.scenario->name, it.file.other);
     int status = fault ? REFUSED : follow(&it);
     nicxi_free_schedule(&it.file);
     return status;

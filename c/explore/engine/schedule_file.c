@@ -113,11 +113,14 @@ static char why[2 * MOST_LINE + 256];
 
 /* --- a line --- */
 
-static const char *take_scenario(const char *words)
+static const char *take_scenario(struct schedule_file *file, const char *words, bool is_lenient)
 {
     if (strncmp(words, "scenario ", 9) != 0)
         return "the first line is \"scenario NAME\"";
     if (!strcmp(words + 9, nicxi.scenario->name))
+        return NULL;
+    snprintf(file->other, sizeof file->other, "%.63s", words + 9);
+    if (is_lenient)
         return NULL;
     snprintf(why, sizeof why, "it is a schedule of scenario %s, and this is %s", words + 9, nicxi.scenario->name);
     return why;
@@ -222,7 +225,7 @@ static const char *take_line(struct schedule_file *file, char *line, bool is_las
     if (*has_scenario)
         return take(file, line, comment ? comment + (*comment == ' ') : NULL, is_lenient);
     *has_scenario = true;
-    return take_scenario(line);
+    return take_scenario(file, line, is_lenient);
 }
 
 /* Where the cycle begins becomes how long it is. */

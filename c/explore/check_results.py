@@ -53,7 +53,7 @@ def check_sums(kit: Kit) -> str:
             raise Wrong(f"a result by itself has {numbers(alone)}, and its search made {wanted}")
         part = ran([program, "--merge", files[0], files[2], "--out", out])
         told(part, r"note: shards that aren't there: 2 \(1 of 3\)", "two shards of three")
-        if "these are all schedules" in part:
+        if "these are all schedules" in part or ("aren't all schedules\n" in part) != ("exhaustive" in way):
             raise Wrong(f"two shards of three are told to be all:\n{part}")
         told(ran([program, "--merge", files[0], files[0]], 2), "shard 1/3 of the same search as", "a shard twice")
         ran([program, "--merge", *files, "--out", out, "--strict"])

@@ -222,6 +222,14 @@ def check_same_answer(kit: Kit) -> str:
         count = made(ran([right, *words, "--jobs", jobs]))
         if count != whole + bounds * (jobs - 1):  # (each process makes the first schedule of each bound)
             raise Wrong(f"{jobs} processes make {count} schedules, where one makes {whole}")
+    large = kit.build(HERE / "outside/rss_rebalance.c", "FIXED")
+    few = [large, *words, "--preemptions", "any", "--no-sleep"]
+    runs, seconds = ["--runs", 50], ["--seconds", "0.05"]
+    for end in (runs, ["--shard", "1/2", *runs], seconds, ["--runs", 10**9, *seconds]):
+        said = ran([*few, "--jobs", 2, *end])
+        told(said, f"these aren't all schedules: {end[-2]} ended the search\n", "an exhaustive search that was ended")
+    if "aren't all" in ran([right, *words]) or "aren't all" in ran([right, "--quiet", "--runs", 50]):
+        raise Wrong("a search that came to its end, or that is by chance, is told not to be all")
     if len(schedules) != 1:
         raise Wrong("with another number of processes the exhaustive search finds another schedule")
     return f"the same failure behind {alone} schedules, and {whole} of the twin, by 1, 2 and 3 processes"

@@ -11,6 +11,17 @@ static void tell_never(void *argument, const char *line)
     fprintf(argument, "%s: note: %s\n", nicxi.scenario->name, line);
 }
 
+/* An exhaustive search that an option ended looked at a part alone. */
+static void tell_part(const struct options *options, const struct totals *totals)
+{
+    const char *by = "";
+    if (options->strategy == EXHAUSTIVE && options->seconds > 0 && totals->seconds >= options->seconds)
+        by = ": --seconds ended the search";
+    else if (options->strategy == EXHAUSTIVE && options->runs)
+        by = ": --runs ended the search";
+    printf("%s: these aren't all schedules%s\n", nicxi.scenario->name, by);
+}
+
 /* Of a search that found nothing: how much it saw, and what never happened in it. Whether that fails by --strict. */
 bool nicxi_tell_nothing(const struct options *options, const struct totals *totals, bool has_distinct)
 {
@@ -19,6 +30,8 @@ bool nicxi_tell_nothing(const struct options *options, const struct totals *tota
     bool allows_faults = (nicxi.scenario->allowed & NICX_FAULTS) != 0;
     if (has_distinct)
         printf("%s: %s%" PRIu64 " distinct schedules\n", name, totals->is_exact ? "" : "about ", totals->distinct);
+    else if (!totals->is_whole)
+        tell_part(options, totals);
     if (coverage->faults)
         printf("%s: note: %" PRIu64 " faults, which are allowed, the first: %s\n", name, coverage->faults,
                coverage->fault);

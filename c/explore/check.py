@@ -546,6 +546,7 @@ def check_refusals(kit: Kit) -> str:
         fine: r":2: the schedule ends, and somebody can act",
         "scenario faulty\n" + "x" * 1100: r":2: the line is longer",
         f"{fine}rx\0\n": r":3: it is no text",
+        "scenario faulty\npoints memory\n": r':2: points: "memory": no access is known',
         "\0" * 600: r":1: it is no text",
     }.items():
         schedule.write_text(text)
@@ -558,7 +559,7 @@ def check_refusals(kit: Kit) -> str:
     said = ran([program, "check", "--quiet", "--out", lost], 1)
     told(said, "faulty.schedule: it can't be written", "a schedule without a file")
     told(said, "scenario faulty\n(?:.*\n)*task faulty +# r RDH", "a schedule without a file")
-    return f"{len(REFUSALS) + len(WORDS) + 12} refusals"
+    return f"{len(REFUSALS) + len(WORDS) + 13} refusals"
 
 
 # --- the table of independent steps ---
@@ -676,6 +677,24 @@ def check_cpp(kit: Kit) -> str:
     return "threads of C++"
 
 
+def check_points_line(program: Path, schedule: Path) -> None:
+    """A schedule says which accesses are points; one without that line is replayed with the option, as before."""
+    text, line = schedule.read_text(), "points memory:data\n"
+    words = [program, "no_lock", "--replay", schedule]
+    if f"scenario races\n{line}" not in text:
+        raise Wrong(f"{schedule} doesn't say which accesses are points")
+    for more in ([], ["--points", "memory:data"], ["--points", "memory:other"], ["--lenient"]):
+        told(ran([*words, *more], 1), "FAILED race: data", "a line of points")
+    for bad in ("registers", "memory:", "memory:two names", "memory:" + "x" * 96, "memories"):
+        schedule.write_text(text.replace(line, f"points {bad}\n"))
+        told(ran(words, 2), f'points: "{bad[:100]}": it is memory, or memory:NAME', f"points {bad}")
+    schedule.write_text(text.replace(line, "") + line)
+    told(ran([*words, "--points", "memory:data"], 2), "stands in front of the first point", "a late line of points")
+    schedule.write_text(text.replace(line, ""))
+    ran(words, 2)
+    told(ran([*words, "--points", "memory:data"], 1), "FAILED race: data", "no line of points")
+
+
 def check_races(kit: Kit) -> str:
     """What orders two accesses isn't told as a race, and what doesn't is, by each compiler."""
     source, out = HERE / "tests/races.c", kit.folder / "races"
@@ -690,8 +709,8 @@ def check_races(kit: Kit) -> str:
             if mode.startswith("no_"):
                 told(said, r"FAILED race: .*races\.c:\d+ (it before|writes|reads)?.*with no order between them", mode)
         points = ["--points", "memory:data"]
-        told(ran([program, "no_lock", *words, *points], 1), f"again: .* {' '.join(points)}\n", "points")
-        told(ran([program, "no_lock", "--replay", out / "races.schedule", *points], 1), "FAILED race: data", "points")
+        told(ran([program, "no_lock", *words, *points], 1), "again: .*/races.schedule\n", "points")
+        check_points_line(program, out / "races.schedule")
         ways = [["--points", "memory"], points, []]
         made = [ran([program, "mutex", *words, "--runs", 100, *one]) for one in ways]
         counts = [int(re.findall(r"(\d+) points", one)[0]) for one in made]

@@ -31,7 +31,8 @@ def found_by(kit: Kit, program: Path, mode: str, *words: object) -> tuple[str, s
 def points_of(schedule: str) -> list[str]:
     """The actors of a schedule's file."""
     lines = [line.partition("#")[0].strip() for line in schedule.splitlines()]
-    return [line for line in lines if line and not line.startswith(("scenario ", "without ", "cycle", "memory "))]
+    heads = ("scenario ", "without ", "cycle", "memory ", "points ")
+    return [line for line in lines if line and not line.startswith(heads)]
 
 
 def check_shrinking(kit: Kit, program: Path) -> str:

@@ -40,7 +40,7 @@ static void show(const struct options *options, struct failure *failure, const c
     const struct keeping keeping = {options, failure, &turn, options->seed, 0};
     nicxi_keep_failure(&keeping, paths);
     nicxi_tell_failure(failure, &found, tries, &turn);
-    nicxi_tell_files(options, failure, paths, program);
+    nicxi_tell_files(failure, paths, program);
 }
 
 static bool write_result(const struct options *options, const struct totals *totals, const struct failure *failure)
@@ -112,7 +112,7 @@ static void show_cause(const struct options *options, struct cause *cause, uint3
     if (is_elsewhere)
         printf("%s: it doesn't fail so in this program: the schedule is %s\n", nicxi.scenario->name, paths->schedule);
     else
-        nicxi_tell_files(options, &cause->failure, paths, program);
+        nicxi_tell_files(&cause->failure, paths, program);
 }
 
 static int show_merged(const struct options *options, struct merged *merged, const char *program)
@@ -196,11 +196,11 @@ static const char *look_at_files(const struct options *options, const char *name
 
 static const char *ask_for_points(const struct options *options)
 {
-    if (!options->points)
-        return NULL;
-    if (!nicxi_ask_for_memory)
-        return "--points: no access is known, since the driver isn't built with -fsanitize=thread for this";
-    return nicxi_ask_for_memory(options->points[6] ? options->points + 7 : "");
+    static char why[120];
+    const char *fault = options->points ? nicxi_ask_for_points(options->points) : NULL;
+    if (fault)
+        snprintf(why, sizeof why, "--points: %s", fault);
+    return fault ? why : NULL;
 }
 
 int nicx_main(int argc, char **argv, const nicx_scenario *scenario)

@@ -7,6 +7,7 @@
 #include <string.h>
 #include <unistd.h>
 
+#include "parts.h"
 #include "strategy.h"
 #include "weak.h"
 
@@ -162,7 +163,7 @@ static const char *take_points(const char *word, const char *text, struct option
     options->points = text;
     if (!*text)
         return without_word(word);
-    if (strncmp(text, "memory", 6) != 0 || (text[6] && (text[6] != ':' || !text[7])))
+    if (!nicxi_are_points(text))
         return refused(word, "it is memory, or memory:NAME of a variable or a function");
     return NULL;
 }

@@ -27,6 +27,11 @@ extern const struct nicxi_races *nicxi_races;
 /* Makes accesses of the driver's own memory points: all, or those of a variable or a function of this name. Null, or
    why not. */
 extern const char *(*nicxi_ask_for_memory)(const char *name);
+/* The same by the words of --points or of a schedule's file, "memory" or "memory:NAME", which are kept for files of
+   failures: null, or why not. */
+const char *nicxi_ask_for_points(const char *words);
+bool nicxi_are_points(const char *words);
+extern const char *nicxi_asked_points; /* or null */
 
 /* --- what these parts call --- */
 

@@ -10,6 +10,7 @@
 #include "heap.h"
 #include "parts.h"
 #include "process.h"
+#include "symbols.h"
 #include "weak.h"
 #include "words.h"
 
@@ -19,6 +20,29 @@ struct engine nicxi;
 const struct nicxi_form *nicxi_form;
 const struct nicxi_races *nicxi_races;
 const char *(*nicxi_ask_for_memory)(const char *name);
+const char *nicxi_asked_points;
+
+/* A name is a word, so that a line of a file has it. */
+bool nicxi_are_points(const char *words)
+{
+    if (strncmp(words, "memory", 6) != 0)
+        return false;
+    bool has_name = words[6] == ':' && words[7];
+    for (const char *at = words; *at; at++)
+        if (*at <= ' ' || *at > '~' || *at == '#')
+            return false;
+    return has_name ? strlen(words + 7) < MOST_SYMBOL : !words[6];
+}
+
+const char *nicxi_ask_for_points(const char *words)
+{
+    if (!nicxi_are_points(words))
+        return "it is memory, or memory:NAME of a variable or a function";
+    if (!nicxi_ask_for_memory)
+        return "no access is known, since the driver isn't built with -fsanitize=thread for this";
+    nicxi_asked_points = words;
+    return nicxi_ask_for_memory(words[6] ? words + 7 : "");
+}
 
 void nicxi_failed(uint8_t outcome, const char *form, ...)
 {

@@ -5,6 +5,7 @@
 #include <string.h>
 
 #include "files.h"
+#include "parts.h"
 #include "places.h"
 #include "weak.h"
 #include "words.h"
@@ -33,6 +34,8 @@ void nicxi_write_head(FILE *file, const struct origin *origin)
     fprintf(file, "scenario %s\n", nicxi.scenario->name);
     if (nicxi.is_weak)
         fprintf(file, "memory weak\n");
+    if (nicxi_asked_points)
+        fprintf(file, "points %s\n", nicxi_asked_points);
     write_omitted(file, origin->omitted);
 }
 
@@ -168,6 +171,19 @@ static const char *take_without(struct schedule_file *file, const char *words, b
     return why;
 }
 
+static const char *take_points(const struct schedule_file *file, const char *words)
+{
+    static char points[MOST_LINE];
+    if (file->length)
+        return "which accesses are points stands in front of the first point";
+    snprintf(points, sizeof points, "%s", words);
+    const char *fault = nicxi_ask_for_points(points);
+    if (!fault)
+        return NULL;
+    snprintf(why, sizeof why, "points: \"%.100s\": %s", words, fault);
+    return why;
+}
+
 /* What is wrong with a line, or null. */
 static const char *take(struct schedule_file *file, const char *words, const char *told, bool is_lenient)
 {
@@ -178,6 +194,8 @@ static const char *take(struct schedule_file *file, const char *words, const cha
     if (!file->length && !file->is_weak)
         nicxi_change_memory(false);
     uint16_t actor = nicxi_actor_of(words);
+    if (!strncmp(words, "points ", 7))
+        return take_points(file, words + 7);
     if (!strncmp(words, "without ", 8))
         return take_without(file, words + 8, is_lenient);
     if (!strcmp(words, "cycle")) {

@@ -122,8 +122,7 @@ void nicxi_tell_failure(const struct failure *failure, const nicx_result *found,
     tell_turn(turn);
 }
 
-void nicxi_tell_files(const struct options *options, const struct failure *failure, const struct paths *paths,
-                      const char *program)
+void nicxi_tell_files(const struct failure *failure, const struct paths *paths, const char *program)
 {
     const char *name = nicxi.scenario->name;
     printf("%s: the schedule is %s, the device's side of it %s, the page %s\n", name, paths->schedule, paths->script,
@@ -131,6 +130,5 @@ void nicxi_tell_files(const struct options *options, const struct failure *failu
     if (failure->is_stale)
         printf("%s: it doesn't fail alone: the same options, with as many processes, find it again\n", name);
     else
-        printf("%s: again: %s --replay %s%s%s\n", name, program, paths->schedule, options->points ? " --points " : "",
-               options->points ? options->points : "");
+        printf("%s: again: %s --replay %s\n", name, program, paths->schedule);
 }

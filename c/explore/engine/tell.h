@@ -12,7 +12,6 @@ bool nicxi_tell_nothing(const struct options *options, const struct totals *tota
 /* `found` is what was found, and `tries` how many it took to shrink it. */
 void nicxi_tell_failure(const struct failure *failure, const nicx_result *found, uint32_t tries,
                         const struct turn *turn);
-void nicxi_tell_files(const struct options *options, const struct failure *failure, const struct paths *paths,
-                      const char *program);
+void nicxi_tell_files(const struct failure *failure, const struct paths *paths, const char *program);
 
 #endif

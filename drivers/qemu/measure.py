@@ -129,16 +129,15 @@ def alone(place: Place, card: Card) -> list[float]:
     other.end()
     has(text, "guest", "3 packets received")
     if card.name == "82599":
-        all_came(text, card)
+        none_wrong(text, card)
     return [guest.when("guest: carrier at"), *figures_of(text, guest)]
 
 
-def all_came(text: str, card: Card) -> None:
-    """Each frame has to come as it was sent; what the emulator's own cards lose lowers their rates alone."""
-    all_of = f"{FRAMES} of {FRAMES}"
-    for end in (rf"^control: {all_of}, twice 0, wrong 0", rf"^frames: received {all_of} .* wrong 0$"):
+def none_wrong(text: str, card: Card) -> None:
+    """No frame may come twice or changed. What a full ring or a guest that is late loses lowers the rate alone."""
+    for end in (rf"^control: \d+ of {FRAMES}, twice 0, wrong 0", rf"^frames: received \d+ of {FRAMES} .* wrong 0$"):
         if len(re.findall(end, text, re.MULTILINE)) != 2:
-            raise Wrong(f"{card.name}: frames are missing or wrong:\n" + "\n".join(text.splitlines()[-20:]))
+            raise Wrong(f"{card.name}: frames are wrong:\n" + "\n".join(text.splitlines()[-20:]))
 
 
 def rates_in(text: str, begin: str) -> list[float]:

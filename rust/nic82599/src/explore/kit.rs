@@ -6,7 +6,7 @@ use super::{raw, Begin, Bus};
 /// length.
 pub fn numbered_frame(length: usize, number: u32) -> Option<Vec<u8>> {
     let mut frame = vec![0; length];
-    raw::numbered_frame(&mut frame, number).then(|| frame)
+    raw::numbered_frame(&mut frame, number).then_some(frame)
 }
 
 /// The number of such a frame, or of one of a [`Flow`]; `None` where a byte is of another frame, or of none.
@@ -54,7 +54,7 @@ impl Flow {
     /// A frame of it, of 60 to 1,518 bytes, with its number and right checksums; `None` for another length.
     pub fn frame(&self, length: usize, number: u32) -> Option<Vec<u8>> {
         let mut frame = vec![0; length];
-        raw::flow_frame(&mut frame, &self.raw(), number).then(|| frame)
+        raw::flow_frame(&mut frame, &self.raw(), number).then_some(frame)
     }
 }
 

@@ -60,7 +60,7 @@ module _ (old mid new : Option (List ℕ)) (IsFailed : ℕ → Type 0) where
   ended-given-up request remaining IsUnread Write (Threads workers frames) begun unread read memory write =
       absurd (write refl)
 
--- words that ask for something else are told where there is no memory, and nothing else is written
+-- words that ask for something else are reported where there is no memory, and nothing else is written
 pub ended-for-memory : (old new : Option (List ℕ)) (IsFailed : ℕ → Type 0) (request : Request)
     (remaining : Option (List ℕ)) (IsUnread : Type 0) (outcome : Outcome)
     → EndsSaying old new IsFailed no_memory outcome → EndsAs request remaining IsUnread old new IsFailed outcome
@@ -86,5 +86,5 @@ ended-words old new IsFailed kinds e (Threads workers frames) has (inr (other, n
 -- an error of want of memory
 pub ended-of-memory : (old new : Option (List ℕ)) (IsFailed : ℕ → Type 0) (k : ErrorKind) (outcome : Outcome)
     → k ≡ kind.OutOfMemory → EndsOf k old new IsFailed outcome → EndsSaying old new IsFailed no_memory outcome
-ended-of-memory old new IsFailed k outcome is (inl told) = told.1
-ended-of-memory old new IsFailed k outcome is (inr told) = absurd (told.0 is)
+ended-of-memory old new IsFailed k outcome is (inl reported) = reported.1
+ended-of-memory old new IsFailed k outcome is (inr reported) = absurd (reported.0 is)

@@ -35,20 +35,20 @@ pub fault-meant : (fault : AsmFault) (meant : Result Content AsmFault) → fault
     × ((answer : Answer) → IsMeantAnswer meant answer → answer ≡ text_refused fault)
 fault-meant fault meant other fails = rw (fails-by fault meant other fails) (refl, λ answer is. is)
 
-told : (fault : LoadFault) → fault ≢ file.OutOfMemory → reported_fault fault ≡ Some fault
-told file.OutOfMemory other = absurd (other refl)
-told file.OddLength other = refl
-told file.BadSize other = refl
-told file.SectionOutside other = refl
-told file.BadChecksum other = refl
-told file.NotTriples other = refl
+reported : (fault : LoadFault) → fault ≢ file.OutOfMemory → reported_fault fault ≡ Some fault
+reported file.OutOfMemory other = absurd (other refl)
+reported file.OddLength other = refl
+reported file.BadSize other = refl
+reported file.SectionOutside other = refl
+reported file.BadChecksum other = refl
+reported file.NotTriples other = refl
 
 -- the refusal of a file's fault is its answer, and the only one
 pub fault-of-file : (fault : LoadFault) (first : Option LoadFault) (bytes : List ℕ) → fault ≢ file.OutOfMemory
     → first ≡ reported_fault fault
     → IsFileAnswer first bytes (file_refused fault)
     × ((answer : Answer) → IsFileAnswer first bytes answer → answer ≡ file_refused fault)
-fault-of-file fault first bytes other is = rw (is ∙ told fault other) (refl, λ answer same. same)
+fault-of-file fault first bytes other is = rw (is ∙ reported fault other) (refl, λ answer same. same)
 
 -- the register writes of a file's image are its answer, and the only one
 pub triples-of-file : (first : Option LoadFault) (bytes image : List ℕ) → first ≡ None → IsImage image

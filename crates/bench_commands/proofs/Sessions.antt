@@ -56,7 +56,7 @@ pub faulty-command : (config : Config) (program : Listing) (commands : Result (L
     → commands ≡ Err number → refused_at (codes "Syntax") number ≡ commands_answer config program commands
 faulty-command config program commands number is = rw is refl
 
--- a missing end is told of lines that are a script
+-- a missing end is reported lines that are a script
 pub missing-end : (options : DebugOptions) (lines : List NumberedLine) → has_end end_of_script lines ≡ false
     → IsOk (program_before end_of_script lines)
     → refused_at (codes "Syntax") (length lines + 1) ≡ session_of options lines

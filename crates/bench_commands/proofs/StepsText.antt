@@ -94,7 +94,8 @@ module _ (old new : Option (List ℕ)) (start now : Course) (k limit : ℕ) (aft
   }
 
 -- the line of an answer is that of the step that gave it
-pub answer-written : (old new : Option (List ℕ)) (pc at : ℕ) (told answer : StepAnswer) → pc ≡ at → told ≡ answer
-    → Appends old new (answer_text pc told) → Appends old new (answer_text at answer)
-answer-written old new pc at told answer same is written =
-    subst (Appends old new) (ap (λ n. answer_text n told) same ∙ ap (answer_text at) is) written
+pub answer-written : (old new : Option (List ℕ)) (pc at : ℕ) (reported answer : StepAnswer) → pc ≡ at → reported
+    ≡ answer
+    → Appends old new (answer_text pc reported) → Appends old new (answer_text at answer)
+answer-written old new pc at reported answer same is written =
+    subst (Appends old new) (ap (λ n. answer_text n reported) same ∙ ap (answer_text at) is) written

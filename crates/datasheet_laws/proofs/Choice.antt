@@ -194,9 +194,9 @@ module _ (r : Registers) (h : HasShape r) (frame : List ℕ) (t : Target) (goes 
     first_of_eight = λ pool g is eight. queues_by_mode.pools_16 r frame pool t g (sixteen is) (code 8 eight);
     of_eight = λ pool g is which. queues_by_mode.pools_16_hashing r frame pool t g (sixteen is) (either which);
     entry = entry_is;
-    told = λ on. hash_is
+    reported = λ on. hash_is
         ∙ cond-true (has_bit 13 (word_of r row.Rxcsum 0)) (rss_hash r frame) 0 (sym tells ∙ on);
-    untold = λ off. hash_is
+    unreported = λ off. hash_is
         ∙ cond-false (has_bit 13 (word_of r row.Rxcsum 0)) (rss_hash r frame) 0 (sym tells ∙ off);
   }
 

@@ -157,9 +157,9 @@ three false false true false = refl
 three false false false true = refl
 three false false false false = refl
 
-pub told : (mail bit : ℕ) → has_bit bit (reported_once mail)
+pub reported : (mail bit : ℕ) → has_bit bit (reported_once mail)
     ≡ (has_bit bit mail && not (bit == 4 || bit == 5 || bit == 7))
-told mail bit =
+reported mail bit =
     cleared 4 (bit_cleared 5 (bit_cleared 7 mail)) bit
     ∙ ap (λ b. b && not (bit == 4)) (cleared 5 (bit_cleared 7 mail) bit
     ∙ ap (λ b. b && not (bit == 5)) (cleared 7 mail bit))

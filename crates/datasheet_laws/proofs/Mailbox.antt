@@ -24,10 +24,10 @@ use Rattle.register_laws.proofs.MailBits.{has_bit-or, has_bit-pow_other}
 use Rattle.register_laws.proofs.Puts.{word_at-put_other}
 use Rattle.register_laws.proofs.Shape.{put_stands, HasShape-put}
 use Rattle.datasheet_laws.specs.Accesses.{word, reads, read_at, write_at}
-use Rattle.datasheet_laws.specs.Mailbox.{own, other, names, FunctionShakes, PhysicalShakes, ReadAlike, IsToldOnce, MailboxesShake, OnesAreCleared, FunctionsRaise, PhysicalRaises}
+use Rattle.datasheet_laws.specs.Mailbox.{own, other, names, FunctionShakes, PhysicalShakes, ReadAlike, IsReportedOnce, MailboxesShake, OnesAreCleared, FunctionsRaise, PhysicalRaises}
 use Rattle.datasheet_laws.specs.Table.{whole}
 use Rattle.datasheet_laws.proofs.Accesses.{has_bit-shown, word-at, reads-at, left-at, wrote-at}
-use Rattle.datasheet_laws.proofs.Mail.{function_takes, function_waits, function_gives_up, function_leaves, physical_frees, physical_leaves, physical_takes, physical_waits, physical_gives_up, physical_status, physical_acknowledged, told}
+use Rattle.datasheet_laws.proofs.Mail.{function_takes, function_waits, function_gives_up, function_leaves, physical_frees, physical_leaves, physical_takes, physical_waits, physical_gives_up, physical_status, physical_acknowledged, reported}
 use Rattle.datasheet_laws.proofs.Table.{at}
 
 -- a digit that a mask hasn't
@@ -153,14 +153,14 @@ module _ (around : Surroundings) (r : Registers) (h : HasShape r) (v w : ℕ) (t
     no_more = λ bit low apart. other_reads bit low ∙ hidden bit low apart;
   }
 
-  once : IsToldOnce around r v w
+  once : IsReportedOnce around r v w
   once =
       let mail = mail_of r v in
       record {
         status = by_physical 4 (lit< tt) ∙ physical_status mail w ∙ ap (λ b. has_bit 0 w || b) (sym (here 4 (lit< tt)));
         acknowledged = by_physical 5 (lit< tt) ∙ physical_acknowledged mail w
             ∙ ap (λ b. has_bit 1 w || b) (sym (here 5 (lit< tt)));
-        read = λ bit low. by_read bit low ∙ told mail bit
+        read = λ bit low. by_read bit low ∙ reported mail bit
             ∙ ap (λ b. b && not (bit == 4 || bit == 5 || bit == 7)) (sym (here bit low));
       }
 
@@ -244,16 +244,16 @@ with_one b true d e on same = ap (λ x. b || x) same
 with_one b false d e on same = cc
 
 module _ (around : Surroundings) (r : Registers) (h : HasShape r) (v w bit : ℕ) (there : v < 64) (low : bit < 32) where
-  abbrev Told : Registers
-  Told = with_requests (with_mail r v (function_wrote (mail_of r v) w)) v w
+  abbrev Reported : Registers
+  Reported = with_requests (with_mail r v (function_wrote (mail_of r v) w)) v w
 
-  told_shape : HasShape Told
-  told_shape =
+  reported_shape : HasShape Reported
+  reported_shape =
       HasShape-put (with_mail r v (function_wrote (mail_of r v) w)) (at row.Pfmbicr (v / 16)) _
       (HasShape-put r (at row.Pvfmailbox v) (function_wrote (mail_of r v) w) h)
 
-  told_other : (y : RowId) (j : ℕ) → y ≢ row.Pvfmailbox → y ≢ row.Pfmbicr → word_of Told y j ≡ word_of r y j
-  told_other y j mail asks =
+  reported_other : (y : RowId) (j : ℕ) → y ≢ row.Pvfmailbox → y ≢ row.Pfmbicr → word_of Reported y j ≡ word_of r y j
+  reported_other y j mail asks =
       put_there (with_mail r v (function_wrote (mail_of r v) w)) row.Pfmbicr y (v / 16) j _ asks
       ∙ put_there r row.Pvfmailbox y v j _ mail
 
@@ -267,17 +267,17 @@ module _ (around : Surroundings) (r : Registers) (h : HasShape r) (v w bit : ℕ
       ≡ (has_bit bit (word_of r row.Eicr 0)
       || ((sends w && has_bit (v % 32) (word_of r row.Pfmbimr (v / 32))) && bit == 19))
   raised =
-      let acts = sends w && has_bit (v % 32) (word_of Told row.Pfmbimr (v / 32)) in
-      let stays = told_other row.Eicr 0 (λ e. cc) (λ e. cc) in
-      cond_both acts (cause_set Told Pf (2 ^ 19)) Told
+      let acts = sends w && has_bit (v % 32) (word_of Reported row.Pfmbimr (v / 32)) in
+      let stays = reported_other row.Eicr 0 (λ e. cc) (λ e. cc) in
+      cond_both acts (cause_set Reported Pf (2 ^ 19)) Reported
       (λ t. has_bit bit (word_of t row.Eicr 0) ≡ (has_bit bit (word_of r row.Eicr 0) || (acts && bit == 19)))
-      (λ on. ap (has_bit bit) (put_here Told told_shape row.Eicr 0 _ (lit< tt))
-      ∙ has_bit-or bit (word_of Told row.Eicr 0) (2 ^ 19)
+      (λ on. ap (has_bit bit) (put_here Reported reported_shape row.Eicr 0 _ (lit< tt))
+      ∙ has_bit-or bit (word_of Reported row.Eicr 0) (2 ^ 19)
       ∙ ap (λ n. has_bit bit n || has_bit bit (2 ^ 19)) stays
       ∙ with_one (has_bit bit (word_of r row.Eicr 0)) acts _ (bit == 19) on (pow_bit 19 bit refl))
       (λ off. ap (has_bit bit) stays ∙ with_none (has_bit bit (word_of r row.Eicr 0)) acts (bit == 19) off)
       ∙ ap (λ n. has_bit bit (word_of r row.Eicr 0) || ((sends w && has_bit (v % 32) n) && bit == 19))
-      (told_other row.Pfmbimr (v / 32) (λ e. cc) (λ e. cc))
+      (reported_other row.Pfmbimr (v / 32) (λ e. cc) (λ e. cc))
 
   function_raises : reads around (write_at r (own v) w) 0x00800 bit
       ≡ (reads around r 0x00800 bit

@@ -54,7 +54,7 @@ TypesAreChosen = (mrqc : ℕ) (flow : Flow) → HasTypes mrqc flow
 -- a frame that goes to queue t.queue: with code 1 by the entry of RETA; with a code for pools to one of the pool's,
 -- where GCR_EXT bits 1 to 0 aren't 1 the first of two with code 8, one of four with 0xA, and one of two with 0xB, and
 -- else one of eight. The entry is by the low seven bits n of the hash, in bits 8(n mod 4)+3 on of RETA[n / 4]. The hash
--- is told where RXCSUM bit 13 is 1.
+-- is reported where RXCSUM bit 13 is 1.
 pub record ChoosesQueues (r : Registers) (t : Target) (frame : List ℕ) : Type 0 where
   pub hashing : word r 0x05818 % 16 ≡ 1 → t.queue ≡ rss_entry r frame
   pub first_of_two : (pool : ℕ) → GoesToPool r frame pool t → word r 0x11050 % 4 ≢ 1 → word r 0x05818 % 16 ≡ 8 →
@@ -70,8 +70,8 @@ pub record ChoosesQueues (r : Registers) (t : Target) (frame : List ℕ) : Type 
   pub entry : code_of (rss_type r frame) ≢ 0 →
       rss_entry r frame
       ≡ word r (0x05C00 + 4 * (rss_hash r frame % 128 / 4)) / 2 ^ (8 * (rss_hash r frame % 4)) % 16
-  pub told : holds r 0x05000 13 ≡ true → t.hash ≡ rss_hash r frame
-  pub untold : holds r 0x05000 13 ≡ false → t.hash ≡ 0
+  pub reported : holds r 0x05000 13 ≡ true → t.hash ≡ rss_hash r frame
+  pub unreported : holds r 0x05000 13 ≡ false → t.hash ≡ 0
 
 abbrev pub QueuesAreChosen : Type 0
 QueuesAreChosen =

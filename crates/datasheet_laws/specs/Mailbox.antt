@@ -46,7 +46,7 @@ pub record ReadAlike (around : Surroundings) (r : Registers) (v : ℕ) : Type 0 
 
 -- the physical function's bit 0, a status, is read as bit 4 by the function, and bit 1, an acknowledgement, as bit 5:
 -- until one read, which also returns once that a reset is done, bit 7, and leaves all other bits
-pub record IsToldOnce (around : Surroundings) (r : Registers) (v w : ℕ) : Type 0 where
+pub record IsReportedOnce (around : Surroundings) (r : Registers) (v w : ℕ) : Type 0 where
   pub status : reads around (write_at r (other v) w) (own v) 4 ≡ (has_bit 0 w || reads around r (own v) 4)
   pub acknowledged : reads around (write_at r (other v) w) (own v) 5 ≡ (has_bit 1 w || reads around r (own v) 5)
   pub read : (bit : ℕ) → bit < 32 →
@@ -57,7 +57,7 @@ pub record Shakes (around : Surroundings) (r : Registers) (v w : ℕ) : Type 0 w
   pub function : FunctionShakes around r v w
   pub physical : PhysicalShakes around r v w
   pub alike : ReadAlike around r v
-  pub once : IsToldOnce around r v w
+  pub once : IsReportedOnce around r v w
 
 abbrev pub MailboxesShake : Type 0
 MailboxesShake =

@@ -24,13 +24,13 @@ run_on-early p c n steps counted within =
     ∙ sym (run_on-plain p c 0 steps refl)
 
 -- the same of a machine that was run on
-pub replayed-early : (config : Config) (machine later : Course) (b : List ℕ) (left steps told : ℕ)
+pub replayed-early : (config : Config) (machine later : Course) (b : List ℕ) (left steps reported : ℕ)
     → machine.config ≡ config → machine.state ≡ machine_at machine.program config machine.state.steps
-    → machine.state.steps ≤ steps → told ≡ machine.state.steps → left ≡ steps - told → b ≡ []
+    → machine.state.steps ≤ steps → reported ≡ machine.state.steps → left ≡ steps - reported → b ≡ []
     → later ≡ record machine { state = machine_at machine.program machine.config later.state.steps }
     → later.state.steps ≡ run_on machine.program machine.config b machine.state.steps left
     → later.state.steps ≡ run_on later.program config [] 0 steps
-replayed-early config machine later b left steps told same at within is rest none later-at ran =
+replayed-early config machine later b left steps reported same at within is rest none later-at ran =
     let counted : (machine_at machine.program config machine.state.steps).steps ≡ machine.state.steps =
     sym (ap (λ (s : MachineState). s.steps) at) in
     ran
@@ -41,10 +41,11 @@ replayed-early config machine later b left steps told same at within is rest non
     ∙ ap (λ (m : Course). run_on m.program config [] 0 steps) (sym later-at)
 
 -- a restored machine is at the position of its snapshot
-pub at-early : (machine : Course) (config : Config) (told : ℕ) → machine.config ≡ config → told ≡ machine.state.steps
-    → machine.state ≡ machine_at machine.program machine.config told
+pub at-early : (machine : Course) (config : Config) (reported : ℕ) → machine.config ≡ config → reported
+    ≡ machine.state.steps
+    → machine.state ≡ machine_at machine.program machine.config reported
     → machine.state ≡ machine_at machine.program config machine.state.steps
-at-early machine config told same count at =
+at-early machine config reported same count at =
     at ∙ ap (λ n. machine_at machine.program machine.config n) count
     ∙ ap (λ c. machine_at machine.program c machine.state.steps) same
 
@@ -120,10 +121,11 @@ stay-replaced machine stay before first after snapshot ok is taken pushed m same
     (subst (λ (xs : List Course). AreOf m xs) (sym taken) (All-take (IsOf m) stay before all))
 
 -- one of the snapshots that isn't later
-pub before-is : (machine snapshot : Course) (snapshots kept : List Course) (at told steps : ℕ) → AreOf machine snapshots
-    → kept ≡ snapshots → at < length kept → snapshot ≡ get_or kept at snapshot → told ≡ snapshot.state.steps
-    → told ≤ steps → IsBefore machine snapshot steps
-before-is machine snapshot snapshots kept at told steps all same inside is count early = record {
+pub before-is : (machine snapshot : Course) (snapshots kept : List Course) (at reported steps : ℕ) →
+    AreOf machine snapshots
+    → kept ≡ snapshots → at < length kept → snapshot ≡ get_or kept at snapshot → reported ≡ snapshot.state.steps
+    → reported ≤ steps → IsBefore machine snapshot steps
+before-is machine snapshot snapshots kept at reported steps all same inside is count early = record {
   same = subst (λ (s : Course). IsOf machine s) (sym is)
       (subst (λ (xs : List Course). AreOf machine xs) (sym same) all at snapshot inside);
   early = omega (arith, count, early);

@@ -35,9 +35,9 @@ run_on-further p c b n limit going = rw going (either (has_break b (machine_at p
     either false = let on = (runs_end_first p c b (suc n) limit).from in omega (arith, on)
 
 -- whether there is a breakpoint at the next instruction
-pub meets-at : (b : List ℕ) (pc told number : ℕ) (meets : Bool) → told ≡ pc → number ≡ told
+pub meets-at : (b : List ℕ) (pc reported number : ℕ) (meets : Bool) → reported ≡ pc → number ≡ reported
     → meets ≡ has_break b number → has_break b pc ≡ meets
-meets-at b pc told number meets first second is = ap (has_break b) (sym first ∙ sym second) ∙ sym is
+meets-at b pc reported number meets first second is = ap (has_break b) (sym first ∙ sym second) ∙ sym is
 
 -- a machine that has made some of the steps
 pub record RanOn (start now : Course) (breakpoints : List ℕ) (limit made : ℕ) : Type 0 where

@@ -61,10 +61,10 @@ slot_shape r vfs queue f (Some frame) h =
     (HasShape-put moved (place Gptc 0) _ (HasShape-put r (place (head_row Tx) queue) f.head h)))
 slot_shape r vfs queue f None h = HasShape-put r (place (head_row Tx) queue) f.head h
 
-told : (s : State) (queue : ℕ) (f : Fetched) (o : Option (List ℕ))
+reported : (s : State) (queue : ℕ) (f : Fetched) (o : Option (List ℕ))
     → raised_reported s queue f.back ≡ raised_sent s (fetched_reply queue f o)
-told s queue f (Some frame) = refl
-told s queue f None = refl
+reported s queue f (Some frame) = refl
+reported s queue f None = refl
 
 by_report : (s : State) (t : Registers) (queue : ℕ) (b : Bool) (o : Option ℕ) (g : Group) → b ≡ is_some o
     → interrupts_of (raised_by t s.vfs Tx queue) g
@@ -86,4 +86,4 @@ slot_raises s queue f is h g =
     by_report s t queue f.rs f.back g (reports s queue f is)
     (queue_raises s t Tx queue (slot_shape s.registers s.vfs queue f f.frame h.registers.shape) h.vfs
     (slot_counted-comes s.registers s.vfs queue f f.frame).within g same) same
-    ∙ ap (λ o. after_causes o g (interrupts_of s.registers g)) (told s queue f f.frame)
+    ∙ ap (λ o. after_causes o g (interrupts_of s.registers g)) (reported s queue f f.frame)

@@ -80,7 +80,7 @@ good_frames-read s small =
     counter-read s good_frames (place Gprc 0) counts_good_frames ∙ ap Word (shown-good_frames _ small)
 
 pub let_in_is_counted : LetInFrameIsCounted
-let_in_is_counted s h frame done word told =
+let_in_is_counted s h frame done word reported =
     let small = word_small s.registers h.registers (place Gprc 0) in
     let more = word-arrived s frame h done in
     let read = good_frames-read s small in

@@ -59,11 +59,11 @@ unfolding raised_by
 reported_keeps r vfs queue true p is = raised_keeps r _ _ p is
 reported_keeps r vfs queue false p is = refl
 
-told_counts : (r : Registers) (queue : ℕ) (f : Fetched) (o : Option (List ℕ)) (p : Place)
+reports_counts : (r : Registers) (queue : ℕ) (f : Fetched) (o : Option (List ℕ)) (p : Place)
     → counts_of r queue o p ≡ counts_sent r (fetched_reply queue f o) p
 unfolding counts_of
-told_counts r queue f (Some frame) p = refl
-told_counts r queue f None p = refl
+reports_counts r queue f (Some frame) p = refl
+reports_counts r queue f None p = refl
 
 pub reported_counts : (r : Registers) (vfs queue : ℕ) (f : Fetched) → HasShape r → (p : Place)
     → (row_of p.row).kind ≡ Rc
@@ -72,4 +72,4 @@ pub reported_counts : (r : Registers) (vfs queue : ℕ) (f : Fetched) → HasSha
 reported_counts r vfs queue f h p is =
     reported_keeps (slot_counted r vfs queue f f.frame) vfs queue f.rs p is
     ∙ slot_counts r vfs queue f f.frame h p is
-    ∙ ap (λ b. with_one b (word_at r.words p)) (told_counts r queue f f.frame p)
+    ∙ ap (λ b. with_one b (word_at r.words p)) (reports_counts r queue f f.frame p)

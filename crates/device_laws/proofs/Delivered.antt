@@ -4,7 +4,7 @@ use Rattle.std.specs.Prelude.{⊤}
 use Rattle.std.proofs.lemmas.Bool.{eq-eqb, lt-ltb}
 use Rattle.nic_device.specs.DmaArena.Block.{Block}
 use Rattle.nic_device.specs.DmaArena.Memory.{Memory, read_at, AreApart}
-use Rattle.nic_device.specs.DmaRing.Receive.{told_of}
+use Rattle.nic_device.specs.DmaRing.Receive.{reported_of}
 use Rattle.nic_device.specs.DmaRing.declared.receive.Packet.{Packet}
 use Rattle.nic_device.proofs.RxRing.Fills.{driver_reads}
 use Rattle.nic_device.specs.State.{State, Waiting}
@@ -23,12 +23,12 @@ cond-le : (b : Bool) (n : ℕ) → cond b n 0 ≤ n
 cond-le true n = omega arith
 cond-le false n = omega arith
 
-told_of-lt : (p : Packet) → p.hash < 2 ^ 32 → p.rss < 16 → told_of p < 2 ^ 64
-told_of-lt p hash rss =
+reported_of-lt : (p : Packet) → p.hash < 2 ^ 32 → p.rss < 16 → reported_of p < 2 ^ 64
+reported_of-lt p hash rss =
     omega (arith, cond-le p.ipv4 (2 ^ 4), cond-le p.ipv6 (2 ^ 6), cond-le p.tcp (2 ^ 8), cond-le p.udp (2 ^ 9))
 
-pub told-lt : (w : Waiting) → IsWaiting w → told_of (packet_of w) < 2 ^ 64
-told-lt w h = told_of-lt (packet_of w) h.hash (type-lt w.rss h.rss)
+pub reported-lt : (w : Waiting) → IsWaiting w → reported_of (packet_of w) < 2 ^ 64
+reported-lt w h = reported_of-lt (packet_of w) h.hash (type-lt w.rss h.rss)
 
 -- memory has the piece that a reply tells of
 abbrev HasPiece : List Waiting → Memory → Reply Block → Type 0
@@ -53,15 +53,15 @@ received_piece s h = received_cases (λ o. HasPiece s.waiting o.state.memory o.r
   slotless = λ w others e. tt;
   fault = λ w others e fault. tt;
   filled = λ w others e f is apart.
-      (driver_reads _ _ _ _ f h.blocks.whole (told-lt w (subst AreWaiting e h.waiting).0) is).bytes apart
+      (driver_reads _ _ _ _ f h.blocks.whole (reported-lt w (subst AreWaiting e h.waiting).0) is).bytes apart
       ∙ piece_written s.waiting w others f.slot f.end f.desc f.at f.len e;
 })
 
 pub read_back : PieceIsReadBack
 unfolding step_of
-read_back s h queue slot end desc at len told apart =
-    subst (HasPiece s.waiting (received s).state.memory) told (received_piece s h) apart
-    ∙ ap (piece_on queue s.waiting) (sym told)
+read_back s h queue slot end desc at len reported apart =
+    subst (HasPiece s.waiting (received s).state.memory) reported (received_piece s h) apart
+    ∙ ap (piece_on queue s.waiting) (sym reported)
 
 pub stopped_idle : StoppedDeviceIsIdle
 unfolding step_of

@@ -36,5 +36,5 @@ pub function_counts-miss_side : (dir : Dir) (queue : ℕ) → Misses function_co
 function_counts-miss_side dir queue = record {
   bits = λ p bit is. side_bank (row_of p.row).bank p.index dir queue is;
   wanted = λ other number is. refl;
-  told = λ g is. refl;
+  reported = λ g is. refl;
 }

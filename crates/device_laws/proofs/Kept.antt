@@ -1,9 +1,9 @@
--- What every event keeps: told bits are pending, and a fault leaves memory.
+-- What every event keeps: reported bits are pending, and a fault leaves memory.
 use Rattle.nic_device.proofs.Steps.{step_leads, keeps_sound}
-use Rattle.device_laws.specs.Laws.{ToldIsPending, FaultChangesNoMemory}
+use Rattle.device_laws.specs.Laws.{ReportedIsPending, FaultChangesNoMemory}
 
-pub told_pending : ToldIsPending
-told_pending s h e is g small = (keeps_sound s h e is).registers.told g small
+pub reported_pending : ReportedIsPending
+reported_pending s h e is g small = (keeps_sound s h e is).registers.reported g small
 
 pub fault_memory : FaultChangesNoMemory
 fault_memory s e fault = (step_leads s e).faults fault

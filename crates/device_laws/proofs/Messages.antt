@@ -1,4 +1,4 @@
--- A due bit is told.
+-- A due bit is reported.
 use Rattle.std.proofs.Common.{◌≡◌, ℕ, ◌<◌, Bool, true, false, cond, subst, Option, Some, None, refl, ap, sym, ◌∙◌, arith}
 use Rattle.std.specs.Prelude.{is_some, nat_lt}
 use Rattle.std.proofs.lemmas.Bool.{and_parts, ltb-true}
@@ -25,7 +25,7 @@ use Rattle.nic_device.specs.State.{State}
 use Rattle.nic_device.specs.Step.{step_of}
 use Rattle.nic_device.specs.declared.event.Event.TheVariants as event
 use Rattle.nic_device.specs.declared.event.Reply.TheVariants.{Idle, NoGroup}
-use Rattle.device_laws.specs.Messages.{IsDueIn, SendsLowest, DueBitIsTold}
+use Rattle.device_laws.specs.Messages.{IsDueIn, SendsLowest, DueBitIsReported}
 
 -- the registers show what a message leaves of the group's interrupts
 
@@ -76,7 +76,7 @@ sends s g h runs there bit small due (Some vector) is =
     let i = interrupts_of r g in
     let misc = word_of r IvarMisc 0 in
     let eiame = masks_by_message r in
-    let told = messages_tell.told i misc vector is in
+    let reported = messages_tell.reported i misc vector is in
     let step = stepped s g runs there in
     let left : interrupts_of (step_of s (event.IntStep g)).state.registers g ≡ after_message i eiame misc =
     ap (λ (o : Outcome). interrupts_of o.state.registers g) step
@@ -84,12 +84,12 @@ sends s g h runs there bit small due (Some vector) is =
     ∙ shown r g eiame (next_bit i misc) h.registers.shape (group_small s g h there) in
     record {
       vector = vector;
-      bit = told.0;
+      bit = reported.0;
       reply = ap (λ (o : Outcome). o.reply) step ∙ ap (message_reply g) is;
-      lowest = told.1;
-      leaves = subst (λ n. Leaves i n (reported_bits i eiame told.0)) (sym left)
-          (messages_change.told i eiame misc vector told.0 told.1);
+      lowest = reported.1;
+      leaves = subst (λ n. Leaves i n (reported_bits i eiame reported.0)) (sym left)
+          (messages_change.reported i eiame misc vector reported.0 reported.1);
     }
 
-pub due_told : DueBitIsTold
-due_told s h runs g there bit small due = sends s g h runs there bit small due (message_of s.registers g) refl
+pub due_reported : DueBitIsReported
+due_reported s h runs g there bit small due = sends s g h runs there bit small due (message_of s.registers g) refl

@@ -28,7 +28,7 @@ misses-either f g h first second = record {
   bits = λ p bit is. neither (f.bits p bit) (g.bits p bit) (first.bits p bit is) (second.bits p bit is);
   wanted = λ dir queue is.
       neither (f.wanted dir queue) (g.wanted dir queue) (first.wanted dir queue is) (second.wanted dir queue is);
-  told = λ i is. neither (f.told i) (g.told i) (first.told i is) (second.told i is);
+  reported = λ i is. neither (f.reported i) (g.reported i) (first.reported i is) (second.reported i is);
 }
 
 pub misses-other_side : (dir : Dir) (queue other : ℕ) → other ≢ queue → Misses (of_side dir queue) (of_side dir other)
@@ -59,7 +59,7 @@ any_pending-misses_side : (dir : Dir) (queue : ℕ) → Misses any_pending (of_s
 any_pending-misses_side dir queue = record {
   bits = λ p bit is. side_quiet p.row p.index dir queue is;
   wanted = λ other number is. refl;
-  told = λ g is. cc;
+  reported = λ g is. cc;
 }
 
 pub counts-miss_side : (dir : Dir) (queue : ℕ) → Misses counts_and_causes (of_side dir queue)

@@ -80,7 +80,7 @@ receiving_order s runs w others e = record {
       (looks_at s w others runs e false on some ∙ answered s w others runs e (Err fault) is);
 }
 
--- each reply is told in its case alone
+-- each reply is reported in its case alone
 
 kept : (s : State) (w : Waiting) → (drops s.registers w.queue ≡ false) ⊎ ((w.offset == 0) ≡ false)
     → (drops s.registers w.queue ≡ false) ⊎ (w.offset ≢ 0)

@@ -23,7 +23,7 @@ use Rattle.nic_device.specs.RegisterLaws.Footprint.{AgreeWithin, pool_agrees}
 use Rattle.nic_device.proofs.RegisterLaws.Footprints.{word_stands}
 use Rattle.nic_device.proofs.RegisterLaws.PoolAgreement.{agree-read}
 use Rattle.nic_device.proofs.RegisterLaws.PoolPlaces.{shared_rows, shared-read}
-use Rattle.nic_device.proofs.RegisterLaws.PoolReads.{same_shared, same_told}
+use Rattle.nic_device.proofs.RegisterLaws.PoolReads.{same_shared, same_reported}
 use Rattle.nic_device.specs.Access.{around, named_read, state_read, word_read}
 use Rattle.nic_device.specs.Named.{at_location}
 use Rattle.nic_device.specs.Sound.{IsSound}
@@ -61,7 +61,7 @@ agree_after v a b c d h first second parts =
       waiting = now.waiting;
     }
 
--- what is told at a place rests on the link alone of all that lies around
+-- what is reported at a place rests on the link alone of all that lies around
 
 calculated-around : (x : RowId) (r : Registers) (n m : Surroundings) → n.link ≡ m.link → x ≢ row.Eec
     → calculated x r n ≡ calculated x r m
@@ -83,7 +83,7 @@ no_eec mode v p (shared is) e = shared_rows (λ r. r ≢ row.Eec) (λ e. cc) (λ
 same_at : (v : ℕ) (a b : State) → AgreeOnPool v a b → (n : Surroundings) (p : Place)
     → IsReached (mode_in a.registers) v p
     → answered_at a.registers n p ≡ answered_at b.registers n p
-same_at v a b h n p (own is) = same_told (mode_in a.registers) v a.registers b.registers h.registers n p is
+same_at v a b h n p (own is) = same_reported (mode_in a.registers) v a.registers b.registers h.registers n p is
 same_at v a b h n p (shared is) = same_shared a.registers b.registers h.steps n p is
 
 same_word : (v : ℕ) (a b : State) → AgreeOnPool v a b → (p : Place) → IsReached (mode_in a.registers) v p

@@ -37,7 +37,7 @@ is_pool_reset s v h = record {
   registers =
       let new = renewed-pool s.registers (mode_in s.registers) v in
       let shape = h.registers.shape in
-      record { bits = new.bits shape; wanted = new.wanted shape; told = new.told shape };
+      record { bits = new.bits shape; wanted = new.wanted shape; reported = new.reported shape };
   staged = λ queue has. none_staged_of (mode_in s.registers) v s.staged queue has;
   waiting = refl;
 }

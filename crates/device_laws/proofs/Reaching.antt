@@ -92,5 +92,5 @@ pub reaching_misses_sides : (p : Place) → is_own (row_of p.row).kind ≡ false
 reaching_misses_sides p other dir queue = record {
   bits = λ q bit is. write_lacks p q other (away_side dir queue q is) bit;
   wanted = λ at number is. no_wanted (row_of p.row).kind other p at number;
-  told = λ g is. cc;
+  reported = λ g is. cc;
 }

@@ -35,12 +35,12 @@ reports_at s queue f is =
     let r = s.registers in
     let ring = ring_of r Tx queue in
     let at = unwrap_or (transmit_queue_of r queue).writeback (descriptor_address ring ring.head) in
-    let told = elim (takes_slot _ _ _ _ f is).done as (λ _. ReportsAt at (Ok f)) [
+    let reported = elim (takes_slot _ _ _ _ f is).done as (λ _. ReportsAt at (Ok f)) [
       | inl context ↦
           subst (ReportsAt at) (sym (ap (λ (o : tx.Outcome). o.answer) context.1) ∙ is) (λ address none. cc)
       | inr sends ↦
           subst (ReportsAt at) (sym (ap (λ (o : tx.Outcome). o.answer) sends.2) ∙ is) (answered_at _ at)
     ] in
-    λ address back. told address back
+    λ address back. reported address back
     ∙ either_at (has_bit 0 (word_of r Tdwbal queue))
     (word_of r Tdwbah queue * 2 ^ 32 + 4 * (word_of r Tdwbal queue / 4)) (descriptor_address ring ring.head)

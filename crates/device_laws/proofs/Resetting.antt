@@ -14,7 +14,7 @@ use Rattle.std.proofs.Math.ListN.{set}
 use Rattle.nic_device.specs.PoolReset.{unstaged, pool_unstaged, others_waiting, with_pool_reset, written_below_reset}
 use Rattle.nic_device.proofs.RegisterFile.ResetWords.{word_at-reset}
 use Rattle.nic_device.proofs.RegisterLaws.ReadBack.{off-reset}
-use Rattle.nic_device.proofs.RegisterLaws.SoundReset.{none_told}
+use Rattle.nic_device.proofs.RegisterLaws.SoundReset.{none_reported}
 use Rattle.nic_device.specs.Eeprom.{is_stepped_over, triple_written, with_triple, with_triples, reset}
 use Rattle.nic_device.specs.State.{State, cleared, none_staged}
 use Rattle.nic_device.proofs.Cases.{either_way}
@@ -89,7 +89,7 @@ cleared_values : (s : State) → HasResetValues (cleared s)
 cleared_values s = record {
   words = λ p inside. word_at-reset p inside;
   wanted = λ dir queue small. (off-reset dir queue small).1;
-  told = none_told;
+  reported = none_reported;
 }
 
 pub reset_values : ResetGivesResetValues

@@ -14,7 +14,7 @@ use Rattle.nic_device.specs.IntrUnit.BitSet.{IsSubset}
 use Rattle.nic_device.specs.IntrUnit.declared.group.Group.{Group}
 use Rattle.nic_device.specs.RegisterFile.Access.{asks_reset}
 use Rattle.nic_device.specs.RegisterFile.Bits.{merged}
-use Rattle.nic_device.specs.RegisterFile.Groups.{index_of, told_by}
+use Rattle.nic_device.specs.RegisterFile.Groups.{index_of, reported_by}
 use Rattle.nic_device.specs.RegisterFile.Registers.{is_wanted}
 use Rattle.nic_device.specs.RegisterFile.Words.{word_at}
 use Rattle.nic_device.specs.RegisterFile.Settings.{is_stopped, frame_limit}
@@ -34,11 +34,11 @@ use Rattle.nic_device.specs.declared.event.Reply.{Reply}
 use Rattle.nic_device.specs.declared.named.Named.TheVariants.{Register}
 use Rattle.nic_device.specs.declared.event.Reply.TheVariants.{Word, Stray, Done, Idle, Wrote}
 
--- after every event a bit is told only while its cause and its mask are 1
-abbrev pub ToldIsPending : Type 0
-ToldIsPending =
+-- after every event a bit is reported only while its cause and its mask are 1
+abbrev pub ReportedIsPending : Type 0
+ReportedIsPending =
     (s : State) → IsSound s → (e : Event Block) → IsEvent e → (g : Group) → index_of g < 64 →
-    IsSubset (told_by (after s e).registers g) (pending_bits (after s e).registers g)
+    IsSubset (reported_by (after s e).registers g) (pending_bits (after s e).registers g)
 
 -- plain registers
 
@@ -134,11 +134,11 @@ AskedResetResets =
     (s : State) (address word : ℕ) (p : Place) → Names address p → IsTrue (asks_reset (row_of p.row).kind word) →
     IsReset s (after_write s address word)
 
--- each register has its reset value, no side of a queue is asked to be enabled, and no bit is told
+-- each register has its reset value, no side of a queue is asked to be enabled, and no bit is reported
 pub record HasResetValues (s : State) : Type 0 where
   pub words : (p : Place) → p.index < (row_of p.row).count → word_at s.registers.words p ≡ (row_of p.row).reset
   pub wanted : (dir : Dir) (queue : ℕ) → queue < 128 → IsFalse (is_wanted s.registers dir queue)
-  pub told : (g : Group) → index_of g < 64 → told_by s.registers g ≡ 0
+  pub reported : (g : Group) → index_of g < 64 → reported_by s.registers g ≡ 0
 
 -- with an image that writes no register a reset gives each its reset value
 abbrev pub ResetGivesResetValues : Type 0

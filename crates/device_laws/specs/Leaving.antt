@@ -38,7 +38,7 @@ pub record LeavesTransmit (queue : ℕ) (old new : State) : Type 0 where
   pub side : transmit_queue_of new.registers queue ≡ transmit_queue_of old.registers queue
   pub staged : staged_by new queue ≡ staged_by old queue
 
--- the interrupts of a group are as they were: its causes, masks, auto-clear, auto-mask and told bits
+-- the interrupts of a group are as they were: its causes, masks, auto-clear, auto-mask and reported bits
 abbrev pub LeavesGroup : Group → State → State → Type 0
 LeavesGroup g old new = interrupts_of new.registers g ≡ interrupts_of old.registers g
 

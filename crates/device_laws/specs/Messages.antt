@@ -18,7 +18,7 @@ use Rattle.nic_device.specs.declared.event.Reply.TheVariants.{Message}
 abbrev pub IsDueIn : Registers → Group → ℕ → Type 0
 IsDueIn r g bit = IsTrue (is_due (interrupts_of r g) (word_of r IvarMisc 0) bit)
 
--- the step sends the vector of the lowest due bit, and marks that bit as told: its cause is cleared where the
+-- the step sends the vector of the lowest due bit, and marks that bit as reported: its cause is cleared where the
 -- auto-clear has it, its mask where GPIE bit 30 is 1 and the auto-mask has it, and every other bit is unchanged
 pub record SendsLowest (s : State) (g : Group) : Type 0 where
   pub vector : ℕ
@@ -30,7 +30,7 @@ pub record SendsLowest (s : State) (g : Group) : Type 0 where
       (reported_bits (interrupts_of s.registers g) (masks_by_message s.registers) bit)
 
 -- in a running device a step of a group that there is sends a message where a bit is due
-abbrev pub DueBitIsTold : Type 0
-DueBitIsTold =
+abbrev pub DueBitIsReported : Type 0
+DueBitIsReported =
     (s : State) → IsSound s → IsFalse (is_stopped s.registers) → (g : Group) → IsTrue (has_group s g) →
     (bit : ℕ) → bit < 32 → IsDueIn s.registers g bit → SendsLowest s g

@@ -98,9 +98,9 @@ abbrev pub VfSeesItsPoolAlone : Type 0
 VfSeesItsPoolAlone =
     (v : ℕ) (a b : State) → IsSound a → IsSound b → AgreeOnPool v a b → (offset : ℕ) → AccessesAgree v a b offset
 
--- a pool after its reset: of its words what the reset takes, wanted enables and told bits are as a reset leaves them,
--- its queues have no staged bytes, of the frames that wait those of other queues are left, in their order, and all else
--- is as it was
+-- a pool after its reset: of its words what the reset takes, wanted enables and reported bits are as a reset leaves
+-- them, its queues have no staged bytes, of the frames that wait those of other queues are left, in their order, and
+-- all else is as it was
 pub record IsPoolReset (v : ℕ) (old new : State) : Type 0 where
   pub alone : ChangesAlone pool_renews v old new
   pub registers : IsResetAt (pool_renews (mode_in old.registers) v) new.registers

@@ -5,10 +5,10 @@
 #![tactic(auto)]
 
 ghost use Rattle.nic_device.specs.Kept.{NewDeviceIsSound, EventKeepsSound, OtherEventsKeepBlocks};
-ghost use Rattle.device_laws.specs.Laws.{ToldIsPending, NewDeviceReadsResetValues, WriteShowsAtEachAddress, WriteLeavesOtherRegisters, ReadChangesNothing, StrayAccessChangesNothing, ReadCounterStartsAgain, LetInFrameIsCounted, AskedResetResets, ResetGivesResetValues, OtherEventsKeepSettings, PieceIsReadBack, FaultChangesNoMemory, StoppedDeviceIsIdle};
+ghost use Rattle.device_laws.specs.Laws.{ReportedIsPending, NewDeviceReadsResetValues, WriteShowsAtEachAddress, WriteLeavesOtherRegisters, ReadChangesNothing, StrayAccessChangesNothing, ReadCounterStartsAgain, LetInFrameIsCounted, AskedResetResets, ResetGivesResetValues, OtherEventsKeepSettings, PieceIsReadBack, FaultChangesNoMemory, StoppedDeviceIsIdle};
 ghost use Rattle.device_laws.specs.Counting.{EventsCount};
 ghost use Rattle.device_laws.specs.FunctionCounting.{EventsCountForFunctions};
-ghost use Rattle.device_laws.specs.Messages.{DueBitIsTold};
+ghost use Rattle.device_laws.specs.Messages.{DueBitIsReported};
 ghost use Rattle.device_laws.specs.Muting.{MutedQueueIsIdle};
 ghost use Rattle.device_laws.specs.Raising.{EventsRaise};
 ghost use Rattle.device_laws.specs.Replies.{ReceivingTells, TransmittingTells, EventsMoveFramesOut, MisalignedChangesNothing};
@@ -24,9 +24,9 @@ pub fn devices_stay_sound()
     ensures event { EventKeepsSound }
 {}
 
-/// After every event, a bit of a group is told only while its cause and its mask are 1.
-pub fn told_is_pending()
-    ensures { ToldIsPending }
+/// After every event, a bit of a group is reported only while its cause and its mask are 1.
+pub fn reported_is_pending()
+    ensures { ReportedIsPending }
 {}
 
 /// A register of a new device reads as its reset value.
@@ -90,7 +90,7 @@ pub fn events_raise()
 
 /// A write that asks for a reset empties the receive list, drops the staged bytes, and changes nothing else but
 /// registers. With an image that writes no register, each register has its reset value then, no side of a queue is
-/// asked to be enabled, and no bit is told; `reset_applies_the_image` says what more an image does.
+/// asked to be enabled, and no bit is reported; `reset_applies_the_image` says what more an image does.
 pub fn asked_reset_resets()
     ensures rest { AskedResetResets }
     ensures values { ResetGivesResetValues }
@@ -104,7 +104,7 @@ pub fn reset_applies_the_image()
 {}
 
 /// EEC reports the size of the installed image.
-pub fn image_is_told_by_its_size()
+pub fn image_is_reported_by_its_size()
     ensures { ControlTellsSize }
 {}
 
@@ -215,11 +215,11 @@ pub fn muted_queue_is_idle()
     ensures { MutedQueueIsIdle }
 {}
 
-/// Where a bit of a group is due, its cause and its mask at 1, not told, with a vector, an interrupt step of the group
-/// sends the vector of the lowest such bit and marks that bit as told. It clears the bit's cause where EIAC has the
-/// bit, and its mask where GPIE bit 30 is 1 and EIAM has the bit; the group's other bits are unchanged.
-pub fn due_bit_is_told()
-    ensures { DueBitIsTold }
+/// Where a bit of a group is due, its cause and its mask at 1, not reported, with a vector, an interrupt step of the
+/// group sends the vector of the lowest such bit and marks that bit as reported. It clears the bit's cause where EIAC
+/// has the bit, and its mask where GPIE bit 30 is 1 and EIAM has the bit; the group's other bits are unchanged.
+pub fn due_bit_is_reported()
+    ensures { DueBitIsReported }
 {}
 
 /// A frame is appended to the transmitted frames exactly where a transmit step reports it as sent, with its queue and
@@ -256,8 +256,8 @@ pub fn vf_access_is_the_physical_functions()
     ensures nothing { HolesAndAbsentFunctionsMeetNothing }
 {}
 
-/// An access of a virtual function changes only what belongs to its pool: registers, enable requests, told bits, staged
-/// bytes, and the frames of the receive list for its own queues; and the bits by which it signals the physical
+/// An access of a virtual function changes only what belongs to its pool: registers, enable requests, reported bits,
+/// staged bytes, and the frames of the receive list for its own queues; and the bits by which it signals the physical
 /// function, two of PFMBICR and EICR bit 19. The frames of other pools keep their order. It changes staged bytes and
 /// frames of its own pool only where it asks for a reset of the pool. Two devices that agree in what belongs to the
 /// pool, in the number of functions, in GCR_EXT, in CTRL bit 2 and in the link give the same reply to it, and agree
@@ -269,8 +269,8 @@ pub fn vf_stays_in_its_pool()
 {}
 
 /// A write of PVFCTRL with bit 26, through either port, leaves what belongs to the pool as a reset does: its registers,
-/// the part of its mailbox that a pool's reset clears, enable requests and told bits. Its queues have no staged bytes,
-/// and the receive list keeps the frames of other queues, in their order. All else is unchanged.
+/// the part of its mailbox that a pool's reset clears, enable requests and reported bits. Its queues have no staged
+/// bytes, and the receive list keeps the frames of other queues, in their order. All else is unchanged.
 pub fn asked_pool_reset_resets()
     ensures { AskedPoolResetResets }
 {}

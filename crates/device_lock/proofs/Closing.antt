@@ -63,7 +63,7 @@ tag_in ForeignPass = 0
 tag_in (Mismatch tag) = tag
 tag_in OutOfMemory = 0
 
--- so a tag is told to be absent exactly where it is the lowest
+-- so a tag is reported to be absent exactly where it is the lowest
 pub missing_exactly : (bench count : ℕ) (h : List Entry) (ps : List PassValue) (fault : CloseFault) (tag : ℕ)
     → Answers bench count h ps (Some fault) → (fault ≡ MissingPass tag) ↔ IsMissing bench count ps tag
 unfolding tag_in

@@ -100,13 +100,14 @@ count_few vfs fifo h counts tag k lt room =
     omega (arith, n, m, s)
 
 pub kept_more : (vfs fifo : ℕ) (h : Held) (counts : List ℕ) (tag : ℕ) (event note : Event Block)
-    (reply told : Reply Block) (device : State) (history : List Entry) (counts' : List ℕ)
+    (reply reported : Reply Block) (device : State) (history : List Entry) (counts' : List ℕ)
     → IsKept vfs fifo h counts → length counts ≡ 64 → tag < 64 → length h.history < h.limit → IsEvent event
-    → note ≡ event → told ≡ reply → reply ≡ (step_of h.device event).reply → device ≡ (step_of h.device event).state
-    → history ≡ h.history ++ entry_of tag note told ∷ []
+    → note ≡ event → reported ≡ reply → reply ≡ (step_of h.device event).reply → device ≡ (step_of h.device event).state
+    → history ≡ h.history ++ entry_of tag note reported ∷ []
     → counts' ≡ slice_set counts tag (get_or counts tag 0 + 1)
     → IsKept vfs fifo (record { device = device; history = history; limit = h.limit }) counts'
-kept_more vfs fifo h counts tag event note reply told device history counts' k each lt room fit n r made is gr counted =
+kept_more vfs fifo h counts tag event note reply reported device history counts' k each lt room fit n r made is gr
+    counted =
     let e : Entry = entry_of tag event (step_of h.device event).reply in
     let more : history ≡ h.history ++ e ∷ [] = rw (gr, n, r, made) refl in
     record {

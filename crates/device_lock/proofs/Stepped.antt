@@ -170,7 +170,7 @@ module _ (queue : ℕ) (e : Event Block) (h i then : Held) (old mid new : PassVa
       (ap (λ (t : Held). t.device) made.under ∙ after_device h old.tag (steps_of_queue queue))
   answer_after (Err f) reply = tt
 
--- what the caller is told of it
+-- what the caller is reported it
 
 module _ (queue : ℕ) (e : Event Block) (h then : Held) (old new : PassValue) where
   pub exactly : (r : Result (Reply Block) (CallFault (Event Block)))
@@ -236,12 +236,13 @@ foreign_answered vfs fifo old queue = (
 )
 
 -- a refusal that tells of a full history with another in its event's place
-pub full_again : {T U E F : Type 0} (told : CallFault F) (f : CallFault E) (x : F) (e : E) → told ≡ fault_with f x
-    → event_of f ≡ e → ◌≡◌ {A = Result T (CallFault F)} (Err told) (Err (HistoryFull x))
+pub full_again : {T U E F : Type 0} (reported : CallFault F) (f : CallFault E) (x : F) (e : E) → reported
+    ≡ fault_with f x
+    → event_of f ≡ e → ◌≡◌ {A = Result T (CallFault F)} (Err reported) (Err (HistoryFull x))
     → ◌≡◌ {A = Result U (CallFault E)} (Err f) (Err (HistoryFull e))
-full_again told (HistoryFull y) x e is back same = ap (λ z. Err (HistoryFull z)) back
-full_again told (ForeignPass y) x e is back same = absurd cc
-full_again told (OutOfMemory y) x e is back same = absurd cc
+full_again reported (HistoryFull y) x e is back same = ap (λ z. Err (HistoryFull z)) back
+full_again reported (ForeignPass y) x e is back same = absurd cc
+full_again reported (OutOfMemory y) x e is back same = absurd cc
 
 -- a refusal that `?` passes on
 pub passed_on : {T E : Type 0} (r : Result T E) (e f : E) → IsErrAnd r (λ y. y ≡ e) → r ≡ Err f

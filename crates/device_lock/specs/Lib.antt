@@ -13,5 +13,5 @@ pub mod Pass
 pub mod Positions
 pub mod Resting
 pub mod Stepping
-pub mod Told
+pub mod Reported
 pub mod Watching

@@ -122,8 +122,8 @@ impl Calls {
             return Err(OutOfMemory(event));
         };
         let reply = device.step(event)?;
-        let told = note_of(alloc, &reply, &mut self.spare, &mut self.notes);
-        put_call(&mut self.made, &mut self.rested, note, told);
+        let reported = note_of(alloc, &reply, &mut self.spare, &mut self.notes);
+        put_call(&mut self.made, &mut self.rested, note, reported);
         Ok(reply)
     }
 
@@ -202,8 +202,8 @@ impl Calls {
             return Err(CallFault::OutOfMemory(event));
         };
         let reply = locked.step(alloc, tag, event)?;
-        let told = locked.note_of(alloc, &reply, &mut self.spare);
-        put_call(&mut self.made, &mut self.rested, note, told);
+        let reported = locked.note_of(alloc, &reply, &mut self.spare);
+        put_call(&mut self.made, &mut self.rested, note, reported);
         Ok(reply)
     }
 

@@ -20,10 +20,10 @@ mod noting;
 mod packed;
 mod pass;
 mod positions;
+mod reported;
 mod resting;
 mod shared;
 mod stepping;
-mod told;
 mod unlocked;
 
 pub use alone::{Watched, left_alone, place_at};
@@ -40,6 +40,6 @@ pub use nic_device::{
 };
 pub use packed::{Packed, Rested};
 pub use pass::Pass;
+pub use reported::{Frames, Settings};
 pub use shared::{CloseRefused, MAX_LIMIT, MAX_PASSES, Shared};
-pub use told::{Frames, Settings};
 pub use unlocked::Unlocked;

@@ -196,8 +196,8 @@ impl<const VFS: u8, const FIFO: u16> Locked<VFS, FIFO> {
         };
         match self.device.step(event) {
             Ok(reply) => {
-                let told = note_of(alloc, &reply, &mut self.spare, &mut self.notes);
-                put_entry(&mut self.packed, &mut self.rested, tag, note, told);
+                let reported = note_of(alloc, &reply, &mut self.spare, &mut self.notes);
+                put_entry(&mut self.packed, &mut self.rested, tag, note, reported);
                 self.count += 1;
                 count_one(&mut self.counts, tag);
                 Ok(reply)

@@ -1,4 +1,4 @@
--- In how many places a block is, told by its parts.
+-- In how many places a block is, given by its parts.
 use Rattle.std.proofs.Common.{◌≡◌, ◌≢◌, ℕ, ◌+◌, Bool, true, false, cond, List, ◌∷◌, eqb, refl, ◌∙◌, arith}
 use Rattle.std.specs.FinMap as map
 use Rattle.std.proofs.lemmas.Bool.Decides.{nat_tests}
@@ -36,12 +36,12 @@ has_block-remove_same m n = rw (get-remove_same m n) refl
 pub has_block-remove_other : (m : Memory) (n k : ℕ) → k ≢ n → has_block (map.remove m n) k ≡ has_block m k
 has_block-remove_other m n k ne = rw (get-remove_other m n k ne) refl
 
--- the places of a number, told by its parts
+-- the places of a number, given by its parts
 abbrev pub counted : Bool → ℕ → Bool → ℕ
 counted free times lent = cond free 1 0 + times + cond lent 1 0
 
-pub told : (f g : Bool) (s t : ℕ) (l r : Bool) → f ≡ g → s ≡ t → l ≡ r → counted g t r ≡ 1 → counted f s l ≡ 1
-told f g s t l r p q h one = rw (p, q, h) one
+pub reported : (f g : Bool) (s t : ℕ) (l r : Bool) → f ≡ g → s ≡ t → l ≡ r → counted g t r ≡ 1 → counted f s l ≡ 1
+reported f g s t l r p q h one = rw (p, q, h) one
 
 -- what is in hand is nowhere else
 pub alone : (f l : Bool) (t : ℕ) → counted f (1 + t) l ≡ 1 → (f ≡ false) × (l ≡ false)

@@ -9,7 +9,7 @@ use Rattle.dma_arena.specs.Laws.{GivenBack, CutLaw, PartsNumbers}
 use Rattle.dma_arena.specs.Memory.{Memory, has_block}
 use Rattle.dma_arena.specs.Whereabouts.{times_in_hand, EachOnce}
 use Rattle.dma_arena.proofs.Arenas.{is_free-all_free, CountsFree-numbers}
-use Rattle.dma_arena.proofs.Counts.{told}
+use Rattle.dma_arena.proofs.Counts.{reported}
 
 -- a number that is taken and given back
 
@@ -45,7 +45,8 @@ part_case : (a part : Numbers) (hand : List ℕ) (m : Memory) → are_all_free a
 part_case a part hand m all once within k own =
     let there = within k own in
     let free : is_free a k ≡ true = (CountsFree-numbers a).all.0 all k there.0 in
-    told (is_free part k) (is_free a k) (times_in_hand hand k) (times_in_hand hand k) (has_block m k) (has_block m k)
+    reported (is_free part k) (is_free a k) (times_in_hand hand k) (times_in_hand hand k) (has_block m k)
+    (has_block m k)
     (there.1 ∙ sym free) refl refl (once k there.0)
 
 pub split_case : (a : Numbers) (hand : List ℕ) (m : Memory) (at : ℕ)

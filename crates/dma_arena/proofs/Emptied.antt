@@ -63,13 +63,13 @@ first_free e s linked ne =
     let m = linked.ring.next list_end e (nodes-end e s list_end refl) in
     marked s e.next ∙ ap is_some (sym (nodes-block e s e.next ne) ∙ m.1)
 
-told : (o : Option Links) → is_some o ≡ false → o ≡ None
-told None h = refl
-told (Some l) h = cc
+reported : (o : Option Links) → is_some o ≡ false → o ≡ None
+reported None h = refl
+reported (Some l) h = cc
 
 -- a place whose block is in use
 pub in_use : (s : List (Option Links)) (p : ℕ) → get_or (map is_some s) p false ≡ false → get_or s p None ≡ None
-in_use s p h = told (get_or s p None) (sym (marked s p) ∙ h)
+in_use s p h = reported (get_or s p None) (sym (marked s p) ∙ h)
 
 -- marks that are set from the last place down
 

@@ -3,15 +3,15 @@ use Rattle.std.proofs.Common.{◌≡◌, ℕ, ◌/◌, ◌%◌, ◌^◌, Bool, t
 use Rattle.std.specs.Prelude.{◌+◌, ◌*◌, ◌<◌, ◌==◌, not, ◌||◌}
 use Rattle.dma_ring.specs.Transmit.{command_of}
 use Rattle.dma_ring.specs.declared.driver.TheConstants.{DATA, LAST, PAYLEN}
-use Rattle.dma_ring.specs.Driver.{PostedIsTheBuffer, ToldIsRead, IsDataWord, data_word, data_command, DataIsAsked}
-use Rattle.dma_ring.proofs.Fields.{packet_is_told}
+use Rattle.dma_ring.specs.Driver.{PostedIsTheBuffer, ReportedIsRead, IsDataWord, data_word, data_command, DataIsAsked}
+use Rattle.dma_ring.proofs.Fields.{packet_is_reported}
 
 pub posted_is_the_buffer : PostedIsTheBuffer
 posted_is_the_buffer address even = omega (arith, even)
 
-pub told_is_read : ToldIsRead
-told_is_read packet rss hash =
-    let t = packet_is_told packet rss hash in
+pub reported_is_read : ReportedIsRead
+reported_is_read packet rss hash =
+    let t = packet_is_reported packet rss hash in
     let fits = t.fits in
     let kind = t.rss in
     let value = t.hash in

@@ -10,10 +10,10 @@ use Rattle.std.proofs.lemmas.Nat.{from_le_bytes-to_le_bytes_8, or_disjoint}
 use Rattle.std.proofs.lemmas.Nat.Bits.{bit_at-lt, and_pow, bit_at_set_same, bit_at_set_other}
 use Rattle.dma_ring.specs.Bits.{has_bit}
 use Rattle.dma_ring.specs.Descriptor.{first_half, second_half, of_halves}
-use Rattle.dma_ring.specs.Receive.{told_of, written_back}
+use Rattle.dma_ring.specs.Receive.{reported_of, written_back}
 use Rattle.dma_ring.specs.Transmit.{command_of}
 use Rattle.dma_ring.specs.declared.receive.Packet.{Packet}
-use Rattle.dma_ring.specs.Laws.{HalvesComeBack, PacketIsTold, PieceIsTold, CommandIsAsked, SetsDone, DoneIsSet}
+use Rattle.dma_ring.specs.Laws.{HalvesComeBack, PacketIsReported, PieceIsReported, CommandIsAsked, SetsDone, DoneIsSet}
 
 -- a descriptor of two halves
 pub halves_come_back : HalvesComeBack
@@ -54,19 +54,19 @@ number_times false n = omega arith
 
 -- the word of a packet, and the bits of its fields
 packet_word : (packet : Packet)
-    → told_of packet ≡ packet.rss + 16 * number packet.ipv4 + 64 * number packet.ipv6 + 256 * number packet.tcp
+    → reported_of packet ≡ packet.rss + 16 * number packet.ipv4 + 64 * number packet.ipv6 + 256 * number packet.tcp
     + 512 * number packet.udp + 2 ^ 32 * packet.hash
 packet_word packet = simp number_times
 
-pub packet_is_told : PacketIsTold
-packet_is_told packet rss hash =
+pub packet_is_reported : PacketIsReported
+packet_is_reported packet rss hash =
     let w = packet_word packet in
     let a = number_small packet.ipv4 in
     let b = number_small packet.ipv6 in
     let c = number_small packet.tcp in
     let d = number_small packet.udp in
-    let none : told_of packet / 2 ^ 5 % 2 ≡ 0 = omega arith in
-    let none_above : told_of packet / 2 ^ 7 % 2 ≡ 0 = omega arith in
+    let none : reported_of packet / 2 ^ 5 % 2 ≡ 0 = omega arith in
+    let none_above : reported_of packet / 2 ^ 7 % 2 ≡ 0 = omega arith in
     record {
       fits = omega arith;
       rss = omega arith;
@@ -84,8 +84,8 @@ unfolding number
 piece_word bytes true = refl
 piece_word bytes false = refl
 
-pub piece_is_told : PieceIsTold
-piece_is_told bytes ends short =
+pub piece_is_reported : PieceIsReported
+piece_is_reported bytes ends short =
     let w = piece_word bytes ends in
     let a = number_small ends in
     let one : written_back bytes ends % 2 ≡ 1 = omega arith in

@@ -1,7 +1,7 @@
 -- A driver's side of the descriptors.
 use Rattle.std.specs.Prelude.{ℕ, ◌≡◌, ◌+◌, ◌*◌, ◌/◌, ◌%◌, ◌^◌, ◌<◌, Bool, true, false, if◌then◌else◌}
 use Rattle.dma_ring.specs.Bits.{has_bit, field}
-use Rattle.dma_ring.specs.Receive.{buffer_of, told_of}
+use Rattle.dma_ring.specs.Receive.{buffer_of, reported_of}
 use Rattle.dma_ring.specs.Transmit.{command_of}
 use Rattle.dma_ring.specs.declared.driver.TheConstants.{DATA, LAST, PAYLEN}
 use Rattle.dma_ring.specs.declared.receive.Packet.{Packet}
@@ -32,8 +32,8 @@ pub record TellsBoth (first : ℕ) (packet : Packet) : Type 0 where
   pub rss : rss_in first ≡ packet.rss
   pub hash : hash_in first ≡ packet.hash
 
-abbrev pub ToldIsRead : Type 0
-ToldIsRead = (packet : Packet) → packet.rss < 2 ^ 4 → packet.hash < 2 ^ 32 → TellsBoth (told_of packet) packet
+abbrev pub ReportedIsRead : Type 0
+ReportedIsRead = (packet : Packet) → packet.rss < 2 ^ 4 → packet.hash < 2 ^ 32 → TellsBoth (reported_of packet) packet
 
 -- the command of a data descriptor: this many bytes, the packet's end and the report together, and no offload
 abbrev pub data_command : ℕ → Bool → Command

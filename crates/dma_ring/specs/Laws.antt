@@ -2,7 +2,7 @@
 use Rattle.std.specs.Prelude.{ℕ, ◌≡◌, ◌≢◌, ◌+◌, ◌*◌, ◌%◌, ◌^◌, ◌<◌, ◌≤◌, ◌⊎◌, ◌==◌, Bool, false, not, ◌||◌, IsTrue, IsFalse, [], ◌∷◌, length}
 use Rattle.dma_ring.specs.Bits.{has_bit, field}
 use Rattle.dma_ring.specs.Descriptor.{first_half, second_half, of_halves}
-use Rattle.dma_ring.specs.Receive.{told_of, written_back, is_done, ends_packet, bytes_in}
+use Rattle.dma_ring.specs.Receive.{reported_of, written_back, is_done, ends_packet, bytes_in}
 use Rattle.dma_ring.specs.Ring.{slots_of, is_outside, next_of, descriptor_address, available_slots}
 use Rattle.dma_ring.specs.Transmit.{command_of, with_done}
 use Rattle.dma_ring.specs.declared.receive.Packet.{Packet}
@@ -58,8 +58,9 @@ pub record TellsPacket (word : ℕ) (packet : Packet) : Type 0 where
   pub hash : field 63 32 word ≡ packet.hash
   pub rest : (has_bit 5 word ≡ false) × (has_bit 7 word ≡ false) × (field 31 10 word ≡ 0)
 
-abbrev pub PacketIsTold : Type 0
-PacketIsTold = (packet : Packet) → packet.rss < 2 ^ 4 → packet.hash < 2 ^ 32 → TellsPacket (told_of packet) packet
+abbrev pub PacketIsReported : Type 0
+PacketIsReported = (packet : Packet) → packet.rss < 2 ^ 4 → packet.hash < 2 ^ 32 →
+    TellsPacket (reported_of packet) packet
 
 -- a word reports that the descriptor is done, whether the packet ends, and the number of bytes, and nothing else
 pub record TellsPiece (word bytes : ℕ) (ends : Bool) : Type 0 where
@@ -69,8 +70,8 @@ pub record TellsPiece (word bytes : ℕ) (ends : Bool) : Type 0 where
   pub len : bytes_in word ≡ bytes
   pub rest : (field 31 2 word ≡ 0) × (field 63 48 word ≡ 0)
 
-abbrev pub PieceIsTold : Type 0
-PieceIsTold = (bytes : ℕ) (ends : Bool) → bytes < 2 ^ 16 → TellsPiece (written_back bytes ends) bytes ends
+abbrev pub PieceIsReported : Type 0
+PieceIsReported = (bytes : ℕ) (ends : Bool) → bytes < 2 ^ 16 → TellsPiece (written_back bytes ends) bytes ends
 
 -- the command is read of the datasheet's bits: DTALEN, DTYP, EOP, RS, DEXT, and VLE, TSE and POPTS
 pub record AsksFor (word : ℕ) (command : Command) : Type 0 where

@@ -8,8 +8,8 @@ abbrev pub buffer_of : ℕ → ℕ
 buffer_of first = 2 * (first / 2)
 
 -- the first half that the device writes back: the RSS type, which protocols the packet has, and its hash
-abbrev pub told_of : Packet → ℕ
-told_of packet =
+abbrev pub reported_of : Packet → ℕ
+reported_of packet =
     packet.rss + (if packet.ipv4 then 2 ^ IPV4 else 0) + (if packet.ipv6 then 2 ^ IPV6 else 0)
     + (if packet.tcp then 2 ^ TCP else 0) + (if packet.udp then 2 ^ UDP else 0) + 2 ^ HASH * packet.hash
 

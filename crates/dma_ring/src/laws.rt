@@ -1,7 +1,7 @@
 //! Laws of a ring and its descriptors. A law is the contract of a function that does nothing.
 
-ghost use Rattle.dma_ring.specs.Driver.{PostedIsTheBuffer, ToldIsRead, DataIsAsked};
-ghost use Rattle.dma_ring.specs.Laws.{AvailableSlotsFollowTheHead, SlotsAreApart, SlotsAreInBlocks, RingIsInBlock, HalvesComeBack, PacketIsTold, PieceIsTold, CommandIsAsked, DoneIsSet};
+ghost use Rattle.dma_ring.specs.Driver.{PostedIsTheBuffer, ReportedIsRead, DataIsAsked};
+ghost use Rattle.dma_ring.specs.Laws.{AvailableSlotsFollowTheHead, SlotsAreApart, SlotsAreInBlocks, RingIsInBlock, HalvesComeBack, PacketIsReported, PieceIsReported, CommandIsAsked, DoneIsSet};
 
 /// The device owns no slot where head and tail are equal, and else the head and the slots after it up to the tail.
 pub fn available_slots_follow_the_head()
@@ -24,8 +24,8 @@ pub fn halves_come_back()
 /// A driver reads from a written-back descriptor what the device reported: of the packet in the first half, of the
 /// piece in the second. No two fields share a bit.
 pub fn receive_fields()
-    ensures packet { PacketIsTold }
-    ensures piece { PieceIsTold }
+    ensures packet { PacketIsReported }
+    ensures piece { PieceIsReported }
 {}
 
 /// The device reads a command from the bits that the datasheet gives its fields. Setting the done bit changes no other
@@ -39,6 +39,6 @@ pub fn transmit_fields()
 /// that is reported, and the command of a data descriptor.
 pub fn driver_and_device_agree()
     ensures posted { PostedIsTheBuffer }
-    ensures told { ToldIsRead }
+    ensures reported { ReportedIsRead }
     ensures asked { DataIsAsked }
 {}

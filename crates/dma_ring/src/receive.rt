@@ -3,7 +3,7 @@
 //! Intel 82599 datasheet, section on advanced receive descriptors.
 
 ghost use Rattle.std.specs.Prelude.{◌≡◌, ◌<◌, ◌^◌};
-ghost use Rattle.dma_ring.specs.Receive.{buffer_of, told_of, written_back};
+ghost use Rattle.dma_ring.specs.Receive.{buffer_of, reported_of, written_back};
 
 /// Bit of a written-back first half: the packet is IPv4. The RSS type is in bits 3 to 0.
 const IPV4: u32 = 4;
@@ -55,7 +55,7 @@ pub struct Packet {
 
 /// The first half that the device writes back: what it reports of the packet.
 pub fn packet_word(packet: &Packet) -> u64
-    ensures { result ≡ told_of packet.now }
+    ensures { result ≡ reported_of packet.now }
 {
     u64::from(packet.rss)
         + if packet.ipv4 { 1 << IPV4 } else { 0 }

@@ -1,21 +1,21 @@
--- A driver beside whatever calls of its author's, over the history as it is told anew.
+-- A driver beside whatever calls of its author's, over the history as it is retagged.
 use Rattle.driver_laws.proofs.Faultless.{FindsAmid, filling_never, found, made, made_is, never_at_fault, none_amid}
 use Rattle.driver_laws.proofs.Prelude.{AllFollow, AtPort, BeforeLast, BeginsApart, Beside, Bool, Call, DrivesRings}
 use Rattle.driver_laws.proofs.Prelude.{Entry, FaultsEarly, FaultsFilling, Follows, GoesOn, HasGround, IsAlong, IsFresh}
-use Rattle.driver_laws.proofs.Prelude.{IsLife, IsToldAlone, IsToldBy, IsToldOf, LeadsTo, Life, List, Moment, NoneLent}
-use Rattle.driver_laws.proofs.Prelude.{Numbers, Rings, Rxdctl, Sees, State, Told, Up, WasTold, Watched, WhereUp, []}
+use Rattle.driver_laws.proofs.Prelude.{IsLife, IsReportedAlone, IsReportedBy, IsReportedOf, LeadsTo, Life, List, Moment, NoneLent}
+use Rattle.driver_laws.proofs.Prelude.{Numbers, Rings, Rxdctl, Sees, State, Reported, Up, WasReported, Watched, WhereUp, []}
 use Rattle.driver_laws.proofs.Prelude.{append-nil, append_assoc, append_cancel_left, arith, calls_joined, calls_of}
 use Rattle.driver_laws.proofs.Prelude.{common_steps, events-append, events_same, false, halves_of, inl, inr}
 use Rattle.driver_laws.proofs.Prelude.{last, leads-append, leads_to, legal-append, legal_same, length, now, own_calls}
 use Rattle.driver_laws.proofs.Prelude.{refl, subst, sym, true, ◌++◌, ◌∙◌, ◌∷◌}
 use Rattle.driver_laws.proofs.Shifted.{access, early_shift, on_shift, rings, shifted, up_behind}
-use Rattle.driver_laws.proofs.{Order.life_of, Prelude.ap, Prelude.ℕ, Prelude.◌≡◌, Prelude.◌⊎◌, Told.goes, Told.life}
-use Rattle.driver_laws.specs.Beside.{AllFollowBy, FollowsBy, IsCalledBeside, IsRetold, IsToldAnew, IsToldBeside, by_own}
+use Rattle.driver_laws.proofs.{Order.life_of, Prelude.ap, Prelude.ℕ, Prelude.◌≡◌, Prelude.◌⊎◌, Reported.goes, Reported.life}
+use Rattle.driver_laws.specs.Beside.{AllFollowBy, FollowsBy, IsCalledBeside, IsRetagged, IsReportedAnew, IsReportedBeside, by_own}
 use Rattle.driver_laws.specs.Asked.{asked_of}
 use Rattle.driver_laws.specs.{Beside.anew, BesideApart.IsAloneBeside, BesideApart.IsCalledApart}
 use Rattle.driver_laws.specs.{BesideStart.BeginsBeside}
-use Rattle.driver_laws.specs.Told as own
-use Rattle.start_laws.specs.{Prelude.entries_in, Prelude.marked_entries, Retold.AreSame}
+use Rattle.driver_laws.specs.Reported as own
+use Rattle.start_laws.specs.{Prelude.entries_in, Prelude.marked_entries, Retagged.AreSame}
 
 -- the calls that are marked as own are those of pass 0
 pub own_are : (calls : List Call) (own : List Bool) → calls_of 0 (marked_entries calls own) ≡ own_calls calls own
@@ -24,7 +24,7 @@ own_are (c ∷ calls) [] = refl
 own_are (c ∷ calls) (true ∷ own) = ap (λ (l : List Call). c ∷ l) (own_are calls own)
 own_are (c ∷ calls) (false ∷ own) = own_are calls own
 
--- after what was made before, and is told so, the same calls may be told by other marks
+-- after what was made before, and is reported so, the same calls may be reported by other marks
 
 pub marked_same : (calls : List Call) (own : List Bool) → length own ≡ length calls
     → AreSame (entries_in calls) (marked_entries calls own)
@@ -32,15 +32,16 @@ marked_same [] own each = refl
 marked_same (c ∷ calls) [] each = absurd (omega (arith, each))
 marked_same (c ∷ calls) (is ∷ own) each = grind (arith, common_steps, marked_same calls own (omega (arith, each)))
 
-pub goes_on : {origin : State} {before told : List Entry} (was : WasTold origin before told) (es : List Entry)
+pub goes_on : {origin : State} {before reported : List Entry} (was : WasReported origin before reported)
+    (es : List Entry)
     (calls : List Call) (own : List Bool) (device : State) → LeadsTo (leads_to origin before) es device
     → AreSame es (marked_entries calls own)
-    → GoesOn origin before told es (marked_entries calls own) (own_calls calls own) device
-goes_on {origin = origin} {before = before} {told = told} was es calls own device began same =
+    → GoesOn origin before reported es (marked_entries calls own) (own_calls calls own) device
+goes_on {origin = origin} {before = before} {reported = reported} was es calls own device began same =
     grind (arith, common_steps, events-append, legal-append, calls_joined, own_are, leads-append)
 
--- A driver beside any calls of its author's is told by its own calls alone, over the history as it is told anew; and so
--- are its start and its stop.
+-- A driver beside any calls of its author's is reported by its own calls alone, over the history as it is retagged; and
+-- so are its start and its stop.
 
 -- a driver that runs goes on from one to the other by its own calls alone
 
@@ -65,8 +66,8 @@ all_anew m own (n ∷ later) then (next, goes, more) =
 
 -- its start, after the calls that came ahead of it
 pub own_anew : {q : AtPort} {size frame : ℕ} {old : List Call} {a : Numbers} {m : Moment} {later : List Moment}
-    {ahead own : List Call} (x : IsToldBy q size frame old a m later ahead own)
-    → IsToldAnew q size frame old a m later ahead own x
+    {ahead own : List Call} (x : IsReportedBy q size frame old a m later ahead own)
+    → IsReportedAnew q size frame old a m later ahead own x
 own_anew {q = q} {old = old} {m = m} {later = later} {ahead = ahead} {own = own} x =
     let (others, follow, ends) = all_anew m (ahead ++ x.start) later own x.since in
     let (at, r, up) = x.started in
@@ -77,11 +78,16 @@ own_anew {q = q} {old = old} {m = m} {later = later} {ahead = ahead} {own = own}
     let all : (ahead ++ x.first) ++ behind.since ≡ ahead ++ x.start =
     rw same (append_assoc ahead x.first behind.since) in
     let (there, access) = rw all at (behind.behind (ahead ++ x.first) ahead one) in
-    record { others = others; told = record { started = (at, r, there); since = follow }; access = access; ends = ends }
+    record {
+      others = others;
+      reported = record { started = (at, r, there); since = follow };
+      access = access;
+      ends = ends;
+    }
 
--- the history is along, told anew
-pub retold_along : {w : Watched} {origin : State} {h g : List Entry} → IsRetold w origin h g → IsAlong w origin g
-retold_along {origin = origin} {h = h} {g = g} x = grind (arith, common_steps, events_same, legal_same)
+-- the history is along, retagged
+pub retagged_along : {w : Watched} {origin : State} {h g : List Entry} → IsRetagged w origin h g → IsAlong w origin g
+retagged_along {origin = origin} {h = h} {g = g} x = grind (arith, common_steps, events_same, legal_same)
 
 -- a start is one of whose blocks none is lent, and so never finds the device at fault
 
@@ -89,7 +95,7 @@ abbrev apart : BeginsBeside → BeginsApart
 apart x = record {
   course = record x.course { h = x.g; old = x.ahead };
   new = x.ahead ++ x.since;
-  along = retold_along x.retold;
+  along = retagged_along x.retagged;
   begins = x.begins;
   others = x.others;
   more = x.more;
@@ -109,49 +115,52 @@ never_beside x (inr f) =
     filling_never (apart x) f (x.ahead ++ on.since) (on.behind x.ahead)
     (ap (λ (l : List Call). x.ahead ++ l) same ∙ sym (append_assoc x.ahead on.since behind))
 
--- and the driver is told there
+-- and the driver is reported there
 module _ (x : Beside) where
-  abbrev anew_told : IsToldAnew x.q x.size x.frame x.old x.a x.m x.later x.ahead x.own x.told
-  anew_told = own_anew x.told
+  abbrev anew_reported : IsReportedAnew x.q x.size x.frame x.old x.a x.m x.later x.ahead x.own x.reported
+  anew_reported = own_anew x.reported
 
   -- what held just before its first access holds so
-  pub at_access : (P : State → Type 0) → BeforeLast x.w x.origin x.g (x.ahead ++ x.told.first) P
-      → BeforeLast x.w x.origin x.g anew_told.told.started.2.receive.quiet.0 P
-  at_access P = subst (λ (l : List Call). BeforeLast x.w x.origin x.g l P) (sym anew_told.access)
+  pub at_access : (P : State → Type 0) → BeforeLast x.w x.origin x.g (x.ahead ++ x.reported.first) P
+      → BeforeLast x.w x.origin x.g anew_reported.reported.started.2.receive.quiet.0 P
+  at_access P = subst (λ (l : List Call). BeforeLast x.w x.origin x.g l P) (sym anew_reported.access)
 
-  abbrev pub told : Told
-  told = record {
+  abbrev pub reported : Reported
+  reported = record {
     course = anew x;
-    m = by_own (x.ahead ++ x.told.start) x.m;
-    later = anew_told.others;
-    along = retold_along x.retold;
-    told = anew_told.told;
+    m = by_own (x.ahead ++ x.reported.start) x.m;
+    later = anew_reported.others;
+    along = retagged_along x.retagged;
+    reported = anew_reported.reported;
     begins = record { ground = at_access (HasGround x.w.queue x.q x.frame) x.ground };
   }
 
-  pub same_rings : (now x).driver.rings ≡ (own.now told).driver.rings
-  same_rings = ap (λ (z : Moment). z.driver.rings) (sym anew_told.ends)
+  pub same_rings : (now x).driver.rings ≡ (own.now reported).driver.rings
+  same_rings = ap (λ (z : Moment). z.driver.rings) (sym anew_reported.ends)
 
-  pub rings_up : (now x).driver.rings ≡ Up (goes told).rings
-  rings_up = same_rings ∙ (goes told).up
+  pub rings_up : (now x).driver.rings ≡ Up (goes reported).rings
+  rings_up = same_rings ∙ (goes reported).up
 
-  own_made : (own.now told).made ≡ x.own
-  own_made = ap (λ (z : Moment). z.made) anew_told.ends
+  own_made : (own.now reported).made ≡ x.own
+  own_made = ap (λ (z : Moment). z.made) anew_reported.ends
 
-  pub told_of : IsToldBeside x → IsToldOf told
-  told_of is = is ∙ sym own_made
+  pub reported_of : IsReportedBeside x → IsReportedOf reported
+  reported_of is = is ∙ sym own_made
 
   -- it is a life, of its own calls
 
-  pub is_life : IsLife (anew x) (x.ahead ++ x.told.start) x.told.started.0 x.own (halves_of (goes told).rings)
+  pub is_life : IsLife (anew x) (x.ahead ++ x.reported.start) x.reported.started.0 x.own
+      (halves_of (goes reported).rings)
   unfolding own_anew
   is_life =
       subst (λ (made : List Call).
-      IsLife (anew x) (x.ahead ++ x.told.start) x.told.started.0 made (halves_of (goes told).rings)) own_made
-      (life told).is
+      IsLife (anew x) (x.ahead ++ x.reported.start) x.reported.started.0 made (halves_of (goes reported).rings))
+      own_made
+      (life reported).is
 
   abbrev pub own_life : Life
-  own_life = life_of (anew x) (x.ahead ++ x.told.start) x.told.started.0 x.own (halves_of (goes told).rings) is_life
+  own_life = life_of (anew x) (x.ahead ++ x.reported.start) x.reported.started.0 x.own
+      (halves_of (goes reported).rings) is_life
 
   -- what a call added comes after these
   pub called_behind : (n : Moment) (y : IsCalledBeside x n) (added : List Call) → n.made ≡ (now x).made ++ added
@@ -161,13 +170,17 @@ module _ (x : Beside) where
 
   -- no other lends its blocks
 
-  pub alone : IsAloneBeside x → IsToldAlone told
-  alone y = record
-      { told = told_of y.told; fresh = at_access (NoneLent (asked_of x.w x.a x.g)) y.fresh; others = y.others }
+  pub alone : IsAloneBeside x → IsReportedAlone reported
+  alone y = record {
+    reported = reported_of y.reported;
+    fresh = at_access (NoneLent (asked_of x.w x.a x.g)) y.fresh;
+    others = y.others;
+  }
 
-  pub none_beside : (n : Moment) → IsCalledApart x n → FindsAmid (goes told).rings (now x).made n.made → ⊥
+  pub none_beside : (n : Moment) → IsCalledApart x n → FindsAmid (goes reported).rings (now x).made n.made → ⊥
   none_beside n y amid =
-      none_amid told (at_access (IsFresh x.w.queue x.frame (asked_of x.w x.a x.g)) y.fresh) y.others (now x).made n.made
+      none_amid reported (at_access (IsFresh x.w.queue x.frame (asked_of x.w x.a x.g)) y.fresh) y.others (now x).made
+      n.made
       y.more
       amid
       (λ since all.

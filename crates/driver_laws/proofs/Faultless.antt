@@ -1,5 +1,5 @@
 -- No call of a driver finds the device at fault, from the place on where both sides of its queue are on, and so over
--- its whole life; nor does a burst meet it at fault, whatever it answers. What such a call tells may be told after
+-- its whole life; nor does a burst meet it at fault, whatever it answers. What such a call tells may be reported after
 -- other calls: what it added comes after the driver's. And so it is of a start.
 use Rattle.driver_laws.proofs.Laying.{LaysTo, among, behind_first, preparing_lays, ready_behind, then_some}
 use Rattle.driver_laws.proofs.Order.{begun, drawn_both, drawn_gone, driven_by, first, last_before, may, on_before}
@@ -8,17 +8,17 @@ use Rattle.driver_laws.proofs.Prelude.{AllLendApart, AllOwn, AreOn, BeforeLast, 
 use Rattle.driver_laws.proofs.Prelude.{DeviceFault, DrivesApart, DrivesRings, Entry, FaultsEarly, FaultsFilling, Halves}
 use Rattle.driver_laws.proofs.Prelude.{IsDrawn, IsFresh, IsMade, LeadsApart, List, None, Numbers, Option}
 use Rattle.driver_laws.proofs.Prelude.{OthersHarmless, Packet, PmdFault, Receive, ReceiveFails, Running, Rx, Rxdctl}
-use Rattle.driver_laws.proofs.Prelude.{Sees, Sends, Some, State, Told, Tx, [], and_parts, ap, apart_on, append-nil}
+use Rattle.driver_laws.proofs.Prelude.{Sees, Sends, Some, State, Reported, Tx, [], and_parts, ap, apart_on, append-nil}
 use Rattle.driver_laws.proofs.Prelude.{append_assoc, arith, both_ways, call_of, calls_joined, calls_of, common_steps}
 use Rattle.driver_laws.proofs.Prelude.{false, halves_of, harmless_apart, inl, inr, is_own, is_own-of_free, left, parts}
 use Rattle.driver_laws.proofs.Prelude.{played_by, receiving_apart, refl, ring_blocks, rules, subst, sym, times_among}
 use Rattle.driver_laws.proofs.Prelude.{true, ℕ, ◌++◌, ◌∙◌, ◌∷◌, ◌≡◌, ◌⊎◌}
-use Rattle.driver_laws.proofs.Told.{added, added_is, goes, led, life}
+use Rattle.driver_laws.proofs.Reported.{added, added_is, goes, led, life}
 use Rattle.driver_laws.proofs.Asked.{Both, all_asked, both_true, leads_asked, lends_asked}
 use Rattle.driver_laws.proofs.{Lent.known_at, Lent.others_before, Lent.others_behind, Lent.short_at, Lent.short_by}
 use Rattle.driver_laws.proofs.{Lent.unlent_before, Order.some_on}
 use Rattle.driver_laws.specs.{Asked.OthersLendNone, Asked.asked_of, Faultless.IsQuietAndFresh, Faultless.SendsAtFault}
-use Rattle.driver_laws.specs.{Faultless.met_by, Told.now}
+use Rattle.driver_laws.specs.{Faultless.met_by, Reported.now}
 use Rattle.driver_laws.{proofs.Order.On, specs.Prelude.Laid, specs.Prelude.Off}
 use Rattle.start_laws.proofs.PmdDriver.{Followed.both_own, Followed.others_own, Followed.others_played, Followed.own_length}
 use Rattle.start_laws.proofs.PmdDriver.{PmdAccess.Steps.steps_both, PmdAccess.Steps.steps_last, PmdRx.Earlier.free_before}
@@ -91,7 +91,7 @@ module _ {c : Course} (x : On c) (own : Blocks)
   open c use {w, origin, h, q, frame}
 
   -- the sides went on, the halves were led on, and then came that call: the driver takes as many blocks for a packet as
-  -- its start was told
+  -- its start was reported
   pub no_fault_led_on : {mid old new : List Call} {k : Halves} (led : LeadsApart own x.mid (first x) mid k)
       (f : FindsFault own old k new) (more : List Call) → calls_of w.pass h ≡ (mid ++ made f) ++ more → ⊥
   no_fault_led_on {mid = mid} {old = old} {new = new} led f more is =
@@ -152,9 +152,9 @@ burst_finds None given left result old mid new r there s drives finds x is =
 burst_finds (Some f) given left result old mid new r there s drives finds x is = grind (arith, common_steps)
 
 -- after a driver's life no call added so
-module _ (x : Told)
+module _ (x : Reported)
     (fresh :
-    BeforeLast x.w x.origin x.h x.told.started.2.receive.quiet.0 (IsFresh x.w.queue x.frame (asked_of x.w x.a x.h)))
+    BeforeLast x.w x.origin x.h x.reported.started.2.receive.quiet.0 (IsFresh x.w.queue x.frame (asked_of x.w x.a x.h)))
     (others : OthersLendNone x.w.pass (asked_of x.w x.a x.h) x.h) where
   open x use {w, h, a}
 
@@ -168,17 +168,17 @@ module _ (x : Told)
       let all : calls_of w.pass h ≡ ((now x).made ++ made f) ++ (later ++ more) =
       is (made f ++ later) (both ∙ ap (λ (l : List Call). l ++ later) (made_is f) ∙ append_assoc old (made f) later)
       ∙ simp append_assoc in
-      let told : (n : ℕ) → is_asked (((now x).made ++ made f) ++ (later ++ more)) n ≡ true → asks n ≡ true = λ n is.
+      let reported : (n : ℕ) → is_asked (((now x).made ++ made f) ++ (later ++ more)) n ≡ true → asks n ≡ true = λ n is.
       subst (λ (l : List Call). is_asked l n ≡ true) (sym all) is in
-      let leads = (led x.told).leads in
+      let leads = (led x.reported).leads in
       no_fault_led_on (begun (life x)) (Both (is_own a) asks) fresh others
-      (leads_asked (is_own a) asks (led x.told) (λ n is.
-      told n (asked_ahead ((now x).made ++ made f) (later ++ more) n (asked_ahead (now x).made (made f) n
+      (leads_asked (is_own a) asks (led x.reported) (λ n is.
+      reported n (asked_ahead ((now x).made ++ made f) (later ++ more) n (asked_ahead (now x).made (made f) n
       (subst (λ (l : List Call). is_asked l n ≡ true) (sym leads.2)
-      (asked_behind x.told.started.2.on.mid leads.1 n is))))))
+      (asked_behind x.reported.started.2.on.mid leads.1 n is))))))
       (found_asked (is_own a) asks f
       (λ n is.
-      told n (asked_ahead ((now x).made ++ made f) (later ++ more) n (asked_behind (now x).made (made f) n is))))
+      reported n (asked_ahead ((now x).made ++ made f) (later ++ more) n (asked_behind (now x).made (made f) n is))))
       (later ++ more) all
 
 pub burst_amid : (r s : Running) (old new : List Call) → SendsAtFault old r new s → FindsAmid r old new
@@ -234,7 +234,7 @@ module _ (x : BeginsApart) where
       (then_some q size (among out) (behind_first q size (among out) made.2)
       (preparing_lays q size (among out) DeviceFault Rx out (λ n is. is) fails)))
 
-  -- the slots that were filled, and the call that wasn't answered well: it may be told after other calls
+  -- the slots that were filled, and the call that wasn't answered well: it may be reported after other calls
   module _ {older newer : List Call} (f : FaultsFilling q size frame older a newer) where
     abbrev both_first : Halves
     both_first = record { receive = f.empty; transmit = f.sender }

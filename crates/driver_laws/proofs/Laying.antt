@@ -128,7 +128,7 @@ module _ (q : AtPort) (size : ℕ) (lent : Blocks) where
       → Part l old new
   fails_made DeviceFault (Sees row seen) l go (inl x) = (l, go_made (Sees row (not seen)) l go x)
   fails_made DeviceFault (Sees row seen) l go (inr (number, word, named, x)) = (l, adds l l _ _ x refl)
-  fails_made DeviceFault (Sets row word) l go (number, told, named, x) =
+  fails_made DeviceFault (Sets row word) l go (number, reported, named, x) =
       (_, adds l _ _ _ x (row, refl, go.0, named, go.1, refl))
   fails_made (fault.Call refused) a l go x = (l, stay (some_made (Stays l) (step_stays l) _ _ x))
   fails_made other a l go x = absurd x

@@ -22,11 +22,11 @@ use Rattle.driver_laws.proofs.Prelude.{zero, ℕ, ⊎_elim, ◌++◌, ◌+◌, �
 use Rattle.driver_laws.proofs.{Asked.all_asked, Asked.both_true, Laying.LaysTo, Laying.Steps, Laying.StepsOn}
 use Rattle.driver_laws.proofs.{Laying.among, Laying.on_lays, Order.On, Order.agree, Order.along_before}
 use Rattle.driver_laws.proofs.{Order.along_behind, Order.driven, Order.ends, Order.in_parts, Order.last, Order.some_on}
-use Rattle.driver_laws.proofs.{Prelude.IsToldOf, Prelude.Told, Prelude.and_parts, Prelude.ap, Prelude.cases_Bool}
+use Rattle.driver_laws.proofs.{Prelude.IsReportedOf, Prelude.Reported, Prelude.and_parts, Prelude.ap, Prelude.cases_Bool}
 use Rattle.driver_laws.proofs.{Prelude.common_steps, Prelude.has_begun, Prelude.lent_in, Prelude.suc, Prelude.true}
-use Rattle.driver_laws.proofs.{Prelude.◌&&◌, Prelude.◌≡◌, Told.goes, Told.told_ran}
-use Rattle.driver_laws.{proofs.Order.first, proofs.Told.led, specs.Prelude.Empty, specs.Prelude.Laid, specs.Prelude.Off}
-use Rattle.driver_laws.specs.{Asked.OthersLendNone, Asked.asked_of, Told.now}
+use Rattle.driver_laws.proofs.{Prelude.◌&&◌, Prelude.◌≡◌, Reported.goes, Reported.reported_ran}
+use Rattle.driver_laws.{proofs.Order.first, proofs.Reported.led, specs.Prelude.Empty, specs.Prelude.Laid, specs.Prelude.Off}
+use Rattle.driver_laws.specs.{Asked.OthersLendNone, Asked.asked_of, Reported.now}
 use Rattle.std.proofs.lemmas.{Bool.or_left, Bool.or_right, List.Folds.list_any-append}
 use Rattle.start_laws.specs.NicDevice.declared.event.Event.TheVariants as event
 use Rattle.start_laws.specs.NicDevice.declared.event.Reply.TheVariants as reply
@@ -208,7 +208,7 @@ module _ {c : Course} (x : On c) (own : Blocks) where
 -- what either half has lent is lent at the device, where device and driver agree; so it is of the blocks that are out
 pub out_is_lent : OutIsLent
 out_is_lent x made =
-    let r = told_ran x in
+    let r = reported_ran x in
     let both = agree r made in
     rw ((goes x).up)
     (λ n is.
@@ -217,19 +217,20 @@ out_is_lent x made =
     (or_cases (received.has_lent r.k.receive n) (sending.has_lent r.k.transmit n) is))
 
 -- the pass's calls are those up to where both sides went on, and those since
-told_calls : (x : Told) → IsToldOf x → calls_of x.w.pass x.h ≡ x.told.started.2.on.mid ++ (told_ran x).goes.1
-told_calls x made = made ∙ (told_ran x).goes.2
+reported_calls : (x : Reported) → IsReportedOf x → calls_of x.w.pass x.h
+    ≡ x.reported.started.2.on.mid ++ (reported_ran x).goes.1
+reported_calls x made = made ∙ (reported_ran x).goes.2
 
 pub lent_is_out : LentIsOut
 lent_is_out x y =
     let asks : Blocks = is_asked (calls_of x.w.pass x.h) in
     let own : Blocks = asked_of x.w x.a x.h in
-    let r = told_ran x in
-    let p = in_parts r y.told in
-    let apart = all_asked (is_own x.a) asks (first r.there) r.goes.0 r.goes.1 (led x.told).apart
+    let r = reported_ran x in
+    let p = in_parts r y.reported in
+    let apart = all_asked (is_own x.a) asks (first r.there) r.goes.0 r.goes.1 (led x.reported).apart
     (λ n is.
-    subst (λ (l : List Call). is_asked l n ≡ true) (sym (told_calls x y.told))
-    (asked_behind x.told.started.2.on.mid r.goes.1 n is)) in
+    subst (λ (l : List Call). is_asked l n ≡ true) (sym (reported_calls x y.reported))
+    (asked_behind x.reported.started.2.on.mid r.goes.1 n is)) in
     let known = known_along x.w x.origin p.front p.back (first r.there) r.goes.0 own (driven r p)
     (known_at r.there own y.fresh y.others p.front p.back p.both p.fronts)
     (others_behind x.w.pass own p.front p.back (subst (OthersLendNone x.w.pass own) (sym p.both) y.others)
@@ -261,10 +262,10 @@ lent_asked pass (e ∷ h) n is =
     (or_cases (lent_in pass e n) (lent_by pass h n) is)
 
 -- so a block that it doesn't ask to lend isn't out
-out_is_asked : (x : Told) → IsToldOf x → (n : ℕ) → is_out (now x).driver.rings n ≡ true
+out_is_asked : (x : Reported) → IsReportedOf x → (n : ℕ) → is_out (now x).driver.rings n ≡ true
     → is_asked (calls_of x.w.pass x.h) n ≡ true
 out_is_asked x made =
-    let r = told_ran x in
+    let r = reported_ran x in
     let lent = (ends r made).lent in
     rw ((goes x).up)
     (λ n is.
@@ -327,8 +328,8 @@ each_in_one_place x y outside hand elsewhere has n own counts =
     let mem = memory_after x.origin x.h in
     let asked = is_asked (calls_of x.w.pass x.h) n in
     let same : asked ≡ true → has_block mem n ≡ is_out (now x).driver.rings n = λ is.
-    grind (arith, lent_is_out x y n (both_true (is_own x.a n) asked own is), out_is_lent x y.told n) in
+    grind (arith, lent_is_out x y n (both_true (is_own x.a n) asked own is), out_is_lent x y.reported n) in
     subst (InPlace x.a outside hand elsewhere mem n) (sym (goes x).up)
     (up_in_place x.a outside hand elsewhere mem n own (goes x).rings) has
     (out_or_elsewhere (has_block mem n) (is_out (now x).driver.rings n) asked (times_in_hand elsewhere n) same
-    (out_is_asked x y.told n) counts)
+    (out_is_asked x y.reported n) counts)

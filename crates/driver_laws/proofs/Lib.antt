@@ -11,4 +11,4 @@ pub mod Refused
 pub mod Shifted
 pub mod StopCalls
 pub mod Stopped
-pub mod Told
+pub mod Reported

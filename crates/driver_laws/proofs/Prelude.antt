@@ -1,12 +1,22 @@
 -- The names that the proofs here cite most, passed on from one place. Declares nothing.
 pub use Rattle.start_laws.proofs.DeviceLock.Histories.{events-append, leads-append, legal-append, legal_behind}
 pub use Rattle.start_laws.specs.DeviceLock.Alone.{has_begun, lent_in}
-pub use Rattle.driver_laws.specs.Places.{Balances, EachInOnePlace, IsToldAlone, LentIsOut, OutIsLent, is_out}
+pub use Rattle.driver_laws.specs.Places.{Balances, EachInOnePlace, IsReportedAlone, LentIsOut, OutIsLent, is_out}
 pub use Rattle.driver_laws.specs.Places.{memory_after}
 pub use Rattle.driver_laws.specs.Prelude.{AreMadeOf, BeforeLast, EndsOnceOff, FaultsEarly, FaultsFilling, TakesOnceOff}
 pub use Rattle.driver_laws.specs.Prelude.{AreOn, Ends, HasGround, IsAlong, IsAsking, IsEnding, IsQuiet, IsSilent}
-pub use Rattle.driver_laws.specs.Told.{AllFollow, Drove, Follows, HasNoneOut, IsTold, IsToldOf, Moment, Told, last}
-pub use Rattle.driver_laws.specs.{Beside.Beside, Beside.GoesOn, Beside.IsToldBy, Beside.WasTold, Beside.now}
+pub use Rattle.driver_laws.specs.Reported.{
+  AllFollow,
+  Drove,
+  Follows,
+  HasNoneOut,
+  IsReported,
+  IsReportedOf,
+  Moment,
+  Reported,
+  last,
+}
+pub use Rattle.driver_laws.specs.{Beside.Beside, Beside.GoesOn, Beside.IsReportedBy, Beside.WasReported, Beside.now}
 pub use Rattle.driver_laws.specs.{Course.Course, Faultless.BeginsApart, Faultless.IsFresh, Faultless.NoneLent}
 pub use Rattle.driver_laws.specs.{Life.IsLife, Life.Life}
 pub use Rattle.driver_laws.{specs.Ends.Ended, specs.Ends.IsOver, specs.Lends.first_of, specs.Stopped.IsStopping}
@@ -31,7 +41,7 @@ pub use Rattle.start_laws.specs.PmdDriver.PmdAccess.Sides.{polled}
 pub use Rattle.start_laws.{specs.PmdDriver.PmdAccess.Sides.quiet}
 pub use Rattle.start_laws.proofs.Beside.{LeadsApart, drives_lead, harmless_apart, leads_on, left}
 pub use Rattle.start_laws.proofs.Parts.{Parts, around, calls_joined, none_behind, one_begins, parts}
-pub use Rattle.start_laws.proofs.Retold.{events_same, legal_same, same_delivers, same_leads, same_sends}
+pub use Rattle.start_laws.proofs.Retagged.{events_same, legal_same, same_delivers, same_leads, same_sends}
 pub use Rattle.start_laws.proofs.RingLaws.InOrder.{calls_other, calls_own, image_stays, since-append, vfs_stays}
 pub use Rattle.start_laws.proofs.StopCalls.{none_made, some_made, then_made}
 pub use Rattle.start_laws.proofs.SwitchedOff.{IsSettled, Settles, ending_plain, left_settles}

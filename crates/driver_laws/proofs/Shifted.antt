@@ -1,4 +1,4 @@
--- What the calls of a driver tell is told of the calls that were added alone: it holds after whichever others. So it
+-- What the calls of a driver tell is reported the calls that were added alone: it holds after whichever others. So it
 -- is of what its halves were driven by, and of a start.
 use Rattle.driver_laws.proofs.Prelude.{Access, Adds, AreMade, AreOn, AreUp, AtPort, Block, Bool, Call, DeviceFault, Dir}
 use Rattle.driver_laws.proofs.Prelude.{DrivesRings, Event, FaultsEarly, IsMade, IsPrepared, IsReceiveReady, IsStrayRead}

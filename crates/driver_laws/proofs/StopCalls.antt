@@ -91,7 +91,7 @@ takes_then q old mid new (inl asks) (inr y) =
 takes_then q old mid new (inr x) more =
     inr (once_of q _ _ _ _ x.asks x.switched (then_made (IsEnding q) x.off mid new x.ends (takes_ends q mid new more)))
 
--- what they tell is told of the calls that were added alone: where both sides were off
+-- what they tell is reported the calls that were added alone: where both sides were off
 
 pub of_kind : (P : Event Block → Type 0) → Shift (λ o n. AreMadeOf P o n)
 of_kind P old new (calls, is, are) = given calls is (λ front. (calls, refl, are))

@@ -88,7 +88,7 @@ module _ (w : Watched) (origin : State) (q : AtPort) (frame : ℕ) where
     others_keep mine done e left kept = search (rules, keeps_on, left_moves)
 
     ending_keeps : (mine : Blocks) (c : Call) → IsEnding q c.event → LeadsOver w origin mine c Keeps Keeps
-    ending_keeps mine c own done e same met made told steps kept =
+    ending_keeps mine c own done e same met made reported steps kept =
         let ends : IsEnding q e.event = subst (λ (n : Call). IsEnding q n.event) (sym same) own in
         keeps_on done e (ending_moves (reached w origin done) e.event met made ends kept.ground kept.settled) kept
 
@@ -150,10 +150,10 @@ module _ (w : Watched) (origin : State) (q : AtPort) (frame : ℕ) where
       others_agree done e left x = agree_on done e x (left_next done e.event left x)
 
       asking_agrees : w.vfs ≡ origin.vfs → (c : Call) → IsAsking q c.event → LeadsOver w origin mine c Agree Agree
-      asking_agrees vfs c own done e same met made told steps x =
+      asking_agrees vfs c own done e same met made reported steps x =
           agree_on done e x
           (asked_next vfs done e.event met made (subst (λ (n : Call). IsAsking q n.event) (sym same) own)
-          (subst (WritesOutside w.queue mine) told steps) x)
+          (subst (WritesOutside w.queue mine) reported steps) x)
 
 -- what is lent by calls stays so
 more_lent : (pass : ℕ) (g h : List Entry) (k : Halves) → AreLent (lent_by pass g) k → AreLent (lent_by pass (g ++ h)) k

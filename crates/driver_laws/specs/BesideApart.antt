@@ -5,16 +5,16 @@ use Rattle.start_laws.specs.{Prelude.Call, Prelude.arena_of, Prelude.calls_of}
 use Rattle.start_laws.specs.{Prelude.halted_of, Prelude.has_block, Prelude.is_free, Prelude.is_own, Prelude.places_of}
 use Rattle.start_laws.specs.Prelude.{times_in_hand}
 use Rattle.driver_laws.specs.{Asked.OthersLendNone, Asked.asked_of, Places.Balances, Places.lent_elsewhere}
-use Rattle.driver_laws.specs.{Places.is_out, Places.memory_after, Prelude.BeforeLast, Told.Moment}
-use Rattle.driver_laws.specs.Beside.{Beside, IsToldBeside, now}
+use Rattle.driver_laws.specs.{Places.is_out, Places.memory_after, Prelude.BeforeLast, Reported.Moment}
+use Rattle.driver_laws.specs.Beside.{Beside, IsReportedBeside, now}
 use Rattle.driver_laws.specs.Faultless.{FindsFault, IsFresh, MeetsFault, NoneLent}
 
--- as the history is told anew, the driver's own calls up to its last moment were made, then one of its calls, and maybe
+-- as the history is retagged, the driver's own calls up to its last moment were made, then one of its calls, and maybe
 -- more after. Just before its first access frames were short; and of its arena's blocks, those that it asks to lend
 -- weren't lent there, and nobody else lends any of them, another pass or the author
 pub record IsCalledApart (x : Beside) (n : Moment) : Type 0 where
   pub fresh :
-      BeforeLast x.w x.origin x.g (x.ahead ++ x.told.first) (IsFresh x.w.queue x.frame (asked_of x.w x.a x.g))
+      BeforeLast x.w x.origin x.g (x.ahead ++ x.reported.first) (IsFresh x.w.queue x.frame (asked_of x.w x.a x.g))
   pub others : OthersLendNone x.w.pass (asked_of x.w x.a x.g) x.g
   pub since : List Call
   pub made : n.made ≡ (now x).made ++ since
@@ -32,14 +32,14 @@ NoBurstMeetsFault = (x : Beside) (n : Moment) → MeetsFault (now x) n → ¬ Is
 -- each block that the driver has out is lent at the device
 abbrev pub OutIsLent : Type 0
 OutIsLent =
-    (x : Beside) → IsToldBeside x → (number : ℕ) → IsTrue (is_out (now x).driver.rings number) →
+    (x : Beside) → IsReportedBeside x → (number : ℕ) → IsTrue (is_out (now x).driver.rings number) →
     IsTrue (has_block (memory_after x.origin x.h) number)
 
 -- of its arena's blocks, those that the driver asks to lend weren't lent just before its first access; and nobody else
 -- lends any of them
 pub record IsAloneBeside (x : Beside) : Type 0 where
-  pub told : IsToldBeside x
-  pub fresh : BeforeLast x.w x.origin x.g (x.ahead ++ x.told.first) (NoneLent (asked_of x.w x.a x.g))
+  pub reported : IsReportedBeside x
+  pub fresh : BeforeLast x.w x.origin x.g (x.ahead ++ x.reported.first) (NoneLent (asked_of x.w x.a x.g))
   pub others : OthersLendNone x.w.pass (asked_of x.w x.a x.g) x.g
 
 -- each of these that is lent there is out

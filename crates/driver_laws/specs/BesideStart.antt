@@ -3,7 +3,7 @@ use Rattle.std.specs.Prelude.{◌++◌, ◌≡◌, ◌≢◌, List, ℕ}
 use Rattle.start_laws.specs.Prelude.{AreUp, AtPort, Call, DeviceFault, Entry, Numbers, Running, StartRefused}
 use Rattle.start_laws.specs.Prelude.{StopsStarting, calls_of}
 use Rattle.driver_laws.specs.Asked.{OthersLendNone, asked_of}
-use Rattle.driver_laws.specs.{Beside.IsRetold, Course.Course, Faultless.IsQuietAndFresh}
+use Rattle.driver_laws.specs.{Beside.IsRetagged, Course.Course, Faultless.IsQuietAndFresh}
 use Rattle.driver_laws.specs.Prelude.{BeforeNext, FaultsFilling}
 
 -- where a start brought both rings up, it added calls to those that were made, its first access among them
@@ -13,7 +13,7 @@ StartAdds =
     (up : AreUp q size frame old a new r) →
     (start : List Call) × (first : List Call) × (new ≡ old ++ start) × (up.receive.quiet.0 ≡ old ++ first)
 
--- a legal history that leaves the queue alone as it is told anew, in which a start made these calls, after others of
+-- a legal history that leaves the queue alone as it is retagged, in which a start made these calls, after others of
 -- its pass or none, and maybe more came after them. Just before its first access both sides were off and frames were
 -- short; and of its arena's blocks, those that it asks to lend weren't lent there, and nobody else lends any of them,
 -- another pass or the author
@@ -23,7 +23,7 @@ pub record BeginsBeside : Type 0 where
   pub g : List Entry
   pub new : List Call
   pub ahead : List Call
-  pub retold : IsRetold w origin h g
+  pub retagged : IsRetagged w origin h g
   pub begins : BeforeNext w origin g ahead (IsQuietAndFresh w.queue q frame (asked_of w a g))
   pub others : OthersLendNone w.pass (asked_of w a g) g
   pub since : List Call

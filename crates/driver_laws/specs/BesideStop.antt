@@ -1,11 +1,11 @@
 -- A driver beside whatever calls its author makes, and then the calls of its stop.
 use Rattle.std.specs.Prelude.{◌++◌, ◌≡◌, List}
 use Rattle.start_laws.specs.Prelude.{Call, Entry, accepted_of, calls_of, handed_of}
-use Rattle.start_laws.specs.Retold.{AreSame}
+use Rattle.start_laws.specs.Retagged.{AreSame}
 use Rattle.driver_laws.specs.{Beside.Beside, Beside.now, Course.IsHandedInOrder, Course.IsSentInOrder}
 use Rattle.driver_laws.specs.Prelude.{Ends, EndsOnceOff, IsSilent, TakesOnceOff}
 
--- as the history is told anew, the driver's own calls up to the last moment were made, and after them the first of
+-- as the history is retagged, the driver's own calls up to the last moment were made, and after them the first of
 -- those of its stop, or all: as it returned these calls were made
 pub record IsStoppedBeside (x : Beside) (new : List Call) : Type 0 where
   pub ends : Ends x.q (now x).made new

@@ -9,7 +9,7 @@ use Rattle.driver_laws.specs.Course.{Course}
 use Rattle.driver_laws.specs.Prelude.{BeforeLast, IsAlong, IsQuiet, BeforeNext, FaultsFilling}
 use Rattle.start_laws.specs.PmdDriver.Apart.{FindsBy}
 use Rattle.start_laws.specs.PmdDriver.Bursts.{IsSendBurst, SendsWith}
-use Rattle.driver_laws.specs.Told.{Moment, Told, now}
+use Rattle.driver_laws.specs.Reported.{Moment, Reported, now}
 
 -- none of these blocks is lent
 abbrev pub NoneLent : Blocks → State → Type 0
@@ -31,9 +31,9 @@ FindsFault m n =
 -- in its history the pass made the calls up to this last moment, and maybe more after them. Just before the driver's
 -- first access frames were short; and of its arena's blocks, those that its pass asks to lend weren't lent there, and
 -- no other pass lends any of them
-pub record IsToldApart (x : Told) (n : Moment) : Type 0 where
+pub record IsReportedApart (x : Reported) (n : Moment) : Type 0 where
   pub fresh :
-      BeforeLast x.w x.origin x.h x.told.started.2.receive.quiet.0
+      BeforeLast x.w x.origin x.h x.reported.started.2.receive.quiet.0
       (IsFresh x.w.queue x.frame (asked_of x.w x.a x.h))
   pub others : OthersLendNone x.w.pass (asked_of x.w x.a x.h) x.h
   pub more : List Call
@@ -41,7 +41,7 @@ pub record IsToldApart (x : Told) (n : Moment) : Type 0 where
 
 -- no such history has such a call
 abbrev pub NoCallFindsFault : Type 0
-NoCallFindsFault = (x : Told) (n : Moment) → FindsFault (now x) n → ¬ IsToldApart x n
+NoCallFindsFault = (x : Reported) (n : Moment) → FindsFault (now x) n → ¬ IsReportedApart x n
 
 -- the fault that a burst met, whatever it answered: as room was made, with a packet, or with none
 abbrev pub met_by : (failed : Option PmdFault) (given left : List Packet) (result : Result ℕ PmdFault) (old : List Call)
@@ -62,7 +62,7 @@ MeetsFault m n = WhereUp m.driver.rings n.driver.rings (λ r s. SendsAtFault m.m
 
 -- no such history has such a call
 abbrev pub NoBurstMeetsFault : Type 0
-NoBurstMeetsFault = (x : Told) (n : Moment) → MeetsFault (now x) n → ¬ IsToldApart x n
+NoBurstMeetsFault = (x : Reported) (n : Moment) → MeetsFault (now x) n → ¬ IsReportedApart x n
 
 -- both sides of the queue are off, and so it begins
 abbrev pub IsQuietAndFresh : ℕ → AtPort → ℕ → Blocks → State → Type 0

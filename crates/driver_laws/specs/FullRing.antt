@@ -1,14 +1,14 @@
--- How many slots are taken where a driver's ring is told to be full.
+-- How many slots are taken where a driver's ring is reported to be full.
 use Rattle.std.specs.Prelude.{◌+◌, ◌<◌, ◌∷◌, ◌≤◌, List, Ok, ℕ, length}
 use Rattle.start_laws.specs.Prelude.{AtPort, Call, Down, Numbers, Packet, Rings, Up, WhereUp, parts_for}
 use Rattle.start_laws.specs.PmdDriver.Bursts.{IsSendBurst}
-use Rattle.start_laws.specs.PmdDriver.PmdTx.{Sends.IsFullWhereTold, declared.answer.TxAnswer.TheVariants.RingFull}
-use Rattle.driver_laws.specs.Told.{Drove, IsTold, Moment, last}
+use Rattle.start_laws.specs.PmdDriver.PmdTx.{Sends.IsFullWhereReported, declared.answer.TxAnswer.TheVariants.RingFull}
+use Rattle.driver_laws.specs.Reported.{Drove, IsReported, Moment, last}
 
 -- a call of `tx` answered that the ring is full, as `full` in its clause `sent` tells
 abbrev pub TellsFull : Moment → Moment → Packet → Type 0
 TellsFull m n p =
-    WhereUp m.driver.rings n.driver.rings (λ r s. IsFullWhereTold r.transmit p (Ok (RingFull p)))
+    WhereUp m.driver.rings n.driver.rings (λ r s. IsFullWhereReported r.transmit p (Ok (RingFull p)))
 
 -- how many parts of packets of a driver that runs are outstanding, each in a slot
 abbrev pub outstanding : Rings → ℕ
@@ -20,7 +20,7 @@ outstanding (Down h) = 0
 abbrev pub FullHasNoRoom : Type 0
 FullHasNoRoom =
     (q : AtPort) (size frame : ℕ) (old : List Call) (a : Numbers) (m : Moment) (later : List Moment) (n : Moment)
-    (p : Packet) → IsTold q size frame old a m later → TellsFull (last m later) n p →
+    (p : Packet) → IsReported q size frame old a m later → TellsFull (last m later) n p →
     (outstanding (last m later).driver.rings < size)
     × (size ≤ outstanding (last m later).driver.rings + parts_for p.len)
 
@@ -36,5 +36,5 @@ AcceptsNone m n p =
 abbrev pub NoneHasNoRoom : Type 0
 NoneHasNoRoom =
     (q : AtPort) (size frame : ℕ) (old : List Call) (a : Numbers) (m : Moment) (later : List Moment) (n : Moment)
-    (p : Packet) → IsTold q size frame old a m later → Drove (last m later) n → AcceptsNone (last m later) n p →
+    (p : Packet) → IsReported q size frame old a m later → Drove (last m later) n → AcceptsNone (last m later) n p →
     (outstanding n.driver.rings < size) × (size ≤ outstanding n.driver.rings + parts_for p.len)

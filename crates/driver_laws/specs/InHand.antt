@@ -33,8 +33,8 @@ pub record IsHistoryOf (s : State) (queue : ℕ) (h : List Entry) (calls : List 
   pub leads : leads_to s h ≡ device
 
 -- the calls through a `Direct`, after what was made before, are one that leaves a queue alone, where they do. What is
--- told of a history from its entries alone suffices, whichever the state: all entries after the first of pass 0 are of
--- that pass, so that only what steps wrote for other queues is asked
+-- reported of a history from its entries alone suffices, whichever the state: all entries after the first of pass 0 are
+-- of that pass, so that only what steps wrote for other queues is asked
 abbrev pub DirectIsHistory : Type 0
 DirectIsHistory =
     (s : State) (queue : ℕ) (before : List Entry) (d : InHand) → queue < 128 → WasMade s before →

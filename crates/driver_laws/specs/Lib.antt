@@ -21,5 +21,5 @@ pub mod Refused
 pub mod Room
 pub mod Silent
 pub mod Stopped
-pub mod Told
+pub mod Reported
 pub mod Waits

@@ -6,7 +6,7 @@ use Rattle.start_laws.specs.Prelude.{Down, Entry, Halted, HasAll, Memory, Number
 use Rattle.start_laws.specs.Prelude.{halted_of, halves_of, has_block, is_free, is_own, leads_to, places_of}
 use Rattle.start_laws.specs.Prelude.{times_in_hand}
 use Rattle.driver_laws.specs.{Asked.OthersLendNone, Asked.asked_of, Faultless.NoneLent, Prelude.BeforeLast}
-use Rattle.driver_laws.specs.Told.{IsToldOf, Told, now}
+use Rattle.driver_laws.specs.Reported.{IsReportedOf, Reported, now}
 use Rattle.start_laws.specs.PmdDriver.Blocks.{KeepsBlocks, KeepsEach}
 use Rattle.start_laws.specs.PmdDriver.{Halted.all_out, PmdAccess.Home.AreOut}
 
@@ -23,20 +23,20 @@ memory_after origin h = (leads_to origin h).memory
 -- each block that is out is lent there
 abbrev pub OutIsLent : Type 0
 OutIsLent =
-    (x : Told) → IsToldOf x → (number : ℕ) → IsTrue (is_out (now x).driver.rings number) →
+    (x : Reported) → IsReportedOf x → (number : ℕ) → IsTrue (is_out (now x).driver.rings number) →
     IsTrue (has_block (memory_after x.origin x.h) number)
 
 -- of its arena's blocks, those that the driver's pass asks to lend weren't lent just before its first access; and no
 -- other pass lends any of them
-pub record IsToldAlone (x : Told) : Type 0 where
-  pub told : IsToldOf x
-  pub fresh : BeforeLast x.w x.origin x.h x.told.started.2.receive.quiet.0 (NoneLent (asked_of x.w x.a x.h))
+pub record IsReportedAlone (x : Reported) : Type 0 where
+  pub reported : IsReportedOf x
+  pub fresh : BeforeLast x.w x.origin x.h x.reported.started.2.receive.quiet.0 (NoneLent (asked_of x.w x.a x.h))
   pub others : OthersLendNone x.w.pass (asked_of x.w x.a x.h) x.h
 
 -- each of these that is lent there is out
 abbrev pub LentIsOut : Type 0
 LentIsOut =
-    (x : Told) → IsToldAlone x → (number : ℕ) → IsTrue (asked_of x.w x.a x.h number) →
+    (x : Reported) → IsReportedAlone x → (number : ℕ) → IsTrue (asked_of x.w x.a x.h number) →
     IsTrue (has_block (memory_after x.origin x.h) number) → IsTrue (is_out (now x).driver.rings number)
 
 -- an arena came to a driver as these of its blocks were out of it, each once: in hand, or lent by others. Each of them,
@@ -70,7 +70,7 @@ lent_elsewhere calls m number = if has_block m number && not (is_asked calls num
 -- that the driver gave out of hand, some may be lent elsewhere
 abbrev pub EachInOnePlace : Type 0
 EachInOnePlace =
-    (x : Told) → IsToldAlone x → (outside hand elsewhere : List ℕ) →
+    (x : Reported) → IsReportedAlone x → (outside hand elsewhere : List ℕ) →
     Balances x.a outside (halted_of (now x).driver.rings) (hand ++ elsewhere) → (number : ℕ) →
     IsTrue (is_own x.a number) →
     times_in_hand elsewhere number

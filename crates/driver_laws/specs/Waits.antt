@@ -3,7 +3,7 @@ use Rattle.std.specs.Prelude.{[], ◌++◌, ◌≡◌, ◌≢◌, List}
 use Rattle.start_laws.specs.Beside.{AddsHarmless}
 use Rattle.start_laws.specs.Prelude.{Call, Entry, Sender, WhereUp, accepted_of, bytes_of, calls_of, sent_since}
 use Rattle.start_laws.specs.PmdDriver.PmdTx.Plays.{LooksLast}
-use Rattle.driver_laws.specs.{Life.Life, Looks.EndsAt, Told.Moment, Told.Told, Told.now}
+use Rattle.driver_laws.specs.{Life.Life, Looks.EndsAt, Reported.Moment, Reported.Reported, Reported.now}
 
 -- after a life one call of the driver accepted none, and looked at last at the oldest outstanding packet, which wasn't
 -- done, at an entry of the history
@@ -26,14 +26,14 @@ Waits m n =
     WhereUp m.driver.rings n.driver.rings (λ r s. LooksLast m.made r.transmit n.made s.transmit)
 
 -- such a call comes after the last moment, with its look at an entry of the history
-pub record IsToldToWait (x : Told) (n : Moment) : Type 0 where
+pub record IsReportedToWait (x : Reported) (n : Moment) : Type 0 where
   pub waits : Waits (now x) n
   pub look : EndsAt x.w.pass x.h n.made
 
 -- before the first event of that call's own, harmless calls ahead of it included, not all that the driver had
 -- accepted was sent
-abbrev pub WaitingIsNotAllAsTold : Type 0
-WaitingIsNotAllAsTold =
-    (x : Told) (n : Moment) (waiting : IsToldToWait x n) (before more : List Entry) →
+abbrev pub WaitingIsNotAllAsReported : Type 0
+WaitingIsNotAllAsReported =
+    (x : Reported) (n : Moment) (waiting : IsReportedToWait x n) (before more : List Entry) →
     before ++ more ≡ waiting.look.before → AddsHarmless (now x).made (calls_of x.w.pass before) →
     bytes_of (accepted_of (now x).driver.rings) ≢ sent_since x.w.queue x.origin [] before

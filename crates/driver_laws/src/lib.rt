@@ -2,7 +2,7 @@
 //!
 //! Each law is the contract of a function that does nothing. `specs/Course` says over what history a driver is started,
 //! and when packets and frames are in order there, `specs/Life` what a life is by the calls of the driver's pass,
-//! `specs/Lends` which blocks it lends, and `specs/Told` what a life is by what the driver's calls tell.
+//! `specs/Lends` which blocks it lends, and `specs/Reported` what a life is by what the driver's calls tell.
 //! `specs/InHand` says which history a device in hand has. `specs/Order` says what holds of a life over a history of a
 //! shared device, `specs/Faultless` that neither its start nor a call of its finds the device at fault, `specs/Looks`
 //! what holds where a look finds no packet, and `specs/Waits` where it finds one waiting; `specs/Places` says where its
@@ -33,8 +33,8 @@ ghost use Rattle.driver_laws.specs.Refused.{LeftOfRefusedIsPrefix, RefusedSendsN
 ghost use Rattle.driver_laws.specs.Room.{TwoRunsAreFound};
 ghost use Rattle.driver_laws.specs.Silent.{SilentOnceOff, SilentOverStop};
 ghost use Rattle.driver_laws.specs.Stopped as stopped;
-ghost use Rattle.driver_laws.specs.Told as told;
-ghost use Rattle.driver_laws.specs.Waits.{WaitingIsNotAllBefore, WaitingIsNotAllAsTold};
+ghost use Rattle.driver_laws.specs.Reported as reported;
+ghost use Rattle.driver_laws.specs.Waits.{WaitingIsNotAllBefore, WaitingIsNotAllAsReported};
 
 /// The laws here speak of a history from any state on that a device can be in, new or used, with an EEPROM image
 /// installed or without. The calls that were made through a `pmd_access::Direct` are one, all of pass 0, after what is
@@ -47,7 +47,7 @@ ghost use Rattle.driver_laws.specs.Waits.{WaitingIsNotAllBefore, WaitingIsNotAll
 /// The calls that were made through a `pmd_access::ThroughLock` are one of a device that was new, as the passes that
 /// closed its history made it: up to the last of them, of whichever tag the pass is, where `left_alone` of what `close`
 /// gives answers so of that tag and the queue. They stand in it, up to an entry of that pass. What the laws ask of
-/// where a driver starts there is told by `workers::begins_well`, as `workers::laws::worker_begins_well` says.
+/// where a driver starts there is given by `workers::begins_well`, as `workers::laws::worker_begins_well` says.
 pub fn calls_in_hand_are_a_history()
     ensures direct { DirectIsHistory }
     ensures interleaved { InterleavedIsHistory }
@@ -116,7 +116,7 @@ pub fn calls_keep_the_books()
 /// where that has one part all slots but one are taken. So it is after a call of `tx_burst` that answers 0, with those
 /// of the first packet that it leaves.
 pub fn full_ring_has_no_room()
-    ensures told { FullHasNoRoom }
+    ensures reported { FullHasNoRoom }
     ensures none { NoneHasNoRoom }
 {}
 
@@ -139,7 +139,7 @@ pub fn empty_look_leaves_nothing()
 /// harmless calls of its own pass, did ahead of it. The same by what the calls of a `pmd_driver::Pmd` tell alone.
 pub fn waiting_look_leaves_some_unsent()
     ensures before { WaitingIsNotAllBefore }
-    ensures told { WaitingIsNotAllAsTold }
+    ensures reported { WaitingIsNotAllAsReported }
 {}
 
 /// The order of packets and frames by what the calls of a `pmd_driver::Pmd` tell alone: `start` answered it, and then
@@ -149,32 +149,33 @@ pub fn waiting_look_leaves_some_unsent()
 /// all of those that were delivered before its last look, and so before its first event; and the frames sent are a
 /// prefix of those that it accepted, and all of them where none is outstanding, as where `reap` answers so.
 pub fn driver_in_order()
-    ensures handed { told.HandedIsPrefix }
-    ensures none { told.NoneIsAllBefore }
-    ensures first { told.NoneIsAllAtFirst }
-    ensures sent { told.SentIsPrefix }
-    ensures idle { told.IdleIsAllSent }
+    ensures handed { reported.HandedIsPrefix }
+    ensures none { reported.NoneIsAllBefore }
+    ensures first { reported.NoneIsAllAtFirst }
+    ensures sent { reported.SentIsPrefix }
+    ensures idle { reported.IdleIsAllSent }
 {}
 
 /// That order where between the driver's calls, and before its start, its author makes whatever calls of the device, as
 /// those of a second driver of another queue. What is asked of these is what is asked of other passes: that the queue
-/// is left alone by the history as it is told anew, with another pass's tag for each of them. So they write no row of
+/// is left alone by the history as it is retagged, with another pass's tag for each of them. So they write no row of
 /// the queue, no setting, and reset not its pool; and they lend, take and poke no block that the driver itself lends.
-/// Told so, the history has the driver's own calls alone, which are told as its clauses tell (`told`), and is one of a
-/// life (`lived`), so that the laws on these apply; and what they say of the packets and frames is so of the history as
-/// it was. For a device in hand, marks tell which of its calls are the driver's own (`in_hand`, `interleaved`), also
-/// through one way after another, as where a `Direct` is finished and another steps the other driver's queue.
+/// So retagged, the history has the driver's own calls alone, which are reported as its clauses tell (`reported`), and
+/// is one of a life (`lived`), so that the laws on these apply; and what they say of the packets and frames is so of
+/// the history as it was. For a device in hand, marks tell which of its calls are the driver's own (`in_hand`,
+/// `interleaved`), also through one way after another, as where a `Direct` is finished and another steps the other
+/// driver's queue.
 pub fn driver_among_any_calls_in_order()
-    ensures told { beside.OwnAreTold }
-    ensures lived { beside.ToldIsLived }
+    ensures reported { beside.OwnAreReported }
+    ensures lived { beside.ReportedIsLived }
     ensures handed { beside.HandedIsPrefix }
     ensures none { beside.NoneIsAllBefore }
     ensures first { beside.NoneIsAllAtFirst }
     ensures sent { beside.SentIsPrefix }
     ensures idle { beside.IdleIsAllSent }
     ensures waits { beside.WaitingIsNotAll }
-    ensures in_hand { beside.DirectIsRetold }
-    ensures interleaved { beside.InterleavedIsRetold }
+    ensures in_hand { beside.DirectIsRetagged }
+    ensures interleaved { beside.InterleavedIsRetagged }
 {}
 
 /// Where nobody else lends a block of its arena that it asks to lend, neither another pass nor its author beside it,
@@ -201,7 +202,7 @@ pub fn driver_among_any_calls_starts()
 /// Where `tx` of such a driver answers that the ring is full, or `tx_burst` takes none, its ring has no room for the
 /// next packet.
 pub fn full_ring_among_any_calls_has_no_room()
-    ensures told { room.FullHasNoRoom }
+    ensures reported { room.FullHasNoRoom }
     ensures none { room.NoneHasNoRoom }
 {}
 

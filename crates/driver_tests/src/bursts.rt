@@ -168,8 +168,8 @@ fn make_step(rt: &impl Hand, bursts: &mut Bursts, step: Step) -> u16 {
 fn make_steps(rt: &impl Hand, steps: &[(Step, u16)]) {
     let mut bursts = Bursts::new(rt, 8, 32);
     for (step, wanted) in steps {
-        let told = make_step(rt, &mut bursts, *step);
-        same(rt, usize::from(told), usize::from(*wanted));
+        let reported = make_step(rt, &mut bursts, *step);
+        same(rt, usize::from(reported), usize::from(*wanted));
     }
     bursts.end(rt, 9);
 }

@@ -42,8 +42,8 @@ fn arrive(rt: &impl Hand, bench: &Bench, pass: &mut Pass, len: u16) -> bool {
 
 /// A register is read.
 fn look(rt: &impl Hand, bench: &Bench, pass: &mut Pass) {
-    let told = bench.call(rt, rt.alloc(), pass, Event::Read(Port::Pf, 0x04240));
-    word_in(rt, done(rt, told));
+    let reported = bench.call(rt, rt.alloc(), pass, Event::Read(Port::Pf, 0x04240));
+    word_in(rt, done(rt, reported));
 }
 
 /// Sets the device up for frames of 9,728 bytes with their check sequence.
@@ -87,9 +87,9 @@ fn fits(rt: &impl Hand, len: u16, frame: u16) -> (bool, bool) {
 
 /// A frame is accepted or not, and fits or not, as the row of this name says.
 fn fits_or_not(rt: &impl Hand, name: &str, (len, frame): (u16, u16), wanted: (bool, bool)) {
-    let told = fits(rt, len, frame);
-    holds(rt, name, "let in", told.0 == wanted.0);
-    holds(rt, name, "fits", told.1 == wanted.1);
+    let reported = fits(rt, len, frame);
+    holds(rt, name, "let in", reported.0 == wanted.0);
+    holds(rt, name, "fits", reported.1 == wanted.1);
 }
 
 #[test]

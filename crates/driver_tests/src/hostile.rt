@@ -82,9 +82,9 @@ enum What {
 }
 
 /// What that was, and where: a frame and its descriptor, or a report of what was sent or fetched.
-type Told<P> = (What, P, P);
+type Reported<P> = (What, P, P);
 
-const NO_WRITE: Told<At> = (What::Nothing, Zero, Zero);
+const NO_WRITE: Reported<At> = (What::Nothing, Zero, Zero);
 
 /// What others do, one after the other. (A table of lists isn't a constant, and costs its proof a step for each part.)
 type Deeds = (Deed, Deed, Deed);
@@ -94,7 +94,7 @@ const NONE: Deed = Takes(0, 0);
 
 /// What others do to a driver while it runs: the name of the case, the device, the blocks of the others, as first and
 /// count, the actions, whether the driver's queue is left alone, and what a step of queue 3 first reports.
-type Row<'a> = (&'a str, On, (u32, u32), Deeds, bool, Told<At>);
+type Row<'a> = (&'a str, On, (u32, u32), Deeds, bool, Reported<At>);
 
 /// Blocks of the numbers of the driver's.
 const SAME: (u32, u32) = (4, 32);
@@ -295,7 +295,7 @@ fn settle(rt: &impl Hand, home: Home, device: Device, mut bufs: Vec<Buf>, second
 }
 
 /// What queue 3 wrote by an entry, with bus addresses.
-fn told_by(entry: &Entry) -> Told<u64> {
+fn reported_by(entry: &Entry) -> Reported<u64> {
     match &entry.reply {
         Reply::Wrote {
             queue: 3,
@@ -318,14 +318,14 @@ fn told_by(entry: &Entry) -> Told<u64> {
 }
 
 /// What queue 3 wrote first in a history. Each step by which it wrote is assigned to the driver's pass.
-fn first_told(history: &mut [Entry]) -> Told<u64> {
+fn first_reported(history: &mut [Entry]) -> Reported<u64> {
     let mut first = (What::Nothing, 0, 0);
     for entry in history {
-        let told = told_by(entry);
-        if told.0 != What::Nothing {
+        let reported = reported_by(entry);
+        if reported.0 != What::Nothing {
             entry.pass = DRIVER;
             if first.0 == What::Nothing {
-                first = told;
+                first = reported;
             }
         }
     }
@@ -345,8 +345,8 @@ fn endured(rt: &impl Hand, on: On, blocks: (u32, u32), deeds: Deeds) -> (Vec<Ent
 }
 
 /// Checks that a bus address in the row of this name is the expected one.
-fn is_address(rt: &impl Hand, name: &str, what: &str, told: u64, wanted: u32) {
-    holds(rt, name, what, told == u64::from(wanted));
+fn is_address(rt: &impl Hand, name: &str, what: &str, reported: u64, wanted: u32) {
+    holds(rt, name, what, reported == u64::from(wanted));
 }
 
 /// Runs a driver in the case of a row, and judges the history as the row says. Where the queue isn't left alone, it
@@ -355,9 +355,9 @@ fn check(rt: &impl Hand, (name, on, blocks, deeds, spares, wanted): Row<'_>) {
     let (mut history, rings) = endured(rt, on, blocks, deeds);
     let is_alone = is_left_alone(history.as_slice());
     holds(rt, name, "left alone", is_alone == spares);
-    let (what, at, ring) = first_told(history.as_mut_slice());
+    let (what, at, ring) = first_reported(history.as_mut_slice());
     let is_alone = is_left_alone(history.as_slice());
-    holds(rt, name, "told", what == wanted.0);
+    holds(rt, name, "reported", what == wanted.0);
     is_address(rt, name, "at", at, rings.address(wanted.1));
     is_address(rt, name, "of", ring, rings.address(wanted.2));
     holds(rt, name, "by the driver's steps", spares || !is_alone);

@@ -1,7 +1,7 @@
 //! Tasks that meet at a place of their own, and workers that meet point by point.
 
 use crate::outcome::{Hand, fail, same, sees};
-use pmd::{Gate, Lockstep, Seat, Start, Task, run};
+use pmd::{Gate, Lockstep, Start, Task, TaskCell, run};
 use std::sync::atomic::{AtomicU64, Ordering};
 use std::sync::{Mutex, Wait};
 use std::thread;
@@ -63,11 +63,11 @@ fn count_missing(starts: &[Start]) -> u32 {
 }
 
 /// A task has met the other.
-fn has_met<R: Hand>(rt: &R, seat: Seat<Meet<'_, R>, bool>) {
-    match seat {
-        Seat::Ended(met) => sees(rt, met),
-        Seat::Waits(Meet { rt: _, come: _ }) => fail(rt, "a task that wasn't done"),
-        Seat::Empty => fail(rt, "no end"),
+fn has_met<R: Hand>(rt: &R, cell: TaskCell<Meet<'_, R>, bool>) {
+    match cell {
+        TaskCell::Ended(met) => sees(rt, met),
+        TaskCell::Waits(Meet { rt: _, come: _ }) => fail(rt, "a task that wasn't done"),
+        TaskCell::Empty => fail(rt, "no end"),
     }
 }
 
@@ -75,23 +75,23 @@ fn has_met<R: Hand>(rt: &R, seat: Seat<Meet<'_, R>, bool>) {
 fn two_tasks_meet(rt: HostRuntime) {
     let come = Mutex::new(0);
     let starts = Vec::from_array(rt.alloc(), [Start::new(), Start::new()]).expect(&rt, "memory");
-    let first = Seat::Waits(Meet {
+    let first = TaskCell::Waits(Meet {
         rt: &rt,
         come: &come,
     });
-    let second = Seat::Waits(Meet {
+    let second = TaskCell::Waits(Meet {
         rt: &rt,
         come: &come,
     });
-    let mut seats = [first, second];
+    let mut cells = [first, second];
     let mut missing = 0u32;
     run(
         &rt,
         &starts,
         &mut || missing = missing.saturating_add(count_missing(&starts)),
-        &mut seats,
+        &mut cells,
     );
-    let [first, second] = seats;
+    let [first, second] = cells;
     has_met(&rt, first);
     has_met(&rt, second);
     same(&rt, missing as usize, 0);

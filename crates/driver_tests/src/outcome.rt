@@ -48,8 +48,8 @@ pub fn refused<T, E>(rt: &impl Abort, answer: Result<T, E>) -> E {
 }
 
 /// Checks that two numbers are the same.
-pub fn same(rt: &impl Abort, told: usize, wanted: usize) {
-    assert_eq!(rt; told, wanted);
+pub fn same(rt: &impl Abort, reported: usize, wanted: usize) {
+    assert_eq!(rt; reported, wanted);
 }
 
 /// Checks that something holds of the case of this name.
@@ -58,14 +58,14 @@ pub fn holds(rt: &impl Abort, name: &str, what: &str, is_so: bool) {
 }
 
 /// Checks that two pairs of numbers are the same.
-pub fn same_pair(rt: &impl Abort, told: (usize, usize), wanted: (usize, usize)) {
-    same(rt, told.0, wanted.0);
-    same(rt, told.1, wanted.1);
+pub fn same_pair(rt: &impl Abort, reported: (usize, usize), wanted: (usize, usize)) {
+    same(rt, reported.0, wanted.0);
+    same(rt, reported.1, wanted.1);
 }
 
 /// Checks that two lists of bytes are the same.
-pub fn same_bytes(rt: &impl Abort, told: &[u8], wanted: &[u8]) {
-    sees(rt, told == wanted);
+pub fn same_bytes(rt: &impl Abort, reported: &[u8], wanted: &[u8]) {
+    sees(rt, reported == wanted);
 }
 
 /// A list of no items.

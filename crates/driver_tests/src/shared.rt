@@ -93,8 +93,8 @@ fn read(rt: &impl Hand, bench: &Bench, pass: &mut Pass, address: u32) -> u32 {
 /// Writes a word and reads it back.
 fn write_and_see(rt: &impl Hand, bench: &Bench, pass: &mut Pass, address: u32, word: u32) {
     write(rt, bench, pass, address, word);
-    let told = read(rt, bench, pass, address);
-    same(rt, told as usize, word as usize);
+    let reported = read(rt, bench, pass, address);
+    same(rt, reported as usize, word as usize);
 }
 
 /// Writes the EITR word that a pass has for itself and reads it back, in turn, ten calls in all.
@@ -187,8 +187,8 @@ fn queues_up_to_the_last_are_stepped_through_the_lock(rt: HostRuntime) {
 
 /// Reads HLREG0 through a way to a device.
 fn read_hlreg0<N: Nic>(rt: &impl Hand, nic: &mut N) {
-    let told = done(rt, nic.call(rt.alloc(), Event::Read(Port::Pf, 0x04240)));
-    same(rt, word_in(rt, told) as usize, 0x403);
+    let reported = done(rt, nic.call(rt.alloc(), Event::Read(Port::Pf, 0x04240)));
+    same(rt, word_in(rt, reported) as usize, 0x403);
 }
 
 /// Why a step of receiving is refused.

@@ -121,7 +121,7 @@ fn jobs(rt: &impl Hand, passes: Vec<Pass>, rounds: u32) -> Vec<Job> {
     jobs
 }
 
-/// The workers' part. It is told when they have ended.
+/// The workers' part. It is reported when they have ended.
 fn work<G: Gate + Sync>(
     rt: &impl Hand,
     gate: &G,
@@ -317,9 +317,9 @@ pub fn sent_in(rt: &impl Hand, history: &[Entry]) -> Sent {
     sent
 }
 
-/// A frame of this queue and length was told of.
-fn is_sent(rt: &impl Hand, told: Option<&(u16, usize)>, queue: u16, len: usize) {
-    let (of, bytes) = some(rt, told);
+/// A frame of this queue and length was reported.
+fn is_sent(rt: &impl Hand, reported: Option<&(u16, usize)>, queue: u16, len: usize) {
+    let (of, bytes) = some(rt, reported);
     sees(rt, *of == queue && *bytes == len);
 }
 

@@ -104,14 +104,14 @@ fn drive(rt: &HostRuntime, nic: &mut Direct, arena: Arena) -> Result<Arena, Fail
         Ok(home) => home,
         Err(StopRefused { fault, pmd }) => return Err(leave(pmd, Failure::Driver(fault))),
     };
-    let told = tell(rt, nic, &home);
+    let reported = tell(rt, nic, &home);
     let Home {
         arena,
         lost: _,
         handed: _,
         accepted: _,
     } = home;
-    match echoed.and(told) {
+    match echoed.and(reported) {
         Ok(()) => Ok(arena),
         Err(failure) => Err(leave(arena, failure)),
     }

@@ -150,7 +150,7 @@ fn jobs(alloc: Global, passes: Vec<Pass>) -> Result<Vec<Job>, Failure> {
     Ok(jobs)
 }
 
-/// Prints what each worker told, ends what its driver left, and returns the passes.
+/// Prints what each worker reported, ends what its driver left, and returns the passes.
 fn tell<R: Print>(rt: &R, alloc: Global, ends: Vec<WorkerEnd>) -> Result<Vec<Pass>, Failure> {
     let mut ends = ends;
     let mut passes = Vec::new(alloc);
@@ -165,10 +165,10 @@ fn tell<R: Print>(rt: &R, alloc: Global, ends: Vec<WorkerEnd>) -> Result<Vec<Pas
         },
     ) = ends.pop()
     {
-        let told = println!(rt; "queue {}: {} packets", passes.len(), reports.len());
+        let reported = println!(rt; "queue {}: {} packets", passes.len(), reports.len());
         done = done
             .and(end(rest, fault))
-            .and(told.map_err(Failure::Unwritten));
+            .and(reported.map_err(Failure::Unwritten));
         if passes.push(pass).is_err() {
             done = Err(Failure::NoMemory(AllocError));
         }

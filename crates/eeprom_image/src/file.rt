@@ -39,7 +39,7 @@ pub enum LoadFault {
 #[tactic(auto, unfolding(crate::specs::File::file_fault))]
 fn file_fault(bytes: &[u8]) -> Option<LoadFault>
     ensures first { result ≡ file_fault bytes.now }
-    ensures told { IfSome result (λ fault. reported_fault fault ≡ Some fault) }
+    ensures reported { IfSome result (λ fault. reported_fault fault ≡ Some fault) }
 {
     if bytes.len() % 2 != 0 {
         return Some(LoadFault::OddLength);

@@ -48,10 +48,10 @@ filled-at s w f is =
           omega (arith, taken.len);
     }
 
-told-at : (s : State) (queue slot : ℕ) (end : Bool) (desc at len own : ℕ) (f : Filled)
+reported-at : (s : State) (queue slot : ℕ) (end : Bool) (desc at len own : ℕ) (f : Filled)
     → ◌≡◌ {A = Reply Block} (Wrote own f.slot f.end f.desc f.at f.len) (Wrote queue slot end desc at len)
     → WritesAtHead s own f.slot f.end f.desc f.at f.len → WritesAtHead s queue slot end desc at len
-told-at s queue slot end desc at len own f e h =
+reported-at s queue slot end desc at len own f e h =
     let q : own ≡ queue = cc in
     let a : f.slot ≡ slot = cc in
     let b : f.end ≡ end = cc in
@@ -73,5 +73,5 @@ written_at_head s = received_cases (Written s) s (record {
   slotless = λ w others first queue slot end desc at len e. cc;
   fault = λ w others first fault queue slot end desc at len e. cc;
   filled = λ w others first f is queue slot end desc at len e.
-      told-at s queue slot end desc at len w.queue f e (filled-at s w f is);
+      reported-at s queue slot end desc at len w.queue f e (filled-at s w f is);
 })

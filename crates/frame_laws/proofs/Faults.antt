@@ -89,14 +89,14 @@ module _ (s : State) (w : Waiting) (others : List Waiting) where
         (λ there.
         (record { set_up = set_up; descriptor = descriptor_at here; buffer = buffer_at there }, length-is))
         (λ lacks.
-        (set_up, inr (record { descriptor = descriptor_at here; told = buffer-is; lacks = buffer_at lacks })))
+        (set_up, inr (record { descriptor = descriptor_at here; reported = buffer-is; lacks = buffer_at lacks })))
 
     slot_so : Ends (fill.fill_slot_of s.memory ring (rest_of w) (buffer_size_of control))
     unfolding fill.fill_slot_of
     slot_so =
         cond_both (is_lent s.memory (fill.head_address ring) 16) at_bytes
         (fill.fault_outcome s.memory (NotLent (fill.head_address ring))) Ends bytes_so
-        (λ lacks. (set_up, inl (record { told = descriptor-is; lacks = descriptor_at lacks })))
+        (λ lacks. (set_up, inl (record { reported = descriptor-is; lacks = descriptor_at lacks })))
 
   fill_so : Ends (fill.fill_of s.memory ring control (rest_of w))
   unfolding fill.fill_of

@@ -115,20 +115,21 @@ module _ (s : State) (h : IsSound s) (queue : ℕ) where
               let back = (report_law _ _ _ _ f is).none (unasked none) in
               (back, left ∙ (writes_inside_report _ _ _ _ f is).none back);
           head = λ address three one on at.
-              let told = (driver_reads _ _ _ _ f h.blocks.whole is (asked three one)).head address
+              let reported = (driver_reads _ _ _ _ f h.blocks.whole is (asked three one)).head address
               (writeback-head address at) in
               let fits : f.head < 2 ^ 16 = omega (arith, taken.inside) in (
-                told.0,
-                ap (λ m. read_at m address 4) left ∙ told.1 ∙ head-written f.head fits
+                reported.0,
+                ap (λ m. read_at m address 4) left ∙ reported.1 ∙ head-written f.head fits
                     ∙ ap head_bytes (taken.head ∙ next-is),
               );
           descriptor = λ address three one off at.
-              let told = (driver_reads _ _ _ _ f h.blocks.whole is (asked three one)).descriptor (writeback-none off) in
+              let reported = (driver_reads _ _ _ _ f h.blocks.whole is (asked three one)).descriptor
+              (writeback-none off) in
               let here : head_address (ring s queue) ≡ address =
               address-is s h queue ∙ sym (own-address address off at) in (
-                told.0 ∙ ap (λ (n : ℕ). Some n) here,
+                reported.0 ∙ ap (λ (n : ℕ). Some n) here,
                 ap (λ m. read_at m address 16) left
-                    ∙ ap (λ n. read_at (fetched_by s queue).memory n 16) (sym here) ∙ told.1
+                    ∙ ap (λ n. read_at (fetched_by s queue).memory n 16) (sym here) ∙ reported.1
                     ∙ ap done_descriptor (sym (head-is s queue)) ∙ done-is,
               );
         }

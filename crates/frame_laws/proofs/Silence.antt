@@ -179,35 +179,35 @@ module _ (s : State) (queue : ℕ) where
       cond-true (nat_lt queue 128) (queue_sent s queue side) (gives NoQueue s) (lt-ltb queue 128 small)
       ∙ cond-true (is_silent s queue side) (gives Idle s) (slot_fetched s queue side) (silent small is)
 
-  pub record Told (o : Outcome) : Type 0 where
+  pub record Reported (o : Outcome) : Type 0 where
     pub none : o.reply ≡ NoQueue → 128 ≤ queue
     pub idle : o.reply ≡ Idle → (queue < 128) × IsSilent s queue
 
-  fetched_frame : (f : Fetched) (frame : Option (List ℕ)) (t : State) → Told (gives (fetched_reply queue f frame) t)
+  fetched_frame : (f : Fetched) (frame : Option (List ℕ)) (t : State) → Reported (gives (fetched_reply queue f frame) t)
   fetched_frame f (Some frame) t = record { none = λ e. cc; idle = λ e. cc }
   fetched_frame f None t = record { none = λ e. cc; idle = λ e. cc }
 
-  fetched_told : (answer : Result Fetched RingFault) (memory : Memory) (staged : List ℕ)
-      → Told (slot_done s queue answer memory staged)
-  fetched_told (Ok f) memory staged = fetched_frame f f.frame _
-  fetched_told (Err fault) memory staged = record { none = λ e. cc; idle = λ e. cc }
+  fetched_reported : (answer : Result Fetched RingFault) (memory : Memory) (staged : List ℕ)
+      → Reported (slot_done s queue answer memory staged)
+  fetched_reported (Ok f) memory staged = fetched_frame f f.frame _
+  fetched_reported (Err fault) memory staged = record { none = λ e. cc; idle = λ e. cc }
 
-  told : Told (transmitted s queue)
-  told =
-      cond_both (nat_lt queue 128) (queue_sent s queue side) (gives NoQueue s) Told
-      (λ few. cond_both (is_silent s queue side) (gives Idle s) (slot_fetched s queue side) Told
+  reported : Reported (transmitted s queue)
+  reported =
+      cond_both (nat_lt queue 128) (queue_sent s queue side) (gives NoQueue s) Reported
+      (λ few. cond_both (is_silent s queue side) (gives Idle s) (slot_fetched s queue side) Reported
       (λ is. record {
         none = λ e. cc;
         idle = λ e. (ltb-true queue 128 few, silent_so (or_cases mute (is_empty side.ring) is));
       })
-      (λ loud. fetched_told _ _ _))
+      (λ loud. fetched_reported _ _ _))
       (λ past. record { none = λ e. ltb-false queue 128 past; idle = λ e. cc })
 
 pub silence_reasons : SilenceHasItsReasons
 unfolding step_of
 silence_reasons s queue = record {
-  none = ((told s queue).none, λ past. ap (λ (o : Outcome). o.reply) (past-comes s queue past));
-  idle = ((told s queue).idle, λ is. ap (λ (o : Outcome). o.reply) (silent-comes s queue is.0 is.1));
+  none = ((reported s queue).none, λ past. ap (λ (o : Outcome). o.reply) (past-comes s queue past));
+  idle = ((reported s queue).idle, λ is. ap (λ (o : Outcome). o.reply) (silent-comes s queue is.0 is.1));
   none_changes = past-comes s queue;
   idle_changes = silent-comes s queue;
 }

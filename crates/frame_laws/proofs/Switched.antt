@@ -20,7 +20,7 @@ use Rattle.frame_laws.specs.Bits.{bit}
 use Rattle.frame_laws.specs.Switching.{enable_word, IsToSwitch, LosesPart, FramesAfter}
 use Rattle.frame_laws.specs.Switching.{WordAfter, BecomesAsWanted, SwitchedSideIsAsWanted}
 use Rattle.frame_laws.proofs.Bits.{has-one, has-zero}
-use Rattle.frame_laws.proofs.Switching.{enable-is, done-comes, told}
+use Rattle.frame_laws.proofs.Switching.{enable-is, done-comes, reported}
 
 -- the enable word with another one in its place
 
@@ -169,6 +169,6 @@ module _ (s : State) (h : IsSound s) (dir : Dir) (queue : ℕ) (small : queue < 
 pub as_wanted : SwitchedSideIsAsWanted
 unfolding step_of
 as_wanted s h dir queue done =
-    let is = (told s dir queue).done done in
+    let is = (reported s dir queue).done done in
     subst (λ (o : Outcome). BecomesAsWanted s dir queue o.state) (sym (done-comes s dir queue is.0 is.1))
     (becomes s h dir queue is.0 is.1)

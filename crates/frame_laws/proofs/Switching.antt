@@ -90,16 +90,16 @@ module _ (s : State) (dir : Dir) (queue : ℕ) where
       ∙ cond-true rests (gives Idle s) (gives Done (side_switched s dir queue))
       (true_from_ne_false rests (λ e. still (to-switch e)))
 
-  pub record Told (o : Outcome) : Type 0 where
+  pub record Reported (o : Outcome) : Type 0 where
     pub none : o.reply ≡ NoQueue → 128 ≤ queue
     pub done : o.reply ≡ Done → (queue < 128) × IsToSwitch s dir queue
     pub idle : o.reply ≡ Idle → (queue < 128) × ¬ IsToSwitch s dir queue
 
-  pub told : Told (queue_switched s dir queue)
-  told =
-      cond_both (nat_lt queue 128) below (gives NoQueue s) Told
+  pub reported : Reported (queue_switched s dir queue)
+  reported =
+      cond_both (nat_lt queue 128) below (gives NoQueue s) Reported
       (λ few. let small = ltb-true queue 128 few in
-      cond_both rests (gives Idle s) (gives Done (side_switched s dir queue)) Told
+      cond_both rests (gives Idle s) (gives Done (side_switched s dir queue)) Reported
       (λ is. record {
         none = λ e. cc;
         done = λ e. cc;
@@ -111,9 +111,9 @@ module _ (s : State) (dir : Dir) (queue : ℕ) where
 pub switching_reasons : SwitchingHasItsReason
 unfolding step_of
 switching_reasons s dir queue = record {
-  none = ((told s dir queue).none, λ past. ap (λ (o : Outcome). o.reply) (past-comes s dir queue past));
-  done = ((told s dir queue).done, λ is. ap (λ (o : Outcome). o.reply) (done-comes s dir queue is.0 is.1));
-  idle = ((told s dir queue).idle, λ is. ap (λ (o : Outcome). o.reply) (idle-comes s dir queue is.0 is.1));
+  none = ((reported s dir queue).none, λ past. ap (λ (o : Outcome). o.reply) (past-comes s dir queue past));
+  done = ((reported s dir queue).done, λ is. ap (λ (o : Outcome). o.reply) (done-comes s dir queue is.0 is.1));
+  idle = ((reported s dir queue).idle, λ is. ap (λ (o : Outcome). o.reply) (idle-comes s dir queue is.0 is.1));
   none_changes = past-comes s dir queue;
   idle_changes = idle-comes s dir queue;
 }

@@ -167,7 +167,7 @@ module _ (s : State) (h : IsSound s) (queue : ℕ) where
         record {
           address = report_address r tx;
           bytes = report_length tx.writeback;
-          told = reported-at;
+          reported = reported-at;
           lent = elim (or_cases (not c.report)
               (is_lent s.memory (report_address r tx) (report_length tx.writeback)) can)
               as (λ _. (report_bit s queue ≡ 0)
@@ -184,7 +184,7 @@ module _ (s : State) (h : IsSound s) (queue : ℕ) where
         buffer = full;
         asked = bit-one 3 (slice_index d 11) c.report report-is (not-false c.report parts.0);
         bytes = report_length tx.writeback;
-        told = reported-at;
+        reported = reported-at;
         lacks = parts.1;
       }))
 
@@ -204,7 +204,7 @@ module _ (s : State) (h : IsSound s) (queue : ℕ) where
       (λ lacks. inr (inl (record {
         plain = plain;
         short = short;
-        told = buffer-is;
+        reported = buffer-is;
         lacks = ap (λ a. is_lent s.memory a (buffer_length s queue)) buffer-is ∙ lent-buffer (not-true _ lacks);
       })))
       (λ there.
@@ -239,7 +239,7 @@ module _ (s : State) (h : IsSound s) (queue : ℕ) where
   fault_so =
       cond_both (is_outside r) _ _ FaultSo outside-is (λ within.
       cond_both (not (is_lent s.memory (head_address r) 16)) _ _ FaultSo
-      (λ lacks. inl (record { inside = inside-is within; told = address-is; lacks = not-true _ lacks }))
+      (λ lacks. inl (record { inside = inside-is within; reported = address-is; lacks = not-true _ lacks }))
       (λ there.
       descriptor_so (record {
         inside = inside-is within;

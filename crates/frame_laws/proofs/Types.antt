@@ -198,8 +198,8 @@ module _ (mrqc : ℕ) (frame : List ℕ) where
 
 record HasType (r : Registers) (frame : List ℕ) (t : Target) : Type 0 where
   pub type : t.rss ≡ type_of (word_of r Mrqc 0) frame
-  pub told : bit 13 (word_of r Rxcsum 0) ≡ 1 → t.hash ≡ hash_of r frame
-  pub untold : bit 13 (word_of r Rxcsum 0) ≡ 0 → t.hash ≡ 0
+  pub reported : bit 13 (word_of r Rxcsum 0) ≡ 1 → t.hash ≡ hash_of r frame
+  pub unreported : bit 13 (word_of r Rxcsum 0) ≡ 0 → t.hash ≡ 0
 
 target-has : (r : Registers) (frame : List ℕ) (pool : ℕ) → HasType r frame (target_of r frame pool)
 unfolding target_of
@@ -208,9 +208,9 @@ target-has r frame pool =
     let key = bytes_of_registers (row_words r.words Rssrk) in
     record {
       type = type-is (word_of r Mrqc 0) frame;
-      told = λ on. cond-true tells (rss_hash r frame) 0 (has-one 13 (word_of r Rxcsum 0) on)
+      reported = λ on. cond-true tells (rss_hash r frame) 0 (has-one 13 (word_of r Rxcsum 0) on)
           ∙ ap (toeplitz_hash key) (hashed-is (word_of r Mrqc 0) frame);
-      untold = λ off. cond-false tells (rss_hash r frame) 0 (has-zero 13 (word_of r Rxcsum 0) off);
+      unreported = λ off. cond-false tells (rss_hash r frame) 0 (has-zero 13 (word_of r Rxcsum 0) off);
     }
 
 pool-has : (r : Registers) (frame : List ℕ) (t : Target) (c : Result ℕ Unwanted) → pool_target r frame c ≡ Ok t
@@ -242,7 +242,7 @@ have_types s frame = arrived_cases (Joins s frame) s frame (record {
         last = let_in frame t;
         waiting = refl;
         type = has_type.type;
-        told = has_type.told;
-        untold = has_type.untold;
+        reported = has_type.reported;
+        unreported = has_type.unreported;
       };
 })

@@ -6,10 +6,10 @@ use Rattle.std.proofs.lemmas.List.{get_or_past}
 use Rattle.nic_device.specs.DmaArena.Memory.{Memory, is_lent, read_at, write_at}
 use Rattle.nic_device.proofs.DmaArena.Bus.{is_lent-same, SameLent-write_at, IsWhole-write_at, read_at-write_at_same}
 use Rattle.nic_device.specs.DmaRing.Descriptor.{first_half, of_halves}
-use Rattle.nic_device.specs.DmaRing.Receive.{told_of, written_back, buffer_of}
+use Rattle.nic_device.specs.DmaRing.Receive.{reported_of, written_back, buffer_of}
 use Rattle.nic_device.specs.DmaRing.declared.dir.Dir.TheVariants.{Rx}
 use Rattle.nic_device.specs.DmaRing.declared.receive.Packet.{Packet}
-use Rattle.nic_device.proofs.DmaRing.Fields.{halves_come_back, packet_is_told}
+use Rattle.nic_device.proofs.DmaRing.Fields.{halves_come_back, packet_is_reported}
 use Rattle.nic_device.specs.DmaArena.Block.{Block}
 use Rattle.nic_device.specs.RssHash.Choice.{code_of}
 use Rattle.nic_device.specs.RssHash.declared.choice.RssType.{RssType}
@@ -42,21 +42,21 @@ one-times false n = omega arith
 
 -- the first half
 
-abbrev told_number : (rss a b c d hash : ℕ) → ℕ
-told_number rss a b c d hash = rss + 16 * a + 64 * b + 256 * c + 512 * d + 2 ^ 32 * hash
+abbrev reported_number : (rss a b c d hash : ℕ) → ℕ
+reported_number rss a b c d hash = rss + 16 * a + 64 * b + 256 * c + 512 * d + 2 ^ 32 * hash
 
-told-is : (packet : Packet) → told_of packet
-    ≡ told_number packet.rss (one_if packet.ipv4) (one_if packet.ipv6) (one_if packet.tcp) (one_if packet.udp)
+reported-is : (packet : Packet) → reported_of packet
+    ≡ reported_number packet.rss (one_if packet.ipv4) (one_if packet.ipv6) (one_if packet.tcp) (one_if packet.udp)
     packet.hash
-told-is packet =
+reported-is packet =
     λ k. packet.rss + one-times packet.ipv4 16 k + one-times packet.ipv6 64 k + one-times packet.tcp 256 k
     + one-times packet.udp 512 k + 2 ^ 32 * packet.hash
 
 first-bytes : (rss a b c d hash : ℕ) → rss < 16 → a < 2 → b < 2 → c < 2 → d < 2 → hash < 2 ^ 32
-    → to_le_bytes w64 (told_number rss a b c d hash)
+    → to_le_bytes w64 (reported_number rss a b c d hash)
     ≡ (rss + 16 * a + 64 * b) ∷ (c + 2 * d) ∷ 0 ∷ 0 ∷ byte 0 hash ∷ byte 1 hash ∷ byte 2 hash ∷ byte 3 hash ∷ []
 first-bytes rss a b c d hash type four six tcp udp word =
-    let n = told_number rss a b c d hash in
+    let n = reported_number rss a b c d hash in
     let e0 : n % 256 ≡ rss + 16 * a + 64 * b = omega arith in
     let e1 : n / 2 ^ 8 % 256 ≡ c + 2 * d = omega arith in
     let e2 : n / 2 ^ 16 % 256 ≡ 0 = omega arith in
@@ -67,13 +67,13 @@ first-bytes rss a b c d hash type four six tcp udp word =
     let e7 : n / 2 ^ 56 % 256 ≡ byte 3 hash = omega arith in
     λ k. e0 k ∷ e1 k ∷ e2 k ∷ e3 k ∷ e4 k ∷ e5 k ∷ e6 k ∷ e7 k ∷ []
 
-packet-is : (w : Waiting) → told_of (packet_of w)
-    ≡ told_number w.rss (one_if (is_ipv4 w.frame)) (one_if (is_ipv6 w.frame)) (one_if (is_tcp w.frame))
+packet-is : (w : Waiting) → reported_of (packet_of w)
+    ≡ reported_number w.rss (one_if (is_ipv4 w.frame)) (one_if (is_ipv6 w.frame)) (one_if (is_tcp w.frame))
     (one_if (is_udp w.frame)) w.hash
 packet-is w =
     let reads = flow-reads w.frame in
-    told-is (packet_of w)
-    ∙ (λ k. told_number w.rss (one_if (reads.four k)) (one_if (reads.six k)) (one_if (reads.tcp k))
+    reported-is (packet_of w)
+    ∙ (λ k. reported_number w.rss (one_if (reads.four k)) (one_if (reads.six k)) (one_if (reads.tcp k))
     (one_if (reads.udp k)) w.hash)
 
 -- the second half
@@ -99,7 +99,7 @@ second-bytes len end short =
     rw (piece-is len end) (λ k. e0 k ∷ e1 k ∷ e2 k ∷ e3 k ∷ e4 k ∷ e5 k ∷ e6 k ∷ e7 k ∷ [])
 
 halves-are : (w : Waiting) (end : Bool) (len : ℕ) → w.rss < 16 → w.hash < 2 ^ 32 → len < 2 ^ 16
-    → of_halves (told_of (packet_of w)) (written_back len end) ≡ written_bytes w end len
+    → of_halves (reported_of (packet_of w)) (written_back len end) ≡ written_bytes w end len
 unfolding of_halves
 halves-are w end len type word short =
     let first = ap (to_le_bytes w64) (packet-is w) ∙ first-bytes w.rss _ _ _ _ w.hash type (one-small (is_ipv4 w.frame))
@@ -156,8 +156,8 @@ module _ (s : State) (h : IsSound s) (w : Waiting) (others : List Waiting) (e : 
   read-back =
       let taken = takes_piece _ _ _ _ f is in
       let short : f.len < 2 ^ 16 = omega (arith, taken.len) in
-      let bytes = of_halves (told_of (packet_of w)) (written_back f.len f.end) in
-      let size = (halves_come_back (told_of (packet_of w)) (written_back f.len f.end)).size in
+      let bytes = of_halves (reported_of (packet_of w)) (written_back f.len f.end) in
+      let size = (halves_come_back (reported_of (packet_of w)) (written_back f.len f.end)).size in
       ap (λ m. read_at m f.desc 16) taken.memory
       ∙ rw size at
       (read_at-write_at_same between f.desc bytes (IsWhole-write_at s.memory f.at _ h.blocks.whole) (rw size lent))
@@ -167,7 +167,7 @@ module _ (s : State) (h : IsSound s) (w : Waiting) (others : List Waiting) (e : 
   unfolding step_of
   piece-shown =
       let taken = takes_piece _ _ _ _ f is in
-      let told = packet_is_told (packet_of w) type waits.hash in
+      let reported = packet_is_reported (packet_of w) type waits.hash in
       let still : is_lent left.memory f.desc 16 ≡ true =
       is_lent-same left.memory s.memory (fill_keeps_blocks _ _ _ _).0 f.desc 16 ∙ taken.descriptor_lent in
       record {
@@ -180,7 +180,7 @@ module _ (s : State) (h : IsSound s) (w : Waiting) (others : List Waiting) (e : 
         buffer =
             taken.at ∙ ap (λ a. buffer_of (first_half (read_at s.memory a 16))) (sym taken.desc)
             ∙ ap buffer_of (first-is (read_at s.memory f.desc 16) (λ k. byte-small s h f.desc k));
-        bytes = (driver_reads _ _ _ (rest_of w) f h.blocks.whole told.fits is).bytes;
+        bytes = (driver_reads _ _ _ (rest_of w) f h.blocks.whole reported.fits is).bytes;
       }
 
 abbrev Written : State → Outcome → Type 0
@@ -188,11 +188,11 @@ Written s o =
     (w : Waiting) (others : List Waiting) → s.waiting ≡ w ∷ others → (queue slot : ℕ) (end : Bool) (desc at len : ℕ)
     → o.reply ≡ Wrote queue slot end desc at len → ShowsPiece s w end desc at len o.state
 
-told-as : (s : State) (own : Waiting) (f : Filled) (new : State) → ShowsPiece s own f.end f.desc f.at f.len new
+reported-as : (s : State) (own : Waiting) (f : Filled) (new : State) → ShowsPiece s own f.end f.desc f.at f.len new
     → (w : Waiting) → own ≡ w → (queue slot : ℕ) (end : Bool) (desc at len : ℕ)
     → ◌≡◌ {A = Reply Block} (Wrote own.queue f.slot f.end f.desc f.at f.len) (Wrote queue slot end desc at len)
     → ShowsPiece s w end desc at len new
-told-as s own f new shown w same queue slot end desc at len e =
+reported-as s own f new shown w same queue slot end desc at len e =
     let b : f.end ≡ end = cc in
     let c : f.desc ≡ desc = cc in
     let d : f.at ≡ at = cc in
@@ -208,5 +208,5 @@ written_back_so s h = received_cases (Written s) s (record {
   fault = λ own rest waits fault w others first queue slot end desc at len e. cc;
   filled = λ own rest waits f is w others first queue slot end desc at len e.
       let same : own ≡ w = cc in
-      told-as s own f _ (piece-shown s h own rest waits f is) w same queue slot end desc at len e;
+      reported-as s own f _ (piece-shown s h own rest waits f is) w same queue slot end desc at len e;
 })

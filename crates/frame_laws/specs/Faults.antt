@@ -48,12 +48,12 @@ piece_length s w = min (buffer_size s.registers w.queue) (length w.frame - w.off
 
 -- the descriptor isn't lent, at the reported address; or it is, and the bytes of the buffer aren't
 pub record LacksDescriptor (s : State) (queue address : ℕ) : Type 0 where
-  pub told : address ≡ descriptor_address s.registers queue
+  pub reported : address ≡ descriptor_address s.registers queue
   pub lacks : IsFalse (is_lent s.memory (descriptor_address s.registers queue) 16)
 
 pub record LacksBuffer (s : State) (w : Waiting) (address : ℕ) : Type 0 where
   pub descriptor : IsTrue (is_lent s.memory (descriptor_address s.registers w.queue) 16)
-  pub told : address ≡ buffer_address s w.queue
+  pub reported : address ≡ buffer_address s w.queue
   pub lacks : IsFalse (is_lent s.memory (buffer_address s w.queue) (piece_length s w))
 
 -- each fault for the first frame, with none before it

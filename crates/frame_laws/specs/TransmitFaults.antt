@@ -103,20 +103,20 @@ IsReportedAt r queue address bytes =
 -- what is not lent: the descriptor, the buffer, or where it is to be reported, which is asked with RS 1 alone
 pub record LacksDescriptor (s : State) (queue address : ℕ) : Type 0 where
   pub inside : IsInside s.registers queue
-  pub told : address ≡ descriptor_address s.registers queue
+  pub reported : address ≡ descriptor_address s.registers queue
   pub lacks : IsFalse (is_lent s.memory address 16)
 
 pub record LacksBuffer (s : State) (queue address : ℕ) : Type 0 where
   pub plain : IsPlain s queue
   pub short : IsShort s queue
-  pub told : address ≡ buffer_address s queue
+  pub reported : address ≡ buffer_address s queue
   pub lacks : IsFalse (is_lent s.memory address (buffer_length s queue))
 
 pub record LacksReport (s : State) (queue address : ℕ) : Type 0 where
   pub buffer : HasBuffer s queue
   pub asked : report_bit s queue ≡ 1
   pub bytes : ℕ
-  pub told : IsReportedAt s.registers queue address bytes
+  pub reported : IsReportedAt s.registers queue address bytes
   pub lacks : IsFalse (is_lent s.memory address bytes)
 
 -- each fault, with none before it
@@ -135,7 +135,7 @@ HasFault s queue other = ⊥
 pub record CanReport (s : State) (queue : ℕ) : Type 0 where
   pub address : ℕ
   pub bytes : ℕ
-  pub told : IsReportedAt s.registers queue address bytes
+  pub reported : IsReportedAt s.registers queue address bytes
   pub lent : (report_bit s queue ≡ 0) ⊎ IsTrue (is_lent s.memory address bytes)
 
 -- a data descriptor can be done: its bytes are lent, and it can be reported; it has this EOP

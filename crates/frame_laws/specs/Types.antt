@@ -52,8 +52,8 @@ pub record JoinsTyped (s : State) (frame : List ℕ) (new : State) : Type 0 wher
   pub last : Waiting
   pub waiting : new.waiting ≡ s.waiting ++ last ∷ []
   pub type : last.rss ≡ type_of (word_of s.registers Mrqc 0) frame
-  pub told : bit 13 (word_of s.registers Rxcsum 0) ≡ 1 → last.hash ≡ hash_of s.registers frame
-  pub untold : bit 13 (word_of s.registers Rxcsum 0) ≡ 0 → last.hash ≡ 0
+  pub reported : bit 13 (word_of s.registers Rxcsum 0) ≡ 1 → last.hash ≡ hash_of s.registers frame
+  pub unreported : bit 13 (word_of s.registers Rxcsum 0) ≡ 0 → last.hash ≡ 0
 
 abbrev pub FramesHaveTypes : Type 0
 FramesHaveTypes =

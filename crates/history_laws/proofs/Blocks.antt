@@ -18,13 +18,13 @@ use Rattle.std.specs.FinMap as map
 
 -- What a step of transmitting reports lies in the block where it begins, since rings are aligned.
 
--- what is told is where the queue reports
+-- what is reported is where the queue reports
 pub reported : (own : ℕ) (r : Reply Block) (s t : State) → sent_tells own r s t → (back : ℕ)
     → reported_address r ≡ Some back → back ≡ report_of s.registers own
 reported own r s t tells back is = grind arith
 
 pub reports_lie : ReportsLieInBlocks
-reports_lie s sound queue back told =
+reports_lie s sound queue back reported =
     let tells = transmitting_tells s sound queue in
     let aligned = rings_aligned s.registers sound.registers Tx queue in
     grind (arith, reported)
@@ -73,7 +73,7 @@ pub reported_elsewhere : (s : State) → IsSound s → (on b : ℕ)
     → ((back : ℕ) → reported_address (reply_to s (event.TxStep on)) ≡ Some back → b ≢ back / 2048)
     → LeavesBlock b s (after s (event.TxStep on))
 reported_elsewhere s sound on b apart =
-    transmitting_blocks s on b (λ back told. search (inside_avoids, reports_lie s sound on back))
+    transmitting_blocks s on b (λ back reported. search (inside_avoids, reports_lie s sound on back))
 
 module _ (queue : ℕ) (mine : Blocks) (s : State) (sound : IsSound s) (b : ℕ) (is : IsTrue (mine b)) where
   poked : (a : ℕ) (bytes : List ℕ) → length bytes ≡ 16 → IsFalse (mine (a / 2048))
@@ -88,6 +88,6 @@ module _ (queue : ℕ) (mine : Blocks) (s : State) (sound : IsSound s) (b : ℕ)
   left-block (event.TxStep on) made left outside none quiet = elim (cases_eq on queue) [
     | inl own ↦ grind (arith, common_steps)
     | inr ne ↦
-        reported_elsewhere s sound on b (λ back told e. grind (arith, common_steps, transmitting_tells s sound on))
+        reported_elsewhere s sound on b (λ back reported e. grind (arith, common_steps, transmitting_tells s sound on))
   ]
   left-block e made left outside none quiet = (stays_within s e).blocks b (grind (arith, common_steps))

@@ -46,7 +46,7 @@ module _ (queue : ℕ) (s : State) (sound : IsSound s) where
       → step_of s event.RxStep ≡ receive.slot_done s w others answer (fill_on s w.queue (rest_of w)).memory
       → Deed Rx w.queue s event.RxStep
   worked w others e tried answer was is =
-      let told = subst (λ (x : Outcome). received_tells x.reply s x.state) is (receiving_tells s sound) in
+      let reported = subst (λ (x : Outcome). received_tells x.reply s x.state) is (receiving_tells s sound) in
       grind (arith, eq-eqb)
 
   pub receiving_did : Deed Rx queue s event.RxStep
@@ -78,7 +78,8 @@ module _ (queue : ℕ) (s : State) (sound : IsSound s) (small : queue < 128) whe
       → Deed Tx queue s (event.TxStep queue)
   sent loud answer was is =
       let tried : IsTried (side_of Tx queue s) = grind (arith, or_parts) in
-      let told = subst (λ (x : Outcome). sent_tells queue x.reply s x.state) is (transmitting_tells s sound queue) in
+      let reported = subst (λ (x : Outcome). sent_tells queue x.reply s x.state) is (transmitting_tells s sound queue)
+      in
       grind (arith, eq-eqb, added-none)
 
   stepped : (dir : Dir) → Deed dir queue s (step_event dir queue)

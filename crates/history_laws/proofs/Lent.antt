@@ -42,7 +42,7 @@ unfolding step_of
 only_lent_stays = record {
   others = λ own known s e none only n is has. grind (arith, keeps_blocks s e, get-insert_other, get-remove_other);
   lend = λ own known s block only n is has. grind (arith, get-insert_other);
-  take = λ own known s number block only told n is has. grind (arith, get-remove_same, get-remove_other);
+  take = λ own known s number block only reported n is has. grind (arith, get-remove_same, get-remove_other);
   anew = λ own known s block only. grind arith;
 }
 

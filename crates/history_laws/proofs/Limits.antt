@@ -2,9 +2,9 @@
 -- long frames may be. Then histories in two parts: soundness along them, what a pass lends and begins in each, and how
 -- they leave a queue alone.
 use Rattle.device_laws.proofs.Settings.{IsSetting, setting_stands}
-use Rattle.device_lock.specs.{Alone.LeavesAlone, Alone.is_setting, Told.limit_of, declared.told.Settings.Settings}
-use Rattle.device_lock.specs.{Alone.mode_written, Told.frames_written, Told.settings_after, Told.settings_through}
-use Rattle.device_lock.{proofs.Histories.events_before, proofs.Histories.leads-append, specs.Told.first_settings}
+use Rattle.device_lock.specs.{Alone.LeavesAlone, Alone.is_setting, Reported.limit_of, declared.reported.Settings.Settings}
+use Rattle.device_lock.specs.{Alone.mode_written, Reported.frames_written, Reported.settings_after, Reported.settings_through}
+use Rattle.device_lock.{proofs.Histories.events_before, proofs.Histories.leads-append, specs.Reported.first_settings}
 use Rattle.history_laws.proofs.Written.{IsReal, ShowsLow, low_shown, merged_high, real}
 use Rattle.history_laws.proofs.{Lent.not_so, Written.AreReal, Written.place_in, Written.place_named}
 use Rattle.history_laws.specs.Prelude.{AreEvents, EntryLeavesAlone, Port, RowId, after, has_begun, has_bit, place}
@@ -13,7 +13,7 @@ use Rattle.history_laws.specs.Prelude.{Blocks, Event, Mode, Named, Register, Wat
 use Rattle.history_laws.specs.Prelude.{GcrExt, Maxfrs, mode_through, named_written, new_state, step_of}
 use Rattle.history_laws.specs.{Alone.AllAlone, Laws.BeginningIsAlone, Laws.HistoriesKeepSound, Laws.NewIsPlain}
 use Rattle.history_laws.specs.{Alone.LeavesAloneFrom, Laws.AloneByEntries, Laws.PlainIsLeftAlone, Laws.RestIsAlone}
-use Rattle.history_laws.specs.{Laws.ModeIsTold, Laws.SettingsAreTold, Prelude.asks_reset, Prelude.leads_to}
+use Rattle.history_laws.specs.{Laws.ModeIsReported, Laws.SettingsAreReported, Prelude.asks_reset, Prelude.leads_to}
 use Rattle.device_lock.proofs.NicDevice.{EepromImage.Blank.triples_of-blank, RegisterLaws.Owners.is_place-other, Steps.keeps_sound}
 use Rattle.device_lock.proofs.NicDevice.{RegisterFile.ResetWords.word_at-reset, RegisterLaws.Accessed.none_written_by}
 use Rattle.device_lock.proofs.NicDevice.{RegisterLaws.Covers.lacks-renewed, RegisterLaws.Footprints.word_stands, Steps.step_leads}
@@ -28,8 +28,8 @@ use Rattle.std.specs.Prelude.{IsFalse, IsTrue, bit_and, ◌||◌}
 use Rattle.device_lock.specs.NicDevice.declared.event.Event.TheVariants as event
 
 -- no step of the device changes GCR_EXT, HLREG0 or MAXFRS
-told_setting : (row : RowId) → is_setting row ≡ true → row ≢ Ctrl → IsSetting row
-told_setting row own other = grind arith
+reported_setting : (row : RowId) → is_setting row ≡ true → row ≢ Ctrl → IsSetting row
+reported_setting row own other = grind arith
 
 -- the settings, by the words of these registers
 
@@ -53,8 +53,8 @@ module _ (s : State) (port : Port) (n word : ℕ) where
   abbrev t : State
   t = after s (event.Write port n word)
 
-  abbrev told : Option Place → Settings
-  told o = record {
+  abbrev reported : Option Place → Settings
+  reported o = record {
     mode = mode_written (mode_in s.registers) o word;
     frames = frames_written (settings_in s).frames o word;
   }
@@ -69,7 +69,15 @@ module _ (s : State) (port : Port) (n word : ℕ) where
         → asks_reset (row_of p.row).kind word ≡ false → word_of t.registers row 0 ≡ word_of s.registers row 0
     stays row own other ne none =
         word_stands (step_leads s (event.Write port n word)).stays.registers (place row 0)
-        (λ bit. grind (arith, common_steps, none_written_by, is_place-other, lacks-renewed, told_setting row own other))
+        (λ bit. grind (
+          arith,
+          common_steps,
+          none_written_by,
+          is_place-other,
+          lacks-renewed,
+          reported_setting row own
+              other,
+        ))
 
     module _ (sound : IsSound s) (image : s.image ≡ blank) (real : IsReal p view) where
       -- a reset of the device ends them
@@ -90,43 +98,43 @@ module _ (s : State) (port : Port) (n word : ℕ) where
             put_stands s.registers p (word_after s.registers p view word),
           )
 
-      written : told (Some p) ≡ settings_in t
+      written : reported (Some p) ≡ settings_in t
       written =
           let low = low_bits view (word_of s.registers p.row 0) word real.shown in
           grind (arith, put_there, stays GcrExt refl, stays Hlreg0 refl, stays Maxfrs refl, reset_reported, merged_high)
 
-  named_told : IsSound s → s.image ≡ blank → (m : Named) → named s port n ≡ m → AreReal m
-      → told (place_in m) ≡ settings_in t
-  named_told sound image (Nothing seen) found real = sym (ap settings_in (left_by (Nothing seen) found))
-  named_told sound image (Register p view) found real = written p view found sound image real
+  named_reported : IsSound s → s.image ≡ blank → (m : Named) → named s port n ≡ m → AreReal m
+      → reported (place_in m) ≡ settings_in t
+  named_reported sound image (Nothing seen) found real = sym (ap settings_in (left_by (Nothing seen) found))
+  named_reported sound image (Register p view) found real = written p view found sound image real
 
 -- and over every event and along a history
 
-event_told : (s : State) → IsSound s → s.image ≡ blank → (e : Event Block)
+event_reported : (s : State) → IsSound s → s.image ≡ blank → (e : Event Block)
     → settings_after s.vfs (settings_in s) e ≡ settings_in (after s e)
-event_told s sound image (event.Write port n word) =
-    ap (told s port n word) (place_named s port n)
-    ∙ named_told s port n word sound image (named s port n) refl (real s port n)
-event_told s sound image e =
-    grind (arith, setting_stands GcrExt, setting_stands Hlreg0, setting_stands Maxfrs, told_setting)
+event_reported s sound image (event.Write port n word) =
+    ap (reported s port n word) (place_named s port n)
+    ∙ named_reported s port n word sound image (named s port n) refl (real s port n)
+event_reported s sound image e =
+    grind (arith, setting_stands GcrExt, setting_stands Hlreg0, setting_stands Maxfrs, reported_setting)
 
-told_from : (s : State) (h : List Entry) → IsSound s → s.image ≡ blank → AreEvents h
+reported_from : (s : State) (h : List Entry) → IsSound s → s.image ≡ blank → AreEvents h
     → (settings_through s.vfs (settings_in s) h ≡ settings_in (leads_to s h))
     × (mode_through s.vfs (mode_in s.registers) h ≡ mode_in (leads_to s h).registers)
-told_from s [] sound image events = (refl, refl)
-told_from s (e ∷ es) sound image events =
+reported_from s [] sound image events = (refl, refl)
+reported_from s (e ∷ es) sound image events =
     let stays = (step_leads s e.event).stays in
-    grind (arith, common_steps, event_told s sound image e.event, keeps_sound, told_from (after s e.event) es)
+    grind (arith, common_steps, event_reported s sound image e.event, keeps_sound, reported_from (after s e.event) es)
 
-pub settings_told : SettingsAreTold
-settings_told vfs fifo h new events =
-    let told = rw (new_settings vfs fifo) at (told_from (new_state vfs fifo) h new refl events).0 in
-    (ap (λ (m : Settings). m.mode) told, ap (λ (m : Settings). limit_of m.frames) told)
+pub settings_reported : SettingsAreReported
+settings_reported vfs fifo h new events =
+    let reported = rw (new_settings vfs fifo) at (reported_from (new_state vfs fifo) h new refl events).0 in
+    (ap (λ (m : Settings). m.mode) reported, ap (λ (m : Settings). limit_of m.frames) reported)
 
-pub mode_told : ModeIsTold
-mode_told vfs fifo h new events =
+pub mode_reported : ModeIsReported
+mode_reported vfs fifo h new events =
     ap (λ (m : Settings). mode_through vfs m.mode h) (sym (new_settings vfs fifo))
-    ∙ (told_from (new_state vfs fifo) h new refl events).1
+    ∙ (reported_from (new_state vfs fifo) h new refl events).1
 
 pub histories_sound : HistoriesKeepSound
 histories_sound s [] sound events = sound
@@ -189,7 +197,7 @@ alone_by_entries w s before rest leaves begun =
 -- where the entries tell the mode by themselves
 pub plain_is_left_alone : PlainIsLeftAlone
 plain_is_left_alone w s h sound plain events leaves before e after split begun =
-    let told = λ (made : AreEvents before). (told_from s before sound plain.image made).1 in
+    let reported = λ (made : AreEvents before). (reported_from s before sound plain.image made).1 in
     grind (arith, common_steps, events_before)
 
 pub new_is_plain : NewIsPlain

@@ -118,13 +118,14 @@ module _ (queue : ℕ) (s : State) (sound : IsSound s) (small : queue < 128) (po
       let rest = write_rest s port n word (place (enable_row side) queue) 0xFFFFFFFF names in
       grind (arith, asked)
 
-module _ (queue : ℕ) (s : State) (port : Port) (n word : ℕ) (told : reply_to s (event.Read port n) ≡ Word word) where
-  -- bit 25 is whether the side is on
-  pub told_on : (dir : Dir) → NamesEnable dir queue s port n → has_bit 25 word ≡ (side_of dir queue s).on
-  unfolding step_of
-  told_on dir names = grind (arith, common_steps)
+module _ (queue : ℕ) (s : State) (port : Port) (n word : ℕ) (reported : reply_to s (event.Read port n) ≡ Word word)
+  where
+    -- bit 25 is whether the side is on
+    pub reported_on : (dir : Dir) → NamesEnable dir queue s port n → has_bit 25 word ≡ (side_of dir queue s).on
+    unfolding step_of
+    reported_on dir names = grind (arith, common_steps)
 
-  -- so a side that isn't wanted on is off where it is 0
-  pub seen_off : (dir : Dir) → NamesEnable dir queue s port n → IsFalse (has_bit 25 word)
-      → IsUnwanted (side_of dir queue s) → IsOff (side_of dir queue (after s (event.Read port n)))
-  seen_off dir names zero none = grind (arith, common_steps, queues_left, read_rest, told_on)
+    -- so a side that isn't wanted on is off where it is 0
+    pub seen_off : (dir : Dir) → NamesEnable dir queue s port n → IsFalse (has_bit 25 word)
+        → IsUnwanted (side_of dir queue s) → IsOff (side_of dir queue (after s (event.Read port n)))
+    seen_off dir names zero none = grind (arith, common_steps, queues_left, read_rest, reported_on)

@@ -2,22 +2,22 @@
 use Rattle.std.specs.Prelude.{◌++◌, ◌≡◌, IsTrue, List, ℕ}
 use Rattle.history_laws.specs.Prelude.{AreEvents, Entry, IsSound, Off, State, Watched, frame_limit, has_begun, leads_to}
 use Rattle.history_laws.specs.Prelude.{lent_by, mode_in, mode_through, new_state}
-use Rattle.device_lock.specs.{Alone.LeavesAlone, Told.first_settings, Told.limit_of, Told.settings_through}
+use Rattle.device_lock.specs.{Alone.LeavesAlone, Reported.first_settings, Reported.limit_of, Reported.settings_through}
 use Rattle.history_laws.specs.Alone.{AllAlone, IsPlain, LeavesAloneFrom}
 
 -- the mode computed from the entries is the device's, from a new device on
-abbrev pub ModeIsTold : Type 0
-ModeIsTold =
+abbrev pub ModeIsReported : Type 0
+ModeIsReported =
     (vfs fifo : ℕ) (h : List Entry) → IsSound (new_state vfs fifo) → AreEvents h →
     mode_through vfs Off h ≡ mode_in (leads_to (new_state vfs fifo) h).registers
 
 -- and so are that mode and the frame limit together
-abbrev pub SettingsAreTold : Type 0
-SettingsAreTold =
+abbrev pub SettingsAreReported : Type 0
+SettingsAreReported =
     (vfs fifo : ℕ) (h : List Entry) → IsSound (new_state vfs fifo) → AreEvents h →
-    let told = settings_through vfs first_settings h in
+    let reported = settings_through vfs first_settings h in
     let s = leads_to (new_state vfs fifo) h in
-    (told.mode ≡ mode_in s.registers) × (limit_of told.frames ≡ frame_limit s.registers)
+    (reported.mode ≡ mode_in s.registers) × (limit_of reported.frames ≡ frame_limit s.registers)
 
 -- so where the mode follows from the entries alone, a history that leaves a queue alone by that mode leaves it alone
 -- from that device on

@@ -60,7 +60,7 @@ pub record WritesPiece (queue : ℕ) (s : State) (e : Event Block) : Type 0 wher
   pub filled : Filled
   pub answer : (fill_on s queue (rest_of frame)).answer ≡ Ok filled
   pub memory : (after s e).memory ≡ (fill_on s queue (rest_of frame)).memory
-  pub told : reply_to s e ≡ Wrote queue filled.slot filled.end filled.desc filled.at filled.len
+  pub reported : reply_to s e ≡ Wrote queue filled.slot filled.end filled.desc filled.at filled.len
   pub piece : pieces queue s e ≡ piece_in (rest_of frame) filled ∷ []
 
 -- a step of transmitting fetched the slot

@@ -2,7 +2,7 @@
 use Rattle.std.specs.Prelude.{[], if◌then◌else◌, ◌==◌, ◌∷◌, Bool, List, drop, false, length, map, take, ℕ}
 use Rattle.history_laws.specs.Prelude.{Block, Event, Filled, Reply, Rest, State, Waiting, Wrote, after, piece_of}
 use Rattle.history_laws.specs.Prelude.{reply_to}
-use Rattle.device_lock.specs.NicDevice.{DmaRing.Receive.told_of, Receive.packet_of}
+use Rattle.device_lock.specs.NicDevice.{DmaRing.Receive.reported_of, Receive.packet_of}
 use Rattle.device_lock.specs.NicDevice.declared.event.Event.TheVariants as event
 
 -- what one step writes on a queue: the bytes, the first half of the descriptor, and whether the frame ends there
@@ -21,7 +21,7 @@ piece_in rest f = record { bytes = take f.len rest.bytes; first = rest.first; en
 -- the first half that is written back with a piece of the first frame
 abbrev pub first_of : List Waiting → ℕ
 first_of [] = 0
-first_of (w ∷ others) = told_of (packet_of w)
+first_of (w ∷ others) = reported_of (packet_of w)
 
 -- the piece that a reply says was written on a queue, of the first of the frames that waited
 abbrev pub reported_pieces : ℕ → List Waiting → Reply Block → List Piece

@@ -5,15 +5,15 @@
 #![tactic(auto)]
 
 ghost use Rattle.history_laws.specs.Lent.{OnlyLentStays, AnewIsDone};
-ghost use Rattle.history_laws.specs.Laws.{ModeIsTold, SettingsAreTold, NewIsPlain, PlainIsLeftAlone, AloneByEntries, BeginningIsAlone, RestIsAlone, HistoriesKeepSound};
+ghost use Rattle.history_laws.specs.Laws.{ModeIsReported, SettingsAreReported, NewIsPlain, PlainIsLeftAlone, AloneByEntries, BeginningIsAlone, RestIsAlone, HistoriesKeepSound};
 ghost use Rattle.history_laws.specs.Reports.{ReportsLieInBlocks};
 ghost use Rattle.history_laws.specs.Left.{LeftDid, SidesDo};
 
 /// The mode by which the queues are separated into pools, computed from the entries of a history, is the device's own:
 /// what its register GCR_EXT says. So is the frame limit, which HLREG0 and MAXFRS set.
-pub fn settings_are_told()
-    ensures mode { ModeIsTold }
-    ensures settings { SettingsAreTold }
+pub fn settings_are_reported()
+    ensures mode { ModeIsReported }
+    ensures settings { SettingsAreReported }
 {}
 
 /// A history that leaves a queue alone, from any state of the device on, does so entry by entry, from any place after

@@ -45,7 +45,7 @@ own_written g word view bit b =
 
 -- registers that take such interrupts of a group
 module _ (s t : State) (g : Group) (left : Interrupts) (bits : Bits) (h : IsSound s) (there : IsGroup g)
-    (own : left.group ≡ g) (settled : IsSettled left) (told : left.told < 2 ^ 32)
+    (own : left.group ≡ g) (settled : IsSettled left) (reported : left.reported < 2 ^ 32)
     (x : Leaves (interrupts_of s.registers g) left bits) (is : t.registers ≡ with_interrupts s.registers left) where
   abbrev before : Interrupts
   before = interrupts_of s.registers g
@@ -58,7 +58,7 @@ module _ (s t : State) (g : Group) (left : Interrupts) (bits : Bits) (h : IsSoun
       }) own
       (interrupts_of-with_interrupts s.registers h.registers.shape left
       (subst (λ g'. index_of g' < 64) (sym own) (index_small g there)) settled.consistent settled.causes
-      settled.enabled told)
+      settled.enabled reported)
       ∙ (λ k. record left { auto_clear = sym x.auto_clear k; auto_mask = sym x.auto_mask k })
 
   -- a bit of the group shows so

@@ -15,7 +15,7 @@ use Rattle.nic_device.proofs.RegTable.FirstAddresses.{first_address}
 use Rattle.nic_device.specs.RegisterFile.Access.{read_word, stored, calculated}
 use Rattle.nic_device.specs.RegisterFile.Bits.{has_bit, merged}
 use Rattle.nic_device.specs.RegisterFile.Columns.{place}
-use Rattle.nic_device.specs.RegisterFile.Mailbox.{done_reported, mail_of, reset_reported, resets_told}
+use Rattle.nic_device.specs.RegisterFile.Mailbox.{done_reported, mail_of, reset_reported, resets_reported}
 use Rattle.nic_device.specs.RegisterFile.Registers.{Registers, word_of}
 use Rattle.nic_device.specs.RegisterFile.Words.{word_at}
 use Rattle.nic_device.specs.RegisterFile.declared.surroundings.Surroundings.{Surroundings}
@@ -44,19 +44,20 @@ extended = place row.CtrlExt 0
 there : IsAddressOf extended 0x00018 0xFFFFFFFF
 there = address_of extended 0x00018 (first_address extended (lit< tt))
 
--- the end of a reset is told in mailboxes alone
+-- the end of a reset is reported in mailboxes alone
 
-all_told : (vs : List ℕ) (r : Registers) (q : Place) → q.row ≢ row.Pvfmailbox
+all_reported : (vs : List ℕ) (r : Registers) (q : Place) → q.row ≢ row.Pvfmailbox
     → word_at (fold done_reported r vs).words q ≡ word_at r.words q
-all_told [] r q other = refl
-all_told (v ∷ vs) r q other =
-    all_told vs (done_reported r v) q other
+all_reported [] r q other = refl
+all_reported (v ∷ vs) r q other =
+    all_reported vs (done_reported r v) q other
     ∙ word_at-put_other r.words (place row.Pvfmailbox v) q (reset_reported (mail_of r v))
     (λ e. other (ap (λ (x : Place). x.row) e))
 
-told : (r : Registers) (q : Place) → q.row ≢ row.Pvfmailbox → word_at (resets_told r).words q ≡ word_at r.words q
-unfolding resets_told
-told r q other = all_told (range_with_len 0 64) r q other
+reported : (r : Registers) (q : Place) → q.row ≢ row.Pvfmailbox → word_at (resets_reported r).words q
+    ≡ word_at r.words q
+unfolding resets_reported
+reported r q other = all_reported (range_with_len 0 64) r q other
 
 -- the registers after a write
 
@@ -64,14 +65,14 @@ abbrev kept : Registers → ℕ → ℕ → Registers
 kept r view word = stored r extended view word
 
 abbrev behind : Registers → ℕ → ℕ → Registers
-behind r view word = cond (has_bit 14 word) (resets_told (kept r view word)) (kept r view word)
+behind r view word = cond (has_bit 14 word) (resets_reported (kept r view word)) (kept r view word)
 
 behind_word : (r : Registers) (view word : ℕ) (q : Place) → q.row ≢ row.Pvfmailbox
     → word_at (behind r view word).words q ≡ word_at (kept r view word).words q
 behind_word r view word q other =
-    cond_both (has_bit 14 word) (resets_told (kept r view word)) (kept r view word)
+    cond_both (has_bit 14 word) (resets_reported (kept r view word)) (kept r view word)
     (λ (t : Registers). word_at t.words q ≡ word_at (kept r view word).words q)
-    (λ on. told (kept r view word) q other) (λ off. refl)
+    (λ on. reported (kept r view word) q other) (λ off. refl)
 
 abbrev left : State → ℕ → ℕ → State
 left s view word = record s { registers = behind s.registers view word }
@@ -144,7 +145,7 @@ module _ (s : State) (view word : ℕ) where
   without_14 : has_bit 14 word ≡ false → left s view word ≡ alone
   without_14 off =
       ap (λ (r : Registers). record s { registers = r })
-      (cond-false (has_bit 14 word) (resets_told (kept s.registers view word)) (kept s.registers view word) off)
+      (cond-false (has_bit 14 word) (resets_reported (kept s.registers view word)) (kept s.registers view word) off)
 
 -- what is read there
 

@@ -92,8 +92,8 @@ function_mailed r h v word there =
     (λ bit. refl)
     ∙ put_stands r (place row.Pvfmailbox v) (function_wrote (mail_of r v) word) h there
 
-told_still : (r : Registers) (v word : ℕ) → mail_of (function_signalled r v word) v ≡ mail_of r v
-told_still r v word =
+reported_still : (r : Registers) (v word : ℕ) → mail_of (function_signalled r v word) v ≡ mail_of r v
+reported_still r v word =
     cond_both (sends word) (cause_set r (Vf v) (queue_causes (Vf v) (word_of r row.PvtivarMisc v % 256))) r
     (λ t. mail_of t v ≡ mail_of r v)
     (λ on. word_at-put_other r.words (place row.Pvteicr v) (place row.Pvfmailbox v) _
@@ -103,7 +103,7 @@ told_still r v word =
 physical_mailed : (r : Registers) → HasShape r → (v word : ℕ) → v < 64
     → mail_of (physical_writes r v word) v ≡ physical_wrote (mail_of r v) word
 physical_mailed r h v word there =
-    told_still (with_mail r v (physical_wrote (mail_of r v) word)) v word
+    reported_still (with_mail r v (physical_wrote (mail_of r v) word)) v word
     ∙ put_stands r (place row.Pvfmailbox v) (physical_wrote (mail_of r v) word) h there
 
 -- what a write leaves of a mailbox's bit, by whose write it is

@@ -115,20 +115,20 @@ device_lasts s h g there bit b m e is =
 
 -- messages
 
-untold : (mask eiame one has : Bool) → mask ≡ true → (eiame && has) ≡ false
+unreported : (mask eiame one has : Bool) → mask ≡ true → (eiame && has) ≡ false
     → (mask && not (eiame && one && has)) ≡ true
-untold true true true has m none = ap not none
-untold true true false has m none = refl
-untold true false one has m none = refl
-untold false eiame one has m none = m
+unreported true true true has m none = ap not none
+unreported true true false has m none = refl
+unreported true false one has m none = refl
+unreported false eiame one has m none = m
 
-told_mask : (i : Interrupts) (eiame : Bool) (next : Option ℕ) (bit : ℕ) → bit < 32 → contains i.enabled bit ≡ true
+reported_mask : (i : Interrupts) (eiame : Bool) (next : Option ℕ) (bit : ℕ) → bit < 32 → contains i.enabled bit ≡ true
     → (eiame && contains i.auto_mask bit) ≡ false → contains (after_message_of i eiame next).enabled bit ≡ true
-told_mask i eiame None bit high m none = m
-told_mask i eiame (Some chosen) bit high m none =
+reported_mask i eiame None bit high m none = m
+reported_mask i eiame (Some chosen) bit high m none =
     contains-difference i.enabled _ bit high
     ∙ ap (λ x. contains i.enabled bit && not x) (contains-acting eiame (only chosen) i.auto_mask bit high)
-    ∙ untold (contains i.enabled bit) eiame (contains (only chosen) bit) (contains i.auto_mask bit) m none
+    ∙ unreported (contains i.enabled bit) eiame (contains (only chosen) bit) (contains i.auto_mask bit) m none
 
 put_there : (r : Registers) (g : Group) (eiame : Bool) (next : Option ℕ) → HasShape r → IsGroup g
     → interrupts_of (with_interrupts r (after_message_of (interrupts_of r g) eiame next)) g
@@ -152,7 +152,7 @@ message_mask r g bit h there high m none =
     cond_both (is_some (message_of r g)) (with_interrupts r (after_message_of i (masks_by_message r) next)) r
     (λ t. contains (interrupts_of t g).enabled bit ≡ true)
     (λ some. ap (λ (j : Interrupts). contains j.enabled bit) (put_there r g (masks_by_message r) next h there)
-    ∙ told_mask i (masks_by_message r) next bit high m none)
+    ∙ reported_mask i (masks_by_message r) next bit high m none)
     (λ nothing. m)
 
 message_lasts : (s : State) → IsSound s → (g : Group) → IsGroup g → (bit : ℕ) → bit < bits_in g

@@ -50,7 +50,7 @@ apart_mail w v apart =
     is_place-other (place row.Pvfmailbox w) (place row.Pvfmailbox v)
     (λ same. apart (ap (λ (q : Place). q.index) (sym same)))
 
--- a read changes no bit of a mailbox but those that are told once, by a read of it
+-- a read changes no bit of a mailbox but those that are reported once, by a read of it
 abbrev pub IsUnread : Place → (v n : ℕ) → Type 0
 IsUnread p v n =
     (row_of p.row).kind ≡ kind.Vfmail → (is_place (place row.Pvfmailbox p.index) (place row.Pvfmailbox v)

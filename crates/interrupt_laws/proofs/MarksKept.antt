@@ -14,7 +14,7 @@ use Rattle.nic_device.specs.IntrUnit.declared.group.Group.TheVariants.{Pf, Vf}
 use Rattle.nic_device.specs.RegisterFile.Access.{after_read as word_left, asks_reset, asks_pool_reset}
 use Rattle.nic_device.specs.RegisterFile.Bits.{has_bit}
 use Rattle.nic_device.specs.RegisterFile.Columns.{place}
-use Rattle.nic_device.specs.RegisterFile.Groups.{interrupts_of, told_by, clears_others, auto_masks}
+use Rattle.nic_device.specs.RegisterFile.Groups.{interrupts_of, reported_by, clears_others, auto_masks}
 use Rattle.nic_device.specs.RegisterFile.Owner.{owner_of, is_owner, is_group}
 use Rattle.nic_device.specs.RegisterFile.Pools.{mode_in}
 use Rattle.nic_device.specs.RegisterFile.declared.owner.Owner.TheVariants as owner
@@ -55,20 +55,20 @@ use Rattle.interrupt_laws.proofs.Masks.{registers_set as masks_put, registers_cl
 use Rattle.interrupt_laws.proofs.Owned.{IsOne, causes, cause_set, masks, mask_clear, auto_clear, auto_mask, one_of_group}
 
 -- what a write of another owner's register may change has no mark of the group
-reaching : (k : Kind) (p : Place) (g : Group) → is_own k ≡ false → (written_by k p).told g ≡ false
+reaching : (k : Kind) (p : Place) (g : Group) → is_own k ≡ false → (written_by k p).reported g ≡ false
 reaching kind.Vfmail p g off = refl
 reaching kind.Pfmail p g off = refl
 reaching kind.Ctrlext p g off = refl
 reaching other p g off = cc
 
-unmarked : (p : Place) (g : Group) → is_owner (owner_of p) (owner.Group g) ≡ false → (of_write p).told g ≡ false
+unmarked : (p : Place) (g : Group) → is_owner (owner_of p) (owner.Group g) ≡ false → (of_write p).reported g ≡ false
 unmarked p g other =
     elim (cases_Bool (is_own (row_of p.row).kind)) [
       | inr off ↦ reaching (row_of p.row).kind p g off
-      | inl own ↦ elim (cases_Bool ((of_write p).told g)) [
+      | inl own ↦ elim (cases_Bool ((of_write p).reported g)) [
         | inr off ↦ off
         | inl on ↦
-            absurd (both_ways (is_owner (owner_of p) (owner.Group g)) other ((covers-of_write p own).told g on))
+            absurd (both_ways (is_owner (owner_of p) (owner.Group g)) other ((covers-of_write p own).reported g on))
       ]
     ]
 
@@ -133,20 +133,20 @@ module _ (s : State) (h : IsSound s) (g : Group) (there : IsGroup g) (bit : ℕ)
   unwritten : (p : Place) (view word : ℕ) → is_owner (owner_of p) (owner.Group g) ≡ false
       → Kept (record s { registers = word_written s.registers p view word })
   unwritten p view word other then =
-      same_marks s _ h then g there bit b ((within-written s.registers p view word).told g (unmarked p g other))
+      same_marks s _ h then g there bit b ((within-written s.registers p view word).reported g (unmarked p g other))
 
   reset_elsewhere : (v : ℕ) → is_group (Vf v) g ≡ false → Kept (with_pool_reset s v)
   reset_elsewhere v other then =
-      same_marks s _ h then g there bit b ((within-pool_reset s.registers (mode_in s.registers) v).told g other)
+      same_marks s _ h then g there bit b ((within-pool_reset s.registers (mode_in s.registers) v).reported g other)
 
 -- the auto words are beside the marks
 clear_written : (s : State) (g : Group) (view word : ℕ)
-    → told_by (state_written s (auto_clear_register g) view word).registers g ≡ told_by s.registers g
+    → reported_by (state_written s (auto_clear_register g) view word).registers g ≡ reported_by s.registers g
 clear_written s Pf view word = refl
 clear_written s (Vf v) view word = refl
 
 mask_written : (s : State) (g : Group) (view word : ℕ)
-    → told_by (state_written s (auto_mask_register g) view word).registers g ≡ told_by s.registers g
+    → reported_by (state_written s (auto_mask_register g) view word).registers g ≡ reported_by s.registers g
 mask_written s Pf view word = refl
 mask_written s (Vf v) view word = refl
 

@@ -24,7 +24,7 @@ use Rattle.nic_device.specs.Step.{after}
 use Rattle.nic_device.specs.declared.event.Event.TheVariants as event
 use Rattle.nic_device.specs.declared.event.Reply.TheVariants.{Idle}
 use Rattle.nic_device.proofs.Steps.{keeps_sound}
-use Rattle.interrupt_laws.specs.Marks.{is_told, MessagesMark}
+use Rattle.interrupt_laws.specs.Marks.{is_reported, MessagesMark}
 use Rattle.interrupt_laws.proofs.Groups.{index_small}
 use Rattle.interrupt_laws.proofs.Marks.{own_mark, put_with}
 use Rattle.interrupt_laws.proofs.Settings.{stops}
@@ -57,9 +57,9 @@ messages_mark s h g is runs bit vector due none other b =
     let then = keeps_sound s h (event.IntStep g) (omega (arith, few)) in
     let made = message_is s g h small_g bit vector due none in
     let high = small g other b in
-    put_with s (after s (event.IntStep g)) h then g small_g other b (union i.told (only bit))
-    (is_told s g other || other == bit)
-    (contains-union i.told (only bit) other high
+    put_with s (after s (event.IntStep g)) h then g small_g other b (union i.reported (only bit))
+    (is_reported s g other || other == bit)
+    (contains-union i.reported (only bit) other high
     ∙ (λ k. own_mark s s h h g small_g other b s h k || contains-only bit other high k))
     (after_telling i (masks_by_message r) bit) refl
     (settled-after_message_of i (settled r g) (masks_by_message r) (Some bit)) (intersection-lt _ _)

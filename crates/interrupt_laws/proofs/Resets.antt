@@ -1,4 +1,4 @@
--- A function is told of a reset once.
+-- A function is reported a reset once.
 use Rattle.std.proofs.Common.{◌≡◌, ◌≢◌, ℕ, suc, zero, ◌+◌, ◌<◌, ◌≤◌, Bool, true, false, cond, ◌&&◌, ◌||◌, ◌⊎◌, List, [], ◌∷◌, refl, ap, sym, ◌∙◌, subst, inl, inr, arith, lit<}
 use Rattle.std.specs.Prelude.{fold}
 use Rattle.std.specs.List.{range_with_len}
@@ -13,7 +13,7 @@ use Rattle.nic_device.specs.RegTable.declared.rows.RowId.TheVariants as row
 use Rattle.nic_device.specs.RegisterFile.Access.{stored, written}
 use Rattle.nic_device.specs.RegisterFile.Bits.{has_bit, bit_set, bit_cleared}
 use Rattle.nic_device.specs.RegisterFile.Columns.{place}
-use Rattle.nic_device.specs.RegisterFile.Mailbox.{mail_of, reported_once, reset_reported, done_reported, resets_told}
+use Rattle.nic_device.specs.RegisterFile.Mailbox.{mail_of, reported_once, reset_reported, done_reported, resets_reported}
 use Rattle.nic_device.specs.RegisterFile.Pools.{mode_in}
 use Rattle.nic_device.specs.RegisterFile.Registers.{Registers}
 use Rattle.nic_device.specs.RegisterLaws.Laws.{HasShape, after_write as word_written}
@@ -40,7 +40,7 @@ use Rattle.interrupt_laws.proofs.MailEvents.{apart_mail, still_holds, read_holds
 use Rattle.interrupt_laws.proofs.Mailbox.{own}
 use Rattle.interrupt_laws.specs.Holding.{IsSparing}
 use Rattle.interrupt_laws.specs.Shown.{word_in}
-use Rattle.interrupt_laws.specs.Resets.{is_mailbox, tells_end, times_reported, SparesDevice, AreWithoutReset, EndIsToldOnce, EndIsTold}
+use Rattle.interrupt_laws.specs.Resets.{is_mailbox, tells_end, times_reported, SparesDevice, AreWithoutReset, EndIsReportedOnce, EndIsReported}
 
 -- ---- what a mailbox's word becomes
 
@@ -66,7 +66,7 @@ reset_7 mail =
           ∙ sym (ap (λ b. b || has_bit 7 mail) off)
     ]
 
--- each function's mailbox once all are told
+-- each function's mailbox once all are reported
 past : (r : Registers) (v a n : ℕ) → v < a → mail_of (fold done_reported r (range_with_len a n)) v ≡ mail_of r v
 past r v a zero low = refl
 past r v a (suc n) low =
@@ -74,30 +74,31 @@ past r v a (suc n) low =
     ∙ word_at-put_other r.words (place row.Pvfmailbox a) (place row.Pvfmailbox v) _
     (λ same. let is : v ≡ a = ap (λ (q : Place). q.index) same in omega arith)
 
-each_told : (r : Registers) → HasShape r → (v a n : ℕ) → v < 64 → a ≤ v → v < a + n
+each_reported : (r : Registers) → HasShape r → (v a n : ℕ) → v < 64 → a ≤ v → v < a + n
     → mail_of (fold done_reported r (range_with_len a n)) v ≡ reset_reported (mail_of r v)
-each_told r h v a zero there low high = absurd (omega arith)
-each_told r h v a (suc n) there low high =
+each_reported r h v a zero there low high = absurd (omega arith)
+each_reported r h v a (suc n) there low high =
     elim (cases_eq v a)
     as (λ _. mail_of (fold done_reported (done_reported r a) (range_with_len (a + 1) n)) v
     ≡ reset_reported (mail_of r v)) [
       | inl same ↦ past (done_reported r a) v (a + 1) n (omega arith)
           ∙ (λ k. mail_of (done_reported r (sym same k)) v)
           ∙ put_stands r (place row.Pvfmailbox v) (reset_reported (mail_of r v)) h there
-      | inr apart ↦ each_told (done_reported r a)
+      | inr apart ↦ each_reported (done_reported r a)
           (HasShape-put r (place row.Pvfmailbox a) (reset_reported (mail_of r a)) h) v (a + 1) n there
           (omega arith) (omega arith)
           ∙ ap reset_reported (word_at-put_other r.words (place row.Pvfmailbox a) (place row.Pvfmailbox v) _
           (λ same. apart (ap (λ (q : Place). q.index) same)))
     ]
 
-all_told : (r : Registers) → HasShape r → (v : ℕ) → v < 64 → mail_of (resets_told r) v ≡ reset_reported (mail_of r v)
-unfolding resets_told
-all_told r h v there = each_told r h v 0 64 there (omega arith) there
+all_reported : (r : Registers) → HasShape r → (v : ℕ) → v < 64 → mail_of (resets_reported r) v
+    ≡ reset_reported (mail_of r v)
+unfolding resets_reported
+all_reported r h v there = each_reported r h v 0 64 there (omega arith) there
 
--- ---- a function that isn't told of a reset
+-- ---- a function that isn't reported a reset
 
-record IsUntold (s : State) (v : ℕ) : Type 0 where
+record IsUnreported (s : State) (v : ℕ) : Type 0 where
   begun : has_bit 6 (mail_of s.registers v) ≡ false
   done : has_bit 7 (mail_of s.registers v) ≡ false
 
@@ -149,9 +150,9 @@ module _ (s : State) (h : IsSound s) (v : ℕ) (there : v < 64) where
       ap (λ m. mail_of (named_read s m).state.registers v) is
       ∙ put_stands s.registers (place row.Pvfmailbox v) (reported_once Mail) h.registers.shape there
 
-  told_now : (port : Port) (number view : ℕ) → named s port number ≡ Register (place row.Pvfmailbox v) view
-      → has_bit 6 Mail ≡ false → IsUntold (after s (event.Read port number)) v
-  told_now port number view is none = record {
+  reported_now : (port : Port) (number view : ℕ) → named s port number ≡ Register (place row.Pvfmailbox v) view
+      → has_bit 6 Mail ≡ false → IsUnreported (after s (event.Read port number)) v
+  reported_now port number view is none = record {
     begun = ap (has_bit 6) (read_mail port number view is) ∙ once_keeps Mail 6 refl ∙ none;
     done = ap (has_bit 7) (read_mail port number view is) ∙ once_7 Mail;
   }
@@ -170,35 +171,36 @@ module _ (s : State) (h : IsSound s) (v : ℕ) (there : v < 64) where
         word_at-put_other s.registers.words p (place row.Pvfmailbox v) _
         (λ same. let is : kind.Vfmail ≡ kind.Ctrlext = ap (λ (q : Place). (row_of q.row).kind) same ∙ e in cc)
 
-    told_mail : mail_of (resets_told (stored s.registers p view word)) v ≡ reset_reported Mail
-    told_mail =
-        all_told (stored s.registers p view word) (HasShape-put s.registers p _ h.registers.shape) v there
+    reported_mail : mail_of (resets_reported (stored s.registers p view word)) v ≡ reset_reported Mail
+    reported_mail =
+        all_reported (stored s.registers p view word) (HasShape-put s.registers p _ h.registers.shape) v there
         ∙ ap reset_reported kept_mail
 
-    untold_mail : has_bit 6 Mail ≡ false → mail_of (word_written s.registers p view word) v ≡ Mail
-    untold_mail none =
+    unreported_mail : has_bit 6 Mail ≡ false → mail_of (word_written s.registers p view word) v ≡ Mail
+    unreported_mail none =
         ap (λ k. mail_of (written k s.registers p view word) v) e
-        ∙ cond_both (has_bit 14 word) (resets_told (stored s.registers p view word)) (stored s.registers p view word)
-        (λ r. mail_of r v ≡ Mail) (λ on. told_mail ∙ cond-false (has_bit 6 Mail) _ Mail none) (λ no. kept_mail)
+        ∙ cond_both (has_bit 14 word) (resets_reported (stored s.registers p view word))
+        (stored s.registers p view word)
+        (λ r. mail_of r v ≡ Mail) (λ on. reported_mail ∙ cond-false (has_bit 6 Mail) _ Mail none) (λ no. kept_mail)
 
-  module _ (u : IsUntold s v) where
-    untold_read : (port : Port) (number : ℕ) → IsRead v (named s port number)
-        → IsUntold (after s (event.Read port number)) v
-    untold_read port number (here view is) = told_now port number view is u.begun
-    untold_read port number (off other) = record {
+  module _ (u : IsUnreported s v) where
+    unreported_read : (port : Port) (number : ℕ) → IsRead v (named s port number)
+        → IsUnreported (after s (event.Read port number)) v
+    unreported_read port number (here view is) = reported_now port number view is u.begun
+    unreported_read port number (off other) = record {
       begun = read_holds v 6 false s port number (λ p view is e. and-false _) u.begun;
       done = read_holds v 7 false s port number
           (λ p view is e. ap (λ b. b && true) (apart_mail p.index v (other p view is e))) u.done;
     }
 
-    untold_word : (p : Place) (view word : ℕ)
+    unreported_word : (p : Place) (view word : ℕ)
         → ((row_of p.row).kind ≡ kind.Ctrlext) ⊎ ((row_of p.row).kind ≢ kind.Ctrlext)
-        → IsUntold (record s { registers = word_written s.registers p view word }) v
-    untold_word p view word (inl e) = record {
-      begun = ap (has_bit 6) (untold_mail p e view word u.begun) ∙ u.begun;
-      done = ap (has_bit 7) (untold_mail p e view word u.begun) ∙ u.done;
+        → IsUnreported (record s { registers = word_written s.registers p view word }) v
+    unreported_word p view word (inl e) = record {
+      begun = ap (has_bit 6) (unreported_mail p e view word u.begun) ∙ u.begun;
+      done = ap (has_bit 7) (unreported_mail p e view word u.begun) ∙ u.done;
     }
-    untold_word p view word (inr other) = record {
+    unreported_word p view word (inr other) = record {
       begun = word_holds v 6 false s p view word (record {
         own = λ is. and-false _;
         physical = λ is. and-false _;
@@ -211,13 +213,13 @@ module _ (s : State) (h : IsSound s) (v : ℕ) (there : v < 64) where
       }) u.done;
     }
 
-    untold_written : (port : Port) (number word : ℕ) (m : Named) → named s port number ≡ m
+    unreported_written : (port : Port) (number word : ℕ) (m : Named) → named s port number ≡ m
         → ((p : Place) (view : ℕ) → m ≡ Register p view → SparesDevice p word)
-        → IsUntold (named_written s m word).state v
-    untold_written port number word (Nothing seen) is spares = u
-    untold_written port number word (Register p view) is spares =
+        → IsUnreported (named_written s m word).state v
+    unreported_written port number word (Nothing seen) is spares = u
+    unreported_written port number word (Register p view) is spares =
         let inside = in_range s port number p view is in
-        let plain = untold_word p view word (ctrlext_or (row_of p.row).kind) in
+        let plain = unreported_word p view word (ctrlext_or (row_of p.row).kind) in
         let pool = (renewed-pool s.registers (mode_in s.registers) p.index).alone in
         record {
           begun = write_holds v 6 false s p view word inside (spares p view refl)
@@ -226,81 +228,81 @@ module _ (s : State) (h : IsSound s) (v : ℕ) (there : v < 64) where
               (λ asks. pool.bits (place row.Pvfmailbox v) 7 refl ∙ u.done) plain.done;
         }
 
-    untold_event : (e : Event Block) → Made e → IsSparing SparesDevice s e → IsUntold (after s e) v
+    unreported_event : (e : Event Block) → Made e → IsSparing SparesDevice s e → IsUnreported (after s e) v
     unfolding step_of
-    untold_event e (reading port number) spares = untold_read port number (is_read v (named s port number))
-    untold_event e (writing port number word) spares =
-        untold_written port number word (named s port number) refl spares
-    untold_event e (silent other no_read quiet) spares = record {
+    unreported_event e (reading port number) spares = unreported_read port number (is_read v (named s port number))
+    unreported_event e (writing port number word) spares =
+        unreported_written port number word (named s port number) refl spares
+    unreported_event e (silent other no_read quiet) spares = record {
       begun = still_holds v 6 false s other no_read quiet u.begun;
       done = still_holds v 7 false s other no_read quiet u.done;
     }
 
-    untold_reply : (port : Port) (number : ℕ) → IsRead v (named s port number)
+    unreported_reply : (port : Port) (number : ℕ) → IsRead v (named s port number)
         → tells_end s v (event.Read port number) ≡ false
-    untold_reply port number (here view is) =
+    unreported_reply port number (here view is) =
         ap (λ b. is_mailbox v (named s port number) && b)
         (reply_bit port number view is ∙ ap (λ b. b && has_bit 7 view) u.done)
         ∙ and-false _
-    untold_reply port number (off other) =
+    unreported_reply port number (off other) =
         ap (λ b. b && has_bit 7 (word_in (reply_to s (event.Read port number))))
         (not_mailbox v (named s port number) other)
 
-    untold_tells : (e : Event Block) → tells_end s v e ≡ false
-    untold_tells (event.Read port number) = untold_reply port number (is_read v (named s port number))
-    untold_tells other = refl
+    unreported_tells : (e : Event Block) → tells_end s v e ≡ false
+    unreported_tells (event.Read port number) = unreported_reply port number (is_read v (named s port number))
+    unreported_tells other = refl
 
   -- the read that tells the end
-  told_read : (port : Port) (number : ℕ) → IsRead v (named s port number)
-      → tells_end s v (event.Read port number) ≡ true → IsUntold (after s (event.Read port number)) v
-  told_read port number (off other) tells =
+  reported_read : (port : Port) (number : ℕ) → IsRead v (named s port number)
+      → tells_end s v (event.Read port number) ≡ true → IsUnreported (after s (event.Read port number)) v
+  reported_read port number (off other) tells =
       absurd (both_ways (is_mailbox v (named s port number)) (not_mailbox v (named s port number) other)
       (and_parts _ _ tells).0)
-  told_read port number (here view is) tells =
+  reported_read port number (here view is) tells =
       let seven : has_bit 7 Mail ≡ true =
       (and_parts _ _ (sym (reply_bit port number view is) ∙ (and_parts _ _ tells).1)).0 in
-      told_now port number view is (elim (cases_Bool (has_bit 6 Mail)) as (λ _. has_bit 6 Mail ≡ false) [
+      reported_now port number view is (elim (cases_Bool (has_bit 6 Mail)) as (λ _. has_bit 6 Mail ≡ false) [
         | inr none ↦ none
         | inl six ↦ absurd (both_ways (has_bit 6 Mail && has_bit 7 Mail) (h.registers.mail v).end
             (λ k. six k && seven k))
       ])
 
-  told_event : (e : Event Block) → tells_end s v e ≡ true → IsUntold (after s e) v
-  told_event (event.Read port number) tells = told_read port number (is_read v (named s port number)) tells
-  told_event other tells = cc
+  reported_event : (e : Event Block) → tells_end s v e ≡ true → IsUnreported (after s e) v
+  reported_event (event.Read port number) tells = reported_read port number (is_read v (named s port number)) tells
+  reported_event other tells = cc
 
 -- ---- lists of events
 
-untold_list : (s : State) → IsSound s → (v : ℕ) → v < 64 → IsUntold s v → (es : List (Event Block))
+unreported_list : (s : State) → IsSound s → (v : ℕ) → v < 64 → IsUnreported s v → (es : List (Event Block))
     → AreWithoutReset s es → times_reported s v es ≡ 0
-untold_list s h v there u [] none = refl
-untold_list s h v there u (e ∷ es) none =
-    let rest = untold_list (after s e) (keeps_sound s h e none.0) v there
-    (untold_event s h v there u e (made e) none.1) es none.2 in
-    λ k. cond (untold_tells s h v there u e k) 1 0 + rest k
+unreported_list s h v there u [] none = refl
+unreported_list s h v there u (e ∷ es) none =
+    let rest = unreported_list (after s e) (keeps_sound s h e none.0) v there
+    (unreported_event s h v there u e (made e) none.1) es none.2 in
+    λ k. cond (unreported_tells s h v there u e k) 1 0 + rest k
 
 one_at_most : (b : Bool) (n : ℕ) → (b ≡ true → n ≡ 0) → n ≤ 1 → cond b 1 0 + n ≤ 1
 one_at_most true n none low = let rest = none refl in omega arith
 one_at_most false n none low = omega arith
 
-pub end_told_once : EndIsToldOnce
-end_told_once s h v there [] none = omega arith
-end_told_once s h v there (e ∷ es) none =
+pub end_reported_once : EndIsReportedOnce
+end_reported_once s h v there [] none = omega arith
+end_reported_once s h v there (e ∷ es) none =
     let sound = keeps_sound s h e none.0 in
     one_at_most (tells_end s v e) (times_reported (after s e) v es)
-    (λ tells. untold_list (after s e) sound v there (told_event s h v there e tells) es none.2)
-    (end_told_once (after s e) sound v there es none.2)
+    (λ tells. unreported_list (after s e) sound v there (reported_event s h v there e tells) es none.2)
+    (end_reported_once (after s e) sound v there es none.2)
 
-pub end_told : EndIsTold
+pub end_reported : EndIsReported
 unfolding step_of
-end_told s h v there port number view word is on =
+end_reported s h v there port number view word is on =
     let t : State = after s (event.Write port number word) in
     let mail : mail_of t.registers v ≡ reset_reported (mail_of s.registers v) =
     ap (λ m. mail_of (named_written s m word).state.registers v) is
     ∙ ap (λ r. mail_of r v) (cond-true (has_bit 14 word)
-    (resets_told (stored s.registers (place row.CtrlExt 0) view word))
+    (resets_reported (stored s.registers (place row.CtrlExt 0) view word))
     (stored s.registers (place row.CtrlExt 0) view word) on)
-    ∙ told_mail s h v there (place row.CtrlExt 0) refl view word in
+    ∙ reported_mail s h v there (place row.CtrlExt 0) refl view word in
     record {
       begun = own t v there 6 (lit< tt) ∙ ap (has_bit 6) mail ∙ reset_6 (mail_of s.registers v);
       done = own t v there 7 (lit< tt) ∙ ap (has_bit 7) mail ∙ reset_7 (mail_of s.registers v)

@@ -58,8 +58,8 @@ module _ (r : Registers) (h : HasShape r) (v word : ℕ) (there : v < 64) (k : �
       word_at-put_other t.words (place row.Eicr 0) (place row.Pfmbicr k) _
       (λ same. let rows : row.Pfmbicr ≡ row.Eicr = ap (λ (q : Place). q.row) same in cc)
 
-  told : (t : Registers) → word_of (physical_signalled t v word) row.Pfmbicr k ≡ word_of t row.Pfmbicr k
-  told t =
+  reported : (t : Registers) → word_of (physical_signalled t v word) row.Pfmbicr k ≡ word_of t row.Pfmbicr k
+  reported t =
       cond_both (sends word && has_bit (v % 32) (word_of t row.Pfmbimr (v / 32))) (cause_set t Pf (2 ^ 19)) t
       (λ u. word_of u row.Pfmbicr k ≡ word_of t row.Pfmbicr k) (λ on. by_cause t) (λ off. refl)
 
@@ -84,7 +84,7 @@ module _ (r : Registers) (h : HasShape r) (v word : ℕ) (there : v < 64) (k : �
 
   sent : (bit : ℕ) → has_bit bit (word_of (function_writes r v word) row.Pfmbicr k)
       ≡ (has_bit bit (word_of r row.Pfmbicr k) || asks_by v word k bit)
-  sent bit = ap (has_bit bit) (told (with_requests Held v word)) ∙ asked (cases_eq k (v / 16)) bit
+  sent bit = ap (has_bit bit) (reported (with_requests Held v word)) ∙ asked (cases_eq k (v / 16)) bit
 
 -- a bit that reads of PFMBICR show
 shown : (s : State) (k bit : ℕ) → k < 4 → bit < 32

@@ -11,7 +11,7 @@ use Rattle.nic_device.specs.IntrUnit.declared.group.Group.{Group}
 use Rattle.nic_device.specs.IntrUnit.declared.group.Group.TheVariants.{Pf, Vf}
 use Rattle.nic_device.proofs.IntrUnit.SetLaws.{contains-intersection}
 use Rattle.nic_device.specs.VfMap.Pools.{queues_of, pools_in}
-use Rattle.nic_device.specs.RegisterFile.Groups.{interrupts_of, told_by}
+use Rattle.nic_device.specs.RegisterFile.Groups.{interrupts_of, reported_by}
 use Rattle.nic_device.specs.RegisterFile.Pools.{mode_in}
 use Rattle.nic_device.specs.RegisterFile.Registers.{word_of}
 use Rattle.nic_device.specs.Interrupt.{has_group}
@@ -61,13 +61,14 @@ abbrev pub misc : State → ℕ
 misc s = word_of s.registers IvarMisc 0
 
 module _ (s : State) (g : Group) (h : IsSound s) (there : IsGroup g) where
-  pub told_inner : (bit : ℕ) → bit < bits_in g
-      → contains (inner s g).told bit
-      ≡ (contains (told_by s.registers g) bit && (contains (inner s g).causes bit && contains (inner s g).enabled bit))
-  told_inner bit b =
+  pub reported_inner : (bit : ℕ) → bit < bits_in g
+      → contains (inner s g).reported bit
+      ≡ (contains (reported_by s.registers g) bit
+      && (contains (inner s g).causes bit && contains (inner s g).enabled bit))
+  reported_inner bit b =
       let high = small g bit b in
-      contains-intersection (told_by s.registers g) (intersection (inner s g).causes (inner s g).enabled) bit high
-      ∙ ap (λ x. contains (told_by s.registers g) bit && x)
+      contains-intersection (reported_by s.registers g) (intersection (inner s g).causes (inner s g).enabled) bit high
+      ∙ ap (λ x. contains (reported_by s.registers g) bit && x)
       (contains-intersection (inner s g).causes (inner s g).enabled bit high)
 
   cause_inner : (bit : ℕ) → bit < bits_in g → (bit_of s g bit).cause ≡ contains (inner s g).causes bit
@@ -85,7 +86,7 @@ module _ (s : State) (g : Group) (h : IsSound s) (there : IsGroup g) where
   due_inner bit vector due = record {
     cause = sym (cause_inner bit due.within) ∙ due.cause;
     mask = sym (mask_inner bit due.within) ∙ due.mask;
-    untold = told_inner bit due.within ∙ and_left _ _ due.untold;
+    unreported = reported_inner bit due.within ∙ and_left _ _ due.unreported;
     routed = sym (vector_inner bit due.within) ∙ due.routed;
   }
 
@@ -98,7 +99,8 @@ module _ (s : State) (g : Group) (h : IsSound s) (there : IsGroup g) where
         within = b;
         cause = cause_inner bit b ∙ due.cause;
         mask = mask_inner bit b ∙ due.mask;
-        untold = sym (and_true (contains (told_by s.registers g) bit))
-            ∙ ap (λ x. contains (told_by s.registers g) bit && x) (sym both) ∙ sym (told_inner bit b) ∙ due.untold;
+        unreported = sym (and_true (contains (reported_by s.registers g) bit))
+            ∙ ap (λ x. contains (reported_by s.registers g) bit && x) (sym both) ∙ sym (reported_inner bit b)
+            ∙ due.unreported;
         routed = vector_inner bit b ∙ due.routed;
       }

@@ -8,7 +8,7 @@ use Rattle.nic_device.specs.IntrUnit.Group.{vector_of}
 use Rattle.nic_device.specs.IntrUnit.Interrupts.{Interrupts, after_message}
 use Rattle.nic_device.specs.IntrUnit.Laws.{IsMessageOf, Leaves, reported_bits}
 use Rattle.nic_device.specs.IntrUnit.declared.group.Group.{Group}
-use Rattle.nic_device.proofs.IntrUnit.Due.{is_due-by, next_bit-of, untold, pending, routed}
+use Rattle.nic_device.proofs.IntrUnit.Due.{is_due-by, next_bit-of, unreported, pending, routed}
 use Rattle.nic_device.proofs.IntrUnit.MessageLaws.{messages_tell}
 use Rattle.nic_device.specs.RegisterFile.Groups.{interrupts_of, with_interrupts, message_of, message_made, masks_by_message}
 use Rattle.nic_device.specs.RegisterFile.Registers.{word_of}
@@ -20,7 +20,7 @@ use Rattle.nic_device.specs.State.{State}
 use Rattle.nic_device.specs.Step.{step_of, after}
 use Rattle.nic_device.specs.declared.event.Event.TheVariants as event
 use Rattle.nic_device.specs.declared.event.Reply.TheVariants.{Idle, NoGroup, Message}
-use Rattle.device_laws.proofs.Messages.{due_told}
+use Rattle.device_laws.proofs.Messages.{due_reported}
 use Rattle.device_laws.proofs.StandingRest.{message_rest}
 use Rattle.interrupt_laws.specs.Names.{IsGroup, bits_in}
 use Rattle.interrupt_laws.specs.Shown.{Bit, bit_of, reads_one}
@@ -77,10 +77,10 @@ none_due : (s : State) (g : Group) → IsSound s → IsGroup g → NoneIsDue s g
     → message_of s.registers g ≡ o → o ≡ None
 none_due s g h small_g none None is = refl
 none_due s g h small_g none (Some vector) is =
-    let told = messages_tell.told (interrupts_of s.registers g) (word_of s.registers IvarMisc 0) vector is in
-    absurd (none told.0 vector (due_outer s g h small_g told.0 vector told.1.due))
+    let reported = messages_tell.reported (interrupts_of s.registers g) (word_of s.registers IvarMisc 0) vector is in
+    absurd (none reported.0 vector (due_outer s g h small_g reported.0 vector reported.1.due))
 
--- the bit that is told
+-- the bit that is reported
 
 Some-one : {A : Type 0} {x y : A} → Some x ≡ Some y → x ≡ y
 Some-one e = cc
@@ -104,26 +104,27 @@ message_is s g h small_g bit vector due none = record {
         absurd (none other has.0 below (due_outer s g h small_g other has.0 (record {
           cause = both.cause;
           mask = both.mask;
-          untold = untold i w other is;
+          unreported = unreported i w other is;
           routed = has.1;
         })))
     | inr above ↦ above
   ];
 }
 
-same_bit : (i : Interrupts) (w vector other bit told : ℕ) → IsMessageOf i w vector bit → IsMessageOf i w other told
-    → bit ≡ told
-same_bit i w vector other bit told a b =
-    Some-one (sym (next_bit-of i w vector bit a) ∙ next_bit-of i w other told b)
+same_bit : (i : Interrupts) (w vector other bit reported : ℕ) → IsMessageOf i w vector bit →
+    IsMessageOf i w other reported
+    → bit ≡ reported
+same_bit i w vector other bit reported a b =
+    Some-one (sym (next_bit-of i w vector bit a) ∙ next_bit-of i w other reported b)
 
-told_or_kept : (b eiame : Bool) (x : Bit)
+reported_or_kept : (b eiame : Bool) (x : Bit)
     → record x { cause = x.cause && not (b && x.auto_clear); mask = x.mask && not (eiame && b && x.auto_mask) }
     ≡ cond b (record x { cause = x.cause && not x.auto_clear; mask = x.mask && not (eiame && x.auto_mask) }) x
-told_or_kept true eiame x = λ k. record x {
+reported_or_kept true eiame x = λ k. record x {
   cause = x.cause && not x.auto_clear;
   mask = x.mask && not (and_true eiame k && x.auto_mask);
 }
-told_or_kept false eiame x =
+reported_or_kept false eiame x =
     let mask = ap (λ y. x.mask && not (y && x.auto_mask)) (and_false eiame) ∙ and_true x.mask in
     λ k. record x { cause = and_true x.cause k; mask = mask k }
 
@@ -140,9 +141,9 @@ left_bit i j eiame bit other left high =
       auto_clear = contains (left.auto_clear k) other;
       auto_mask = contains (left.auto_mask k) other;
     })
-    ∙ told_or_kept (other == bit) eiame (bit_in i other)
+    ∙ reported_or_kept (other == bit) eiame (bit_in i other)
 
--- the told bit as reads show it
+-- the reported bit as reads show it
 shown : (s : State) (g : Group) → IsGroup g → (bit other : ℕ) → other < bits_in g
     → cond (other == bit) (record (bit_in (interrupts_of s.registers g) other) {
       cause =
@@ -168,7 +169,7 @@ tells s g h is runs bit vector due none =
     let w = word_of s.registers IvarMisc 0 in
     let small_g = small_group s g h is in
     let m = message_is s g h small_g bit vector due none in
-    let sent = due_told s h (sym (stops s) ∙ runs) g (has_from s g h is) bit m.within
+    let sent = due_reported s h (sym (stops s) ∙ runs) g (has_from s g h is) bit m.within
     (is_due-by i w bit vector m.due) in
     let same = same_bit i w vector sent.vector bit sent.bit m sent.lowest in
     let one : sent.vector ≡ vector = Some-one (sym sent.lowest.due.routed ∙ ap (vector_of g w) (sym same)

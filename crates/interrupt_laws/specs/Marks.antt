@@ -1,4 +1,4 @@
--- Which bits messages reported, the told marks, and what events leave of them.
+-- Which bits messages reported, the reported marks, and what events leave of them.
 use Rattle.std.specs.Prelude.{ℕ, ◌≡◌, ◌≢◌, ◌<◌, ◌==◌, Bool, ◌&&◌, ◌||◌, ⊤, IsFalse}
 use Rattle.nic_device.specs.DmaArena.Block.{Block}
 use Rattle.nic_device.specs.RegTable.declared.place.Place.{Place}
@@ -6,7 +6,7 @@ use Rattle.nic_device.specs.RegTable.declared.rows.RowId.TheVariants.{Ctrl}
 use Rattle.nic_device.specs.IntrUnit.declared.group.Group.{Group}
 use Rattle.nic_device.specs.RegisterFile.Bits.{has_bit}
 use Rattle.nic_device.specs.RegisterFile.Columns.{place}
-use Rattle.nic_device.specs.RegisterFile.Groups.{told_by}
+use Rattle.nic_device.specs.RegisterFile.Groups.{reported_by}
 use Rattle.nic_device.specs.Named.{named}
 use Rattle.nic_device.specs.Sound.{IsSound, IsEvent}
 use Rattle.nic_device.specs.State.{State}
@@ -19,15 +19,15 @@ use Rattle.interrupt_laws.specs.Names.{IsGroup, bits_in}
 use Rattle.interrupt_laws.specs.Shown.{bit_of, reads_one}
 use Rattle.interrupt_laws.specs.Steps.{control_address, HasGroup, IsDue, NoneIsDueBelow}
 
--- whether a bit is marked as told: one that is marked isn't due, so no message step reports it
-abbrev pub is_told : State → Group → ℕ → Bool
-is_told s g bit = has_bit bit (told_by s.registers g)
+-- whether a bit is marked as reported: one that is marked isn't due, so no message step reports it
+abbrev pub is_reported : State → Group → ℕ → Bool
+is_reported s g bit = has_bit bit (reported_by s.registers g)
 
 -- these bits are marked afterwards, but those whose cause or mask then reads 0
 abbrev pub MarksThen : (new : State) → Group → (ℕ → Bool) → Type 0
 MarksThen new g marked =
     (bit : ℕ) → bit < bits_in g →
-    is_told new g bit ≡ (marked bit && ((bit_of new g bit).cause && (bit_of new g bit).mask))
+    is_reported new g bit ≡ (marked bit && ((bit_of new g bit).cause && (bit_of new g bit).mask))
 
 -- a write asks for no reset of the device or of the function's pool
 pub record SparesMarks (g : Group) (p : Place) (word : ℕ) : Type 0 where
@@ -35,21 +35,21 @@ pub record SparesMarks (g : Group) (p : Place) (word : ℕ) : Type 0 where
   pub pool : IsPoolReset g p → IsFalse (has_bit 26 word)
 
 -- an event is no such write, and no message of the group
-abbrev pub SparesTold : State → Group → Event Block → Type 0
-SparesTold s g (event.Write port number word) =
+abbrev pub SparesReported : State → Group → Event Block → Type 0
+SparesReported s g (event.Write port number word) =
     (p : Place) (view : ℕ) → named s port number ≡ Register p view → SparesMarks g p word
-SparesTold s g (event.IntStep other) = other ≢ g
-SparesTold s g other = ⊤
+SparesReported s g (event.IntStep other) = other ≢ g
+SparesReported s g other = ⊤
 
 -- such an event marks no bit, and takes the mark of none whose cause and mask read 1 afterwards
 abbrev pub MarksLast : Type 0
 MarksLast =
-    (s : State) → IsSound s → (g : Group) → IsGroup g → (e : Event Block) → IsEvent e → SparesTold s g e →
-    MarksThen (after s e) g (λ bit. is_told s g bit)
+    (s : State) → IsSound s → (g : Group) → IsGroup g → (e : Event Block) → IsEvent e → SparesReported s g e →
+    MarksThen (after s e) g (λ bit. is_reported s g bit)
 
 -- a message marks the bit that it reports, and no other
 abbrev pub MessagesMark : Type 0
 MessagesMark =
     (s : State) → IsSound s → (g : Group) → HasGroup s g → IsFalse (reads_one s control_address 2) →
     (bit vector : ℕ) → IsDue s g bit vector → NoneIsDueBelow s g bit →
-    MarksThen (after s (event.IntStep g)) g (λ other. is_told s g other || other == bit)
+    MarksThen (after s (event.IntStep g)) g (λ other. is_reported s g other || other == bit)

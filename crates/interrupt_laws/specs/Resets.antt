@@ -46,19 +46,19 @@ AreWithoutReset s [] = ⊤
 AreWithoutReset s (e ∷ es) = IsEvent e × IsSparing SparesDevice s e × AreWithoutReset (after s e) es
 
 -- from any device on, so from a reset to the next, at most one read returns that a reset is done
-abbrev pub EndIsToldOnce : Type 0
-EndIsToldOnce =
+abbrev pub EndIsReportedOnce : Type 0
+EndIsReportedOnce =
     (s : State) → IsSound s → (v : ℕ) → v < 64 → (es : List (Event Block)) → AreWithoutReset s es
     → times_reported s v es ≤ 1
 
 -- and a write of CTRL_EXT with bit 14 reports it to each function to which a reset's beginning was reported
-pub record IsToldOfTheEnd (s new : State) (v : ℕ) : Type 0 where
+pub record IsReportedOfTheEnd (s new : State) (v : ℕ) : Type 0 where
   pub begun : IsFalse (reads_one new (function_mail v) 6)
   pub done : reads_one new (function_mail v) 7
       ≡ (reads_one s (function_mail v) 6 || reads_one s (function_mail v) 7)
 
-abbrev pub EndIsTold : Type 0
-EndIsTold =
+abbrev pub EndIsReported : Type 0
+EndIsReported =
     (s : State) → IsSound s → (v : ℕ) → v < 64 → (port : Port) (number view word : ℕ) →
     named s port number ≡ Register (place CtrlExt 0) view → IsTrue (has_bit 14 word)
-    → IsToldOfTheEnd s (after s (event.Write port number word)) v
+    → IsReportedOfTheEnd s (after s (event.Write port number word)) v

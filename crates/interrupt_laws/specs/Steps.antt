@@ -3,7 +3,7 @@ use Rattle.std.specs.Prelude.{ℕ, ◌≡◌, ◌≢◌, ◌<◌, ◌/◌, ◌%�
 use Rattle.nic_device.specs.IntrUnit.declared.group.Group.{Group}
 use Rattle.nic_device.specs.IntrUnit.declared.group.Group.TheVariants.{Pf, Vf}
 use Rattle.nic_device.specs.RegisterFile.Bits.{has_bit}
-use Rattle.nic_device.specs.RegisterFile.Groups.{told_by}
+use Rattle.nic_device.specs.RegisterFile.Groups.{reported_by}
 use Rattle.nic_device.specs.Outcome.{gives}
 use Rattle.nic_device.specs.Sound.{IsSound}
 use Rattle.nic_device.specs.State.{State}
@@ -49,12 +49,12 @@ vector_by misc Pf bit =
     else valid_vector (has_bit 7 misc) (misc % 64))
 vector_by misc (Vf v) bit = Some bit
 
--- a bit is due: its cause and its mask read as 1, it isn't marked as told, and it has a vector
+-- a bit is due: its cause and its mask read as 1, it isn't marked as reported, and it has a vector
 pub record IsDue (s : State) (g : Group) (bit vector : ℕ) : Type 0 where
   pub within : bit < bits_in g
   pub cause : IsTrue (bit_of s g bit).cause
   pub mask : IsTrue (bit_of s g bit).mask
-  pub untold : IsFalse (has_bit bit (told_by s.registers g))
+  pub unreported : IsFalse (has_bit bit (reported_by s.registers g))
   pub routed : vector_by (read_at s misc_address) g bit ≡ Some vector
 
 -- no bit is due, and none below a bit is

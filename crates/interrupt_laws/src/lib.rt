@@ -20,7 +20,7 @@ ghost use Rattle.interrupt_laws.specs.Mailbox.{MailboxesAreShared};
 ghost use Rattle.interrupt_laws.specs.Marks.{MarksLast, MessagesMark};
 ghost use Rattle.interrupt_laws.specs.Messages.{MessagesHaveNumbers, MessagesAreShared, MessagesLast};
 ghost use Rattle.interrupt_laws.specs.Raised.{DeviceRaisesByNumber};
-ghost use Rattle.interrupt_laws.specs.Resets.{EndIsToldOnce, EndIsTold};
+ghost use Rattle.interrupt_laws.specs.Resets.{EndIsReportedOnce, EndIsReported};
 ghost use Rattle.interrupt_laws.specs.Sending.{RequestsAreApart};
 ghost use Rattle.interrupt_laws.specs.Accesses.{WriteOfCauseSetSets, WriteOfCausesClears, ReadOfCausesClears, WriteOfMasksSets, WriteOfMaskClearClears, SetAndClearReadZero, WriteOfAutoClearIsKept, WriteOfAutoMaskIsKept, ReadsShowTheView, OtherBitsReadZero};
 
@@ -85,9 +85,9 @@ pub fn holders_hold_on()
 
 /// From one reset of the device to the next, at most one read of PVFMAILBOX returns bit 7, that a reset is done. A
 /// write of CTRL_EXT with bit 14 sets it for each function that reads bit 6, that one began, and clears bit 6.
-pub fn ends_are_told_once()
-    ensures once { EndIsToldOnce }
-    ensures told { EndIsTold }
+pub fn ends_are_reported_once()
+    ensures once { EndIsReportedOnce }
+    ensures reported { EndIsReported }
 {}
 
 /// A write of PVFMAILBOX with bit 0 sets the request of its own function in PFMBICR, with bit 1 its own
@@ -112,7 +112,7 @@ pub fn accesses_are_answered()
 
 /// STATUS reads 0x00080000, or 0 while CTRL bit 2 is 1. LINKS reads 0x70000000 while the link is up, else 0, also right
 /// after the link was set up or down.
-pub fn status_and_links_are_told()
+pub fn status_and_links_are_reported()
     ensures status { StatusTellsOfSteps }
     ensures links { LinksTellsTheLink }
     ensures set { LinksTellsTheLinkSet }
@@ -160,9 +160,9 @@ pub fn masks_last()
     ensures { MasksLast }
 {}
 
-/// A bit that a message reported is marked as told, and not reported again, until its cause or its mask reads 0, or the
-/// device or the function's pool is reset: every other event, a write of EIMS among them, leaves each mark whose cause
-/// and mask read 1. A message step marks the bit that it reports, and no other event marks any.
+/// A bit that a message reported is marked as reported, and not reported again, until its cause or its mask reads 0, or
+/// the device or the function's pool is reset: every other event, a write of EIMS among them, leaves each mark whose
+/// cause and mask read 1. A message step marks the bit that it reports, and no other event marks any.
 pub fn marks_last()
     ensures last { MarksLast }
     ensures made { MessagesMark }

@@ -17,17 +17,17 @@ by_parts true b c x y z p q r = rw (← p, q, r)
 by_parts false b c x y z p q r = rw (← p)
 
 -- a call that settles these words leaves the bits that are in them
-pub leaves-settled : (s : Interrupts) (causes enabled told : BitSet) (bits : Bits) →
+pub leaves-settled : (s : Interrupts) (causes enabled reported : BitSet) (bits : Bits) →
     ((bit : ℕ) → bit < 32 → contains causes bit ≡ bits.cause bit) →
     ((bit : ℕ) → bit < 32 → contains enabled bit ≡ bits.mask bit) →
-    ((bit : ℕ) → bit < 32 → contains told bit ≡ bits.mark bit) → Leaves s (settled s causes enabled told) bits
-leaves-settled s causes enabled told bits cause mask mark = record {
+    ((bit : ℕ) → bit < 32 → contains reported bit ≡ bits.mark bit) → Leaves s (settled s causes enabled reported) bits
+leaves-settled s causes enabled reported bits cause mask mark = record {
   causes = cause;
   masks = mask;
-  told = λ bit h.
-      contains-intersection told (intersection causes enabled) bit h
-      ∙ ap (λ b. contains told bit && b) (contains-intersection causes enabled bit h)
-      ∙ by_parts (contains told bit) (contains causes bit) (contains enabled bit) _ _ _
+  reported = λ bit h.
+      contains-intersection reported (intersection causes enabled) bit h
+      ∙ ap (λ b. contains reported bit && b) (contains-intersection causes enabled bit h)
+      ∙ by_parts (contains reported bit) (contains causes bit) (contains enabled bit) _ _ _
       (mark bit h) (cause bit h) (mask bit h);
   auto_clear = refl;
   auto_mask = refl;
@@ -38,23 +38,23 @@ leaves-settled s causes enabled told bits cause mask mark = record {
 pub raises_change : RaisesChangeBits
 raises_change s raise auto =
     leaves-settled s (union s.causes (intersection raise (group_bits s.group)))
-    (union s.enabled (auto_masked s raise auto)) s.told _
+    (union s.enabled (auto_masked s raise auto)) s.reported _
     (λ bit h. simp (contains-union, contains-intersection))
     (λ bit h. simp (contains-union, contains-acting)) (λ bit h. refl)
 
 pub writes_of_ones_change : WritesOfOnesChangeBits
 writes_of_ones_change s ones auto =
-    leaves-settled s (difference s.causes ones) (difference s.enabled (auto_masked s ones auto)) s.told _
+    leaves-settled s (difference s.causes ones) (difference s.enabled (auto_masked s ones auto)) s.reported _
     (λ bit h. simp contains-difference) (λ bit h. simp (contains-difference, contains-acting)) (λ bit h. refl)
 
 pub mask_sets_change : MaskSetsChangeBits
 mask_sets_change s ones =
-    leaves-settled s s.causes (union s.enabled (intersection ones (group_bits s.group))) s.told _
+    leaves-settled s s.causes (union s.enabled (intersection ones (group_bits s.group))) s.reported _
     (λ bit h. refl) (λ bit h. simp (contains-union, contains-intersection)) (λ bit h. refl)
 
 pub mask_clears_change : MaskClearsChangeBits
 mask_clears_change s ones =
-    leaves-settled s s.causes (difference s.enabled ones) s.told _
+    leaves-settled s s.causes (difference s.enabled ones) s.reported _
     (λ bit h. refl) (λ bit h. simp contains-difference) (λ bit h. refl)
 
 pub auto_writes_change : AutoWritesChangeBits
@@ -102,7 +102,7 @@ kept (Vf v) ocd causes bit within h =
 pub reads_change : ReadsChangeBits
 reads_change s ocd auto ok =
     leaves-settled s (difference s.causes (bits_cleared_by_read s.group ocd))
-    (difference s.enabled (when auto s.auto_mask)) s.told _
+    (difference s.enabled (when auto s.auto_mask)) s.reported _
     (λ bit h.
     contains-difference s.causes (bits_cleared_by_read s.group ocd) bit h
     ∙ kept s.group ocd s.causes bit ok.causes_exist h)

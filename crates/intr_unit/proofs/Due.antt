@@ -1,4 +1,4 @@
--- The bits that are due, by operations on sets, and the lowest of them, which is told next.
+-- The bits that are due, by operations on sets, and the lowest of them, which is reported next.
 use Rattle.std.proofs.Common.{◌≡◌, ℕ, Bool, true, false, not, ◌&&◌, ◌<◌, refl, ap, sym, ◌∙◌, arith}
 use Rattle.std.specs.Prelude.{Some, None, is_some}
 use Rattle.std.proofs.lemmas.Bool.{false_from_ne_true}
@@ -12,16 +12,16 @@ use Rattle.intr_unit.proofs.SetLaws.{contains-difference}
 use Rattle.intr_unit.proofs.Subsets.{both_left, both_right}
 use Rattle.intr_unit.proofs.Finding.{IsFirst, find-first, find-first_of, find-none_of}
 
--- causes whose mask is 1, without those told, as far as they are routed
+-- causes whose mask is 1, without those reported, as far as they are routed
 abbrev remaining : Interrupts → ℕ → BitSet
-remaining s misc = intersection (difference (intersection s.causes s.enabled) s.told) (routed_bits s.group misc)
+remaining s misc = intersection (difference (intersection s.causes s.enabled) s.reported) (routed_bits s.group misc)
 
 contains-remaining : (s : Interrupts) (misc k : ℕ) → k < 32 → contains (remaining s misc) k ≡ is_due s misc k
 unfolding routed_bits
 contains-remaining s misc k h =
     rw (
-      contains-intersection (difference (intersection s.causes s.enabled) s.told) (routed_bits s.group misc) k h,
-      contains-difference (intersection s.causes s.enabled) s.told k h,
+      contains-intersection (difference (intersection s.causes s.enabled) s.reported) (routed_bits s.group misc) k h,
+      contains-difference (intersection s.causes s.enabled) s.reported k h,
       contains-intersection s.causes s.enabled k h,
       contains-bits_where (λ bit. is_some (vector_of s.group misc bit)) k h,
     )
@@ -32,9 +32,9 @@ remaining-is s misc =
     same_bits (remaining s misc) (due_bits s misc) (bits_where-lt _) (bits_where-lt _)
     (λ k h. contains-remaining s misc k h ∙ sym (contains-bits_where (is_due s misc) k h))
 
--- the bit that the code finds is the one that is told next
+-- the bit that the code finds is the one that is reported next
 pub lowest_of-remaining : (s : Interrupts) (misc : ℕ) →
-    lowest_of (intersection (difference (intersection s.causes s.enabled) s.told) (routed_bits s.group misc))
+    lowest_of (intersection (difference (intersection s.causes s.enabled) s.reported) (routed_bits s.group misc))
     ≡ next_bit s misc
 unfolding next_bit
 lowest_of-remaining s misc = ap lowest_of (remaining-is s misc)
@@ -63,15 +63,15 @@ not_true : (b : Bool) → not b ≡ true → b ≡ false
 not_true true h = sym h
 not_true false h = refl
 
-pub untold : (s : Interrupts) (misc bit : ℕ) → is_due s misc bit ≡ true → contains s.told bit ≡ false
-untold s misc bit h =
-    not_true (contains s.told bit)
-    (both_right (contains s.causes bit && contains s.enabled bit) (not (contains s.told bit))
+pub unreported : (s : Interrupts) (misc bit : ℕ) → is_due s misc bit ≡ true → contains s.reported bit ≡ false
+unreported s misc bit h =
+    not_true (contains s.reported bit)
+    (both_right (contains s.causes bit && contains s.enabled bit) (not (contains s.reported bit))
     (both_left _ (is_some (vector_of s.group misc bit)) h))
 
 pub pending : (s : Interrupts) (misc bit : ℕ) → is_due s misc bit ≡ true → IsPending s bit
 pending s misc bit h =
-    let both = both_left (contains s.causes bit && contains s.enabled bit) (not (contains s.told bit))
+    let both = both_left (contains s.causes bit && contains s.enabled bit) (not (contains s.reported bit))
     (both_left _ (is_some (vector_of s.group misc bit)) h) in
     record {
       cause = both_left (contains s.causes bit) (contains s.enabled bit) both;
@@ -80,7 +80,7 @@ pending s misc bit h =
 
 pub routed : (s : Interrupts) (misc bit : ℕ) → is_due s misc bit ≡ true → is_some (vector_of s.group misc bit) ≡ true
 routed s misc bit h =
-    both_right (contains s.causes bit && contains s.enabled bit && not (contains s.told bit))
+    both_right (contains s.causes bit && contains s.enabled bit && not (contains s.reported bit))
     (is_some (vector_of s.group misc bit)) h
 
 pub all_hold : (a b c d : Bool) → a ≡ true → b ≡ true → c ≡ false → d ≡ true → (a && b && not c && d) ≡ true
@@ -88,8 +88,8 @@ all_hold a b c d p q r t = rw (p, q, r, t)
 
 pub is_due-by : (s : Interrupts) (misc bit vector : ℕ) → IsDueBy s misc bit vector → is_due s misc bit ≡ true
 is_due-by s misc bit vector due =
-    all_hold (contains s.causes bit) (contains s.enabled bit) (contains s.told bit)
-    (is_some (vector_of s.group misc bit)) due.cause due.mask due.untold (ap is_some due.routed)
+    all_hold (contains s.causes bit) (contains s.enabled bit) (contains s.reported bit)
+    (is_some (vector_of s.group misc bit)) due.cause due.mask due.unreported (ap is_some due.routed)
 
 -- the message that is of a bit tells that bit
 pub next_bit-of : (s : Interrupts) (misc vector bit : ℕ) → IsMessageOf s misc vector bit → next_bit s misc ≡ Some bit

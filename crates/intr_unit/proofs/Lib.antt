@@ -7,5 +7,5 @@ pub mod Routing
 pub mod Due
 pub mod BitLaws
 pub mod MessageLaws
-pub mod ToldMarks
+pub mod ReportedMarks
 pub mod MaskLaws

@@ -7,7 +7,7 @@ use Rattle.intr_unit.specs.Interrupts.{after_mask_clear, after_mask_set}
 use Rattle.intr_unit.specs.Laws.{MaskingLosesNoCause}
 use Rattle.intr_unit.proofs.SetLaws.{contains-union, contains-intersection, contains-difference}
 use Rattle.intr_unit.proofs.Due.{all_hold}
-use Rattle.intr_unit.proofs.ToldMarks.{or_true}
+use Rattle.intr_unit.proofs.ReportedMarks.{or_true}
 
 both : (a b : Bool) → a ≡ true → b ≡ true → (a && b) ≡ true
 both a b p q = rw (p, q)
@@ -19,7 +19,7 @@ second_false : (a b : Bool) → b ≡ false → (a && b) ≡ false
 second_false true b p = p
 second_false false b p = refl
 
--- masks that are cleared and set again: every one of them is 1, and none of their bits is told
+-- masks that are cleared and set again: every one of them is 1, and none of their bits is reported
 unmasked : (enabled bits group bit : ℕ) → bit < 32 → contains bits bit ≡ true → contains group bit ≡ true →
     contains (union (difference enabled bits) (intersection bits group)) bit ≡ true
 unmasked enabled bits group bit h chosen exists =
@@ -50,11 +50,11 @@ masking_keeps = record {
   due_again = λ s bits misc bit h exists cause chosen vector.
       let cleared = difference s.enabled bits in
       let again = union cleared (intersection bits (group_bits s.group)) in
-      let gone : contains (after_mask_clear s bits).told bit ≡ false =
-      outside_right s.told (intersection s.causes cleared) bit h
+      let gone : contains (after_mask_clear s bits).reported bit ≡ false =
+      outside_right s.reported (intersection s.causes cleared) bit h
       (outside_right s.causes cleared bit h (masked s.enabled bits bit h chosen)) in
       all_hold (contains s.causes bit) (contains again bit)
-      (contains (after_mask_set (after_mask_clear s bits) bits).told bit) (is_some (vector_of s.group misc bit))
+      (contains (after_mask_set (after_mask_clear s bits) bits).reported bit) (is_some (vector_of s.group misc bit))
       cause (unmasked s.enabled bits (group_bits s.group) bit h chosen exists)
-      (outside_left (after_mask_clear s bits).told (intersection s.causes again) bit h gone) vector;
+      (outside_left (after_mask_clear s bits).reported (intersection s.causes again) bit h gone) vector;
 }

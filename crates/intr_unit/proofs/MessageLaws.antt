@@ -11,7 +11,7 @@ use Rattle.intr_unit.specs.Interrupts.{after_message_of}
 use Rattle.intr_unit.specs.Laws.{IsMessageOf, MessagesTellDueBits, Leaves, reported_bits, MessagesChangeBits}
 use Rattle.intr_unit.proofs.SetLaws.{contains-union, contains-intersection, contains-difference, contains-only}
 use Rattle.intr_unit.proofs.SetLaws.{contains-acting}
-use Rattle.intr_unit.proofs.Due.{first_due, none_due, untold, pending, routed, next_bit-of}
+use Rattle.intr_unit.proofs.Due.{first_due, none_due, unreported, pending, routed, next_bit-of}
 use Rattle.intr_unit.proofs.BitLaws.{leaves-settled}
 
 tells-of : (s : Interrupts) (misc vector : ℕ) (next : Option ℕ) → next_bit s misc ≡ next →
@@ -26,7 +26,7 @@ tells-of s misc vector (Some bit) at e =
         due = record {
           cause = ready.cause;
           mask = ready.mask;
-          untold = untold s misc bit first.passes;
+          unreported = unreported s misc bit first.passes;
           routed = e;
         };
         lowest = λ other h. elim (cases_lt other bit) [
@@ -39,12 +39,12 @@ tells-of s misc vector (Some bit) at e =
 idle-of : (s : Interrupts) (misc bit : ℕ) (next : Option ℕ) → next_bit s misc ≡ next →
     option_and_then (vector_of s.group misc) next ≡ None → bit < 32 → is_due s misc bit ≡ false
 idle-of s misc bit None at e h = none_due s misc bit at h
-idle-of s misc bit (Some told) at e h =
-    absurd (false≢true (sym (ap is_some e) ∙ routed s misc told (first_due s misc told at).passes))
+idle-of s misc bit (Some reported) at e h =
+    absurd (false≢true (sym (ap is_some e) ∙ routed s misc reported (first_due s misc reported at).passes))
 
 pub messages_tell : MessagesTellDueBits
 messages_tell = record {
-  told = λ s misc vector e. tells-of s misc vector (next_bit s misc) refl e;
+  reported = λ s misc vector e. tells-of s misc vector (next_bit s misc) refl e;
   idle = λ s misc bit e h. idle-of s misc bit (next_bit s misc) refl e h;
 }
 
@@ -54,7 +54,7 @@ leaves-telling : (s : Interrupts) (eiame : Bool) (chosen : ℕ) →
     Leaves s (after_telling s eiame chosen) (reported_bits s eiame chosen)
 leaves-telling s eiame chosen =
     leaves-settled s (difference s.causes (intersection (only chosen) s.auto_clear))
-    (difference s.enabled (auto_masked s (only chosen) eiame)) (union s.told (only chosen))
+    (difference s.enabled (auto_masked s (only chosen) eiame)) (union s.reported (only chosen))
     (reported_bits s eiame chosen)
     (λ bit h. simp (contains-difference, contains-intersection, contains-only))
     (λ bit h. simp (contains-difference, contains-acting, contains-only))
@@ -68,7 +68,7 @@ idle-leaves s eiame misc (Some bit) at e =
 
 pub messages_change : MessagesChangeBits
 messages_change = record {
-  told = λ s eiame misc vector chosen message.
+  reported = λ s eiame misc vector chosen message.
       rw (next_bit-of s misc vector chosen message) (leaves-telling s eiame chosen);
   idle = λ s eiame misc e. idle-leaves s eiame misc (next_bit s misc) refl e;
 }

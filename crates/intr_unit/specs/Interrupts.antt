@@ -6,24 +6,24 @@ use Rattle.intr_unit.specs.BitSet.{BitSet, no_bits, contains, bits_where, union,
 use Rattle.intr_unit.specs.BitSet.{lowest_of, IsSubset}
 use Rattle.intr_unit.specs.Group.{group_bits, bits_cleared_by_read, vector_of}
 
--- the words of a group as sets of bits, and the bits that a message reported: the told bits
+-- the words of a group as sets of bits, and the bits that a message reported: the reported bits
 pub record Interrupts : Type 0 where
   pub group : Group
   pub causes : BitSet
   pub enabled : BitSet
   pub auto_clear : BitSet
   pub auto_mask : BitSet
-  pub told : BitSet
+  pub reported : BitSet
 
--- between calls a word has only bits that the group has, and each told bit has its cause and its mask at 1
+-- between calls a word has only bits that the group has, and each reported bit has its cause and its mask at 1
 pub record IsConsistent (s : Interrupts) : Type 0 where
   pub causes_exist : IsSubset s.causes (group_bits s.group)
   pub masks_exist : IsSubset s.enabled (group_bits s.group)
   pub auto_clear_exists : IsSubset s.auto_clear (group_bits s.group)
   pub auto_mask_exists : IsSubset s.auto_mask (group_bits s.group)
-  pub told_is_pending : IsSubset s.told (intersection s.causes s.enabled)
+  pub reported_is_pending : IsSubset s.reported (intersection s.causes s.enabled)
 
--- all words 0, nothing told
+-- all words 0, nothing reported
 abbrev pub reset_of : Group → Interrupts
 reset_of group =
     record {
@@ -32,13 +32,13 @@ reset_of group =
       enabled = no_bits;
       auto_clear = no_bits;
       auto_mask = no_bits;
-      told = no_bits;
+      reported = no_bits;
     }
 
--- a group's interrupts by its words and its told bits: of the words the bits that the group has, and of the told bits
--- those whose cause and mask are 1
-abbrev pub of_words : Group → (causes enabled auto_clear auto_mask told : ℕ) → Interrupts
-of_words group causes enabled auto_clear auto_mask told =
+-- a group's interrupts by its words and its reported bits: of the words the bits that the group has, and of the
+-- reported bits those whose cause and mask are 1
+abbrev pub of_words : Group → (causes enabled auto_clear auto_mask reported : ℕ) → Interrupts
+of_words group causes enabled auto_clear auto_mask reported =
     let bits = group_bits group in
     record {
       group = group;
@@ -46,13 +46,13 @@ of_words group causes enabled auto_clear auto_mask told =
       enabled = intersection enabled bits;
       auto_clear = intersection auto_clear bits;
       auto_mask = intersection auto_mask bits;
-      told = intersection told (intersection (intersection causes bits) (intersection enabled bits));
+      reported = intersection reported (intersection (intersection causes bits) (intersection enabled bits));
     }
 
--- these causes and masks; of these told marks those are removed whose cause or mask is 0
+-- these causes and masks; of these reported marks those are removed whose cause or mask is 0
 abbrev pub settled : Interrupts → BitSet → BitSet → BitSet → Interrupts
-settled s causes enabled told =
-    record s { causes = causes; enabled = enabled; told = intersection told (intersection causes enabled) }
+settled s causes enabled reported =
+    record s { causes = causes; enabled = enabled; reported = intersection reported (intersection causes enabled) }
 
 -- those of the bits that the auto-mask has, where it acts
 abbrev pub auto_masked : Interrupts → BitSet → Bool → BitSet
@@ -64,7 +64,7 @@ raised s bits auto =
     settled s
     (union s.causes (intersection bits (group_bits s.group)))
     (union s.enabled (auto_masked s bits auto))
-    s.told
+    s.reported
 
 -- a read clears causes; the auto-mask clears its masks
 abbrev pub after_read : Interrupts → Bool → Bool → Interrupts
@@ -72,20 +72,20 @@ after_read s ocd auto =
     settled s
     (difference s.causes (bits_cleared_by_read s.group ocd))
     (difference s.enabled (when auto s.auto_mask))
-    s.told
+    s.reported
 
 -- the causes become 0; the auto-mask clears the masks of those of the bits that it has
 abbrev pub after_write_one : Interrupts → BitSet → Bool → Interrupts
 after_write_one s bits auto =
-    settled s (difference s.causes bits) (difference s.enabled (auto_masked s bits auto)) s.told
+    settled s (difference s.causes bits) (difference s.enabled (auto_masked s bits auto)) s.reported
 
 -- the masks become 1
 abbrev pub after_mask_set : Interrupts → BitSet → Interrupts
-after_mask_set s bits = settled s s.causes (union s.enabled (intersection bits (group_bits s.group))) s.told
+after_mask_set s bits = settled s s.causes (union s.enabled (intersection bits (group_bits s.group))) s.reported
 
 -- the masks become 0
 abbrev pub after_mask_clear : Interrupts → BitSet → Interrupts
-after_mask_clear s bits = settled s s.causes (difference s.enabled bits) s.told
+after_mask_clear s bits = settled s s.causes (difference s.enabled bits) s.reported
 
 -- a write of the auto-clear register
 abbrev pub with_auto_clear : Interrupts → BitSet → Interrupts
@@ -95,10 +95,11 @@ with_auto_clear s word = record s { auto_clear = intersection word (group_bits s
 abbrev pub with_auto_mask : Interrupts → BitSet → Interrupts
 with_auto_mask s word = record s { auto_mask = intersection word (group_bits s.group) }
 
--- the bit is due: its cause and its mask are 1, it isn't told, and it is routed
+-- the bit is due: its cause and its mask are 1, it isn't reported, and it is routed
 abbrev pub is_due : Interrupts → ℕ → ℕ → Bool
 is_due s misc bit =
-    contains s.causes bit && contains s.enabled bit && not (contains s.told bit) && is_some (vector_of s.group misc bit)
+    contains s.causes bit && contains s.enabled bit && not (contains s.reported bit)
+    && is_some (vector_of s.group misc bit)
 
 -- the bits that are due
 unfoldable pub due_bits : Interrupts → ℕ → BitSet
@@ -119,7 +120,7 @@ after_telling s eiame bit =
     settled s
     (difference s.causes (intersection (only bit) s.auto_clear))
     (difference s.enabled (auto_masked s (only bit) eiame))
-    (union s.told (only bit))
+    (union s.reported (only bit))
 
 -- what a message of that bit leaves; without a bit nothing changes
 abbrev pub after_message_of : Interrupts → Bool → Option ℕ → Interrupts

@@ -16,11 +16,11 @@ pub record SetsHoldTheirBits : Type 0 where
   pub same : (left right : BitSet) → left < 2 ^ 32 → right < 2 ^ 32 →
       ((bit : ℕ) → bit < 32 → contains left bit ≡ contains right bit) → left ≡ right
 
--- the bit's cause and its mask are 1, it isn't told, and this is its vector
+-- the bit's cause and its mask are 1, it isn't reported, and this is its vector
 pub record IsDueBy (s : Interrupts) (misc bit vector : ℕ) : Type 0 where
   pub cause : IsTrue (contains s.causes bit)
   pub mask : IsTrue (contains s.enabled bit)
-  pub untold : IsFalse (contains s.told bit)
+  pub unreported : IsFalse (contains s.reported bit)
   pub routed : vector_of s.group misc bit ≡ Some vector
 
 -- the message of this vector is that of the bit, the lowest that is due
@@ -31,18 +31,18 @@ pub record IsMessageOf (s : Interrupts) (misc vector bit : ℕ) : Type 0 where
 
 -- each message is of the lowest bit that is due, and without a message no bit is due
 pub record MessagesTellDueBits : Type 0 where
-  pub told : (s : Interrupts) (misc vector : ℕ) → next_vector s misc ≡ Some vector →
+  pub reported : (s : Interrupts) (misc vector : ℕ) → next_vector s misc ≡ Some vector →
       (bit : ℕ) × IsMessageOf s misc vector bit
   pub idle : (s : Interrupts) (misc bit : ℕ) → next_vector s misc ≡ None → bit < 32 → IsFalse (is_due s misc bit)
 
--- a bit that was told isn't told again as long as its cause and its mask stay 1
-abbrev pub BitsAreToldOnce : Type 0
-BitsAreToldOnce =
+-- a bit that was reported isn't reported again as long as its cause and its mask stay 1
+abbrev pub BitsAreReportedOnce : Type 0
+BitsAreReportedOnce =
     (s : Interrupts) (eiame : Bool) (misc bit : ℕ) → next_bit s misc ≡ Some bit →
     (run : List Access) → StaysPending (after_message s eiame misc) run bit →
     (misc_then : ℕ) → next_bit (after_all (after_message s eiame misc) run) misc_then ≢ Some bit
 
--- masks that are cleared leave every cause, and once they are set again the causes are due again, told or not
+-- masks that are cleared leave every cause, and once they are set again the causes are due again, reported or not
 pub record MaskingLosesNoCause : Type 0 where
   pub causes : (s : Interrupts) (bits : BitSet) → (after_mask_clear s bits).causes ≡ s.causes
   pub due_again : (s : Interrupts) (bits : BitSet) (misc bit : ℕ) → bit < 32 →
@@ -50,7 +50,7 @@ pub record MaskingLosesNoCause : Type 0 where
       IsSome (vector_of s.group misc bit) →
       IsTrue (is_due (after_mask_set (after_mask_clear s bits) bits) misc bit)
 
--- for each bit, whether its cause is 1, whether its mask is 1, and whether it is marked as told
+-- for each bit, whether its cause is 1, whether its mask is 1, and whether it is marked as reported
 pub record Bits : Type 0 where
   pub cause : ℕ → Bool
   pub mask : ℕ → Bool
@@ -61,7 +61,7 @@ pub record Bits : Type 0 where
 pub record Leaves (before left : Interrupts) (bits : Bits) : Type 0 where
   pub causes : (bit : ℕ) → bit < 32 → contains left.causes bit ≡ bits.cause bit
   pub masks : (bit : ℕ) → bit < 32 → contains left.enabled bit ≡ bits.mask bit
-  pub told : (bit : ℕ) → bit < 32 → contains left.told bit ≡ (bits.mark bit && bits.cause bit && bits.mask bit)
+  pub reported : (bit : ℕ) → bit < 32 → contains left.reported bit ≡ (bits.mark bit && bits.cause bit && bits.mask bit)
   pub auto_clear : left.auto_clear ≡ before.auto_clear
   pub auto_mask : left.auto_mask ≡ before.auto_mask
 
@@ -73,7 +73,7 @@ RaisesChangeBits =
     (record {
       cause = λ bit. contains s.causes bit || (contains raise bit && contains (group_bits s.group) bit);
       mask = λ bit. contains s.enabled bit || (auto && contains raise bit && contains s.auto_mask bit);
-      mark = λ bit. contains s.told bit;
+      mark = λ bit. contains s.reported bit;
     })
 
 -- a read keeps no cause but, of the PF with other-cause clearing, those outside bits 29 to 16
@@ -89,7 +89,7 @@ ReadsChangeBits =
     (record {
       cause = λ bit. contains s.causes bit && keeps_cause s.group ocd bit;
       mask = λ bit. contains s.enabled bit && not (auto && contains s.auto_mask bit);
-      mark = λ bit. contains s.told bit;
+      mark = λ bit. contains s.reported bit;
     })
 
 -- a write of ones to the cause register: the causes of these bits become 0, and where the auto-mask acts the masks of
@@ -100,7 +100,7 @@ WritesOfOnesChangeBits =
     (record {
       cause = λ bit. contains s.causes bit && not (contains ones bit);
       mask = λ bit. contains s.enabled bit && not (auto && contains ones bit && contains s.auto_mask bit);
-      mark = λ bit. contains s.told bit;
+      mark = λ bit. contains s.reported bit;
     })
 
 -- a write of the mask register: the masks of these bits become 1, as far as the group has them
@@ -110,7 +110,7 @@ MaskSetsChangeBits =
     (record {
       cause = λ bit. contains s.causes bit;
       mask = λ bit. contains s.enabled bit || (contains ones bit && contains (group_bits s.group) bit);
-      mark = λ bit. contains s.told bit;
+      mark = λ bit. contains s.reported bit;
     })
 
 -- a write of the mask clear register: the masks of these bits become 0
@@ -120,7 +120,7 @@ MaskClearsChangeBits =
     (record {
       cause = λ bit. contains s.causes bit;
       mask = λ bit. contains s.enabled bit && not (contains ones bit);
-      mark = λ bit. contains s.told bit;
+      mark = λ bit. contains s.reported bit;
     })
 
 -- the bits once one is reported: its cause becomes 0 where the auto-clear has it, its mask where EIAME is 1 and the
@@ -130,12 +130,12 @@ reported_bits s eiame chosen =
     record {
       cause = λ bit. contains s.causes bit && not (bit == chosen && contains s.auto_clear bit);
       mask = λ bit. contains s.enabled bit && not (eiame && bit == chosen && contains s.auto_mask bit);
-      mark = λ bit. contains s.told bit || bit == chosen;
+      mark = λ bit. contains s.reported bit || bit == chosen;
     }
 
 -- a message reports its bit, and without a message nothing changes
 pub record MessagesChangeBits : Type 0 where
-  pub told : (s : Interrupts) (eiame : Bool) (misc vector chosen : ℕ) → IsMessageOf s misc vector chosen →
+  pub reported : (s : Interrupts) (eiame : Bool) (misc vector chosen : ℕ) → IsMessageOf s misc vector chosen →
       Leaves s (after_message s eiame misc) (reported_bits s eiame chosen)
   pub idle : (s : Interrupts) (eiame : Bool) (misc : ℕ) → next_vector s misc ≡ None → after_message s eiame misc ≡ s
 
@@ -150,8 +150,8 @@ pub record AutoWritesChangeBits : Type 0 where
       record (with_auto_clear s clear) { auto_clear = s.auto_clear } ≡ s
       × record (with_auto_mask s mask) { auto_mask = s.auto_mask } ≡ s
 
--- after each access a bit is told only while its cause and its mask are 1
-abbrev pub ToldBitsArePending : Type 0
-ToldBitsArePending =
-    (s : Interrupts) (access : Access) (bit : ℕ) → IsConsistent s → IsTrue (contains (after s access).told bit) →
+-- after each access a bit is reported only while its cause and its mask are 1
+abbrev pub ReportedBitsArePending : Type 0
+ReportedBitsArePending =
+    (s : Interrupts) (access : Access) (bit : ℕ) → IsConsistent s → IsTrue (contains (after s access).reported bit) →
     IsPending (after s access) bit

@@ -12,7 +12,7 @@ use std::marker::Model;
 /// The interrupts of one group, of the physical function or of a virtual function.
 ///
 /// A message reports (tells) a bit once: it is reported again only after its cause or its mask was 0. Contracts see the
-/// group, its words as sets of bits, and the set of told bits, each of which has its cause and its mask at 1.
+/// group, its words as sets of bits, and the set of reported bits, each of which has its cause and its mask at 1.
 ///
 /// Intel 82599 datasheet, sections on interrupt registers and on clearing interrupt causes. What a read of EICR clears
 /// and what the auto-mask does are this project's profile.
@@ -23,7 +23,7 @@ pub struct Causes {
     enabled: BitSet,
     auto_clear: BitSet,
     auto_mask: BitSet,
-    told: BitSet,
+    reported: BitSet,
 }
 
 impl Model for Causes {
@@ -37,7 +37,7 @@ impl Model for Causes {
       enabled = a.enabled;
       auto_clear = a.auto_clear;
       auto_mask = a.auto_mask;
-      told = a.told;
+      reported = a.reported;
     } };
 
     ghost invariant = { λ a. IsConsistent (record {
@@ -46,7 +46,7 @@ impl Model for Causes {
       enabled = a.enabled;
       auto_clear = a.auto_clear;
       auto_mask = a.auto_mask;
-      told = a.told;
+      reported = a.reported;
     }) };
 
     ghost inverse = { λ s. record {
@@ -55,14 +55,14 @@ impl Model for Causes {
       enabled = s.enabled;
       auto_clear = s.auto_clear;
       auto_mask = s.auto_mask;
-      told = s.told;
+      reported = s.reported;
     } };
 }
 
 #[tactic(auto, using(crate::proofs::Subsets::subsets))]
 impl Causes {
-    /// A group after a reset: all words 0, nothing told. The device's reset makes all groups anew, and a pool's reset
-    /// the one of its virtual function.
+    /// A group after a reset: all words 0, nothing reported. The device's reset makes all groups anew, and a pool's
+    /// reset the one of its virtual function.
     pub fn new(group: Group) -> Self
         ensures { result ≡ reset_of group }
     {
@@ -72,22 +72,22 @@ impl Causes {
             enabled: BitSet::EMPTY,
             auto_clear: BitSet::EMPTY,
             auto_mask: BitSet::EMPTY,
-            told: BitSet::EMPTY,
+            reported: BitSet::EMPTY,
         }
     }
 
-    /// A group from the words of its registers and its told bits, as [`Causes::causes`], [`Causes::enabled`],
-    /// [`Causes::auto_clear`], [`Causes::auto_mask`] and [`Causes::told`] return them. Bits that the group doesn't have
-    /// are dropped, and so are told bits whose cause or mask is 0.
+    /// A group from the words of its registers and its reported bits, as [`Causes::causes`], [`Causes::enabled`],
+    /// [`Causes::auto_clear`], [`Causes::auto_mask`] and [`Causes::reported`] return them. Bits that the group doesn't
+    /// have are dropped, and so are reported bits whose cause or mask is 0.
     pub fn of_words(
         group: Group,
         causes: u32,
         enabled: u32,
         auto_clear: u32,
         auto_mask: u32,
-        told: u32,
+        reported: u32,
     ) -> Self
-        ensures { result ≡ of_words group causes enabled auto_clear auto_mask told }
+        ensures { result ≡ of_words group causes enabled auto_clear auto_mask reported }
     {
         let existing = BitSet::of_word(group.bits());
         let causes = BitSet::of_word(causes).intersection(existing);
@@ -98,7 +98,7 @@ impl Causes {
             enabled,
             auto_clear: BitSet::of_word(auto_clear).intersection(existing),
             auto_mask: BitSet::of_word(auto_mask).intersection(existing),
-            told: BitSet::of_word(told).intersection(causes.intersection(enabled)),
+            reported: BitSet::of_word(reported).intersection(causes.intersection(enabled)),
         }
     }
 
@@ -146,10 +146,10 @@ impl Causes {
     /// The bits that messages have reported: each has its cause and its mask at 1, and isn't reported again before one
     /// of them was 0.
     #[inline(always)]
-    pub fn told(&self) -> u32
-        ensures { result ≡ self.now.told }
+    pub fn reported(&self) -> u32
+        ensures { result ≡ self.now.reported }
     {
-        self.told.word()
+        self.reported.word()
     }
 
     /// Raises causes, as the device does (`auto` is false) or a write of the set register (EICS, PVTEICS: then `bits`
@@ -163,7 +163,7 @@ impl Causes {
         let bits = BitSet::of_word(bits);
         let causes = self.causes.union(bits.intersection(self.existing()));
         let enabled = self.enabled.union(self.auto_masked(bits, auto));
-        self.settle(causes, enabled, self.told);
+        self.settle(causes, enabled, self.reported);
     }
 
     /// Reads the cause register: returns its word and clears it; for the PF with GPIE bit 5 (`ocd`) it clears bits 29
@@ -177,7 +177,7 @@ impl Causes {
         let word = self.causes();
         let causes = self.causes.difference(self.group.bits_cleared_by_read(ocd));
         let enabled = self.enabled.difference(self.auto_mask.when(auto));
-        self.settle(causes, enabled, self.told);
+        self.settle(causes, enabled, self.reported);
         word
     }
 
@@ -191,7 +191,7 @@ impl Causes {
         let bits = BitSet::of_word(bits);
         let causes = self.causes.difference(bits);
         let enabled = self.enabled.difference(self.auto_masked(bits, auto));
-        self.settle(causes, enabled, self.told);
+        self.settle(causes, enabled, self.reported);
     }
 
     /// Writes the mask register (EIMS, PVTEIMS): the masks that are 1 in `bits` become 1. `bits` is the written word
@@ -201,7 +201,7 @@ impl Causes {
         ensures { self.new ≡ after_mask_set self.old bits }
     {
         let bits = BitSet::of_word(bits).intersection(self.existing());
-        self.settle(self.causes, self.enabled.union(bits), self.told);
+        self.settle(self.causes, self.enabled.union(bits), self.reported);
     }
 
     /// Writes the mask clear register (EIMC, PVTEIMC): the masks that are 1 in `bits` become 0. `bits` is the written
@@ -211,7 +211,7 @@ impl Causes {
         ensures { self.new ≡ after_mask_clear self.old bits }
     {
         let enabled = self.enabled.difference(BitSet::of_word(bits));
-        self.settle(self.causes, enabled, self.told);
+        self.settle(self.causes, enabled, self.reported);
     }
 
     /// Sets the auto-clear register (EIAC, PVTEIAC) to a word, without the bits that the group doesn't have. For a
@@ -233,9 +233,9 @@ impl Causes {
     }
 
     /// Makes the next message: reports the lowest due bit and returns its vector (0 to 15), or `None` where no bit is
-    /// due, which changes nothing. A bit is due where its cause and its mask are 1, it isn't told, and it has a vector
-    /// by [`Group::vector_of`]. The reported bit's cause becomes 0 where the auto-clear has it; its mask becomes 0
-    /// where GPIE bit 30 (`eiame`) is 1 and the auto-mask has it. `misc` is the word of IVAR_MISC.
+    /// due, which changes nothing. A bit is due where its cause and its mask are 1, it isn't reported, and it has a
+    /// vector by [`Group::vector_of`]. The reported bit's cause becomes 0 where the auto-clear has it; its mask becomes
+    /// 0 where GPIE bit 30 (`eiame`) is 1 and the auto-mask has it. `misc` is the word of IVAR_MISC.
     pub fn message(&mut self, eiame: bool, misc: u32) -> Option<u8>
         ensures vector { result ≡ next_vector self.old misc }
         ensures state { self.new ≡ after_message self.old eiame misc }
@@ -244,7 +244,7 @@ impl Causes {
         let one = BitSet::only(bit);
         let causes = self.causes.difference(one.intersection(self.auto_clear));
         let enabled = self.enabled.difference(self.auto_masked(one, eiame));
-        self.settle(causes, enabled, self.told.union(one));
+        self.settle(causes, enabled, self.reported.union(one));
         self.group.vector_of(bit, misc)
     }
 
@@ -255,7 +255,7 @@ impl Causes {
     {
         self.causes
             .intersection(self.enabled)
-            .difference(self.told)
+            .difference(self.reported)
             .intersection(self.group.routed_bits(misc))
             .lowest()
     }
@@ -276,15 +276,15 @@ impl Causes {
         bits.intersection(self.auto_mask).when(auto)
     }
 
-    /// Stores these causes and masks, and those of the told bits whose cause and mask are 1.
+    /// Stores these causes and masks, and those of the reported bits whose cause and mask are 1.
     #[inline(always)]
-    fn settle(&mut self, causes: BitSet, enabled: BitSet, told: BitSet)
+    fn settle(&mut self, causes: BitSet, enabled: BitSet, reported: BitSet)
         requires causes { IsSubset causes (group_bits self.old.group) }
         requires enabled { IsSubset enabled (group_bits self.old.group) }
-        ensures { self.new ≡ settled self.old causes enabled told }
+        ensures { self.new ≡ settled self.old causes enabled reported }
     {
         self.causes = causes;
         self.enabled = enabled;
-        self.told = told.intersection(causes.intersection(enabled));
+        self.reported = reported.intersection(causes.intersection(enabled));
     }
 }

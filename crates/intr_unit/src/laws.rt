@@ -1,22 +1,22 @@
 //! What a driver can rely on. Each function has no body: its clause is the law, which is proved.
 
-ghost use Rattle.intr_unit.specs.Laws.{SetsHoldTheirBits, MessagesTellDueBits, BitsAreToldOnce, MaskingLosesNoCause};
-ghost use Rattle.intr_unit.specs.Laws.{RaisesChangeBits, ReadsChangeBits, WritesOfOnesChangeBits, MaskSetsChangeBits, MaskClearsChangeBits, MessagesChangeBits, AutoWritesChangeBits, ToldBitsArePending};
+ghost use Rattle.intr_unit.specs.Laws.{SetsHoldTheirBits, MessagesTellDueBits, BitsAreReportedOnce, MaskingLosesNoCause};
+ghost use Rattle.intr_unit.specs.Laws.{RaisesChangeBits, ReadsChangeBits, WritesOfOnesChangeBits, MaskSetsChangeBits, MaskClearsChangeBits, MessagesChangeBits, AutoWritesChangeBits, ReportedBitsArePending};
 
 /// A set that a test defines has exactly the bits that pass it, and a word is determined by its bits.
 pub fn sets_hold_their_bits()
     ensures { SetsHoldTheirBits }
 {}
 
-/// Each message reports the lowest bit that has its cause and its mask at 1, isn't told and is routed; without a
+/// Each message reports the lowest bit that has its cause and its mask at 1, isn't reported and is routed; without a
 /// message there is no such bit.
 pub fn messages_tell_due_bits()
     ensures { MessagesTellDueBits }
 {}
 
 /// After a message that reports a bit, no second message reports it before its cause or its mask was 0.
-pub fn bits_are_told_once()
-    ensures { BitsAreToldOnce }
+pub fn bits_are_reported_once()
+    ensures { BitsAreReportedOnce }
 {}
 
 /// Clearing masks loses no cause: once they are set again, each is due.
@@ -58,7 +58,7 @@ pub fn auto_writes_change_bits()
     ensures { AutoWritesChangeBits }
 {}
 
-/// After each access a bit is told only while its cause and its mask are 1.
-pub fn told_bits_are_pending()
-    ensures { ToldBitsArePending }
+/// After each access a bit is reported only while its cause and its mask are 1.
+pub fn reported_bits_are_pending()
+    ensures { ReportedBitsArePending }
 {}

@@ -41,8 +41,8 @@ pub fn none<T>(rt: &impl Abort, answer: Option<T>) {
 }
 
 /// Checks that two numbers are the same.
-pub fn same(rt: &impl Abort, told: u64, wanted: u64) {
-    assert_eq!(rt; told, wanted);
+pub fn same(rt: &impl Abort, reported: u64, wanted: u64) {
+    assert_eq!(rt; reported, wanted);
 }
 
 /// Checks that something holds of what has this name.

@@ -204,7 +204,7 @@ fn lent_once(rt: &impl Hand, memory: &mut LentMemory, buf: Buf) -> Buf {
 
 /// A block of another arena is returned while the number is free here, and lent but once at a time.
 #[test]
-fn blocks_of_another_arena_are_told(rt: HostRuntime) {
+fn blocks_of_another_arena_are_reported(rt: HostRuntime) {
     let rt = &rt;
     let mut other = arena(rt, 4, 2);
     let mut arena = arena(rt, 4, 2);

@@ -49,7 +49,7 @@ const ROWS: [Row<'static>; 10] = [
 ];
 
 /// Each script ends as its row says.
-fn end_as_told(rt: &impl Hand, rows: &[Row<'_>]) -> Result<(), AllocError> {
+fn end_as_reported(rt: &impl Hand, rows: &[Row<'_>]) -> Result<(), AllocError> {
     for (start, part, count, rest, end, ended) in rows {
         let script = repeated(rt.alloc(), start, part, *count, rest)?;
         holds(rt, rest, ends_so(rt.alloc(), script.as_str(), end, *ended));
@@ -60,7 +60,7 @@ fn end_as_told(rt: &impl Hand, rows: &[Row<'_>]) -> Result<(), AllocError> {
 /// A program has 4,096 instructions at most, and data 16,384 bytes.
 #[test]
 fn longest_scripts(rt: HostRuntime) -> Result<(), Fail> {
-    end_as_told(&rt, &ROWS)?;
+    end_as_reported(&rt, &ROWS)?;
     Ok(())
 }
 

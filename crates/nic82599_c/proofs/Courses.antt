@@ -55,7 +55,7 @@ pub round-none : (room : ℕ) (steps : List Step) (before : Course) → rounds 0
 unfolding rounds
 round-none room steps before = refl
 
--- whether a round is the last, by how many entries are told before and after it
+-- whether a round is the last, by how many entries are reported before and after it
 pub last-is : (c d : Holdings) (told new : List Told) (n m ended : ℕ) → n ≤ length told → m ≤ length new
     → is_last (course c told n 0) (course d new m ended) ≡ is_over ended n m
 last-is c d told new n m ended small fits = rw (length-take-le n told small, length-take-le m new fits) refl

@@ -1,4 +1,4 @@
--- The frame that is collected is the one whose length was told.
+-- The frame that is collected is the one whose length was reported.
 use Rattle.std.proofs.Common.{◌≡◌, ◌∙◌, sym, ap, ℕ, ◌≤◌, List, [], ◌∷◌, length, take, arith}
 use Rattle.std.proofs.lemmas.List.{length-take-le}
 use Rattle.nic_device.specs.DmaArena.Block.{Block}

@@ -46,7 +46,7 @@ read_leads s port n (Register p view) here =
 reset_stays : (s : State) (p : Place) (view word : ℕ) → asks_reset (row_of p.row).kind word ≡ true
     → StaysWithin (write_reach (mode_in s.registers) (Register p view) word) s (reset s)
 reset_stays s p view word asks = rw asks (record {
-  registers = record { bits = λ q bit no. cc; wanted = λ dir queue no. cc; told = λ g no. cc };
+  registers = record { bits = λ q bit no. cc; wanted = λ dir queue no. cc; reported = λ g no. cc };
   blocks = λ n no. ap (λ (m : Memory). map.get m n) (reset_leaves s).memory;
   lent = λ n no. ap (λ (m : Memory). has_block m n) (reset_leaves s).memory;
   staged = λ queue no. cc;

@@ -27,14 +27,14 @@ pub covers-first : (f g : Footprint) → Covers (either f g) f
 covers-first f g = record {
   bits = λ p bit is. or_left (f.bits p bit) (g.bits p bit) is;
   wanted = λ dir queue is. or_left (f.wanted dir queue) (g.wanted dir queue) is;
-  told = λ h is. or_left (f.told h) (g.told h) is;
+  reported = λ h is. or_left (f.reported h) (g.reported h) is;
 }
 
 pub covers-second : (f g : Footprint) → Covers (either f g) g
 covers-second f g = record {
   bits = λ p bit is. or_right (f.bits p bit) (g.bits p bit) is;
   wanted = λ dir queue is. or_right (f.wanted dir queue) (g.wanted dir queue) is;
-  told = λ h is. or_right (f.told h) (g.told h) is;
+  reported = λ h is. or_right (f.reported h) (g.reported h) is;
 }
 
 -- registers that come of others: changed within a footprint, and sound where those are and the step is a good one

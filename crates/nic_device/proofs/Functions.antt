@@ -40,7 +40,7 @@ covers-function_count row v is = record {
       ap (λ (q : Place). is_function_count (row_of q.row).bank) (sym (is_place-same (place row v) p same))
       ∙ ap is_function_count is.bank;
   wanted = λ dir queue no. cc;
-  told = λ g no. cc;
+  reported = λ g no. cc;
 }
 
 -- frames of functions are counted

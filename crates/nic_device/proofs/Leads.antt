@@ -44,7 +44,7 @@ leads-memory s e reply m sound blocks lent hands no_fault = record {
   sound = λ h is. sound-memory s m h (sound h is);
   stays = assumption (within-refl (reach_by s e reply).registers s.registers);
   hands = hands;
-  faults = λ told. cc;
+  faults = λ reported. cc;
 }
 
 -- one that changes registers alone, and turns no side on or off

@@ -58,14 +58,14 @@ write_at-none m a = refl
 pub peeks_tell : (s : State) (a n : ℕ) → a % 16 ≡ 0 → is_lent s.memory a (16 * n) ≡ true
     → PeeksTell s a n (read_at s.memory a (16 * n))
 unfolding step_of
-peeks_tell s a zero aligned lent = record { state = refl; told = sym (read_at-none s.memory a) }
+peeks_tell s a zero aligned lent = record { state = refl; reported = sym (read_at-none s.memory a) }
 peeks_tell s a (suc n) aligned lent =
     let parts = lent_parts s.memory a n lent in
     let rest = peeks_tell s (a + 16) n (omega arith) parts.1 in
     let first = peeked-lent s a aligned parts.0 in record {
       state = ap (λ (o : Outcome). state_after o.state (peeks (a + 16) n)) first ∙ rest.state;
-      told = ap (λ (o : Outcome). reported_bytes (o.reply ∷ replies_of o.state (peeks (a + 16) n))) first
-          ∙ ap (λ (xs : List ℕ). read_at s.memory a 16 ++ xs) rest.told ∙ read_at-parts s.memory a n;
+      reported = ap (λ (o : Outcome). reported_bytes (o.reply ∷ replies_of o.state (peeks (a + 16) n))) first
+          ∙ ap (λ (xs : List ℕ). read_at s.memory a 16 ++ xs) rest.reported ∙ read_at-parts s.memory a n;
     }
 
 -- n pokes

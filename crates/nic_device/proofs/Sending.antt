@@ -37,10 +37,10 @@ use Rattle.rx_ring.specs.DmaRing.declared.dir.Dir.TheVariants.{Rx, Tx}
 use Rattle.nic_device.specs.declared.event.Event.TheVariants as event
 use Rattle.nic_device.specs.declared.event.Reply.TheVariants.{Idle, NoQueue, Fault}
 
--- what is told of a fetched slot
-back_told : (queue : ℕ) (f : Fetched) (o : Option (List ℕ)) → reported_address (fetched_reply queue f o) ≡ f.back
-back_told queue f (Some frame) = refl
-back_told queue f None = refl
+-- what is reported a fetched slot
+back_reported : (queue : ℕ) (f : Fetched) (o : Option (List ℕ)) → reported_address (fetched_reply queue f o) ≡ f.back
+back_reported queue f (Some frame) = refl
+back_reported queue f None = refl
 
 no_fault : (queue : ℕ) (f : Fetched) (o : Option (List ℕ)) → is_fault (fetched_reply queue f o) ≡ false
 no_fault queue f (Some frame) = refl
@@ -136,7 +136,7 @@ fetched_leads s queue f is few on =
         blocks = λ n none.
             back_stays s.memory (fetched_by s queue).memory tx f f.back refl
             (writes_inside_report s.memory (staged_by s queue) q.ring tx f is) n
-            (subst (λ o. back_into o (report_length q.writeback) n ≡ false) (back_told queue f f.frame) none);
+            (subst (λ o. back_into o (report_length q.writeback) n ≡ false) (back_reported queue f f.frame) none);
         lent = λ n no. (fetch_keeps_blocks s.memory (staged_by s queue) q.ring tx).0 n;
         staged = λ other no. staged_stays s.staged queue (fetched_by s queue).staged other no;
         waiting = λ no. refl;
@@ -147,7 +147,7 @@ fetched_leads s queue f is few on =
         fifo = refl;
       };
       hands = λ no. none_handed queue f f.frame;
-      faults = λ told. let no = no_fault queue f f.frame in cc;
+      faults = λ reported. let no = no_fault queue f f.frame in cc;
     }
 
 -- a queue whose side is on, and one whose side is off

@@ -27,7 +27,7 @@ reported_bytes (other ∷ replies) = reported_bytes replies
 -- n peeks in order change nothing, and return these bytes
 pub record PeeksTell (s : State) (a n : ℕ) (bytes : List ℕ) : Type 0 where
   pub state : state_after s (peeks a n) ≡ s
-  pub told : reported_bytes (replies_of s (peeks a n)) ≡ bytes
+  pub reported : reported_bytes (replies_of s (peeks a n)) ≡ bytes
 
 -- n pokes of these bytes in order are all made, and lead to this state
 pub record PokesLead (s : State) (a n : ℕ) (bytes : List ℕ) (t : State) : Type 0 where

@@ -130,7 +130,7 @@ function_counts =
     record {
       bits = λ p bit. is_function_count (row_of p.row).bank;
       wanted = λ dir queue. false;
-      told = λ g. false;
+      reported = λ g. false;
     }
 
 -- what counting and raising causes change

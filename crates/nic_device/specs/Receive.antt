@@ -2,7 +2,7 @@
 use Rattle.std.specs.Prelude.{ℕ, ◌+◌, ◌==◌, Bool, ◌&&◌, not, List, [], ◌∷◌, drop, Result, Ok, Err, if◌then◌else◌}
 use Rattle.rx_ring.specs.DmaRing.declared.ring.Ring.{Ring}
 use Rattle.rx_ring.specs.DmaRing.declared.fault.RingFault.{RingFault}
-use Rattle.rx_ring.specs.DmaRing.Receive.{told_of}
+use Rattle.rx_ring.specs.DmaRing.Receive.{reported_of}
 use Rattle.rx_ring.specs.DmaRing.Ring.{is_outside}
 use Rattle.rx_ring.specs.DmaRing.declared.receive.Packet.{Packet}
 use Rattle.register_file.specs.RssHash.Flow.{flow_of}
@@ -41,7 +41,7 @@ packet_of w =
 
 -- what is left to write of a frame
 abbrev pub rest_of : Waiting → Rest
-rest_of w = record { bytes = drop w.offset w.frame; first = told_of (packet_of w) }
+rest_of w = record { bytes = drop w.offset w.frame; first = reported_of (packet_of w) }
 
 -- the registers after a frame of a queue was dropped for lack of a slot, and after one was written to its end, which
 -- counts for the queue and for its virtual function

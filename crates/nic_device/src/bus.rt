@@ -56,7 +56,7 @@ impl Device {
     {
         let all: &[u8] = &*memory;
         prove!(all.len() == BLOCK_BYTES);
-        // It is kept that each lent byte is one, as is told of these.
+        // It is kept that each lent byte is one, as it is of these.
         Event::are_bytes(all);
         self.engine.exchange(block, memory)
     }

@@ -114,7 +114,7 @@ pub(crate) fn end_of(arena: &Arena) -> u32
     ensures small { result ≤ 65536 }
 {
     let first = arena.first();
-    // That its numbers are below 65,536 is told by `owns`.
+    // That its numbers are below 65,536 is given by `owns`.
     let _ = arena.owns(first);
     first + arena.count()
 }

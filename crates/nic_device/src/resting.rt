@@ -82,7 +82,7 @@ impl Device {
     /// Whether a queue is at rest: both of its sides are as their enable bits ask, it can't send now, and the receive
     /// list is empty. The device steps of such a queue are idle, and change nothing.
     pub fn is_at_rest(&self, queue: u16) -> bool
-        ensures told { result ≡ is_at_rest self.now queue }
+        ensures reported { result ≡ is_at_rest self.now queue }
         ensures idle { IsTrue result → Rests self.now queue }
     {
         let engine = &self.engine;

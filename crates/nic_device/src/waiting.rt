@@ -26,7 +26,7 @@ pub(crate) struct Waiting {
 
 impl Model for Waiting {
     ghost use Rattle.std.specs.Prelude.{◌≡◌, ◌<◌, ◌≤◌, length};
-    ghost use Rattle.rx_ring.specs.DmaRing.Receive.{told_of};
+    ghost use Rattle.rx_ring.specs.DmaRing.Receive.{reported_of};
     ghost use Rattle.nic_device.specs.Receive.{packet_of};
     ghost use Rattle.nic_device.specs.State.{Waiting, waiting_code};
 
@@ -38,7 +38,7 @@ impl Model for Waiting {
 
     ghost invariant = { λ w.
         (w.offset ≤ length w.frame) × (w.queue < 128) ×
-        (w.first ≡ told_of (packet_of (record {
+        (w.first ≡ reported_of (packet_of (record {
           frame = w.frame;
           queue = w.queue;
           hash = w.hash;

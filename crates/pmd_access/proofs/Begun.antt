@@ -85,7 +85,7 @@ marked_more (x ∷ calls) [] c b long = absurd (omega (arith, long))
 marked_more (x ∷ calls) (a ∷ own) c b long =
     ap (λ (l : List Entry). entry_by (tag_of a) x ∷ l) (marked_more calls own c b (omega (arith, long)))
 
--- a call more, own or foreign, told by the parts
+-- a call more, own or foreign, given by the parts
 one_begins : (h : Handled) (e : Event Block) (b : Bool) (foreign : List (Reply Block)) → length h.own ≡ length h.calls
     → IsEvent e
     → BeganAs began_handled h (record {

@@ -45,27 +45,27 @@ own_same (x ∷ calls) [] c long = absurd (omega (arith, long))
 own_same (x ∷ calls) (true ∷ own) c long = ap (λ (l : List Call). x ∷ l) (own_same calls own c (omega (arith, long)))
 own_same (x ∷ calls) (false ∷ own) c long = own_same calls own c (omega (arith, long))
 
--- and so of what was made, told by the parts
+-- and so of what was made, given by the parts
 
-pub made_more : (was now : Handled) (calls : List Call) (own kept : List Bool) (told c : Call)
-    → length was.own ≡ length was.calls → was ≡ now → calls ≡ was.calls ++ told ∷ [] → told ≡ c → kept ≡ was.own
+pub made_more : (was now : Handled) (calls : List Call) (own kept : List Bool) (reported c : Call)
+    → length was.own ≡ length was.calls → was ≡ now → calls ≡ was.calls ++ reported ∷ [] → reported ≡ c → kept ≡ was.own
     → own ≡ kept ++ true ∷ [] → own_calls calls own ≡ made_of now ++ c ∷ []
-made_more was now calls own kept told c long is added same reserved marked =
+made_more was now calls own kept reported c long is added same reserved marked =
     ap (λ (l : List Call). own_calls l own) added
-    ∙ ap (λ (l : List Bool). own_calls (was.calls ++ told ∷ []) l)
+    ∙ ap (λ (l : List Bool). own_calls (was.calls ++ reported ∷ []) l)
     (marked ∙ ap (λ (l : List Bool). l ++ true ∷ []) reserved)
-    ∙ own_more was.calls was.own told long
+    ∙ own_more was.calls was.own reported long
     ∙ ap (λ (x : Call). made_of was ++ x ∷ []) same
     ∙ ap (λ (h : Handled). made_of h ++ c ∷ []) is
 
-pub made_still : (was now : Handled) (calls : List Call) (own kept : List Bool) (told : Call)
-    → length was.own ≡ length was.calls → was ≡ now → calls ≡ was.calls ++ told ∷ [] → kept ≡ was.own
+pub made_still : (was now : Handled) (calls : List Call) (own kept : List Bool) (reported : Call)
+    → length was.own ≡ length was.calls → was ≡ now → calls ≡ was.calls ++ reported ∷ [] → kept ≡ was.own
     → own ≡ kept ++ false ∷ [] → own_calls calls own ≡ made_of now
-made_still was now calls own kept told long is added reserved marked =
+made_still was now calls own kept reported long is added reserved marked =
     ap (λ (l : List Call). own_calls l own) added
-    ∙ ap (λ (l : List Bool). own_calls (was.calls ++ told ∷ []) l)
+    ∙ ap (λ (l : List Bool). own_calls (was.calls ++ reported ∷ []) l)
     (marked ∙ ap (λ (l : List Bool). l ++ false ∷ []) reserved)
-    ∙ own_same was.calls was.own told long
+    ∙ own_same was.calls was.own reported long
     ∙ ap (λ (h : Handled). made_of h) is
 
 -- a list stops with an event that is refused

@@ -5,7 +5,7 @@ use Rattle.device_lock.specs.declared.fault.CallFault.TheVariants.{ForeignPass, 
 use Rattle.device_lock.specs.Fault.{event_of, fault_with}
 use Rattle.pmd_access.specs.Refusals.{Refusals, CanRefuse}
 
--- want of memory may be told by each way
+-- want of memory may be reported by each way
 pub memory_refuses : {A E : Type 0} (e : E) (r : Result A (CallFault E)) (way : Refusals)
     → IfErr r (λ f. f ≡ OutOfMemory e) → IfErr r (λ f. CanRefuse way f)
 memory_refuses e (Ok x) way is = tt

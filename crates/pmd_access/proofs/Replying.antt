@@ -10,9 +10,9 @@ use Rattle.device_lock.specs.NicDevice.declared.event.Reply.TheVariants as reply
 use Rattle.device_lock.specs.declared.entry.Call.{Call}
 use Rattle.pmd_access.specs.Made.{Adds}
 
-pub adds_as : (old new : List Call) (e : Event Block) (got told : Reply Block) → got ≡ told → Adds old new e got
-    → Adds old new e told
-adds_as old new e got told is adds = subst (λ (r : Reply Block). Adds old new e r) is adds
+pub adds_as : (old new : List Call) (e : Event Block) (got reported : Reply Block) → got ≡ reported → Adds old new e got
+    → Adds old new e reported
+adds_as old new e got reported is adds = subst (λ (r : Reply Block). Adds old new e r) is adds
 
 same_number : (n k : ℕ) → (n == k) ≡ true → n ≡ k
 same_number n k same = grind (arith, nat_tests)

@@ -3,7 +3,7 @@ use Rattle.std.specs.Prelude.{ℕ, List, take}
 use Rattle.pmd_access.specs.Bufs.{bytes_of}
 use Rattle.pmd_access.specs.declared.packet.Packet.{Packet}
 
--- a packet that was handed out or accepted: its bytes, and the RSS type and hash that its descriptor told
+-- a packet that was handed out or accepted: its bytes, and the RSS type and hash that its descriptor reported
 pub record Kept : Type 0 where
   pub bytes : List ℕ
   pub rss : ℕ

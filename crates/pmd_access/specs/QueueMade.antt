@@ -37,8 +37,8 @@ IsStrayRead q old new row =
 
 abbrev pub IsStrayWrite : AtPort → List Call → List Call → RowId → ℕ → Type 0
 IsStrayWrite q old new row word =
-    (number : ℕ) × (told : ℕ) × IsNumberOf q.port row q.queue number
-    × Adds old new (event.Write q.port number word) (reply.Stray told)
+    (number : ℕ) × (reported : ℕ) × IsNumberOf q.port row q.queue number
+    × Adds old new (event.Write q.port number word) (reply.Stray reported)
 
 abbrev pub IsMade : AtPort → List Call → List Call → Access → Type 0
 IsMade q old new (Sees row on) = IsSeen q old new row on

@@ -22,7 +22,7 @@ pub struct Packet {
     pub len: u16,
     /// The number of its RSS type, below 16.
     pub rss: u8,
-    /// Its RSS hash, 0 where none was told.
+    /// Its RSS hash, 0 where none was reported.
     pub hash: u32,
 }
 

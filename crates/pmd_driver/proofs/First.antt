@@ -9,7 +9,7 @@ use Rattle.pmd_rx.specs.PmdAccess.declared.packet.Packet.{Packet}
 use Rattle.pmd_rx.specs.Keeping.{numbers_in, numbers_of_all}
 use Rattle.pmd_rx.proofs.PmdAccess.Outside.{times-append}
 use Rattle.pmd_tx.specs.Sending.{Layout, Segment}
-use Rattle.pmd_tx.specs.Sends.{IsBack, IsFullWhereTold, IsLate}
+use Rattle.pmd_tx.specs.Sends.{IsBack, IsFullWhereReported, IsLate}
 use Rattle.pmd_tx.specs.declared.answer.TxAnswer.{TxAnswer}
 use Rattle.pmd_tx.specs.declared.answer.TxAnswer.TheVariants.{RingFull}
 use Rattle.pmd_tx.specs.declared.answer.TxFault.{TxFault}
@@ -115,27 +115,27 @@ module _ (old new : List Call) (r s : Running) (given rest : List Packet) (p : P
 -- why it is back
 
 module _ (old new : List Call) (r s : Running) (p : Packet) (shut : IsKeptOut r p → (new ≡ old) × (s ≡ r)) where
-  -- what is told of a full ring
+  -- what is reported a full ring
   abbrev TellsFull : Packet → Running → Packet → Type 0
   TellsFull q r p =
-      IsKeptOut r p × MayAnswer r p (Ok (RingFull q)) × IsFullWhereTold r.transmit p (Ok (RingFull q))
+      IsKeptOut r p × MayAnswer r p (Ok (RingFull q)) × IsFullWhereReported r.transmit p (Ok (RingFull q))
 
   pub stops_full : (x : Result TxAnswer TxFault) (q : Packet) (rest : List Packet) → x ≡ Ok (RingFull q)
-      → MayAnswer r p x → IsFullWhereTold r.transmit p x → Stops None s (q ∷ rest)
-  stops_full x q rest told told_answer told_full =
+      → MayAnswer r p x → IsFullWhereReported r.transmit p x → Stops None s (q ∷ rest)
+  stops_full x q rest reported reported_answer reported_full =
       let answer : MayAnswer r p (Ok (RingFull q)) =
-      subst (λ (y : Result TxAnswer TxFault). MayAnswer r p y) told told_answer in
-      let full : IsFullWhereTold r.transmit p (Ok (RingFull q)) =
-      subst (λ (y : Result TxAnswer TxFault). IsFullWhereTold r.transmit p y) told told_full in
+      subst (λ (y : Result TxAnswer TxFault). MayAnswer r p y) reported reported_answer in
+      let full : IsFullWhereReported r.transmit p (Ok (RingFull q)) =
+      subst (λ (y : Result TxAnswer TxFault). IsFullWhereReported r.transmit p y) reported reported_full in
       let (kept, is) = full_kept r p q answer in
       subst (λ (x : Running). TellsFull q x q) (sym (shut kept).1)
       (subst (λ (x : Packet). TellsFull q r x) (sym is) (kept, answer, full))
 
   pub full_left : (x : Result TxAnswer TxFault) (q : Packet) (rest : List Packet) → x ≡ Ok (RingFull q)
       → MayAnswer r p x → q ∷ rest ≡ p ∷ rest
-  full_left x q rest told answer =
+  full_left x q rest reported answer =
       ap (λ (y : Packet). y ∷ rest)
-      (full_kept r p q (subst (λ (y : Result TxAnswer TxFault). MayAnswer r p y) told answer)).1
+      (full_kept r p q (subst (λ (y : Result TxAnswer TxFault). MayAnswer r p y) reported answer)).1
 
   packet_of : Packet → Option Packet → Packet
   packet_of d None = d
@@ -176,15 +176,15 @@ module _ (old new : List Call) (r s : Running) (given rest : List Packet) (p : P
     abbrev Refused : PmdFault → Result TxAnswer TxFault
     Refused f = Err (record { fault = f; packet = Some p })
 
-    told : (f : PmdFault) → IsRefusedFirst f r given → IsKeptOut r p × (x ≡ Refused f)
-    told f refused =
+    reported : (f : PmdFault) → IsRefusedFirst f r given → IsKeptOut r p × (x ≡ Refused f)
+    reported f refused =
         let here : IsRefusedFirst f r (p ∷ rest) =
         subst (λ (l : List Packet). IsRefusedFirst f r l) is refused in
         (here.0, one_answer r p x (Refused f) here.0 answer here.1)
 
     pub shut_not : (T : Type 0) (y : TxAnswer) → x ≡ Ok y → (f : PmdFault) → IsRefusedFirst f r given → T
     shut_not T y ok f refused =
-        absurd (let e : Ok y ≡ Refused f = sym ok ∙ (told f refused).1 in cc)
+        absurd (let e : Ok y ≡ Refused f = sym ok ∙ (reported f refused).1 in cc)
 
     abbrev part_of : Result TxAnswer TxFault → TxFault
     part_of (Ok y) = record { fault = fault.BadSize; packet = None }
@@ -193,16 +193,16 @@ module _ (old new : List Call) (r s : Running) (given rest : List Packet) (p : P
     pub shut_never : (T : Type 0) (y : TxFault) → x ≡ Err y → y.packet ≡ None → (f : PmdFault)
         → IsRefusedFirst f r given → T
     shut_never T y err none f refused =
-        let part : y ≡ record { fault = f; packet = Some p } = ap part_of (sym err ∙ (told f refused).1) in
+        let part : y ≡ record { fault = f; packet = Some p } = ap part_of (sym err ∙ (reported f refused).1) in
         absurd (let e : None ≡ Some p = sym none ∙ ap (λ (z : TxFault). z.packet) part in cc)
 
     pub shut_back : (y : TxFault) (q : Packet) → x ≡ Err y → y.packet ≡ Some q → (left : List Packet) → left ≡ q ∷ rest
         → StaysShut given left 0 (Some y.fault) old r new s
     unfolding packet_of
     shut_back y q err some left back f refused =
-        let part : y ≡ record { fault = f; packet = Some p } = ap part_of (sym err ∙ (told f refused).1) in
+        let part : y ≡ record { fault = f; packet = Some p } = ap part_of (sym err ∙ (reported f refused).1) in
         let same : q ≡ p = ap (packet_of old new r s p shut p) (sym some ∙ ap (λ (z : TxFault). z.packet) part) in
-        let still = shut (told f refused).0 in (
+        let still = shut (reported f refused).0 in (
           refl,
           ap (λ (z : TxFault). Some z.fault) part,
           back ∙ ap (λ (z : Packet). z ∷ rest) same ∙ sym is,

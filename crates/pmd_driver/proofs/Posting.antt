@@ -49,7 +49,7 @@ accepts_then : (r s t : Running) (ps : List Packet) → Accepts ps r s → Accep
 accepts_then r s t ps one two =
     subst (λ (l : List Packet). Accepts l r t) (append-nil ps) (accepts_on r s t ps [] one two)
 
--- a fault that is told
+-- a fault that is reported
 
 pub by_test : (b : Bool) (met : Option PmdFault) (f : PmdFault) → (if b then met else None) ≡ Some f
     → (b ≡ true) × (met ≡ Some f)
@@ -85,8 +85,8 @@ module _ (given left : List Packet) (sent : ℕ) (met : Option PmdFault) (old mi
     -- the first met it
     pub burst_refused : (f : PmdFault) → (if sent == 0 then met else None) ≡ Some f
         → Shut left (Err f) mid s → SendsBurst given left (Err f) old r mid s
-    burst_refused f told shut =
-        let (first, is) = by_test (sent == 0) met f told in
+    burst_refused f reported shut =
+        let (first, is) = by_test (sent == 0) met f reported in
         let none : sent ≡ 0 = grind (arith, nat_tests, first) in
         let gone : q.gone ≡ [] = none_of q.gone (sym q.count ∙ none) in
         record {
@@ -112,7 +112,7 @@ module _ (given left : List Packet) (sent : ℕ) (met : Option PmdFault) (old mi
 
     -- the tail was to be moved
 
-    module _ (t : Running) (new : List Call) (told : (if sent == 0 then met else None) ≡ None)
+    module _ (t : Running) (new : List Call) (reported : (if sent == 0 then met else None) ≡ None)
         (drives : DrivesRings mid s new t) (kept : Accepts [] s t)
         (shut : (T : Type 0) (f : PmdFault) → IsRefusedFirst f r given → T)
       where
@@ -124,7 +124,7 @@ module _ (given left : List Packet) (sent : ℕ) (met : Option PmdFault) (old mi
         unmet : q.gone ≡ [] → met ≡ None
         unmet empty =
             let none : sent ≡ 0 = q.count ∙ ap (λ (l : List Packet). length l) empty in
-            no_test (sent == 0) met told (grind (arith, nat_tests, none))
+            no_test (sent == 0) met reported (grind (arith, nat_tests, none))
 
         pub burst_posted : t.transmit.posted ≡ length t.transmit.outstanding
             → SendsBurst given left (Ok sent) old r new t

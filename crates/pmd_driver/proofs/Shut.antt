@@ -50,14 +50,14 @@ module _ (old new : List Call) (r t : Running) (given left : List Packet) (sent 
   where
     pub shut_met : (f g : PmdFault) → (if sent == 0 then met else None) ≡ Some g → IsRefusedFirst f r given
         → (Err g ≡ from g (Some f)) × (left ≡ given) × (new ≡ old) × (t ≡ r)
-    shut_met f g told refused =
+    shut_met f g reported refused =
         let is = shut f refused in
-        let first : Some g ≡ Some f = sym (by_test (sent == 0) met g told).1 ∙ is.1 in
+        let first : Some g ≡ Some f = sym (by_test (sent == 0) met g reported).1 ∙ is.1 in
         (ap (from g) first, is.2, is.3, is.4)
 
-    pub shut_told : (T : Type 0) → (if sent == 0 then met else None) ≡ None → (f : PmdFault)
+    pub shut_reported : (T : Type 0) → (if sent == 0 then met else None) ≡ None → (f : PmdFault)
         → IsRefusedFirst f r given → T
-    shut_told T told f refused =
+    shut_reported T reported f refused =
         let is = shut f refused in
-        let none : met ≡ None = no_test (sent == 0) met told (rw is.0 refl) in
+        let none : met ≡ None = no_test (sent == 0) met reported (rw is.0 refl) in
         absurd (let e : None ≡ Some f = sym none ∙ is.1 in cc)

@@ -17,7 +17,7 @@ use Rattle.pmd_rx.specs.Wrong.{FailsBy, PacketWaits}
 use Rattle.pmd_tx.specs.Plays.{is_elsewhere}
 use Rattle.pmd_tx.specs.Sending as sending
 use Rattle.pmd_tx.specs.Sending.{Sender, Segment, Move, parts_for, segments_of}
-use Rattle.pmd_tx.specs.Sends.{accepted_of, gate_of, outgoing_of, IsAnswer, IsBack, IsFullWhereTold, IsLate, IsShut}
+use Rattle.pmd_tx.specs.Sends.{accepted_of, gate_of, outgoing_of, IsAnswer, IsBack, IsFullWhereReported, IsLate, IsShut}
 use Rattle.pmd_tx.specs.declared.answer.Reaped.{Reaped}
 use Rattle.pmd_tx.specs.declared.answer.TxAnswer.{TxAnswer}
 use Rattle.pmd_tx.specs.declared.answer.TxAnswer.TheVariants.{RingFull}
@@ -121,7 +121,7 @@ IsRefusedFirst f s (p ∷ left) = IsKeptOut s p × MayAnswer s p (Err (record { 
 abbrev pub Stops : Option PmdFault → Running → List Packet → Type 0
 Stops None s [] = ⊤
 Stops None s (p ∷ left) =
-    IsKeptOut s p × MayAnswer s p (Ok (RingFull p)) × IsFullWhereTold s.transmit p (Ok (RingFull p))
+    IsKeptOut s p × MayAnswer s p (Ok (RingFull p)) × IsFullWhereReported s.transmit p (Ok (RingFull p))
 Stops (Some f) s left = IsLate f ⊎ IsRefusedFirst f s left
 
 -- the driver was given packets to send: the first were accepted, and the tail was moved after them, and after those

@@ -11,7 +11,7 @@ use Rattle.pmd_rx.specs.Keeping.{Keeps, handed_blocks}
 use Rattle.pmd_rx.specs.Plays.{LooksInVain}
 use Rattle.pmd_rx.specs.Wrong.{FailsBy, PacketWaits}
 use Rattle.pmd_tx.specs.Plays.{LooksLast, FaultsBy}
-use Rattle.pmd_tx.specs.Sends.{gate_of, outgoing_of, returned, IsAnswer, IsFullWhereTold, IsShut, IsAccepted, IsNoneAccepted, IsBack, IsLate, SendsHome, FreesSome}
+use Rattle.pmd_tx.specs.Sends.{gate_of, outgoing_of, returned, IsAnswer, IsFullWhereReported, IsShut, IsAccepted, IsNoneAccepted, IsBack, IsLate, SendsHome, FreesSome}
 use Rattle.pmd_tx.specs.declared.answer.Reaped.{Reaped}
 use Rattle.pmd_tx.specs.declared.answer.TxAnswer.{TxAnswer}
 use Rattle.pmd_tx.specs.declared.answer.TxAnswer.TheVariants.{Taken}
@@ -45,8 +45,8 @@ pub record IsSendCall (packet : Packet) (result : Result TxAnswer TxFault) (old 
     (new : List Call) (s : Running) : Type 0 where
   -- the answer is by what the packet meets, a refusal, a full ring or an open way
   pub answer : IsAnswer (gate_of r.transmit r.arena (receives r packet) packet) packet result
-  -- where the ring is told to be full, it is
-  pub full : IsFullWhereTold r.transmit packet result
+  -- where the ring is reported to be full, it is
+  pub full : IsFullWhereReported r.transmit packet result
   -- where the way isn't open, no call was made, and the driver stays as it was
   pub shut : IsShut (gate_of r.transmit r.arena (receives r packet) packet) → (new ≡ old) × (s ≡ r)
   -- a packet that doesn't come back was accepted

@@ -9,7 +9,7 @@ ghost use Rattle.pmd_rx.specs.PmdAccess.Bufs.{numbers_of};
 ghost use Rattle.pmd_rx.specs.PmdAccess.Fresh.{IsFresh, bufs_for};
 ghost use Rattle.pmd_rx.specs.Keeping.{blocks_out, handed_blocks, numbers_in, numbers_of_all};
 ghost use Rattle.pmd_tx.specs.Counted.{packets_in};
-ghost use Rattle.pmd_tx.specs.Sends.{returned, IsBack, IsFullWhereTold, IsLate};
+ghost use Rattle.pmd_tx.specs.Sends.{returned, IsBack, IsFullWhereReported, IsLate};
 ghost use Rattle.pmd_driver.specs.Apart.{DrivesRings, OwnsSame};
 ghost use Rattle.pmd_driver.specs.Blocks.{KeepsUp};
 ghost use Rattle.pmd_driver.specs.Bursts.{Accepts, FailsAmid, IsKeptOut, IsReceiveBurst, MayAnswer, vacant_in};
@@ -206,7 +206,7 @@ impl Running {
     ) -> Result<TxAnswer, TxFault>
         ensures drives { DrivesRings (N.made nic.old) self.old (N.made nic.new) self.new }
         ensures answer { MayAnswer self.old packet result }
-        ensures full { IsFullWhereTold self.old.transmit packet result }
+        ensures full { IsFullWhereReported self.old.transmit packet result }
         ensures shut { IsKeptOut self.old packet → (N.made nic.new ≡ N.made nic.old) × (self.new ≡ self.old) }
         ensures accepted { IfNone (returned result) (Accepts (packet ∷ []) self.old self.new) }
         ensures kept { IfSome (returned result) (λ back. Accepts [] self.old self.new) }

@@ -17,7 +17,7 @@ use Rattle.pmd_rx.specs.declared.receive.Look.{Look}
 use Rattle.pmd_rx.specs.declared.receive.Look.TheVariants as look
 use Rattle.pmd_rx.specs.declared.ring.Stage.{Stage}
 use Rattle.pmd_rx.specs.declared.ring.Stage.TheVariants.{Looks, Takes, Owes, Lent}
-use Rattle.pmd_rx.specs.declared.ring.Told.{Told}
+use Rattle.pmd_rx.specs.declared.ring.Reported.{Reported}
 use Rattle.pmd_rx.proofs.Earlier.{plays_then, all_fail_then}
 use Rattle.pmd_rx.proofs.Failing.{err_same, fails_all, fails_behind, fails_of, faults_of, never_short}
 use Rattle.pmd_rx.proofs.Handing.{named_same}
@@ -274,7 +274,7 @@ module _ {N : Type 0} {made : N → List Call} {began : N → Origin → Type 0}
 
 -- no block is free to be lent
 
-lends_one : (s : Stage) (seen : List Told) → CanLend s seen → owed s ≡ 1
+lends_one : (s : Stage) (seen : List Reported) → CanLend s seen → owed s ≡ 1
 lends_one Looks seen can = refl
 lends_one Takes seen can = absurd can
 lends_one Owes seen can = refl

@@ -96,7 +96,7 @@ pub none_there : (b : Bool) (n : ℕ) → (0 < n → b ≡ true) → b ≡ false
 none_there b zero there other = refl
 none_there b (suc n) there other = let is = there (omega arith) in cc
 
--- the blocks of a ring, told by its parts
+-- the blocks of a ring, given by its parts
 pub lent_is : (v : Receive) (lent kept blocks fresh : List ℕ) (ring many size : ℕ)
     → lent ≡ kept ++ (fresh ++ range_with_len ring many) → kept ≡ blocks → fresh ≡ fresh_block v.stage
     → blocks ≡ (reach v).blocks → ring ≡ v.layout.ring → many ≡ blocks_for size → size ≡ v.layout.size

@@ -11,7 +11,7 @@ use Rattle.pmd_rx.specs.Shown.{IsOneLess, OneMore, WaitsStill, refilled, rounds}
 use Rattle.pmd_rx.specs.Wrong.{PacketWaits, wanted, owed}
 use Rattle.pmd_rx.specs.declared.ring.Stage.{Stage}
 use Rattle.pmd_rx.specs.declared.ring.Stage.TheVariants.{Looks, Takes, Owes, Lent}
-use Rattle.pmd_rx.specs.declared.ring.Told.{Told}
+use Rattle.pmd_rx.specs.declared.ring.Reported.{Reported}
 
 -- a fresh block is lent and named
 
@@ -48,16 +48,16 @@ ended_some : (bs : List Block) (p : Packet) → 0 < length bs → if_any bs p �
 ended_some [] p some = absurd (omega (arith, some))
 ended_some (b ∷ bs) p some = refl
 
-next_vacated : (seen : List Told) → vacated (next_stage seen) ≡ 0
+next_vacated : (seen : List Reported) → vacated (next_stage seen) ≡ 0
 next_vacated [] = refl
 next_vacated (t ∷ seen) = refl
 
-named_waits : (v : Receive) (seen : List Told) → 0 < length seen
+named_waits : (v : Receive) (seen : List Reported) → 0 < length seen
     → PacketWaits (next_stage seen) × (v.whole ++ ended_of seen v.held ≡ v.whole)
 named_waits v [] some = absurd (omega (arith, some))
 named_waits v (t ∷ seen) some = (tt, append-nil v.whole)
 
-named_more : (v : Receive) (seen : List Told) → 0 < length v.held.bufs → length seen ≡ 0
+named_more : (v : Receive) (seen : List Reported) → 0 < length v.held.bufs → length seen ≡ 0
     → (p : Packet) × (v.whole ++ ended_of seen v.held ≡ v.whole ++ p ∷ [])
 named_more v [] held none =
     (v.held, ap (λ (ps : List Packet). v.whole ++ ps) (ended_some v.held.bufs v.held held))
@@ -70,7 +70,7 @@ lent_rounds v Takes lent amid = absurd lent
 lent_rounds v Owes lent amid = absurd lent
 lent_rounds v (Lent b) lent amid = (refl, refl, amid)
 
-next_owed : (seen : List Told) → 0 < length seen → owed (next_stage seen) ≡ 0
+next_owed : (seen : List Reported) → 0 < length seen → owed (next_stage seen) ≡ 0
 next_owed [] some = absurd (omega (arith, some))
 next_owed (t ∷ seen) some = refl
 

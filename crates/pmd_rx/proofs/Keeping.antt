@@ -16,13 +16,13 @@ use Rattle.pmd_access.proofs.Exchanging.{exchanges_both}
 use Rattle.pmd_access.proofs.Drawing.{numbers-more}
 use Rattle.pmd_access.proofs.Outside.{times-append, times-cons}
 use Rattle.pmd_rx.specs.Keeping.{Keeps, IsAmid, IsSameRing, fresh_block, vacated, lent_of, blocks_held, blocks_out, numbers_of_all}
-use Rattle.pmd_rx.specs.Receive.{Receive, Layout, TakesNext, block_at, saw, told_by, took, is_part}
+use Rattle.pmd_rx.specs.Receive.{Receive, Layout, TakesNext, block_at, saw, reported_by, took, is_part}
 use Rattle.pmd_rx.specs.Shown.{IsLook}
 use Rattle.pmd_rx.specs.declared.receive.Look.{Look}
 use Rattle.pmd_rx.specs.declared.receive.Look.TheVariants as look
 use Rattle.pmd_rx.specs.declared.ring.Stage.{Stage}
 use Rattle.pmd_rx.specs.declared.ring.Stage.TheVariants.{Looks, Takes, Owes}
-use Rattle.pmd_rx.specs.declared.ring.Told.{Told}
+use Rattle.pmd_rx.specs.declared.ring.Reported.{Reported}
 
 -- how often a block is out, by where it is
 pub times_out : (v : Receive) (k : ℕ)
@@ -77,12 +77,12 @@ keeps_to a b v w x out same keeps = subst (λ (y : Receive). Keeps a v b y out) 
 -- a look
 
 abbrev saw_as : Receive → List ℕ → Bool → Receive
-saw_as v d ends = record v { seen = v.seen ++ told_by d ∷ []; stage = cond ends Takes Looks }
+saw_as v d ends = record v { seen = v.seen ++ reported_by d ∷ []; stage = cond ends Takes Looks }
 
 amid_after : (v : Receive) (d : List ℕ) (ends : Bool) → (ends ≡ false → length v.seen + 1 < v.layout.most)
     → IsAmid (saw_as v d ends) (cond ends Takes Looks)
-amid_after v d true more = omega (arith, length_push v.seen (told_by d))
-amid_after v d false more = omega (arith, length_push v.seen (told_by d), more refl)
+amid_after v d true more = omega (arith, length_push v.seen (reported_by d))
+amid_after v d false more = omega (arith, length_push v.seen (reported_by d), more refl)
 
 fresh_after : (ends : Bool) → fresh_block (cond ends Takes Looks) ≡ []
 fresh_after true = refl
@@ -151,7 +151,7 @@ more_times bs b k =
     ap (λ (ns : List ℕ). times_in_hand ns k) (numbers-more bs b)
     ∙ times-append (numbers_of bs) (b.number ∷ []) k
 
-took_keeps_at : (a : Numbers) (v : Receive) (seen : List Told) (b : Block) → v.stage ≡ Takes → 0 < length seen
+took_keeps_at : (a : Numbers) (v : Receive) (seen : List Reported) (b : Block) → v.stage ≡ Takes → 0 < length seen
     → 0 < length v.layout.blocks → b.number ≡ block_at v.layout 0 → Keeps a v a (took v seen b) []
 took_keeps_at a v [] b takes parts some is = absurd (omega (arith, parts))
 took_keeps_at a v (t ∷ seen) b takes parts some is =
@@ -192,7 +192,7 @@ pub took_keeps : (a : Numbers) (v : Receive) (b : Block) → TakesNext v b.numbe
     → Keeps a v a (took v v.seen b) []
 took_keeps a v b own some = took_keeps_at a v v.seen b own.stage own.some some own.block
 
-took_is : (v : Receive) (seen : List Told) (b : Block) → 0 < length seen
+took_is : (v : Receive) (seen : List Reported) (b : Block) → 0 < length seen
     → ((took v seen b).stage ≡ Owes) × (length (took v seen b).seen + 1 ≡ length seen)
     × (0 < length (took v seen b).held.bufs)
 took_is v [] b some = absurd (omega (arith, some))
@@ -202,7 +202,7 @@ pub took_owes : (v w : Receive) (b : Block) → 0 < length v.seen → w ≡ took
     → (w.stage ≡ Owes) × (length w.seen + 1 ≡ length v.seen) × (0 < length w.held.bufs)
 took_owes v w b some is = rw is (took_is v v.seen b some)
 
-took_same : (v : Receive) (seen : List Told) (b : Block)
+took_same : (v : Receive) (seen : List Reported) (b : Block)
     → ((took v seen b).handed ≡ v.handed) × ((took v seen b).whole ≡ v.whole)
 took_same v [] b = (refl, refl)
 took_same v (t ∷ seen) b = (refl, refl)

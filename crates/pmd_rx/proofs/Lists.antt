@@ -62,9 +62,10 @@ records_fewer handed m records whole left are few is = record {
       ∙ ap records_of (sym is);
 }
 
-pub records_all : (handed told : ℕ) (records : List Kept) (whole left : List Packet) → AreRecords handed records whole
-    → told ≡ length records → left ≡ [] → AreRecords told records left
-records_all handed told records whole left are all is = record {
+pub records_all : (handed reported : ℕ) (records : List Kept) (whole left : List Packet) →
+    AreRecords handed records whole
+    → reported ≡ length records → left ≡ [] → AreRecords reported records left
+records_all handed reported records whole left are all is = record {
   few = omega (arith, all);
-  behind = drop_all told records (omega (arith, all)) ∙ sym (ap records_of is);
+  behind = drop_all reported records (omega (arith, all)) ∙ sym (ap records_of is);
 }

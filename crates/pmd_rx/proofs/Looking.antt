@@ -11,7 +11,7 @@ use Rattle.pmd_access.specs.declared.fault.PmdFault.{PmdFault}
 use Rattle.pmd_access.specs.declared.packet.Packet.{Packet}
 use Rattle.pmd_access.specs.declared.fault.PmdFault.TheVariants as fault
 use Rattle.pmd_rx.specs.Plays.{PlaysFrom, LooksInVain}
-use Rattle.pmd_rx.specs.Receive.{Receive, IsOwn, looked, told_by, descriptor_at, no_packet}
+use Rattle.pmd_rx.specs.Receive.{Receive, IsOwn, looked, reported_by, descriptor_at, no_packet}
 use Rattle.pmd_rx.specs.Shown.{IsLook, LooksOnce, LooksAtPart, LooksAtWrong, IsRefused}
 use Rattle.pmd_rx.specs.Wrong.{AsksNext, EndsWrong, IsFault}
 use Rattle.pmd_rx.specs.declared.receive.Look.{Look}
@@ -106,7 +106,7 @@ look_kept look.Part old new v w p = rw p.left refl
 look_kept look.Wrong old new v w p = rw p.left refl
 
 pub one_more : (old new : List Call) (v w : Receive) → LooksAtPart old v new w → length w.seen ≡ length v.seen + 1
-one_more old new v w p = rw p.left (length_push v.seen (told_by p.bytes))
+one_more old new v w p = rw p.left (length_push v.seen (reported_by p.bytes))
 
 -- the same of a result
 

@@ -11,13 +11,13 @@ use Rattle.pmd_rx.specs.Keeping.{Keeps, IsRunning, IsAmid, vacated, fresh_block,
 use Rattle.pmd_rx.specs.Receive.{Receive, reach, lent_one, names, ended_of, left_of, next_stage, fresh_of, CanLend, HasLent}
 use Rattle.pmd_rx.specs.declared.ring.Stage.{Stage}
 use Rattle.pmd_rx.specs.declared.ring.Stage.TheVariants.{Looks, Takes, Owes, Lent}
-use Rattle.pmd_rx.specs.declared.ring.Told.{Told}
+use Rattle.pmd_rx.specs.declared.ring.Reported.{Reported}
 use Rattle.pmd_rx.proofs.Keeping.{times_out, held_count, same_ring, keeps_none, keeps_to}
 use Rattle.pmd_rx.proofs.Lists.{all-append}
 
 -- what the stages say
 
-lend_fresh : (s : Stage) (seen : List Told) → CanLend s seen → fresh_block s ≡ []
+lend_fresh : (s : Stage) (seen : List Reported) → CanLend s seen → fresh_block s ≡ []
 lend_fresh Looks seen can = refl
 lend_fresh Takes seen can = absurd can
 lend_fresh Owes seen can = refl
@@ -74,14 +74,14 @@ lent_keeps a v n can free room = record {
 
 -- it is named: the packet that is held is whole, or is held still
 
-ended_times : (seen : List Told) (bs : List Block) (p : Packet) (k : ℕ) → p.bufs ≡ bs
+ended_times : (seen : List Reported) (bs : List Block) (p : Packet) (k : ℕ) → p.bufs ≡ bs
     → times_in_hand (numbers_of p.bufs) k
     ≡ times_in_hand (numbers_of_all (ended_of seen p)) k + times_in_hand (numbers_of (left_of seen p).bufs) k
 ended_times (t ∷ seen) bs p k is = omega arith
 ended_times [] [] p k is = rw is refl
 ended_times [] (b ∷ bs) p k is = rw is (omega (arith, times-append (numbers_of (b ∷ bs)) [] k))
 
-ended_count : (seen : List Told) (bs : List Block) (p : Packet) → p.bufs ≡ bs
+ended_count : (seen : List Reported) (bs : List Block) (p : Packet) → p.bufs ≡ bs
     → length p.bufs ≡ length (numbers_of_all (ended_of seen p)) + length (left_of seen p).bufs
 ended_count (t ∷ seen) bs p is = omega arith
 ended_count [] [] p is = rw is refl
@@ -92,11 +92,11 @@ ended_count [] (b ∷ bs) p is =
       length-map (b ∷ bs) (λ (x : Block). x.number),
     ))
 
-next_amid : (v : Receive) (seen : List Told) → v.seen ≡ seen → IsRunning v → IsAmid (names v) (next_stage seen)
-next_amid v [] is runs = omega (arith, ap (λ (ts : List Told). length ts) is, runs.part)
-next_amid v (t ∷ seen) is runs = omega (arith, ap (λ (ts : List Told). length ts) is)
+next_amid : (v : Receive) (seen : List Reported) → v.seen ≡ seen → IsRunning v → IsAmid (names v) (next_stage seen)
+next_amid v [] is runs = omega (arith, ap (λ (ts : List Reported). length ts) is, runs.part)
+next_amid v (t ∷ seen) is runs = omega (arith, ap (λ (ts : List Reported). length ts) is)
 
-next_fresh : (seen : List Told) → (fresh_block (next_stage seen) ≡ []) × (vacated (next_stage seen) ≡ 0)
+next_fresh : (seen : List Reported) → (fresh_block (next_stage seen) ≡ []) × (vacated (next_stage seen) ≡ 0)
 next_fresh [] = (refl, refl)
 next_fresh (t ∷ seen) = (refl, refl)
 

@@ -15,22 +15,22 @@ use Rattle.pmd_rx.specs.Receive.{Layout, no_packet, if_any, is_part, parts_first
 use Rattle.pmd_rx.specs.Shown.{FitsBlock, StandsAt, IsSteady}
 use Rattle.pmd_rx.specs.declared.ring.Stage.{Stage}
 use Rattle.pmd_rx.specs.declared.ring.Stage.TheVariants.{Looks, Takes, Owes, Lent}
-use Rattle.pmd_rx.specs.declared.ring.Told.{Told}
+use Rattle.pmd_rx.specs.declared.ring.Reported.{Reported}
 use Rattle.pmd_rx.proofs.Keeping.{part_more}
 use Rattle.pmd_rx.proofs.Lists.{all-append}
 
-fewer : (seen : List Told) (t : Told) (rest : List Told) → seen ≡ t ∷ rest → length rest + 1 ≡ length seen
+fewer : (seen : List Reported) (t : Reported) (rest : List Reported) → seen ≡ t ∷ rest → length rest + 1 ≡ length seen
 fewer seen t rest is = omega (arith, ap length is)
 
-pub joined_steady : (l : Layout) (posted : ℕ) (seen : List Told) (p : Packet) (whole : List Packet) (s : Stage)
-    (t : Told) (rest : List Told) (next : ℕ) (blocks : List ℕ) (left : ℕ) (bs : List Block) (b : Block)
+pub joined_steady : (l : Layout) (posted : ℕ) (seen : List Reported) (p : Packet) (whole : List Packet) (s : Stage)
+    (t : Reported) (rest : List Reported) (next : ℕ) (blocks : List ℕ) (left : ℕ) (bs : List Block) (b : Block)
     (len rss hash : ℕ) → IsSteady l posted seen p whole s → s ≡ Takes → seen ≡ t ∷ rest → next < l.size
     → blocks ≡ drop 1 l.blocks → left + 1 ≡ posted → len ≡ bytes_in t.second → bs ≡ p.bufs ++ b ∷ []
     → IsSteady (record l { next = next; blocks = blocks }) left rest
     (record { bufs = bs; len = p.len + len; rss = rss; hash = hash }) whole Owes
 joined_steady l posted seen p whole s t rest next blocks left bs b len rss hash (laid, step) takes is below drops
-    one told joins =
-    let both : All FitsBlock (t ∷ rest) = subst (λ (ts : List Told). All FitsBlock ts) is step.parts in
+    one reported joins =
+    let both : All FitsBlock (t ∷ rest) = subst (λ (ts : List Reported). All FitsBlock ts) is step.parts in
     let fits : bytes_in t.second ≤ 2048 = both 0 t (omega arith) in
     let less : length blocks ≡ length (drop 1 l.blocks) = ap (λ (xs : List ℕ). length xs) drops in
     let many : length bs ≡ length p.bufs + 1 = ap (λ (xs : List Block). length xs) joins ∙ length_push p.bufs b in (
@@ -46,7 +46,7 @@ joined_steady l posted seen p whole s t rest next blocks left bs b len rss hash 
       record {
         stage = tt;
         few = omega (arith, step.few, fewer seen t rest is, many);
-        bytes = omega (arith, step.bytes, fits, told, many);
+        bytes = omega (arith, step.bytes, fits, reported, many);
         parts = λ k d i. both (suc k) d (omega (arith, i));
         within = omega (arith, step.within, fewer seen t rest is, one);
         some = step.some;
@@ -66,7 +66,7 @@ part_fits most before second part (inr on) =
     let both : (bytes_in second == 2048 && nat_lt (before + 1) most) ≡ true = rw on at part in
     grind (arith, nat_tests, (and_parts (bytes_in second == 2048) (nat_lt (before + 1) most) both).0)
 
-seen_stands : (l : Layout) (seen more : List Told) (p : Packet) (most before second : ℕ) → l.most ≡ most
+seen_stands : (l : Layout) (seen more : List Reported) (p : Packet) (most before second : ℕ) → l.most ≡ most
     → length more ≡ before + 1 → is_part most before second ≡ true → p ≡ no_packet
     → (ends_packet second ≡ true) ⊎ (ends_packet second ≡ false)
     → StandsAt (if ends_packet second then Takes else Looks) l more p
@@ -78,13 +78,14 @@ vacated_seen : (ends : Bool) → vacated (if ends then Takes else Looks) ≡ 0
 vacated_seen true = refl
 vacated_seen false = refl
 
-pub seen_steady : (l : Layout) (posted : ℕ) (seen more : List Told) (p : Packet) (whole : List Packet) (s next : Stage)
-    (t : Told) → IsSteady l posted seen p whole s → s ≡ Looks → more ≡ seen ++ t ∷ []
+pub seen_steady : (l : Layout) (posted : ℕ) (seen more : List Reported) (p : Packet) (whole : List Packet)
+    (s next : Stage)
+    (t : Reported) → IsSteady l posted seen p whole s → s ≡ Looks → more ≡ seen ++ t ∷ []
     → next ≡ (if ends_packet t.second then Takes else Looks) → is_part l.most (length seen) t.second ≡ true
     → length seen < posted → IsSteady l posted more p whole next
 seen_steady l posted seen more p whole s next t (laid, step) looks is leads part below =
     let stands : StandsAt Looks l seen p = subst (λ (x : Stage). StandsAt x l seen p) looks step.stage in
-    let many : length more ≡ length seen + 1 = ap (λ (ts : List Told). length ts) is ∙ length_push seen t in
+    let many : length more ≡ length seen + 1 = ap (λ (ts : List Reported). length ts) is ∙ length_push seen t in
     let ends = cases_Bool (ends_packet t.second) in
     let none : length p.bufs ≡ 0 = ap (λ (x : Packet). length x.bufs) stands.0 in
     let owed : vacated next ≡ 0 = ap vacated leads ∙ vacated_seen (ends_packet t.second) in
@@ -94,7 +95,7 @@ seen_steady l posted seen more p whole s next t (laid, step) looks is leads part
         stage = rw leads (seen_stands l seen more p l.most (length seen) t.second refl many part stands.0 ends);
         few = omega (arith, many, none, stands.1);
         bytes = step.bytes;
-        parts = subst (λ (ts : List Told). All FitsBlock ts) (sym is)
+        parts = subst (λ (ts : List Reported). All FitsBlock ts) (sym is)
             (All-push FitsBlock seen t step.parts (part_fits l.most (length seen) t.second part ends));
         within = omega (arith, many, below);
         some = step.some;
@@ -119,7 +120,8 @@ any_count (b ∷ bs) p is =
       length-map p.bufs (λ (x : Block). x.number),
     )
 
-pub named_steady : (l : Layout) (posted : ℕ) (seen : List Told) (p q : Packet) (whole more : List Packet) (s : Stage)
+pub named_steady : (l : Layout) (posted : ℕ) (seen : List Reported) (p q : Packet) (whole more : List Packet)
+    (s : Stage)
     (n : ℕ) (blocks : List ℕ) → IsSteady l posted seen p whole s → s ≡ Lent n → length seen ≡ 0
     → blocks ≡ l.blocks ++ n ∷ [] → q ≡ no_packet → more ≡ whole ++ if_any p.bufs p
     → IsSteady (record l { blocks = blocks }) posted seen q more Looks
@@ -159,12 +161,13 @@ named_steady l posted seen p q whole more s n blocks (laid, step) lent none is e
     )
 
 -- so many slots are posted, of those that have a block
-pub posted_few : (l : Layout) (posted : ℕ) (seen : List Told) (p : Packet) (whole : List Packet) (s : Stage)
+pub posted_few : (l : Layout) (posted : ℕ) (seen : List Reported) (p : Packet) (whole : List Packet) (s : Stage)
     → IsSteady l posted seen p whole s → posted ≤ length l.blocks
 posted_few l posted seen p whole s (laid, step) = omega (arith, step.replaced)
 
-pub posted_some : (l : Layout) (posted : ℕ) (seen : List Told) (p : Packet) (whole : List Packet) (s : Stage) (t : Told)
-    (rest : List Told) → IsSteady l posted seen p whole s → seen ≡ t ∷ rest → posted - 1 + 1 ≡ posted
+pub posted_some : (l : Layout) (posted : ℕ) (seen : List Reported) (p : Packet) (whole : List Packet) (s : Stage)
+    (t : Reported)
+    (rest : List Reported) → IsSteady l posted seen p whole s → seen ≡ t ∷ rest → posted - 1 + 1 ≡ posted
 posted_some l posted seen p whole s t rest (laid, step) is = omega (arith, step.within, fewer seen t rest is)
 
 first_count : (p : Packet) (left : List Packet)
@@ -182,7 +185,7 @@ some_parts : (whole : List Packet) → 0 < length whole → All HasPart whole �
 some_parts [] some all = absurd (omega (arith, some))
 some_parts (p ∷ whole) some all = omega (arith, first_count p whole, all 0 p (omega arith))
 
-pub some_named : (l : Layout) (posted : ℕ) (seen : List Told) (p : Packet) (whole : List Packet) (s : Stage)
+pub some_named : (l : Layout) (posted : ℕ) (seen : List Reported) (p : Packet) (whole : List Packet) (s : Stage)
     → IsSteady l posted seen p whole s → 0 < length whole → 0 < length (drop posted l.blocks)
 some_named l posted seen p whole s (laid, step) some =
     omega (arith, step.replaced, some_parts whole some step.some, length-drop posted l.blocks)
@@ -191,14 +194,15 @@ first_named : (whole : List Packet) → parts_first whole ≤ length (numbers_of
 first_named [] = omega arith
 first_named (p ∷ whole) = omega (arith, first_count p whole)
 
-pub parts_named : (l : Layout) (posted : ℕ) (seen : List Told) (p : Packet) (whole : List Packet) (s : Stage)
+pub parts_named : (l : Layout) (posted : ℕ) (seen : List Reported) (p : Packet) (whole : List Packet) (s : Stage)
     → IsSteady l posted seen p whole s → parts_first whole ≤ length (drop posted l.blocks)
 parts_named l posted seen p whole s (laid, step) =
     omega (arith, step.replaced, first_named whole, length-drop posted l.blocks)
 
 -- as the tail moves on
 
-pub one_steady : (l : Layout) (posted more : ℕ) (seen : List Told) (p : Packet) (whole left : List Packet) (s : Stage)
+pub one_steady : (l : Layout) (posted more : ℕ) (seen : List Reported) (p : Packet) (whole left : List Packet)
+    (s : Stage)
     (first : Packet) → IsSteady l posted seen p whole s → whole ≡ first ∷ left → more ≡ length first.bufs
     → IsSteady l (posted + more) seen p left s
 one_steady l posted more seen p whole left s first (laid, step) is many =
@@ -218,7 +222,8 @@ one_steady l posted more seen p whole left s first (laid, step) is many =
       },
     )
 
-pub all_steady : (l : Layout) (posted more : ℕ) (seen : List Told) (p : Packet) (whole left : List Packet) (s : Stage)
+pub all_steady : (l : Layout) (posted more : ℕ) (seen : List Reported) (p : Packet) (whole left : List Packet)
+    (s : Stage)
     → IsSteady l posted seen p whole s → length p.bufs ≡ 0 → more ≡ length l.blocks → left ≡ []
     → IsSteady l more seen p left s
 all_steady l posted more seen p whole left s (laid, step) none all is =

@@ -12,12 +12,12 @@ use Rattle.pmd_rx.specs.Receive.{Receive, Layout, joined, names, posts, took, re
 use Rattle.pmd_rx.specs.Shown.{AreRecords}
 use Rattle.pmd_rx.specs.declared.ring.Stage.{Stage}
 use Rattle.pmd_rx.specs.declared.ring.Stage.TheVariants.{Looks, Owes, Lent}
-use Rattle.pmd_rx.specs.declared.ring.Told.{Told}
+use Rattle.pmd_rx.specs.declared.ring.Reported.{Reported}
 use Rattle.pmd_rx.proofs.Lists.{take_less, drop_less, records_same}
 
 -- the ring with its slots' blocks, of which so many are posted; records, of which so many were handed out; what is
 -- seen, held and whole, and the stage
-abbrev pub shown : Layout → ℕ → List Kept → ℕ → List Told → Packet → List Packet → Stage → Receive
+abbrev pub shown : Layout → ℕ → List Kept → ℕ → List Reported → Packet → List Packet → Stage → Receive
 shown l posted records handed seen held whole s = record {
   layout = record l { blocks = take posted l.blocks };
   handed = take handed records;
@@ -29,7 +29,7 @@ shown l posted records handed seen held whole s = record {
 }
 
 -- a driver by its lists
-parts_same : (l : Layout) (bs cs ms ns : List ℕ) (hs ks : List Kept) (seen : List Told) (p : Packet)
+parts_same : (l : Layout) (bs cs ms ns : List ℕ) (hs ks : List Kept) (seen : List Reported) (p : Packet)
     (ps qs : List Packet) (s : Stage) → bs ≡ cs → hs ≡ ks → ps ≡ qs → ms ≡ ns
     → (let v : Receive = record {
       layout = record l { blocks = bs };
@@ -51,11 +51,11 @@ parts_same : (l : Layout) (bs cs ms ns : List ℕ) (hs ks : List Kept) (seen : L
 parts_same l bs cs ms ns hs ks seen p ps qs s blocks handed whole named = rw (blocks, handed, whole, named) refl
 
 -- more is posted, and as many packets are handed out
-pub shown_posts : (l : Layout) (posted n more : ℕ) (records : List Kept) (handed m told : ℕ) (seen : List Told)
+pub shown_posts : (l : Layout) (posted n more : ℕ) (records : List Kept) (handed m reported : ℕ) (seen : List Reported)
     (held : Packet) (whole left : List Packet) (s : Stage) → AreRecords handed records whole → more ≡ posted + n
-    → told ≡ handed + m → left ≡ drop m whole
-    → shown l more records told seen held left s ≡ posts (shown l posted records handed seen held whole s) n m
-shown_posts l posted n more records handed m told seen held whole left s are further as_many drops =
+    → reported ≡ handed + m → left ≡ drop m whole
+    → shown l more records reported seen held left s ≡ posts (shown l posted records handed seen held whole s) n m
+shown_posts l posted n more records handed m reported seen held whole left s are further as_many drops =
     parts_same l _ _ _ _ _ _ seen held _ _ s
     (ap (λ (k : ℕ). take k l.blocks) further ∙ take-add posted n l.blocks)
     (ap (λ (k : ℕ). take k records) as_many ∙ take-add handed m records
@@ -66,7 +66,7 @@ shown_posts l posted n more records handed m told seen held whole left s are fur
 
 -- the last part was taken, and its place is named: the packet is whole
 pub shown_names : (l : Layout) (posted n : ℕ) (blocks : List ℕ) (records more : List Kept) (handed : ℕ)
-    (seen : List Told) (held left : Packet) (whole all : List Packet) (s : Stage) → AreRecords handed records whole
+    (seen : List Reported) (held left : Packet) (whole all : List Packet) (s : Stage) → AreRecords handed records whole
     → posted ≤ length l.blocks → s ≡ Lent n → seen ≡ [] → blocks ≡ l.blocks ++ n ∷ [] → left ≡ no_packet
     → all ≡ whole ++ if_any held.bufs held → more ≡ records ++ records_of (if_any held.bufs held)
     → shown (record l { blocks = blocks }) posted more handed seen left all Looks
@@ -81,7 +81,7 @@ shown_names l posted n blocks records more handed seen held left whole all s are
 
 -- the first slot was consumed, and its part joins the packet that is held
 pub shown_took : (l : Layout) (posted left next : ℕ) (blocks : List ℕ) (records : List Kept) (handed : ℕ)
-    (seen rest : List Told) (t : Told) (held : Packet) (bs : List Block) (b : Block) (len rss hash : ℕ)
+    (seen rest : List Reported) (t : Reported) (held : Packet) (bs : List Block) (b : Block) (len rss hash : ℕ)
     (whole : List Packet) (s : Stage) → seen ≡ t ∷ rest → next ≡ next_of l.size l.next → left + 1 ≡ posted
     → blocks ≡ drop 1 l.blocks → bs ≡ held.bufs ++ b ∷ [] → len ≡ bytes_in t.second → rss ≡ rss_in t.first
     → hash ≡ hash_in t.first
@@ -89,8 +89,8 @@ pub shown_took : (l : Layout) (posted left next : ℕ) (blocks : List ℕ) (reco
     (record { bufs = bs; len = held.len + len; rss = rss; hash = hash }) whole Owes
     ≡ took (shown l posted records handed seen held whole s) seen b
 shown_took l posted left next blocks records handed seen rest t held bs b len rss hash whole s is below one drops joins
-    told type number =
-    rw (is, below, joins, told, type, number)
+    reported type number =
+    rw (is, below, joins, reported, type, number)
     (parts_same (record l { next = next_of l.size l.next }) _ _ _ _ _ _ rest (joined held b t) _ _ Owes
     (ap (λ (xs : List ℕ). take left xs) drops ∙ take_less posted left l.blocks (omega (arith, one)))
     refl

@@ -15,7 +15,7 @@ use Rattle.pmd_access.specs.Slots.{wrapped, descriptor_in, is_ring_block}
 use Rattle.pmd_access.specs.declared.packet.Packet.{Packet}
 use Rattle.pmd_rx.specs.declared.ring.Stage.{Stage}
 use Rattle.pmd_rx.specs.declared.ring.Stage.TheVariants.{Looks, Takes, Owes, Lent}
-use Rattle.pmd_rx.specs.declared.ring.Told.{Told}
+use Rattle.pmd_rx.specs.declared.ring.Reported.{Reported}
 
 -- the ring: the port, the number that the tail's register has there, the block that the ring begins with, its number
 -- of slots, the most slots that a packet has, the slot to look at next, and the blocks of the slots from there on up to
@@ -29,13 +29,13 @@ pub record Layout : Type 0 where
   pub next : ℕ
   pub blocks : List ℕ
 
--- the ring, what was handed out, what descriptors from the next slot on told, the packet of which parts were taken, the
--- whole packets, in the places of whose blocks fresh ones are named, the named blocks after the tail, and the stage.
--- The named blocks are posted as the tail moves on, and whole packets are handed out then
+-- the ring, what was handed out, what descriptors from the next slot on reported, the packet of which parts were taken,
+-- the whole packets, in the places of whose blocks fresh ones are named, the named blocks after the tail, and the
+-- stage. The named blocks are posted as the tail moves on, and whole packets are handed out then
 pub record Receive : Type 0 where
   pub layout : Layout
   pub handed : List Kept
-  pub seen : List Told
+  pub seen : List Reported
   pub held : Packet
   pub whole : List Packet
   pub named : List ℕ
@@ -67,7 +67,7 @@ abbrev pub no_packet : Packet
 no_packet = record { bufs = []; len = 0; rss = 0; hash = 0 }
 
 -- a packet with one more part, whose block is this: the last part's descriptor tells the RSS type and hash
-abbrev pub joined : Packet → Block → Told → Packet
+abbrev pub joined : Packet → Block → Reported → Packet
 joined p b t = record {
   bufs = p.bufs ++ b ∷ [];
   len = p.len + bytes_in t.second;
@@ -76,8 +76,8 @@ joined p b t = record {
 }
 
 -- what a descriptor tells by its halves
-abbrev pub told_by : List ℕ → Told
-told_by d = record { first = first_half d; second = second_half d }
+abbrev pub reported_by : List ℕ → Reported
+reported_by d = record { first = first_half d; second = second_half d }
 
 -- whether a done descriptor tells of a part of a packet, after so many others: it has no more bytes than a block, and
 -- one that doesn't end the packet fills its block, and is followed by another
@@ -102,7 +102,7 @@ naming block = of_halves (posted (2048 * block)) 0
 -- a look: a part that is there is seen, and once the packet ends its blocks are to be taken
 abbrev pub saw : Receive → List ℕ → Receive
 saw v d = record v {
-  seen = v.seen ++ told_by d ∷ [];
+  seen = v.seen ++ reported_by d ∷ [];
   stage = if ends_packet (second_half d) then Takes else Looks;
 }
 
@@ -114,7 +114,7 @@ looked v d =
 abbrev pub consumed : Layout → Layout
 consumed l = record l { next = next_of l.size l.next; blocks = drop 1 l.blocks }
 
-abbrev pub took : Receive → List Told → Block → Receive
+abbrev pub took : Receive → List Reported → Block → Receive
 took v [] b = v
 took v (t ∷ seen) b = record v {
   layout = consumed v.layout;
@@ -131,16 +131,16 @@ abbrev pub if_any : List Block → Packet → List Packet
 if_any [] p = []
 if_any (b ∷ bs) p = p ∷ []
 
-abbrev pub ended_of : List Told → Packet → List Packet
+abbrev pub ended_of : List Reported → Packet → List Packet
 ended_of [] p = if_any p.bufs p
 ended_of (t ∷ seen) p = []
 
 -- what is held then
-abbrev pub left_of : List Told → Packet → Packet
+abbrev pub left_of : List Reported → Packet → Packet
 left_of [] p = no_packet
 left_of (t ∷ seen) p = p
 
-abbrev pub next_stage : List Told → Stage
+abbrev pub next_stage : List Reported → Stage
 next_stage [] = Looks
 next_stage (t ∷ seen) = Takes
 
@@ -206,7 +206,7 @@ pub record MayLend (l : Layout) (b : Block) : Type 0 where
   pub whole : length b.bytes ≡ 2048
 
 -- a fresh block is lent in the place of one that was taken, or while the ring is filled and no part was seen
-abbrev pub CanLend : Stage → List Told → Type 0
+abbrev pub CanLend : Stage → List Reported → Type 0
 CanLend Looks seen = seen ≡ []
 CanLend Takes seen = ⊥
 CanLend Owes seen = ⊤

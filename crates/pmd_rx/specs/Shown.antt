@@ -22,7 +22,7 @@ use Rattle.pmd_rx.specs.declared.receive.Look.{Look}
 use Rattle.pmd_rx.specs.declared.receive.Look.TheVariants as look
 use Rattle.pmd_rx.specs.declared.ring.Stage.{Stage}
 use Rattle.pmd_rx.specs.declared.ring.Stage.TheVariants.{Looks, Takes, Owes, Lent}
-use Rattle.pmd_rx.specs.declared.ring.Told.{Told}
+use Rattle.pmd_rx.specs.declared.ring.Reported.{Reported}
 
 -- a ring of 8 to 1,024 slots, in blocks of bus memory that follow one another
 pub record IsLaidOut (l : Layout) : Type 0 where
@@ -36,20 +36,20 @@ pub record IsLaidOut (l : Layout) : Type 0 where
 
 -- nothing is held while it looks, and fewer slots are seen than a packet may have; there is a part to take; a block
 -- that is lent has a slot to go to, and one is vacant still
-abbrev pub StandsAt : Stage → Layout → List Told → Packet → Type 0
+abbrev pub StandsAt : Stage → Layout → List Reported → Packet → Type 0
 StandsAt Looks l seen held = (held ≡ no_packet) × (length seen < l.most)
 StandsAt Takes l seen held = 0 < length seen
 StandsAt Owes l seen held = ⊤
 StandsAt (Lent b) l seen held = (length l.blocks + 1 < l.size) × (b < 65536)
 
 -- a part has no more bytes than a block
-abbrev pub FitsBlock : Told → Type 0
+abbrev pub FitsBlock : Reported → Type 0
 FitsBlock t = bytes_in t.second ≤ 2048
 
 -- the parts that are held and seen are at most those of a packet, and the seen ones stand in posted slots, which are
 -- the first of those that have a block; a whole packet has a part, and for each part of one a block is named after
 -- them, as for each that is held, but for one where it is owed still
-pub record IsInStep (l : Layout) (posted : ℕ) (seen : List Told) (held : Packet) (whole : List Packet) (s : Stage)
+pub record IsInStep (l : Layout) (posted : ℕ) (seen : List Reported) (held : Packet) (whole : List Packet) (s : Stage)
     : Type 0 where
   pub stage : StandsAt s l seen held
   pub few : length held.bufs + length seen ≤ l.most
@@ -66,10 +66,10 @@ pub record AreRecords (handed : ℕ) (records : List Kept) (whole : List Packet)
   pub behind : drop handed records ≡ records_of whole
 
 -- the ring as far as its slots have a block, of which so many are posted, and what else is kept
-abbrev pub IsSteady : Layout → ℕ → List Told → Packet → List Packet → Stage → Type 0
+abbrev pub IsSteady : Layout → ℕ → List Reported → Packet → List Packet → Stage → Type 0
 IsSteady l posted seen held whole s = IsLaidOut l × IsInStep l posted seen held whole s
 
--- the first vacant slot was told to name the block that is lent, or the ring isn't lent any more
+-- the first vacant slot was reported to name the block that is lent, or the ring isn't lent any more
 abbrev pub IsNamed : List Call → List Call → Receive → Bool → Type 0
 IsNamed old new v known = IsPoked old new (descriptor_at v.layout (vacant (reach v))) (naming (fresh_of v.stage)) known
 

@@ -12,7 +12,7 @@ ghost use Rattle.pmd_rx.specs.Receive.{took, lent_one, names, if_any, records_of
 ghost use Rattle.pmd_rx.specs.Shown.{IsLook, IsRefused, IsNamed, IsUnnamed};
 ghost use Rattle.pmd_rx.specs.declared.ring.Stage.TheVariants as stage;
 
-use crate::ring::{ReceiveRing, Stage, Told, no_packet};
+use crate::ring::{ReceiveRing, Reported, Stage, no_packet};
 use pmd_access::{
     Arena, BLOCK_BYTES, Buf, CallFault, Nic, Packet, PmdFault, Record, descriptor_address,
     first_half, is_last, is_written_back, lend, next_slot, of_halves, peek, poke, posted_word,
@@ -34,7 +34,7 @@ pub enum Look {
 }
 
 /// What a descriptor tells, by its second half, of a part after so many others of a packet of at most `most` parts.
-fn look_told(most: u16, before: usize, second: u64) -> Look
+fn look_reported(most: u16, before: usize, second: u64) -> Look
     requires { before < 65536 }
     ensures nothing { result ≡ Look.Nothing → IsFalse (is_done second) }
     ensures part { result ≡ Look.Part → (is_done second ≡ true) × (is_part most before second ≡ true) }
@@ -78,14 +78,14 @@ impl ReceiveRing {
         let address = self.next_descriptor();
         match peek(alloc, nic, address) {
             Ok(Some(bytes)) => {
-                let told = Told {
+                let reported = Reported {
                     first: first_half(&bytes),
                     second: second_half(&bytes),
                 };
-                let look = look_told(self.most, self.seen.len(), told.second);
+                let look = look_reported(self.most, self.seen.len(), reported.second);
                 if matches!(look, Look::Part) {
-                    self.seen.push_back_reserved(told);
-                    self.stage = stage_after(told.second);
+                    self.seen.push_back_reserved(reported);
+                    self.stage = stage_after(reported.second);
                 }
                 Ok(look)
             }
@@ -131,13 +131,13 @@ impl ReceiveRing {
         requires some { 0 < length self.old.seen }
         ensures { self.new ≡ took self.old self.old.seen buf }
     {
-        let Some(told) = self.seen.pop_front() else {
+        let Some(reported) = self.seen.pop_front() else {
             unreachable!()
         };
         self.held.bufs.push(buf);
-        self.held.len += reported_length(told.second);
-        self.held.rss = reported_rss(told.first);
-        self.held.hash = reported_hash(told.first);
+        self.held.len += reported_length(reported.second);
+        self.held.rss = reported_rss(reported.first);
+        self.held.hash = reported_hash(reported.first);
         self.next = next_slot(self.size, self.next);
         let _consumed = self.slots.pop_front();
         self.posted -= 1;
@@ -302,7 +302,7 @@ fn naming(block: u32) -> [u8; 16]
     of_halves(posted_word(2048 * u64::from(block)), 0)
 }
 
-/// The stage after a look that found a part of a packet, by the second half that it told.
+/// The stage after a look that found a part of a packet, by the second half that it reported.
 fn stage_after(second: u64) -> Stage
     ensures { result ≡ (if ends_packet second then stage.Takes else stage.Looks) }
 {

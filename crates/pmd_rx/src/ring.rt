@@ -32,7 +32,7 @@ pub enum Stage {
 
 /// What a descriptor tells of a part of a packet, by its halves.
 #[derive(Clone, Copy)]
-pub struct Told {
+pub struct Reported {
     /// The first half: the RSS type and hash.
     pub first: u64,
     /// The second half: the length, and whether the packet ends there.
@@ -55,7 +55,7 @@ pub struct ReceiveRing {
     pub(crate) posted: u16,
     pub(crate) records: Vec<Record>,
     pub(crate) handed: usize,
-    pub(crate) seen: VecDeque<Told>,
+    pub(crate) seen: VecDeque<Reported>,
     pub(crate) held: Packet,
     pub(crate) whole: VecDeque<Packet>,
     pub(crate) stage: Stage,

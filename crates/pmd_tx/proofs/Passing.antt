@@ -21,7 +21,7 @@ use Rattle.pmd_tx.specs.declared.answer.TxAnswer.{TxAnswer}
 use Rattle.pmd_tx.specs.declared.answer.TxAnswer.TheVariants.{Taken, RingFull}
 use Rattle.pmd_tx.specs.declared.answer.TxFault.{TxFault}
 use Rattle.pmd_tx.specs.Sending.{Sender, Segment, accepted_by, keeps, segments_of}
-use Rattle.pmd_tx.specs.Sends.{gate_of, outgoing_of, accepted_of, is_bad_size, is_full, are_out, goes_home, returned, IsAnswer, IsAccepted, IsFullWhereTold, IsNoneAccepted, IsBack, IsShut, IsTried}
+use Rattle.pmd_tx.specs.Sends.{gate_of, outgoing_of, accepted_of, is_bad_size, is_full, are_out, goes_home, returned, IsAnswer, IsAccepted, IsFullWhereReported, IsNoneAccepted, IsBack, IsShut, IsTried}
 use Rattle.pmd_tx.specs.Shown.{AreDistinct, MaySend}
 use Rattle.pmd_tx.proofs.Distinct.{neither}
 
@@ -130,11 +130,11 @@ gone_open Open p x answer none = refl
 pub taken_open : (g : Gate) (p : Packet) → IsAnswer g p (Ok Taken) → Open ≡ g
 taken_open g p answer = gone_open g p (Ok Taken) answer refl
 
--- what is told once the way is open
+-- what is reported once the way is open
 pub tried_answer : (g : Gate) (p : Packet) (x : Result TxAnswer TxFault) → Open ≡ g → IsTried x → IsAnswer g p x
 tried_answer g p x is tried = subst (λ (y : Gate). IsAnswer y p x) is tried
 
-pub tried_full : (v : Sender) (p : Packet) (x : Result TxAnswer TxFault) → IsTried x → IsFullWhereTold v p x
+pub tried_full : (v : Sender) (p : Packet) (x : Result TxAnswer TxFault) → IsTried x → IsFullWhereReported v p x
 tried_full v p (Ok Taken) tried = tt
 tried_full v p (Ok (RingFull q)) tried = absurd tried
 tried_full v p (Err f) tried = tt

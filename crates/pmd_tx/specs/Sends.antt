@@ -75,11 +75,11 @@ IsShut (Refused f) = ⊤
 IsShut Full = ⊤
 IsShut Open = ⊥
 
--- where the ring is told to be full, the segments that are outstanding and the packet's are above its slots but one
-abbrev pub IsFullWhereTold : Sender → Packet → Result TxAnswer TxFault → Type 0
-IsFullWhereTold v given (Ok (RingFull p)) = v.layout.size ≤ length v.outstanding + parts_for given.len
-IsFullWhereTold v given (Ok Taken) = ⊤
-IsFullWhereTold v given (Err f) = ⊤
+-- where the ring is reported to be full, the segments that are outstanding and the packet's are above its slots but one
+abbrev pub IsFullWhereReported : Sender → Packet → Result TxAnswer TxFault → Type 0
+IsFullWhereReported v given (Ok (RingFull p)) = v.layout.size ≤ length v.outstanding + parts_for given.len
+IsFullWhereReported v given (Ok Taken) = ⊤
+IsFullWhereReported v given (Err f) = ⊤
 
 -- the packet that comes back, where one does: one that doesn't was accepted
 abbrev pub returned : Result TxAnswer TxFault → Option Packet

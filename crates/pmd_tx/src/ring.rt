@@ -232,7 +232,7 @@ impl TransmitRing {
 
     /// Whether the block of the next segment whose descriptor isn't written is lent.
     pub(crate) fn is_next_lent(&self) -> bool
-        ensures told { (result ≡ true) ↔ (self.now.poked < self.now.lent) }
+        ensures reported { (result ≡ true) ↔ (self.now.poked < self.now.lent) }
         ensures order { self.now.poked ≤ self.now.lent }
     {
         self.poked < self.lent
@@ -241,7 +241,7 @@ impl TransmitRing {
     /// Whether the tail has passed all segments.
     #[tactic(auto, using(crate::proofs::Outstanding::outstanding))]
     pub(crate) fn is_settled(&self) -> bool
-        ensures told { (result ≡ true) ↔ (self.now.posted ≡ length self.now.outstanding) }
+        ensures reported { (result ≡ true) ↔ (self.now.posted ≡ length self.now.outstanding) }
         ensures posted { self.now.posted ≤ self.now.poked }
         ensures poked { self.now.poked ≤ self.now.lent }
         ensures lent { self.now.lent ≤ length self.now.outstanding }

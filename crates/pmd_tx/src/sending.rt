@@ -11,7 +11,7 @@ ghost use Rattle.pmd_access.specs.Home.{AreOut};
 ghost use Rattle.pmd_access.specs.Refusals.{CanFail};
 ghost use Rattle.pmd_tx.specs.Plays.{PlaysWith, FaultsBy};
 ghost use Rattle.pmd_tx.specs.Sending.{accepted_by, keeps, parts_for};
-ghost use Rattle.pmd_tx.specs.Sends.{are_out, gate_of, goes_home, outgoing_of, returned, IsAnswer, IsFullWhereTold, IsShut, IsTried, IsAccepted, IsNoneAccepted, IsBack, IsLate, SendsHome};
+ghost use Rattle.pmd_tx.specs.Sends.{are_out, gate_of, goes_home, outgoing_of, returned, IsAnswer, IsFullWhereReported, IsShut, IsTried, IsAccepted, IsNoneAccepted, IsBack, IsLate, SendsHome};
 ghost use Rattle.pmd_tx.specs.Shown.{MaySend};
 
 use crate::answer::{Gate, TxAnswer, TxFault};
@@ -98,7 +98,7 @@ impl TransmitRing {
     ) -> Result<TxAnswer, TxFault>
         ensures plays { PlaysWith (outgoing_of packet).blocks (N.made nic.old) self.old (N.made nic.new) self.new }
         ensures answer { IsAnswer (gate_of self.old arena.old elsewhere packet) packet result }
-        ensures full { IsFullWhereTold self.old packet result }
+        ensures full { IsFullWhereReported self.old packet result }
         ensures shut { IsShut (gate_of self.old arena.old elsewhere packet)
             → (N.made nic.new ≡ N.made nic.old) × (self.new ≡ self.old) }
         ensures accepted { IfNone (returned result) (IsAccepted self.old packet self.new) }
@@ -136,7 +136,7 @@ impl TransmitRing {
     ) -> Result<TxAnswer, TxFault>
         ensures plays { PlaysWith (outgoing_of packet).blocks (N.made nic.old) self.old (N.made nic.new) self.new }
         ensures answer { IsAnswer (gate_of self.old arena.old elsewhere packet) packet result }
-        ensures full { IsFullWhereTold self.old packet result }
+        ensures full { IsFullWhereReported self.old packet result }
         ensures shut { IsShut (gate_of self.old arena.old elsewhere packet)
             → (N.made nic.new ≡ N.made nic.old) × (self.new ≡ self.old) }
         ensures accepted { IfNone (returned result) (IsAccepted self.old packet self.new) }
@@ -164,7 +164,7 @@ impl TransmitRing {
 
     /// What the packet meets before any event.
     fn gate(&self, arena: &Arena, elsewhere: bool, packet: &Packet) -> Gate
-        ensures told { result ≡ gate_of self.now arena.now elsewhere packet.now }
+        ensures reported { result ≡ gate_of self.now arena.now elsewhere packet.now }
         ensures full { result ≡ Gate.Full
             → self.now.layout.size ≤ length self.now.outstanding + parts_for packet.now.len }
         ensures whole { All (λ b. IsBlock b) packet.now.bufs }

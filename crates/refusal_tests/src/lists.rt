@@ -124,7 +124,7 @@ fn the_calls_are_listed(rt: HostRuntime) {
 struct Telling {
     is_marked: bool,
     calls: Option<Vec<Call>>,
-    told: Option<Vec<Entry>>,
+    reported: Option<Vec<Entry>>,
 }
 
 /// Which of three calls are own.
@@ -144,7 +144,7 @@ impl Telling {
         Telling {
             is_marked,
             calls: Some(calls),
-            told: None,
+            reported: None,
         }
     }
 }
@@ -152,14 +152,14 @@ impl Telling {
 impl Trial for Telling {
     fn call<R: Abort + Wait>(&mut self, rt: &R, alloc: Global) -> bool {
         let calls = some(rt, self.calls.take());
-        let told = if self.is_marked {
+        let reported = if self.is_marked {
             marked_history(alloc, calls, &MARKS)
         } else {
             history_of(alloc, calls)
         };
-        match told {
-            Ok(told) => {
-                put(rt, &mut self.told, told);
+        match reported {
+            Ok(reported) => {
+                put(rt, &mut self.reported, reported);
                 true
             }
             Err(calls) => {
@@ -183,12 +183,12 @@ impl Trial for Telling {
         let Telling {
             is_marked,
             calls,
-            told,
+            reported,
         } = self;
         none(rt, calls);
-        let told = some(rt, told);
-        let foreign = told.iter().filter(|it| it.pass == 1).count();
-        assert!(rt; told.len() == 3, "calls are absent");
+        let reported = some(rt, reported);
+        let foreign = reported.iter().filter(|it| it.pass == 1).count();
+        assert!(rt; reported.len() == 3, "calls are absent");
         assert!(rt;
             foreign == usize::from(is_marked),
             "a call is of another pass"
@@ -198,7 +198,7 @@ impl Trial for Telling {
 }
 
 #[test]
-fn calls_of_a_device_in_hand_are_told_as_a_history(rt: HostRuntime) {
+fn calls_of_a_device_in_hand_are_reported_as_a_history(rt: HostRuntime) {
     let alloc = rt.alloc();
     tried(
         &rt,
@@ -209,7 +209,7 @@ fn calls_of_a_device_in_hand_are_told_as_a_history(rt: HostRuntime) {
 }
 
 #[test]
-fn marked_calls_are_told_as_a_history(rt: HostRuntime) {
+fn marked_calls_are_reported_as_a_history(rt: HostRuntime) {
     let alloc = rt.alloc();
     tried(
         &rt,

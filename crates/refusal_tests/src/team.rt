@@ -62,9 +62,9 @@ fn run_team<R: Abort + Threads + Wait + Sync + Print>(
 ) -> Ran {
     let gate = Lockstep::new(rt, 3);
     let frames = frames(rt, alloc);
-    let _told = println!(rt; "call");
+    let _reported = println!(rt; "call");
     let ran = run_workers(rt, alloc, &gate, bench, jobs, host, frames);
-    let _told = println!(rt; "end");
+    let _reported = println!(rt; "end");
     match ran {
         Ok(ran) => ran,
         Err(

@@ -20,9 +20,9 @@ pub trait Trial {
 pub fn tried<R: Abort + Wait + Print, T: Trial>(rt: &R, alloc: Global, subject: T, calm: T) {
     let (mut subject, mut calm) = (subject, calm);
     let before = subject.picture(rt);
-    let _told = println!(rt; "call");
+    let _reported = println!(rt; "call");
     let made = subject.call(rt, alloc);
-    let _told = println!(rt; "end");
+    let _reported = println!(rt; "end");
     if !made {
         assert!(rt;
             subject.picture(rt) == before,

@@ -18,24 +18,24 @@ use Rattle.reg_table.proofs.Finding.{found-named}
 use Rattle.reg_table.proofs.FirstRuns.{has_all, first_found}
 use Rattle.reg_table.proofs.Numbers.{row_numbered, number_below, rows_length}
 
--- whether the two runs told of a row are those of its first addresses
+-- whether the two runs reported of a row are those of its first addresses
 tells : RowId → Bool
 tells row =
     has_all (number_of row) 0 (first_of row).count (first_of row).first (first_of row).stride runs
     && has_all (number_of row) (first_of row).count (row_of row).count (first_of row).further (first_of row).stride runs
 
-all_told : list_all tells rows ≡ true
+all_reported : list_all tells rows ≡ true
 unfolding rows runs tells
-all_told = refl
+all_reported = refl
 
-told : (row : RowId)
+reported : (row : RowId)
     → (has_all (number_of row) 0 (first_of row).count (first_of row).first (first_of row).stride runs ≡ true)
     × (has_all (number_of row) (first_of row).count (row_of row).count (first_of row).further (first_of row).stride runs
     ≡ true)
 unfolding tells
-told row =
+reported row =
     let there : number_of row < length rows = subst (λ n. number_of row < n) (sym rows_length) (number_below row) in
-    let pass = AllPass-from_list_all tells rows all_told in
+    let pass = AllPass-from_list_all tells rows all_reported in
     let test = All-get_or (λ x. tells x ≡ true) rows (number_of row) row there pass in
     and_parts _ _ (subst (λ x. tells x ≡ true) (row_numbered row row) test)
 
@@ -44,7 +44,7 @@ pub first_address : (p : Place) → p.index < (first_of p.row).count
     → address_among runs p ≡ Some ((first_of p.row).first + (first_of p.row).stride * p.index)
 first_address p h =
     let f = first_of p.row in
-    first_found runs p (number_of p.row) 0 f.count f.first f.stride refl (told p.row).0 (omega arith) h
+    first_found runs p (number_of p.row) 0 f.count f.first f.stride refl (reported p.row).0 (omega arith) h
     ∙ ap (λ k. Some (f.first + f.stride * k)) (omega arith)
 
 -- those of its further run begin at its further address
@@ -53,7 +53,7 @@ pub further_address : (p : Place) → p.index < (row_of p.row).count → (first_
     ≡ Some ((first_of p.row).further + (first_of p.row).stride * (p.index - (first_of p.row).count))
 further_address p h l =
     let f = first_of p.row in
-    first_found runs p (number_of p.row) f.count (row_of p.row).count f.further f.stride refl (told p.row).1 l h
+    first_found runs p (number_of p.row) f.count (row_of p.row).count f.further f.stride refl (reported p.row).1 l h
 
 pub same_number : (r s : RowId) → number_of r ≡ number_of s → r ≡ s
 same_number r s e = sym (row_numbered r r) ∙ ap (λ n. get_or rows n r) e ∙ row_numbered s r

@@ -77,8 +77,8 @@ group-auto_clear = written_back (λ q. q.auto_clear)
 pub group-auto_mask : IsWrittenBack (λ (q : Interrupts). q.auto_mask)
 group-auto_mask = written_back (λ q. q.auto_mask)
 
-pub group-told : IsWrittenBack (λ (q : Interrupts). q.told)
-group-told = written_back (λ q. q.told)
+pub group-reported : IsWrittenBack (λ (q : Interrupts). q.reported)
+group-reported = written_back (λ q. q.reported)
 
 -- for a register of a receive side that is set
 pub ruleset receive_columns = (
@@ -114,5 +114,5 @@ pub ruleset group_columns = (
   group-enabled,
   group-auto_clear,
   group-auto_mask,
-  group-told,
+  group-reported,
 )

@@ -40,15 +40,15 @@ auto_mask_changed a (Vf v) word = simp group_columns
 at_words : (xs : List Interrupts) (v : ℕ) (d : Interrupts) → v < length xs → (g : Group)
     → of_words g (get_or (map (λ q. q.causes) xs) v 0) (get_or (map (λ q. q.enabled) xs) v 0)
     (get_or (map (λ q. q.auto_clear) xs) v 0) (get_or (map (λ q. q.auto_mask) xs) v 0)
-    (get_or (map (λ q. q.told) xs) v 0)
-    ≡ (let q = get_or xs v d in of_words g q.causes q.enabled q.auto_clear q.auto_mask q.told)
+    (get_or (map (λ q. q.reported) xs) v 0)
+    ≡ (let q = get_or xs v d in of_words g q.causes q.enabled q.auto_clear q.auto_mask q.reported)
 at_words xs v d b g =
     rw (
       get_or-map (λ q. q.causes) xs v d 0 b,
       get_or-map (λ q. q.enabled) xs v d 0 b,
       get_or-map (λ q. q.auto_clear) xs v d 0 b,
       get_or-map (λ q. q.auto_mask) xs v d 0 b,
-      get_or-map (λ q. q.told) xs v d 0 b,
+      get_or-map (λ q. q.reported) xs v d 0 b,
     ) refl
 
 -- the interrupts of a group, as the registers show them
@@ -120,16 +120,16 @@ messaged a r g eiame misc one new is b all there owned steps =
     let own = subst (λ i. IsOwn g i) there owned in
     let seen : interrupts_of r g ≡ s = ap (λ q. interrupts_of q g) (sym is) ∙ shown a g b all own in
     let test = is_some (next_vector (interrupts_of r g) misc) in
-    let told = with_interrupts r (after_message (interrupts_of r g) eiame misc) in
-    elim (cases_Bool test) as (λ _. registers_of (record a { groups = new }) ≡ (if test then told else r)) [
+    let reported = with_interrupts r (after_message (interrupts_of r g) eiame misc) in
+    elim (cases_Bool test) as (λ _. registers_of (record a { groups = new }) ≡ (if test then reported else r)) [
       | inl t ↦ stepped a r g (λ i. after_message i eiame misc) one new is b all there owned steps
-          (message_step eiame misc) ∙ sym (cond-true test told r t)
+          (message_step eiame misc) ∙ sym (cond-true test reported r t)
       | inr f ↦
           let none = ap (λ i. next_bit i misc) (sym seen) ∙ no_next (interrupts_of r g) misc
           (none_of (next_vector (interrupts_of r g) misc) f) in
           let same : new ≡ a.groups = steps ∙ ap (λ n. with_group a.groups g (after_message_of s eiame n)) none
           ∙ put_back a.groups g in
-          ap (λ gs. registers_of (record a { groups = gs })) same ∙ is ∙ sym (cond-false test told r f)
+          ap (λ gs. registers_of (record a { groups = gs })) same ∙ is ∙ sym (cond-false test reported r f)
     ]
 
 -- the vector that a message in place answers

@@ -24,15 +24,15 @@ intersection-within inner outer small within =
 
 -- interrupts that are consistent, in words of 32 bits, are given by these words
 pub own_words : (s : Interrupts) → IsConsistent s → s.causes < 2 ^ 32 → s.enabled < 2 ^ 32 → s.auto_clear < 2 ^ 32
-    → s.auto_mask < 2 ^ 32 → s.told < 2 ^ 32 → IsOwn s.group s
-own_words s c small_causes small_enabled small_clear small_mask small_told =
+    → s.auto_mask < 2 ^ 32 → s.reported < 2 ^ 32 → IsOwn s.group s
+own_words s c small_causes small_enabled small_clear small_mask small_reported =
     let bits = group_bits s.group in
     let causes = intersection-within s.causes bits small_causes c.causes_exist in
     let enabled = intersection-within s.enabled bits small_enabled c.masks_exist in
     let clear = intersection-within s.auto_clear bits small_clear c.auto_clear_exists in
     let mask = intersection-within s.auto_mask bits small_mask c.auto_mask_exists in
-    let told = (λ k. intersection s.told (intersection (causes k) (enabled k)))
-    ∙ intersection-within s.told (intersection s.causes s.enabled) small_told c.told_is_pending in
+    let reported = (λ k. intersection s.reported (intersection (causes k) (enabled k)))
+    ∙ intersection-within s.reported (intersection s.causes s.enabled) small_reported c.reported_is_pending in
     record {
       of_group = refl;
       by_words = λ k. record {
@@ -41,7 +41,7 @@ own_words s c small_causes small_enabled small_clear small_mask small_told =
         enabled = enabled k;
         auto_clear = clear k;
         auto_mask = mask k;
-        told = told k;
+        reported = reported k;
       };
       auto_clear = c.auto_clear_exists;
       auto_mask = c.auto_mask_exists;

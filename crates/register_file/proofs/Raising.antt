@@ -34,23 +34,23 @@ no_mask : (s : Interrupts) (bits : BitSet) → auto_masked s bits false ≡ no_b
 unfolding when
 no_mask s bits = refl
 
--- a told bit keeps its cause and its mask where causes only grow
-still_told : (told cause mask more : Bool) → (told && (cause && mask)) ≡ told
-    → (told && ((cause || more) && mask)) ≡ told
-still_told false cause mask more e = refl
-still_told true true mask more e = e
-still_told true false mask more e = cc
+-- a reported bit keeps its cause and its mask where causes only grow
+still_reported : (reported cause mask more : Bool) → (reported && (cause && mask)) ≡ reported
+    → (reported && ((cause || more) && mask)) ≡ reported
+still_reported false cause mask more e = refl
+still_reported true true mask more e = e
+still_reported true false mask more e = cc
 
-told_stands : (told causes masks more : BitSet) → told < 2 ^ 32
-    → intersection told (intersection causes masks) ≡ told
-    → intersection told (intersection (union causes more) masks) ≡ told
-told_stands told causes masks more small is =
-    let parts = λ (k : ℕ) (b : k < 32) (all : BitSet). contains-intersection told (intersection all masks) k b
-    ∙ ap (λ x. contains told k && x) (contains-intersection all masks k b) in
-    same_bits (intersection told (intersection (union causes more) masks)) told (intersection-lt _ _) small
+reported_stands : (reported causes masks more : BitSet) → reported < 2 ^ 32
+    → intersection reported (intersection causes masks) ≡ reported
+    → intersection reported (intersection (union causes more) masks) ≡ reported
+reported_stands reported causes masks more small is =
+    let parts = λ (k : ℕ) (b : k < 32) (all : BitSet). contains-intersection reported (intersection all masks) k b
+    ∙ ap (λ x. contains reported k && x) (contains-intersection all masks k b) in
+    same_bits (intersection reported (intersection (union causes more) masks)) reported (intersection-lt _ _) small
     (λ k b. parts k b (union causes more)
-    ∙ ap (λ x. contains told k && (x && contains masks k)) (contains-union causes more k b)
-    ∙ still_told (contains told k) (contains causes k) (contains masks k) (contains more k)
+    ∙ ap (λ x. contains reported k && (x && contains masks k)) (contains-union causes more k b)
+    ∙ still_reported (contains reported k) (contains causes k) (contains masks k) (contains more k)
     (sym (parts k b causes) ∙ ap (λ s. contains s k) is))
 
 -- raised without the auto-mask, causes change alone
@@ -59,22 +59,24 @@ pub cause_alone : (s : Interrupts) (g : Group) (bits : BitSet) → IsOwn g s →
 cause_alone s g bits own small within =
     let causes_are : intersection s.causes (group_bits g) ≡ s.causes = ap (λ i. i.causes) own.by_words in
     let masks_are : intersection s.enabled (group_bits g) ≡ s.enabled = ap (λ i. i.enabled) own.by_words in
-    let told_is : intersection s.told (intersection s.causes s.enabled) ≡ s.told =
-    (λ k. intersection s.told (intersection (sym causes_are k) (sym masks_are k))) ∙ ap (λ i. i.told) own.by_words in
+    let reported_is : intersection s.reported (intersection s.causes s.enabled) ≡ s.reported =
+    (λ k. intersection s.reported (intersection (sym causes_are k) (sym masks_are k)))
+    ∙ ap (λ i. i.reported) own.by_words in
     let small_causes : s.causes < 2 ^ 32 = subst (λ n. n < 2 ^ 32) causes_are (intersection-lt _ _) in
     let small_masks : s.enabled < 2 ^ 32 = subst (λ n. n < 2 ^ 32) masks_are (intersection-lt _ _) in
-    let small_told : s.told < 2 ^ 32 = subst (λ n. n < 2 ^ 32) told_is (intersection-lt _ _) in
+    let small_reported : s.reported < 2 ^ 32 = subst (λ n. n < 2 ^ 32) reported_is (intersection-lt _ _) in
     let more = intersection bits (group_bits s.group) in
     let whole : more ≡ bits = whole_word s g bits own.of_group small within in
     let joined : union s.causes more ≡ bit_or s.causes bits =
     ap (union s.causes) whole ∙ sym (bit_or-is s.causes bits small_causes small) in
     let masks : union s.enabled (auto_masked s bits false) ≡ s.enabled =
     ap (union s.enabled) (no_mask s bits) ∙ with_none s.enabled small_masks in
-    let told : intersection s.told (intersection (union s.causes more) (union s.enabled (auto_masked s bits false)))
-    ≡ s.told =
-    ap (λ m. intersection s.told (intersection (union s.causes more) m)) masks
-    ∙ told_stands s.told s.causes s.enabled more small_told told_is in
-    λ k. record s { causes = joined k; enabled = masks k; told = told k }
+    let reported : intersection s.reported
+    (intersection (union s.causes more) (union s.enabled (auto_masked s bits false)))
+    ≡ s.reported =
+    ap (λ m. intersection s.reported (intersection (union s.causes more) m)) masks
+    ∙ reported_stands s.reported s.causes s.enabled more small_reported reported_is in
+    λ k. record s { causes = joined k; enabled = masks k; reported = reported k }
 
 at_causes : (xs : List Interrupts) (v : ℕ) (d : Interrupts) → v < length xs
     → get_or (map (λ q. q.causes) xs) v 0 ≡ (get_or xs v d).causes

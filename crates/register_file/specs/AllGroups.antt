@@ -31,9 +31,9 @@ pub record AreNumbered (s : AllGroups) : Type 0 where
   pub pf : s.pf.group ≡ Pf
   pub vf : (v : ℕ) → v < 64 → (at_group s (Vf v)).group ≡ Vf v
 
--- interrupts that are of a group, and are given by the words of its registers and its told bits
+-- interrupts that are of a group, and are given by the words of its registers and its reported bits
 pub record IsOwn (group : Group) (s : Interrupts) : Type 0 where
   pub of_group : s.group ≡ group
-  pub by_words : of_words group s.causes s.enabled s.auto_clear s.auto_mask s.told ≡ s
+  pub by_words : of_words group s.causes s.enabled s.auto_clear s.auto_mask s.reported ≡ s
   pub auto_clear : IsSubset s.auto_clear (group_bits group)
   pub auto_mask : IsSubset s.auto_mask (group_bits group)

@@ -7,7 +7,7 @@ use Rattle.reg_table.specs.declared.kind.Kind.TheVariants as kind
 use Rattle.register_file.specs.Bits.{has_bit}
 use Rattle.register_file.specs.Effects.{calculated, group_read, in_group, is_running, asked, stored, ones_cleared, causes_written, masks_set, causes_set, masks_cleared}
 use Rattle.register_file.specs.Footprint.{Footprint, nothing, either, the_word, the_enable, pending_of}
-use Rattle.register_file.specs.Mailbox.{mail_read, function_writes, physical_writes, holders, resets_told, by_mail_read, by_function, by_physical, by_telling}
+use Rattle.register_file.specs.Mailbox.{mail_read, function_writes, physical_writes, holders, resets_reported, by_mail_read, by_function, by_physical, by_telling}
 use Rattle.register_file.specs.Owner.{owner_of}
 use Rattle.register_file.specs.Registers.{Registers}
 use Rattle.register_file.specs.Words.{word_at, put}
@@ -146,7 +146,7 @@ behaviour_of kind.Pfmail =
 behaviour_of kind.Ctrlext =
     record plain {
       written = λ r p view word.
-          if has_bit 14 word then resets_told (stored r p view word) else stored r p view word;
+          if has_bit 14 word then resets_reported (stored r p view word) else stored r p view word;
       by_write = λ p. either (the_word p) by_telling;
       is_own = false;
     }

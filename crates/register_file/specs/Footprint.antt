@@ -10,15 +10,15 @@ use Rattle.dma_ring.specs.declared.dir.Dir.{Dir}
 use Rattle.register_file.specs.declared.owner.Owner.{Owner}
 use Rattle.register_file.specs.declared.owner.Owner.TheVariants as owner
 
--- what of the registers may change: bits of the words at places, which sides are asked to be enabled, and the told bits
--- of groups
+-- what of the registers may change: bits of the words at places, which sides are asked to be enabled, and the reported
+-- bits of groups
 pub record Footprint : Type 0 where
   pub bits : Place → ℕ → Bool
   pub wanted : Dir → ℕ → Bool
-  pub told : Group → Bool
+  pub reported : Group → Bool
 
 abbrev pub nothing : Footprint
-nothing = record { bits = λ p bit. false; wanted = λ dir queue. false; told = λ g. false }
+nothing = record { bits = λ p bit. false; wanted = λ dir queue. false; reported = λ g. false }
 
 -- what one of two footprints has
 abbrev pub either : Footprint → Footprint → Footprint
@@ -26,7 +26,7 @@ either f g =
     record {
       bits = λ p bit. f.bits p bit || g.bits p bit;
       wanted = λ dir queue. f.wanted dir queue || g.wanted dir queue;
-      told = λ h. f.told h || g.told h;
+      reported = λ h. f.reported h || g.reported h;
     }
 
 -- whether two places are the same
@@ -35,7 +35,7 @@ is_place p q = number_of p.row == number_of q.row && p.index == q.index
 
 -- the word at one place
 abbrev pub the_word : Place → Footprint
-the_word p = record { bits = λ q bit. is_place p q; wanted = λ dir queue. false; told = λ g. false }
+the_word p = record { bits = λ q bit. is_place p q; wanted = λ dir queue. false; reported = λ g. false }
 
 -- some bits of the word at one place
 abbrev pub the_bits : Place → (ℕ → Bool) → Footprint
@@ -47,17 +47,17 @@ the_enable p =
     record {
       bits = λ q bit. is_place p q;
       wanted = λ dir queue. is_owner (owner_of p) (owner.Side dir queue);
-      told = λ g. false;
+      reported = λ g. false;
     }
 
--- what is pending of a group: its causes, its masks and its told bits
+-- what is pending of a group: its causes, its masks and its reported bits
 abbrev pub pending : Group → Footprint
 pending g =
     record {
       bits = λ p bit.
           is_place (place (cause_row g) (index_of g)) p || is_place (place (mask_row g) (index_of g)) p;
       wanted = λ dir queue. false;
-      told = is_group g;
+      reported = is_group g;
     }
 
 -- what is pending of an owner: of a group alone

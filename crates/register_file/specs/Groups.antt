@@ -33,27 +33,27 @@ index_of Pf = 0
 index_of (Vf v) = v
 
 -- the bits of a group that a message reported
-abbrev pub told_by : Registers → Group → ℕ
-told_by r Pf = r.told_pf
-told_by r (Vf v) = slice_index r.told_vf v
+abbrev pub reported_by : Registers → Group → ℕ
+reported_by r Pf = r.reported_pf
+reported_by r (Vf v) = slice_index r.reported_vf v
 
-abbrev pub with_told : Registers → Group → ℕ → Registers
-with_told r Pf told = record r { told_pf = told }
-with_told r (Vf v) told = record r { told_vf = slice_set r.told_vf v told }
+abbrev pub with_reported : Registers → Group → ℕ → Registers
+with_reported r Pf reported = record r { reported_pf = reported }
+with_reported r (Vf v) reported = record r { reported_vf = slice_set r.reported_vf v reported }
 
 -- the interrupts of a group
 abbrev pub interrupts_of : Registers → Group → Interrupts
 interrupts_of r g =
     of_words g (word_of r (cause_row g) (index_of g)) (word_of r (mask_row g) (index_of g))
-    (word_of r (auto_clear_row g) (index_of g)) (word_of r (auto_mask_row g) (index_of g)) (told_by r g)
+    (word_of r (auto_clear_row g) (index_of g)) (word_of r (auto_mask_row g) (index_of g)) (reported_by r g)
 
--- the registers with the causes, the masks and the told bits that a group has now
+-- the registers with the causes, the masks and the reported bits that a group has now
 abbrev pub with_interrupts : Registers → Interrupts → Registers
 with_interrupts r s =
-    with_told
+    with_reported
     (with_word (with_word r (cause_row s.group) (index_of s.group) s.causes)
     (mask_row s.group) (index_of s.group) s.enabled)
-    s.group s.told
+    s.group s.reported
 
 -- GPIE bit 5: a read of EICR clears the other causes alone; and bit 30, EIAME: the auto-mask is for messages
 abbrev pub clears_others : Registers → Bool

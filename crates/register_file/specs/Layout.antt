@@ -97,6 +97,6 @@ registers_of a =
       words = rows_of a;
       wanted_rx = map (λ q. q.wanted) a.receive;
       wanted_tx = map (λ q. q.wanted) a.transmit;
-      told_pf = a.groups.pf.told;
-      told_vf = map (λ g. g.told) a.groups.vf;
+      reported_pf = a.groups.pf.reported;
+      reported_vf = map (λ g. g.reported) a.groups.vf;
     }

@@ -100,8 +100,8 @@ holders r v = bit_and (mail_of r v) 0xC
 abbrev pub done_reported : Registers → ℕ → Registers
 done_reported r v = with_mail r v (reset_reported (mail_of r v))
 
-unfoldable pub resets_told : Registers → Registers
-resets_told r = fold done_reported r (range_with_len 0 64)
+unfoldable pub resets_reported : Registers → Registers
+resets_reported r = fold done_reported r (range_with_len 0 64)
 
 -- what a read of a function's mailbox may change: of its word, the bits that report once
 abbrev pub by_mail_read : ℕ → Footprint

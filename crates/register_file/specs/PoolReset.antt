@@ -8,7 +8,7 @@ use Rattle.intr_unit.specs.declared.group.Group.TheVariants.{Vf}
 use Rattle.vf_map.specs.Pools.{queues_of}
 use Rattle.vf_map.specs.declared.mode.Mode.{Mode}
 use Rattle.register_file.specs.Bits.{has_bit}
-use Rattle.register_file.specs.Groups.{with_told}
+use Rattle.register_file.specs.Groups.{with_reported}
 use Rattle.register_file.specs.Registers.{Registers, word_of, with_word, with_wanted}
 use Rattle.dma_ring.specs.declared.dir.Dir.{Dir}
 use Rattle.dma_ring.specs.declared.dir.Dir.TheVariants.{Rx, Tx}
@@ -90,9 +90,9 @@ queue_reset r queue = side_reset Tx (side_reset Rx r queue) queue
 abbrev pub vectors_reset : Registers → ℕ → Registers
 vectors_reset r index = rows_reset r vector_renewals index
 
--- what a pool has once, after a reset: its words are as a reset leaves them, and no bit is told
+-- what a pool has once, after a reset: its words are as a reset leaves them, and no bit is reported
 abbrev pub function_reset : Registers → ℕ → Registers
-function_reset r v = with_told (rows_reset r function_renewals v) (Vf v) 0
+function_reset r v = with_reported (rows_reset r function_renewals v) (Vf v) 0
 
 -- this many queues after a reset, and their vectors
 abbrev pub queues_reset : Registers → Option (ℕ × ℕ) → Registers

@@ -13,8 +13,8 @@ pub record Registers : Type 0 where
   pub words : Words
   pub wanted_rx : List Bool
   pub wanted_tx : List Bool
-  pub told_pf : ℕ
-  pub told_vf : List ℕ
+  pub reported_pf : ℕ
+  pub reported_vf : List ℕ
 
 -- registers are stored as the pairs of their fields
 abbrev pub registers_code : Coded Registers
@@ -22,25 +22,25 @@ registers_code =
     code_by (Words × (List Bool × (List Bool × (ℕ × List ℕ))))
     (coded× (coded_list (coded_list coded_ℕ))
     (coded× (coded_list coded_bool) (coded× (coded_list coded_bool) (coded× coded_ℕ (coded_list coded_ℕ)))))
-    (λ r. (r.words, (r.wanted_rx, (r.wanted_tx, (r.told_pf, r.told_vf)))))
+    (λ r. (r.words, (r.wanted_rx, (r.wanted_tx, (r.reported_pf, r.reported_vf)))))
     (λ p. record {
       words = p.0;
       wanted_rx = p.1.0;
       wanted_tx = p.1.1.0;
-      told_pf = p.1.1.1.0;
-      told_vf = p.1.1.1.1;
+      reported_pf = p.1.1.1.0;
+      reported_vf = p.1.1.1.1;
     })
     (λ _. refl)
 
--- after a reset every register has its reset value, no side of a queue is asked to be enabled, and no bit is told
+-- after a reset every register has its reset value, no side of a queue is asked to be enabled, and no bit is reported
 abbrev pub reset_registers : Registers
 reset_registers =
     record {
       words = reset_words;
       wanted_rx = replicate 128 false;
       wanted_tx = replicate 128 false;
-      told_pf = 0;
-      told_vf = replicate 64 0;
+      reported_pf = 0;
+      reported_vf = replicate 64 0;
     }
 
 -- the word of a row at an index

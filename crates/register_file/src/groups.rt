@@ -180,5 +180,5 @@ fn has_own_words(causes: &Causes)
     let _enabled = causes.enabled();
     let _auto_clear = causes.auto_clear();
     let _auto_mask = causes.auto_mask();
-    let _told = causes.told();
+    let _reported = causes.reported();
 }

@@ -5,7 +5,7 @@ ghost use Rattle.std.specs.List.{range_with_len};
 ghost use Rattle.intr_unit.specs.BitSet.{IsSubset};
 ghost use Rattle.intr_unit.specs.Group.{group_bits};
 ghost use Rattle.register_file.specs.Groups.{index_of};
-ghost use Rattle.register_file.specs.Mailbox.{set_if, function_wrote, released, taken, physical_wrote, reported_once, reset_reported, cause_set, sends, requests, with_requests, physical_signalled, function_signalled, mail_read, function_writes, physical_writes, holders, done_reported, resets_told};
+ghost use Rattle.register_file.specs.Mailbox.{set_if, function_wrote, released, taken, physical_wrote, reported_once, reset_reported, cause_set, sends, requests, with_requests, physical_signalled, function_signalled, mail_read, function_writes, physical_writes, holders, done_reported, resets_reported};
 
 use crate::bits::bit_set;
 use crate::register_file::RegisterFile;
@@ -82,9 +82,9 @@ impl RegisterFile {
     }
 
     /// Reports to each function that a reset is done, where a reset in progress was reported to it.
-    #[tactic(auto, unfolding(crate::specs::Mailbox::resets_told))]
+    #[tactic(auto, unfolding(crate::specs::Mailbox::resets_reported))]
     pub(crate) fn tell_resets(&mut self)
-        ensures { self.new ≡ resets_told self.old }
+        ensures { self.new ≡ resets_reported self.old }
     {
         self.tell_resets_of(64);
     }

@@ -3,7 +3,7 @@
 ghost use Rattle.std.specs.Prelude.{◌≡◌, ◌+◌, ◌<◌, ◌≤◌, fold};
 ghost use Rattle.std.specs.List.{range_with_len};
 ghost use Rattle.intr_unit.specs.declared.group.Group.TheVariants.{Vf};
-ghost use Rattle.register_file.specs.Groups.{with_told};
+ghost use Rattle.register_file.specs.Groups.{with_reported};
 ghost use Rattle.register_file.specs.Pools.{mode_in, pool_row, is_pool_on};
 ghost use Rattle.register_file.specs.PoolReset.{side_reset, queue_reset, own_renewals, mailbox_renewals, rows_reset, vectors_reset, function_reset, pool_reset};
 ghost use Rattle.dma_ring.specs.declared.dir.Dir.TheVariants.{Rx, Tx};
@@ -42,9 +42,9 @@ impl RegisterFile {
         (word >> (pool % POOLS_IN_A_WORD)) % 2 == 1
     }
 
-    /// Resets pool v, below 64: the interrupts of its virtual function with the told bits, PSRTYPE, its mailbox, and
-    /// the counters of the function; and for the queues that the mode gives the pool both sides, the enables that were
-    /// asked for, and the vectors. Where the mode doesn't have the pool, no queues are reset.
+    /// Resets pool v, below 64: the interrupts of its virtual function with the reported bits, PSRTYPE, its mailbox,
+    /// and the counters of the function; and for the queues that the mode gives the pool both sides, the enables that
+    /// were asked for, and the vectors. Where the mode doesn't have the pool, no queues are reset.
     #[tactic(auto, unfolding(crate::specs::PoolReset::pool_reset))]
     pub fn reset_pool(&mut self, mode: Mode, v: u8)
         requires { v < 64 }
@@ -66,10 +66,10 @@ impl RegisterFile {
         self.reset_mailbox(u16::from(v));
     }
 
-    /// Resets the interrupts of a pool's function with the told bits, PSRTYPE, and the counters of the function.
+    /// Resets the interrupts of a pool's function with the reported bits, PSRTYPE, and the counters of the function.
     fn reset_own(&mut self, v: u8)
         requires { v < 64 }
-        ensures { self.new ≡ with_told (rows_reset self.old own_renewals v) (Vf v) 0 }
+        ensures { self.new ≡ with_reported (rows_reset self.old own_renewals v) (Vf v) 0 }
     {
         let at = usize::from(v);
         self.groups.renew(v);

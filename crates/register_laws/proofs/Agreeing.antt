@@ -7,7 +7,7 @@ use Rattle.register_file.specs.IntrUnit.Interrupts.{Interrupts}
 use Rattle.register_file.specs.IntrUnit.declared.group.Group.{Group}
 use Rattle.register_file.specs.IntrUnit.declared.group.Group.TheVariants.{Pf, Vf}
 use Rattle.register_file.specs.Columns.{place}
-use Rattle.register_file.specs.Groups.{cause_row, mask_row, index_of, told_by, with_told, with_interrupts}
+use Rattle.register_file.specs.Groups.{cause_row, mask_row, index_of, reported_by, with_reported, with_interrupts}
 use Rattle.register_file.specs.Owner.{is_owner, is_group}
 use Rattle.register_file.specs.Registers.{Registers, is_wanted, with_wanted}
 use Rattle.register_file.specs.Words.{word_at, put}
@@ -15,11 +15,11 @@ use Rattle.register_file.specs.DmaRing.declared.dir.Dir.{Dir}
 use Rattle.register_file.specs.declared.owner.Owner.TheVariants as owner
 use Rattle.register_laws.specs.Footprint.{Part, AgreeWithin, is_place}
 use Rattle.register_laws.specs.Sound.{HasShape}
-use Rattle.register_laws.proofs.Fields.{is_wanted-put, told_by-put, words-with_wanted, is_wanted-with_wanted_other, told_by-with_wanted, words-with_told, is_wanted-with_told, told_by-with_told_other}
+use Rattle.register_laws.proofs.Fields.{is_wanted-put, reported_by-put, words-with_wanted, is_wanted-with_wanted_other, reported_by-with_wanted, words-with_reported, is_wanted-with_reported, reported_by-with_reported_other}
 use Rattle.register_laws.proofs.Owners.{apart, is_dir-same, is_group-itself, is_group-same, is_owner-itself, is_place-itself, is_place-same}
 use Rattle.register_laws.proofs.Puts.{word_at-put_other}
 use Rattle.register_laws.proofs.Shape.{HasShape-put}
-use Rattle.register_laws.proofs.PastEnd.{word_put, side_wanted, bits_told}
+use Rattle.register_laws.proofs.PastEnd.{word_put, side_wanted, bits_reported}
 
 module _ (f : Part) (a b : Registers) (ha : HasShape a) (hb : HasShape b) (same : AgreeWithin f a b) where
   pub agree-put : (p : Place) (v w : ℕ) → v ≡ w
@@ -35,7 +35,7 @@ module _ (f : Part) (a b : Registers) (ha : HasShape a) (hb : HasShape b) (same 
         ];
     wanted = λ dir queue is. is_wanted-put a p v dir queue ∙ same.wanted dir queue is
         ∙ sym (is_wanted-put b p w dir queue);
-    told = λ g is. told_by-put a p v g ∙ same.told g is ∙ sym (told_by-put b p w g);
+    reported = λ g is. reported_by-put a p v g ∙ same.reported g is ∙ sym (reported_by-put b p w g);
   }
 
   pub agree-with_wanted : (dir : Dir) (queue : ℕ) (wanted : Bool)
@@ -60,27 +60,31 @@ module _ (f : Part) (a b : Registers) (ha : HasShape a) (hb : HasShape b) (same 
               is_wanted-with_wanted_other a dir other queue number wanted n ∙ same.wanted other number is
               ∙ sym (is_wanted-with_wanted_other b dir other queue number wanted n)
         ];
-    told = λ g is. told_by-with_wanted a dir queue wanted g ∙ same.told g is
-        ∙ sym (told_by-with_wanted b dir queue wanted g);
+    reported = λ g is. reported_by-with_wanted a dir queue wanted g ∙ same.reported g is
+        ∙ sym (reported_by-with_wanted b dir queue wanted g);
   }
 
-  same_bits_told : (g : Group) (told : ℕ) → told_by (with_told a g told) g ≡ told_by (with_told b g told) g
-  same_bits_told Pf told = refl
-  same_bits_told (Vf v) told = bits_told a ha v told ∙ sym (bits_told b hb v told)
+  same_bits_reported : (g : Group) (reported : ℕ) → reported_by (with_reported a g reported) g
+      ≡ reported_by (with_reported b g reported) g
+  same_bits_reported Pf reported = refl
+  same_bits_reported (Vf v) reported = bits_reported a ha v reported ∙ sym (bits_reported b hb v reported)
 
-  pub agree-with_told : (g : Group) (told : ℕ) → AgreeWithin f (with_told a g told) (with_told b g told)
-  agree-with_told g told = record {
-    words = λ q is. ap (λ ws. word_at ws q) (words-with_told a g told) ∙ same.words q is
-        ∙ sym (ap (λ ws. word_at ws q) (words-with_told b g told));
-    wanted = λ dir queue is. is_wanted-with_told a g told dir queue ∙ same.wanted dir queue is
-        ∙ sym (is_wanted-with_told b g told dir queue);
-    told = λ h is. elim (cases_Bool (is_group g h)) as
-        (λ _. told_by (with_told a g told) h ≡ told_by (with_told b g told) h) [
-          | inl here ↦ subst (λ x. told_by (with_told a g told) x ≡ told_by (with_told b g told) x)
-              (is_group-same g h here) (same_bits_told g told)
+  pub agree-with_reported : (g : Group) (reported : ℕ) →
+      AgreeWithin f (with_reported a g reported) (with_reported b g reported)
+  agree-with_reported g reported = record {
+    words = λ q is. ap (λ ws. word_at ws q) (words-with_reported a g reported) ∙ same.words q is
+        ∙ sym (ap (λ ws. word_at ws q) (words-with_reported b g reported));
+    wanted = λ dir queue is. is_wanted-with_reported a g reported dir queue ∙ same.wanted dir queue is
+        ∙ sym (is_wanted-with_reported b g reported dir queue);
+    reported = λ h is. elim (cases_Bool (is_group g h)) as
+        (λ _. reported_by (with_reported a g reported) h ≡ reported_by (with_reported b g reported) h) [
+          | inl here ↦ subst (λ x. reported_by (with_reported a g reported) x
+              ≡ reported_by (with_reported b g reported) x)
+              (is_group-same g h here) (same_bits_reported g reported)
           | inr away ↦
               let n = apart (is_group g) g h (is_group-itself g) away in
-              told_by-with_told_other a g h told n ∙ same.told h is ∙ sym (told_by-with_told_other b g h told n)
+              reported_by-with_reported_other a g h reported n ∙ same.reported h is
+              ∙ sym (reported_by-with_reported_other b g h reported n)
         ];
   }
 
@@ -97,11 +101,11 @@ agree-with_interrupts f a b ha hb same s t e =
     let masked_a : Registers = record caused_a { words = put caused_a.words mask s.enabled } in
     let masked_b : Registers = record caused_b { words = put caused_b.words mask s.enabled } in
     subst (λ x. AgreeWithin f (with_interrupts a s) (with_interrupts b x)) e
-    (agree-with_told f masked_a masked_b (HasShape-put caused_a mask s.enabled shape_a)
+    (agree-with_reported f masked_a masked_b (HasShape-put caused_a mask s.enabled shape_a)
     (HasShape-put caused_b mask s.enabled shape_b)
     (agree-put f caused_a caused_b shape_a shape_b (agree-put f a b ha hb same cause s.causes s.causes refl) mask
     s.enabled s.enabled refl)
-    s.group s.told)
+    s.group s.reported)
 
 -- one of two, by the same test
 pub agree-if : (f : Part) (x y : Bool) (a b c d : Registers) → x ≡ y → AgreeWithin f a b → AgreeWithin f c d

@@ -24,7 +24,7 @@ pub covers-trans : (f g h : Footprint) → Covers f g → Covers g h → Covers 
 covers-trans f g h wide narrow = record {
   bits = λ p bit is. wide.bits p bit (narrow.bits p bit is);
   wanted = λ dir queue is. wide.wanted dir queue (narrow.wanted dir queue is);
-  told = λ i is. wide.told i (narrow.told i is);
+  reported = λ i is. wide.reported i (narrow.reported i is);
 }
 
 -- a footprint within another misses what that misses
@@ -33,14 +33,14 @@ misses-narrower f e g has none = record {
   bits = λ p bit is. fails (e.bits p bit) (f.bits p bit) (has.bits p bit) (none.bits p bit is);
   wanted =
       λ dir queue is. fails (e.wanted dir queue) (f.wanted dir queue) (has.wanted dir queue) (none.wanted dir queue is);
-  told = λ h is. fails (e.told h) (f.told h) (has.told h) (none.told h is);
+  reported = λ h is. fails (e.reported h) (f.reported h) (has.reported h) (none.reported h is);
 }
 
 pub misses-within : (f g h : Footprint) → Covers g h → Misses f g → Misses f h
 misses-within f g h has none = record {
   bits = λ p bit is. none.bits p bit (has.bits p bit is);
   wanted = λ dir queue is. none.wanted dir queue (has.wanted dir queue is);
-  told = λ i is. none.told i (has.told i is);
+  reported = λ i is. none.reported i (has.reported i is);
 }
 
 -- of what a pool's reset takes of a footprint the footprint has all, and what this lacks that lacks
@@ -48,28 +48,28 @@ pub covers-renewed : (f : Footprint) → Covers f (renewed_of f)
 covers-renewed f = record {
   bits = λ p bit is. (and_parts (is_renewed p.row bit) (f.bits p bit) is).1;
   wanted = λ dir queue is. is;
-  told = λ g is. is;
+  reported = λ g is. is;
 }
 
 pub lacks-renewed : (f : Footprint) (p : Place) → LacksWord f p → LacksWord (renewed_of f) p
 lacks-renewed f p none bit = fails _ _ ((covers-renewed f).bits p bit) (none bit)
 
 pub misses-nothing : (g : Footprint) → Misses nothing g
-misses-nothing g = record { bits = λ p bit is. refl; wanted = λ dir queue is. refl; told = λ h is. refl }
+misses-nothing g = record { bits = λ p bit is. refl; wanted = λ dir queue is. refl; reported = λ h is. refl }
 
 -- one of two footprints
 pub covers-first : (f g : Footprint) → Covers (either f g) f
 covers-first f g = record {
   bits = λ p bit is. or_left _ (g.bits p bit) is;
   wanted = λ dir queue is. or_left _ (g.wanted dir queue) is;
-  told = λ h is. or_left _ (g.told h) is;
+  reported = λ h is. or_left _ (g.reported h) is;
 }
 
 pub covers-second : (f g : Footprint) → Covers (either f g) g
 covers-second f g = record {
   bits = λ p bit is. or_right (f.bits p bit) _ is;
   wanted = λ dir queue is. or_right (f.wanted dir queue) _ is;
-  told = λ h is. or_right (f.told h) _ is;
+  reported = λ h is. or_right (f.reported h) _ is;
 }
 
 pub covers-either : (f g h : Footprint) → Covers f g → Covers f h → Covers f (either g h)
@@ -83,9 +83,9 @@ covers-either f g h one other = record {
         | inl a ↦ one.wanted dir queue a
         | inr b ↦ other.wanted dir queue b
       ];
-  told = λ i is. elim (or_cases (g.told i) (h.told i) is) as (λ _. f.told i ≡ true) [
-    | inl a ↦ one.told i a
-    | inr b ↦ other.told i b
+  reported = λ i is. elim (or_cases (g.reported i) (h.reported i) is) as (λ _. f.reported i ≡ true) [
+    | inl a ↦ one.reported i a
+    | inr b ↦ other.reported i b
   ];
 }
 
@@ -98,7 +98,7 @@ misses-either f e g one other = record {
   bits = λ p bit is. neither (f.bits p bit) (e.bits p bit) (one.bits p bit is) (other.bits p bit is);
   wanted = λ dir queue is.
       neither (f.wanted dir queue) (e.wanted dir queue) (one.wanted dir queue is) (other.wanted dir queue is);
-  told = λ h is. neither (f.told h) (e.told h) (one.told h is) (other.told h is);
+  reported = λ h is. neither (f.reported h) (e.reported h) (one.reported h is) (other.reported h is);
 }
 
 -- two owners have nothing in common
@@ -110,22 +110,22 @@ pub misses-owner : (o other : Owner) → is_owner o other ≡ false → Misses (
 misses-owner o other n = record {
   bits = λ p bit is. none_shared o other (owner_of p) n is;
   wanted = λ dir queue is. none_shared o other (owner.Side dir queue) n is;
-  told = λ g is. none_shared o other (owner.Group g) n is;
+  reported = λ g is. none_shared o other (owner.Group g) n is;
 }
 
 -- what is of a place is its owner's
 pub covers-nothing : (f : Footprint) → Covers f nothing
-covers-nothing f = record { bits = λ p bit is. cc; wanted = λ dir queue is. cc; told = λ g is. cc }
+covers-nothing f = record { bits = λ p bit is. cc; wanted = λ dir queue is. cc; reported = λ g is. cc }
 
 owned : (p q : Place) → is_place p q ≡ true → is_owner (owner_of p) (owner_of q) ≡ true
 owned p q is =
     ap (λ (x : Place). is_owner (owner_of p) (owner_of x)) (sym (is_place-same p q is)) ∙ is_owner-itself (owner_of p)
 
 pub covers-the_word : (p : Place) → Covers (of_owner (owner_of p)) (the_word p)
-covers-the_word p = record { bits = λ q bit. owned p q; wanted = λ dir queue is. cc; told = λ g is. cc }
+covers-the_word p = record { bits = λ q bit. owned p q; wanted = λ dir queue is. cc; reported = λ g is. cc }
 
 pub covers-the_enable : (p : Place) → Covers (of_owner (owner_of p)) (the_enable p)
-covers-the_enable p = record { bits = λ q bit. owned p q; wanted = λ dir queue is. is; told = λ g is. cc }
+covers-the_enable p = record { bits = λ q bit. owned p q; wanted = λ dir queue is. is; reported = λ g is. cc }
 
 -- the places of what is pending
 pub cause_is_pending : (g : Group) → HasWord (pending g) (place (cause_row g) (index_of g))
@@ -160,7 +160,7 @@ covers-pending g = record {
       (ap (is_owner (owner.Group g)) (cause_owner g) ∙ is_group-itself g)
       (ap (is_owner (owner.Group g)) (mask_owner g) ∙ is_group-itself g);
   wanted = λ dir queue is. cc;
-  told = λ h is. is;
+  reported = λ h is. is;
 }
 
 pub cause_pending : (g : Group) → is_pending (row_of (cause_row g)).kind ≡ true
@@ -176,5 +176,5 @@ covers-any_pending g = record {
   bits = λ p bit is.
       pending_cases (λ q. is_pending (row_of q.row).kind ≡ true) g p bit is (cause_pending g) (mask_pending g);
   wanted = λ dir queue is. cc;
-  told = λ h is. refl;
+  reported = λ h is. refl;
 }

@@ -16,13 +16,13 @@ pub word_stands : {f : Footprint} {old new : Registers} → ChangesWithin f old 
 word_stands only p none = same_word (λ bit. only.bits p bit (none bit))
 
 pub within-refl : (f : Footprint) (r : Registers) → ChangesWithin f r r
-within-refl f r = record { bits = λ p bit n. refl; wanted = λ dir queue n. refl; told = λ g n. refl }
+within-refl f r = record { bits = λ p bit n. refl; wanted = λ dir queue n. refl; reported = λ g n. refl }
 
 pub within-trans : (f : Footprint) (r s t : Registers) → ChangesWithin f r s → ChangesWithin f s t → ChangesWithin f r t
 within-trans f r s t first then = record {
   bits = λ p bit n. then.bits p bit n ∙ first.bits p bit n;
   wanted = λ dir queue n. then.wanted dir queue n ∙ first.wanted dir queue n;
-  told = λ g n. then.told g n ∙ first.told g n;
+  reported = λ g n. then.reported g n ∙ first.reported g n;
 }
 
 pub within-wider : (f e : Footprint) (r s : Registers) → Covers f e → ChangesWithin e r s → ChangesWithin f r s
@@ -30,7 +30,7 @@ within-wider f e r s has only = record {
   bits = λ p bit n. only.bits p bit (fails (e.bits p bit) (f.bits p bit) (has.bits p bit) n);
   wanted =
       λ dir queue n. only.wanted dir queue (fails (e.wanted dir queue) (f.wanted dir queue) (has.wanted dir queue) n);
-  told = λ g n. only.told g (fails (e.told g) (f.told g) (has.told g) n);
+  reported = λ g n. only.reported g (fails (e.reported g) (f.reported g) (has.reported g) n);
 }
 
 pub within-either : (f g : Footprint) (r s t : Registers) → ChangesWithin f r s → ChangesWithin g s t
@@ -41,7 +41,7 @@ within-either f g r s t first then = record {
   wanted = λ dir queue n.
       let no = or_parts (f.wanted dir queue) (g.wanted dir queue) n in then.wanted dir queue no.1
       ∙ first.wanted dir queue no.0;
-  told = λ h n. let no = or_parts (f.told h) (g.told h) n in then.told h no.1 ∙ first.told h no.0;
+  reported = λ h n. let no = or_parts (f.reported h) (g.reported h) n in then.reported h no.1 ∙ first.reported h no.0;
 }
 
 pub within-if : (f : Footprint) (b : Bool) (r s t : Registers) → ChangesWithin f r s → ChangesWithin f r t

@@ -5,7 +5,7 @@ use Rattle.register_file.specs.RegTable.declared.rows.RowId.TheVariants.{IvarMis
 use Rattle.register_file.specs.IntrUnit.Interrupts.{Interrupts, after_message_of, next_bit}
 use Rattle.register_file.specs.IntrUnit.declared.group.Group.{Group}
 use Rattle.register_file.specs.Access.{group_read, causes_written, masks_set, causes_set, masks_cleared}
-use Rattle.register_file.specs.Groups.{cause_row, mask_row, auto_clear_row, auto_mask_row, index_of, told_by, interrupts_of, with_interrupts, clears_others, masks_by_message, auto_masks, causes_raised, message_of, message_made}
+use Rattle.register_file.specs.Groups.{cause_row, mask_row, auto_clear_row, auto_mask_row, index_of, reported_by, interrupts_of, with_interrupts, clears_others, masks_by_message, auto_masks, causes_raised, message_of, message_made}
 use Rattle.register_file.specs.Registers.{Registers, word_of}
 use Rattle.register_laws.proofs.Settled.{IsSettled, settled-of_words, settled-raised, settled-after_read, settled-after_write_one, settled-after_mask_set, settled-after_mask_clear, settled-after_message_of}
 
@@ -17,7 +17,7 @@ pub data GroupChange (r : Registers) (g : Group) : Registers → Type 0 where
 pub settled : (r : Registers) (g : Group) → IsSettled (interrupts_of r g)
 settled r g =
     settled-of_words g (word_of r (cause_row g) (index_of g)) (word_of r (mask_row g) (index_of g))
-    (word_of r (auto_clear_row g) (index_of g)) (word_of r (auto_mask_row g) (index_of g)) (told_by r g)
+    (word_of r (auto_clear_row g) (index_of g)) (word_of r (auto_mask_row g) (index_of g)) (reported_by r g)
 
 pub change-group_read : (r : Registers) (g : Group) → GroupChange r g (group_read r g)
 change-group_read r g =
@@ -43,9 +43,9 @@ change-masks_cleared r g bits = changed _ refl (settled-after_mask_clear (interr
 pub change-causes_raised : (r : Registers) (g : Group) (bits : ℕ) → GroupChange r g (causes_raised r g bits)
 change-causes_raised r g bits = changed _ refl (settled-raised (interrupts_of r g) (settled r g) bits false)
 
-group_told : (s : Interrupts) (eiame : Bool) (next : Option ℕ) → (after_message_of s eiame next).group ≡ s.group
-group_told s eiame None = refl
-group_told s eiame (Some bit) = refl
+group_reported : (s : Interrupts) (eiame : Bool) (next : Option ℕ) → (after_message_of s eiame next).group ≡ s.group
+group_reported s eiame None = refl
+group_reported s eiame (Some bit) = refl
 
 change-if : (b : Bool) (r s : Registers) (g : Group) → GroupChange r g s → GroupChange r g (cond b s r)
 change-if true r s g change = change
@@ -56,5 +56,5 @@ change-message_made r g =
     let s : Interrupts = interrupts_of r g in
     let next : Option ℕ = next_bit s (word_of r IvarMisc 0) in
     change-if (is_some (message_of r g)) r _ g
-    (changed (after_message_of s (masks_by_message r) next) (group_told s (masks_by_message r) next)
+    (changed (after_message_of s (masks_by_message r) next) (group_reported s (masks_by_message r) next)
     (settled-after_message_of s (settled r g) (masks_by_message r) next))

@@ -125,11 +125,11 @@ pub once_mail : (mail : ℕ) → IsMail mail → IsMail (reported_once mail)
 once_mail mail is =
     let keeps = once_keeps mail in
     let done = bit_cleared 5 (bit_cleared 7 mail) in
-    let told : has_bit 7 (reported_once mail) ≡ false = has_bit-clear_other 4 7 done (λ same. omega arith)
+    let reported : has_bit 7 (reported_once mail) ≡ false = has_bit-clear_other 4 7 done (λ same. omega arith)
     ∙ has_bit-clear_other 5 7 (bit_cleared 7 mail) (λ same. omega arith) ∙ has_bit-clear 7 mail in
     record {
       holder = (λ k. keeps 2 refl k && keeps 3 refl k) ∙ is.holder;
-      end = and_off (has_bit 6 (reported_once mail)) (has_bit 7 (reported_once mail)) told;
+      end = and_off (has_bit 6 (reported_once mail)) (has_bit 7 (reported_once mail)) reported;
     }
 
 pub reset_mail : (mail : ℕ) → IsMail mail → IsMail (reset_reported mail)

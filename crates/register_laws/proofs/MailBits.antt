@@ -136,13 +136,13 @@ taken_keeps mail word =
 pub physical_keeps : (mail word : ℕ) → KeepsOut is_physical mail (physical_wrote mail word)
 physical_keeps mail word =
     let held = taken (released mail word) word in
-    let told = set_if (has_bit 1 word) 5 held in
-    out-trans is_physical mail told _
-    (out-trans is_physical mail held told
+    let reported = set_if (has_bit 1 word) 5 held in
+    out-trans is_physical mail reported _
+    (out-trans is_physical mail held reported
     (out-trans is_physical mail (released mail word) held (released_keeps mail word)
     (taken_keeps (released mail word) word))
     (out-set_if is_physical (has_bit 1 word) 5 held refl))
-    (out-set_if is_physical (has_bit 0 word) 4 told refl)
+    (out-set_if is_physical (has_bit 0 word) 4 reported refl)
 
 pub once_keeps : (mail : ℕ) → KeepsOut is_once mail (reported_once mail)
 once_keeps mail =

@@ -14,7 +14,7 @@ use Rattle.register_file.specs.VfMap.declared.mode.Mode.{Mode}
 use Rattle.register_file.specs.Access.{stored, ones_cleared}
 use Rattle.register_file.specs.Bits.{has_bit}
 use Rattle.register_file.specs.Columns.{place}
-use Rattle.register_file.specs.Mailbox.{function_wrote, reported_once, with_mail, mail_of, mail_read, function_writes, physical_writes, holders, resets_told, by_mail_read, by_sending, by_function, by_physical, by_telling}
+use Rattle.register_file.specs.Mailbox.{function_wrote, reported_once, with_mail, mail_of, mail_read, function_writes, physical_writes, holders, resets_reported, by_mail_read, by_sending, by_function, by_physical, by_telling}
 use Rattle.register_file.specs.Owner.{owner_in}
 use Rattle.register_file.specs.Registers.{Registers}
 use Rattle.register_file.specs.Words.{word_at}
@@ -66,7 +66,7 @@ covers-mail v =
     (record {
       bits = λ q bit is. (and_parts (is_place (place Pvfmailbox v) q) (bit == 4 || bit == 5 || bit == 7) is).0;
       wanted = λ dir queue is. is;
-      told = λ g is. is;
+      reported = λ g is. is;
     })
 
 pub mail_reading : KeepsReading kind.Vfmail (λ r p. mail_read r p.index) (λ p. by_mail_read p.index)
@@ -121,7 +121,7 @@ physical_write = record {
 }
 
 abbrev pub extended : Registers → Place → (view word : ℕ) → Registers
-extended r p view word = if has_bit 14 word then resets_told (stored r p view word) else stored r p view word
+extended r p view word = if has_bit 14 word then resets_reported (stored r p view word) else stored r p view word
 
 pub extended_write : KeepsWriting kind.Ctrlext extended (λ p. either (the_word p) by_telling)
 extended_write = record {
@@ -130,8 +130,8 @@ extended_write = record {
       let kept : ChangesWithin f r (stored r p view word) = within-wider f (the_word p) r (stored r p view word)
       (covers-first (the_word p) by_telling)
       (within-stored (the_word p) r p view word (λ bit. is_place-itself p)) in
-      within-if f (has_bit 14 word) r (resets_told (stored r p view word)) (stored r p view word)
-      (within-trans f r (stored r p view word) (resets_told (stored r p view word)) kept
+      within-if f (has_bit 14 word) r (resets_reported (stored r p view word)) (stored r p view word)
+      (within-trans f r (stored r p view word) (resets_reported (stored r p view word)) kept
       (within-wider f by_telling (stored r p view word) _ (covers-second (the_word p) by_telling)
       (within-telling (stored r p view word))))
       kept;

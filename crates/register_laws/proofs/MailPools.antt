@@ -48,7 +48,7 @@ mail_is_the_pools mode v has = record {
       (is_place-same (place row.Pvfmailbox v) p (and_parts (is_place (place row.Pvfmailbox v) p) (has bit) is).0)
       (eq-eqb v v refl);
   wanted = λ dir queue is. cc;
-  told = λ g is. cc;
+  reported = λ g is. cc;
 }
 
 pub covers-function : (mode : Mode) (v : ℕ) → Covers (pool_changes mode v) (by_function v)
@@ -73,7 +73,7 @@ sending_misses mode v w = record {
       (λ k. (none row.Pfmbicr (v / 16) (λ n. refl) p is k && (bit == v % 16 || bit == 16 + v % 16))
       || (none row.Eicr 0 (λ n. refl) p is k && bit == 19));
   wanted = λ dir queue is. refl;
-  told = λ g is. refl;
+  reported = λ g is. refl;
 }
 
 -- two functions ask by different bits, and share the physical function's cause alone

@@ -15,8 +15,8 @@ use Rattle.register_file.specs.IntrUnit.declared.group.Group.{Group}
 use Rattle.register_file.specs.IntrUnit.declared.group.Group.TheVariants.{Pf, Vf}
 use Rattle.register_file.specs.Bits.{has_bit}
 use Rattle.register_file.specs.Columns.{place}
-use Rattle.register_file.specs.Groups.{cause_row, mask_row, index_of, told_by}
-use Rattle.register_file.specs.Mailbox.{function_wrote, physical_wrote, reported_once, with_mail, mail_of, cause_set, sends, requests, with_requests, physical_signalled, mail_read, function_writes, physical_writes, done_reported, resets_told, by_mail_read, by_sending, by_function, by_physical, by_telling}
+use Rattle.register_file.specs.Groups.{cause_row, mask_row, index_of, reported_by}
+use Rattle.register_file.specs.Mailbox.{function_wrote, physical_wrote, reported_once, with_mail, mail_of, cause_set, sends, requests, with_requests, physical_signalled, mail_read, function_writes, physical_writes, done_reported, resets_reported, by_mail_read, by_sending, by_function, by_physical, by_telling}
 use Rattle.register_file.specs.Owner.{is_group}
 use Rattle.register_file.specs.Registers.{Registers, word_of}
 use Rattle.register_file.specs.Words.{word_at}
@@ -27,7 +27,7 @@ use Rattle.register_file.proofs.Raising.{mail_cause, queue_cause}
 use Rattle.register_laws.specs.Footprint.{Footprint, ChangesWithin, Covers, is_place, the_word, the_bits, pending}
 use Rattle.register_laws.specs.Sound.{AreSound, IsMail, bits_of_row, pending_bits}
 use Rattle.register_laws.proofs.Covers.{covers-first, covers-second, misses-narrower, cause_is_pending}
-use Rattle.register_laws.proofs.Fields.{told_by-put}
+use Rattle.register_laws.proofs.Fields.{reported_by-put}
 use Rattle.register_laws.proofs.Footprints.{within-refl, within-trans, within-wider, within-if}
 use Rattle.register_laws.proofs.Holders.{is_mail, mail-put, function_mail, physical_mail, once_mail, reset_mail}
 use Rattle.register_laws.proofs.MailBits.{KeepsOut, has_bit-zero, out-or, out-pow, out-within, is_vfu, is_physical, is_once, is_reset_bit, is_asked, function_keeps, physical_keeps, once_keeps, reset_keeps, requests_keep, requests-lt}
@@ -35,7 +35,7 @@ use Rattle.register_laws.proofs.Owners.{is_group-same, is_place-same}
 use Rattle.register_laws.proofs.Puts.{word_at-put_other}
 use Rattle.register_laws.proofs.RowBits.{IsSubset-ones, IsSubset-or, IsSubset-or_left, IsSubset-trans, row_bits-put, word_small}
 use Rattle.register_laws.proofs.Shape.{put_stands, HasShape-put}
-use Rattle.register_laws.proofs.SoundParts.{plain, told_stands, others_miss, sound-put, sound-if, cause_bits}
+use Rattle.register_laws.proofs.SoundParts.{plain, reported_stands, others_miss, sound-put, sound-if, cause_bits}
 use Rattle.register_laws.proofs.Standing.{cause_index, cause_not_mask}
 use Rattle.register_laws.proofs.WithinParts.{within-bits, within-word}
 
@@ -59,14 +59,14 @@ requests_covered : (v : ℕ) → Covers (by_sending v) (the_bits (place Pfmbicr 
 requests_covered v = record {
   bits = λ p bit is. or_left _ (is_place (place Eicr 0) p && bit == 19) is;
   wanted = λ dir queue is. is;
-  told = λ g is. is;
+  reported = λ g is. is;
 }
 
 cause_covered : (v : ℕ) → Covers (by_sending v) (the_bits (place Eicr 0) (λ bit. bit == 19))
 cause_covered v = record {
   bits = λ p bit is. or_right (is_place (place Pfmbicr (v / 16)) p && is_asked v bit) _ is;
   wanted = λ dir queue is. is;
-  told = λ g is. is;
+  reported = λ g is. is;
 }
 
 pub within-sent : (r : Registers) (v word : ℕ)
@@ -136,7 +136,7 @@ mail_telling v = record {
       let parts = and_parts (is_place (place Pvfmailbox v) p) (is_reset_bit bit) is in
       and_from _ _ (and_parts (number_of Pvfmailbox == number_of p.row) (v == p.index) parts.0).0 parts.1;
   wanted = λ dir queue is. is;
-  told = λ g is. is;
+  reported = λ g is. is;
 }
 
 within-done : (r : Registers) (v : ℕ) → ChangesWithin by_telling r (done_reported r v)
@@ -150,8 +150,8 @@ within-all_done (v ∷ vs) r =
     within-trans by_telling r (done_reported r v) (fold done_reported (done_reported r v) vs) (within-done r v)
     (within-all_done vs (done_reported r v))
 
-pub within-telling : (r : Registers) → ChangesWithin by_telling r (resets_told r)
-unfolding resets_told
+pub within-telling : (r : Registers) → ChangesWithin by_telling r (resets_reported r)
+unfolding resets_reported
 within-telling r = within-all_done (range_with_len 0 64) r
 
 -- ---- registers stay sound
@@ -217,30 +217,30 @@ more_pending a b c = record {
 }
 
 module _ (r : Registers) (g : Group) (bits : ℕ) (sound : AreSound r) where
-  told_beside : (h : Group) → is_group g h ≡ false → IsSubset (told_by r h) (pending_bits r h)
-      → IsSubset (told_by (cause_set r g bits) h) (pending_bits (cause_set r g bits) h)
-  told_beside h other told =
+  reported_beside : (h : Group) → is_group g h ≡ false → IsSubset (reported_by r h) (pending_bits r h)
+      → IsSubset (reported_by (cause_set r g bits) h) (pending_bits (cause_set r g bits) h)
+  reported_beside h other reported =
       let cause : Place = place (cause_row g) (index_of g) in
-      told_stands (the_word cause) r (cause_set r g bits) h
+      reported_stands (the_word cause) r (cause_set r g bits) h
       (misses-narrower (pending g) (the_word cause) (pending h) (record {
         bits = λ p bit same. subst (λ q. (pending g).bits q bit ≡ true) (is_place-same cause p same)
             (cause_is_pending g bit);
         wanted = λ dir queue is. is;
-        told = λ i is. cc;
+        reported = λ i is. cc;
       })
       (others_miss h g other))
-      (within-word r (cause_row g) (index_of g) _) told
+      (within-word r (cause_row g) (index_of g) _) reported
 
-  told_grown : index_of g < 64 → IsSubset (told_by (cause_set r g bits) g) (pending_bits (cause_set r g bits) g)
-  told_grown b =
+  reported_grown : index_of g < 64 → IsSubset (reported_by (cause_set r g bits) g) (pending_bits (cause_set r g bits) g)
+  reported_grown b =
       let cause : Place = place (cause_row g) (index_of g) in
       let mask : Place = place (mask_row g) (index_of g) in
       let old = word_at r.words cause in
-      let told = sym (told_by-put r cause (bit_or old bits) g) in
+      let reported = sym (reported_by-put r cause (bit_or old bits) g) in
       let causes = sym (put_stands r cause (bit_or old bits) sound.shape (cause_index g b)) in
       let masks = sym (word_at-put_other r.words cause mask (bit_or old bits) (λ same. cause_not_mask g (sym same))) in
-      subst (λ (x : ℕ × ℕ × ℕ). IsSubset x.0 (intersection x.1 x.2)) (λ k. (told k, causes k, masks k))
-      (IsSubset-trans _ _ _ (sound.told g b) (more_pending old bits (word_at r.words mask)))
+      subst (λ (x : ℕ × ℕ × ℕ). IsSubset x.0 (intersection x.1 x.2)) (λ k. (reported k, causes k, masks k))
+      (IsSubset-trans _ _ _ (sound.reported g b) (more_pending old bits (word_at r.words mask)))
 
 cause_other : (g : Group) → is_mail (row_of (cause_row g)).kind ≡ false
 cause_other Pf = refl
@@ -257,10 +257,10 @@ sound-cause r g bits within sound =
       words = row_bits-put r cause (bit_or old bits) sound.shape sound.words
           (IsSubset-or old bits (bits_of_row (cause_row g)) (sound.words cause)
           (subst (IsSubset bits) (sym (cause_bits g)) within));
-      told = λ h b. elim (cases_Bool (is_group g h)) as (λ _. IsSubset (told_by new h) (pending_bits new h)) [
-        | inr other ↦ told_beside r g bits sound h other (sound.told h b)
-        | inl same ↦ subst (λ x. IsSubset (told_by new x) (pending_bits new x)) (is_group-same g h same)
-            (told_grown r g bits sound (subst (λ x. index_of x < 64) (sym (is_group-same g h same)) b))
+      reported = λ h b. elim (cases_Bool (is_group g h)) as (λ _. IsSubset (reported_by new h) (pending_bits new h)) [
+        | inr other ↦ reported_beside r g bits sound h other (sound.reported h b)
+        | inl same ↦ subst (λ x. IsSubset (reported_by new x) (pending_bits new x)) (is_group-same g h same)
+            (reported_grown r g bits sound (subst (λ x. index_of x < 64) (sym (is_group-same g h same)) b))
       ];
       mail = mail-put r cause (bit_or old bits) (plain _ _ (cause_other g)) sound.mail;
     }
@@ -301,6 +301,6 @@ sound-all_done (v ∷ vs) r sound =
     sound-all_done vs (done_reported r v)
     (sound-mail r v _ is_reset_bit (reset_keeps (mail_of r v)) reset_in (reset_mail (mail_of r v)) sound)
 
-pub sound-telling : (r : Registers) → AreSound r → AreSound (resets_told r)
-unfolding resets_told
+pub sound-telling : (r : Registers) → AreSound r → AreSound (resets_reported r)
+unfolding resets_reported
 sound-telling r sound = sound-all_done (range_with_len 0 64) r sound

@@ -1,11 +1,11 @@
--- What was put, wanted and told, and what stands past the end.
+-- What was put, wanted and reported, and what stands past the end.
 use Rattle.std.proofs.Common.{List, length, set, get_or, ◌≡◌, ℕ, ◌<◌, Bool, false, cond, nat_lt, sym, ◌∙◌, subst, inl, inr, arith}
 use Rattle.std.proofs.lemmas.Bool.{cases_lt, cond-true, cond-false, lt-ltb, le-ltb}
 use Rattle.std.proofs.lemmas.List.{get_or-set_same, get_or_past, length-set}
 use Rattle.register_file.specs.RegTable.Rows.{row_of}
 use Rattle.register_file.specs.RegTable.declared.place.Place.{Place}
 use Rattle.register_file.specs.IntrUnit.declared.group.Group.TheVariants.{Vf}
-use Rattle.register_file.specs.Groups.{told_by, with_told}
+use Rattle.register_file.specs.Groups.{reported_by, with_reported}
 use Rattle.register_file.specs.Registers.{Registers, is_wanted, with_wanted}
 use Rattle.register_file.specs.Words.{word_at, put, row_words}
 use Rattle.register_file.specs.DmaRing.declared.dir.Dir.{Dir}
@@ -13,7 +13,7 @@ use Rattle.register_file.specs.DmaRing.declared.dir.Dir.TheVariants.{Rx, Tx}
 use Rattle.register_laws.specs.Sound.{HasShape}
 use Rattle.register_laws.proofs.Shape.{put_stands, HasShape-put}
 
--- what stands where a word was put, a side was wanted, and bits were told: nothing past the end
+-- what stands where a word was put, a side was wanted, and bits were reported: nothing past the end
 pub word_put : (r : Registers) → HasShape r → (p : Place) (v : ℕ)
     → word_at (put r.words p v) p ≡ cond (nat_lt p.index (row_of p.row).count) v 0
 word_put r h p v =
@@ -43,6 +43,6 @@ pub side_wanted : (r : Registers) → HasShape r → (dir : Dir) (queue : ℕ) (
 side_wanted r h Rx queue wanted = set_there r.wanted_rx 128 queue wanted false h.wanted_rx
 side_wanted r h Tx queue wanted = set_there r.wanted_tx 128 queue wanted false h.wanted_tx
 
-pub bits_told : (r : Registers) → HasShape r → (v told : ℕ)
-    → told_by (with_told r (Vf v) told) (Vf v) ≡ cond (nat_lt v 64) told 0
-bits_told r h v told = set_there r.told_vf 64 v told 0 h.told_vf
+pub bits_reported : (r : Registers) → HasShape r → (v reported : ℕ)
+    → reported_by (with_reported r (Vf v) reported) (Vf v) ≡ cond (nat_lt v 64) reported 0
+bits_reported r h v reported = set_there r.reported_vf 64 v reported 0 h.reported_vf

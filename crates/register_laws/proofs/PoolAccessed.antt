@@ -48,7 +48,7 @@ module _ (mode : Mode) (v : ℕ) (a b : Registers) (same : AgreeWithin (pool_agr
   interrupts_same =
       let own = eq-eqb v v refl in
       λ k. of_words (Vf v) (same.words (place Pvteicr v) own k) (same.words (place Pvteims v) own k)
-      (same.words (place Pvteiac v) own k) (same.words (place Pvteiam v) own k) (same.told (Vf v) own k)
+      (same.words (place Pvteiac v) own k) (same.words (place Pvteiam v) own k) (same.reported (Vf v) own k)
 
   -- a read of a virtual function's causes clears them all
   causes_read_same : causes_read (interrupts_of a (Vf v)) (clears_others a) true

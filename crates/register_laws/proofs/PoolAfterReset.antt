@@ -7,7 +7,7 @@ use Rattle.register_file.specs.RegTable.declared.place.Place.{Place}
 use Rattle.register_file.specs.IntrUnit.declared.group.Group.{Group}
 use Rattle.register_file.specs.IntrUnit.declared.group.Group.TheVariants.{Pf, Vf}
 use Rattle.register_file.specs.Bits.{has_bit}
-use Rattle.register_file.specs.Groups.{index_of, told_by}
+use Rattle.register_file.specs.Groups.{index_of, reported_by}
 use Rattle.register_file.specs.PoolReset.{pool_reset}
 use Rattle.register_file.specs.Registers.{Registers, is_wanted}
 use Rattle.register_file.specs.Words.{word_at, row_words}
@@ -29,9 +29,9 @@ wanted_past : (r : Registers) → HasShape r → (dir : Dir) (queue : ℕ) → (
 wanted_past r h Rx queue out = let short = h.wanted_rx in get_or_past r.wanted_rx queue false (omega arith)
 wanted_past r h Tx queue out = let short = h.wanted_tx in get_or_past r.wanted_tx queue false (omega arith)
 
-told_past : (r : Registers) → HasShape r → (g : Group) → (index_of g < 64 → ⊥) → told_by r g ≡ 0
-told_past r h Pf out = absurd (out (omega arith))
-told_past r h (Vf v) out = let short = h.told_vf in get_or_past r.told_vf v 0 (omega arith)
+reported_past : (r : Registers) → HasShape r → (g : Group) → (index_of g < 64 → ⊥) → reported_by r g ≡ 0
+reported_past r h Pf out = absurd (out (omega arith))
+reported_past r h (Vf v) out = let short = h.reported_vf in get_or_past r.reported_vf v 0 (omega arith)
 
 pub agree-reset : PoolResetKeepsAgreement
 agree-reset mode v a b ha hb same =
@@ -60,10 +60,10 @@ agree-reset mode v a b ha hb same =
                 let out : queue < 128 → ⊥ = λ h. omega arith in
                 wanted_past new_a (left.shape ha) dir queue out ∙ sym (wanted_past new_b (right.shape hb) dir queue out)
           ];
-      told = λ g is. elim (cases_lt (index_of g) 64) as (λ _. told_by new_a g ≡ told_by new_b g) [
-        | inl inside ↦ left.told ha g is inside ∙ sym (right.told hb g is inside)
+      reported = λ g is. elim (cases_lt (index_of g) 64) as (λ _. reported_by new_a g ≡ reported_by new_b g) [
+        | inl inside ↦ left.reported ha g is inside ∙ sym (right.reported hb g is inside)
         | inr past ↦
             let out : index_of g < 64 → ⊥ = λ h. omega arith in
-            told_past new_a (left.shape ha) g out ∙ sym (told_past new_b (right.shape hb) g out)
+            reported_past new_a (left.shape ha) g out ∙ sym (reported_past new_b (right.shape hb) g out)
       ];
     }

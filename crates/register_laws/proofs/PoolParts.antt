@@ -17,7 +17,7 @@ use Rattle.register_file.specs.DmaRing.declared.dir.Dir.{Dir}
 use Rattle.register_file.specs.DmaRing.declared.dir.Dir.TheVariants.{Rx, Tx}
 use Rattle.register_file.specs.declared.owner.Owner.TheVariants as owner
 use Rattle.register_laws.specs.Footprint.{Footprint, nothing, either, of_owner, of_side, renewed_of}
-use Rattle.register_laws.proofs.Renewed.{IsRenewed, IsSame, any_of, wanted_of, told_of, renewed-either, renewed-same, renewed-with_wanted, renewed-with_told, taken-refl, taken-either, taken-each}
+use Rattle.register_laws.proofs.Renewed.{IsRenewed, IsSame, any_of, wanted_of, reported_of, renewed-either, renewed-same, renewed-with_wanted, renewed-with_reported, taken-refl, taken-either, taken-each}
 use Rattle.register_laws.proofs.RowsReset.{at_rows, rows_words, renewed-rows}
 
 -- what a pool has once, and its words of the mailbox memory
@@ -33,7 +33,7 @@ of_function v =
     record {
       bits = λ p bit. has_own (row_of p.row).bank v p.index;
       wanted = λ dir queue. false;
-      told = is_group (Vf v);
+      reported = is_group (Vf v);
     }
 
 -- its rows are those that the table has for it
@@ -42,22 +42,23 @@ own_row : (x : RowId) (v index bit : ℕ)
 own_row row.Ctrl v index bit = refl
 own_row other v index bit = refl
 
-same_function : (v : ℕ) → IsSame (either (at_rows function_renewals v) (told_of (Vf v))) (renewed_of (of_function v))
+same_function : (v : ℕ) → IsSame (either (at_rows function_renewals v) (reported_of (Vf v)))
+    (renewed_of (of_function v))
 same_function v = record {
   bits = λ p bit. or-false ((at_rows function_renewals v).bits p bit) ∙ rows_words function_renewals v p bit
       ∙ own_row p.row v p.index bit;
   wanted = λ dir queue. refl;
-  told = λ g. refl;
+  reported = λ g. refl;
 }
 
 pub renewed-function : (r : Registers) (v : ℕ) → IsRenewed (renewed_of (of_function v)) r (function_reset r v)
 renewed-function r v =
     let rows : List Renewal = function_renewals in
     let reset : Registers = rows_reset r rows v in
-    renewed-same (either (at_rows rows v) (told_of (Vf v))) (renewed_of (of_function v)) r (function_reset r v)
+    renewed-same (either (at_rows rows v) (reported_of (Vf v))) (renewed_of (of_function v)) r (function_reset r v)
     (same_function v)
-    (renewed-either (at_rows rows v) (told_of (Vf v)) r reset (function_reset r v)
-    (renewed-rows rows r v) (renewed-with_told reset (Vf v)))
+    (renewed-either (at_rows rows v) (reported_of (Vf v)) r reset (function_reset r v)
+    (renewed-rows rows r v) (renewed-with_reported reset (Vf v)))
 
 -- a side of a queue
 side_row : (dir : Dir) (x : RowId) (queue index bit : ℕ)
@@ -74,9 +75,9 @@ none_wanted : (dir other : Dir) (queue number : ℕ) → (at_rows (side_renewals
 none_wanted Rx other queue number = refl
 none_wanted Tx other queue number = refl
 
-none_told : (dir : Dir) (queue : ℕ) (g : Group) → (at_rows (side_renewals dir) queue).told g ≡ false
-none_told Rx queue g = refl
-none_told Tx queue g = refl
+none_reported : (dir : Dir) (queue : ℕ) (g : Group) → (at_rows (side_renewals dir) queue).reported g ≡ false
+none_reported Rx queue g = refl
+none_reported Tx queue g = refl
 
 same_side : (dir : Dir) (queue : ℕ)
     → IsSame (either (at_rows (side_renewals dir) queue) (wanted_of dir queue)) (renewed_of (of_side dir queue))
@@ -85,7 +86,7 @@ same_side dir queue = record {
       ∙ rows_words (side_renewals dir) queue p bit ∙ side_row dir p.row queue p.index bit;
   wanted = λ other number. ap (λ b. b || is_owner (owner.Side dir queue) (owner.Side other number))
       (none_wanted dir other queue number);
-  told = λ g. or-false _ ∙ none_told dir queue g;
+  reported = λ g. or-false _ ∙ none_reported dir queue g;
 }
 
 renewed-side : (dir : Dir) (r : Registers) (queue : ℕ)
@@ -125,7 +126,7 @@ renewed-vectors r index =
     (record {
       bits = λ p bit. rows_words vector_renewals index p bit ∙ vector_row p.row index p.index bit;
       wanted = λ dir queue. refl;
-      told = λ g. refl;
+      reported = λ g. refl;
     })
     (renewed-rows vector_renewals r index)
 

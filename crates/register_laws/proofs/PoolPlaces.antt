@@ -56,7 +56,7 @@ covers-owner mode v p is = record {
   bits = λ q bit same. one_owner (row_of p.row).bank (row_of q.row).bank mode v p.index q.index same is;
   wanted = λ dir queue same. side_of_pool (row_of p.row).bank mode v p.index dir queue is
       (is_owner-same (owner_of p) (owner.Side dir queue) same);
-  told = λ g same.
+  reported = λ g same.
       let mine = group_of_pool (row_of p.row).bank mode v p.index g is
       (is_owner-same (owner_of p) (owner.Group g) same) in
       ap (is_group (Vf v)) mine ∙ is_group-itself (Vf v);

@@ -12,5 +12,5 @@ same_shared a b e around p is =
     ≡ read_word (row_of x).kind b around (record { row = x; index = p.index }))
     (ap (λ t. cond t 0 0x00080000) e) refl p is
 
-pub same_told : PoolReadsTellTheSame
-same_told mode v a b same around p is = (keeps (row_of p.row).kind).given mode v a b same around p refl is
+pub same_reported : PoolReadsTellTheSame
+same_reported mode v a b same around p is = (keeps (row_of p.row).kind).given mode v a b same around p refl is

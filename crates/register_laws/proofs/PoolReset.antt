@@ -85,10 +85,10 @@ vectors_wanted count first dir number =
     any-among of_vectors (λ f. f.wanted dir number) number false refl (λ g h. refl)
     (λ n. sym (and-false (n == number))) count first ∙ and-false (among first count number)
 
-told_none : (f : ℕ → Footprint) (g : Group) → ((n : ℕ) → (f n).told g ≡ false) → (count first : ℕ)
-    → (any_of f (range_with_len first count)).told g ≡ false
-told_none f g none count first =
-    any-among f (λ e. e.told g) 0 false refl (λ a b. refl) (λ n. none n ∙ sym (and-false (n == 0))) count first
+reported_none : (f : ℕ → Footprint) (g : Group) → ((n : ℕ) → (f n).reported g ≡ false) → (count first : ℕ)
+    → (any_of f (range_with_len first count)).reported g ≡ false
+reported_none f g none count first =
+    any-among f (λ e. e.reported g) 0 false refl (λ a b. refl) (λ n. none n ∙ sym (and-false (n == 0))) count first
     ∙ and-false (among first count 0)
 
 -- all of it is the pool's
@@ -117,7 +117,7 @@ same_none : (mode : Mode) (v : ℕ) → ((queue : ℕ) → has_queue mode v queu
 same_none mode v none = record {
   bits = λ p bit. with_none (row_of p.row).bank mode v p.index none;
   wanted = λ dir queue. sym (none queue);
-  told = λ g. or-false (is_group (Vf v) g);
+  reported = λ g. or-false (is_group (Vf v) g);
 }
 
 same_some : (mode : Mode) (v : ℕ) → nat_lt v (pools_in mode) ≡ true
@@ -140,10 +140,11 @@ same_some mode v e =
           (queues_wanted each (v * each) dir queue ∙ queues-among mode v queue small)
           ∙ ap (λ x. has_queue mode v queue || x) (vectors_wanted (each / 2) (v * each / 2) dir queue)
           ∙ or-false (has_queue mode v queue);
-      told = λ g.
-          ap (λ x. is_group (Vf v) g || (x || (any_of of_vectors (range_with_len (v * each / 2) (each / 2))).told g))
-          (told_none of_queue g (λ n. refl) each (v * each))
-          ∙ ap (λ x. is_group (Vf v) g || x) (told_none of_vectors g (λ n. refl) (each / 2) (v * each / 2))
+      reported = λ g.
+          ap (λ x. is_group (Vf v) g || (x
+          || (any_of of_vectors (range_with_len (v * each / 2) (each / 2))).reported g))
+          (reported_none of_queue g (λ n. refl) each (v * each))
+          ∙ ap (λ x. is_group (Vf v) g || x) (reported_none of_vectors g (λ n. refl) (each / 2) (v * each / 2))
           ∙ or-false (is_group (Vf v) g);
     }
 
@@ -213,5 +214,5 @@ covers-pool mode v = record {
       ∙ of_taken (is_renewed p.row bit) (is_left p.row bit)
       (taken_or_left p.row bit ∙ of_a_pool (row_of p.row).bank mode v p.index is);
   wanted = λ dir queue is. or_left _ false is;
-  told = λ g is. or_left _ false is;
+  reported = λ g is. or_left _ false is;
 }

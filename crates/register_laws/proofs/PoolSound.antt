@@ -15,7 +15,7 @@ use Rattle.register_file.specs.VfMap.Owner.{is_of_pool, is_of_pool_by}
 use Rattle.register_file.specs.VfMap.declared.mode.Mode.{Mode}
 use Rattle.register_file.specs.Bits.{has_bit}
 use Rattle.register_file.specs.Columns.{place}
-use Rattle.register_file.specs.Groups.{told_by}
+use Rattle.register_file.specs.Groups.{reported_by}
 use Rattle.register_file.specs.Mailbox.{mail_of}
 use Rattle.register_file.specs.Owner.{owner_in, owner_of, is_group}
 use Rattle.register_file.specs.PoolReset.{pool_reset}
@@ -30,7 +30,7 @@ use Rattle.register_laws.proofs.Owners.{is_group-same, is_owner-same}
 use Rattle.register_laws.proofs.PoolQueues.{turned}
 use Rattle.register_laws.proofs.PoolReset.{renewed-pool, within-pool_reset}
 use Rattle.register_laws.proofs.RowBits.{HaveRowBits, bits_where_inside, reset_bits}
-use Rattle.register_laws.proofs.SoundParts.{told_stands}
+use Rattle.register_laws.proofs.SoundParts.{reported_stands}
 
 -- bits of rows: a bit of a word is the reset value's, or as it was
 own_bits : (r : Registers) (mode : Mode) (v : ℕ) → AreSound r → HaveRowBits (pool_reset mode v r)
@@ -60,7 +60,7 @@ others_miss mode v g n = misses-within (pool_has mode v) (of_group g) (pending g
   bits =
       λ p bit is. not_of_pool (row_of p.row).bank mode v p.index g (is_owner-same (owner.Group g) (owner_of p) is) n;
   wanted = λ dir queue is. cc;
-  told = λ h is. ap (is_group (Vf v)) (sym (is_group-same g h is)) ∙ n;
+  reported = λ h is. ap (is_group (Vf v)) (sym (is_group-same g h is)) ∙ n;
 })
 
 -- a mailbox of the pool isn't held by its function, or there is none
@@ -81,12 +81,12 @@ sound-pool_reset r mode v sound =
     record {
       shape = new.shape sound.shape;
       words = own_bits r mode v sound;
-      told = λ g b. elim (cases_Bool (is_group (Vf v) g)) as
-          (λ _. IsSubset (told_by (pool_reset mode v r) g) (pending_bits (pool_reset mode v r) g)) [
-            | inr out ↦ told_stands (pool_has mode v) r (pool_reset mode v r) g (others_miss mode v g out)
-                (within-pool_reset r mode v) (sound.told g b)
+      reported = λ g b. elim (cases_Bool (is_group (Vf v) g)) as
+          (λ _. IsSubset (reported_by (pool_reset mode v r) g) (pending_bits (pool_reset mode v r) g)) [
+            | inr out ↦ reported_stands (pool_has mode v) r (pool_reset mode v r) g (others_miss mode v g out)
+                (within-pool_reset r mode v) (sound.reported g b)
             | inl own ↦ subst (λ t. IsSubset t (pending_bits (pool_reset mode v r) g))
-                (sym (new.told sound.shape g own b))
+                (sym (new.reported sound.shape g own b))
                 (IsSubset-no_bits (pending_bits (pool_reset mode v r) g))
           ];
       mail = λ w.

@@ -49,7 +49,7 @@ pools_have_apart : (mode : Mode) (v w : ℕ) → v ≢ w → Misses (pool_has mo
 pools_have_apart mode v w apart = record {
   bits = λ p bit is. place_missed (row_of p.row).bank mode v w p.index apart is;
   wanted = λ dir queue is. queue_missed mode v w queue apart is;
-  told = λ g is. group_missed v w g apart is;
+  reported = λ g is. group_missed v w g apart is;
 }
 
 pub pools_miss : (mode : Mode) (v w : ℕ) → v ≢ w → Misses (pool_changes mode v) (pool_has mode w)
@@ -77,5 +77,6 @@ agreement_stands f g a b then_a then_b out left right same = record {
       word_stands left p none ∙ same.words p is ∙ sym (word_stands right p none);
   wanted = λ dir queue is. left.wanted dir queue (out.wanted dir queue is) ∙ same.wanted dir queue is
       ∙ sym (right.wanted dir queue (out.wanted dir queue is));
-  told = λ h is. left.told h (out.told h is) ∙ same.told h is ∙ sym (right.told h (out.told h is));
+  reported = λ h is. left.reported h (out.reported h is) ∙ same.reported h is
+      ∙ sym (right.reported h (out.reported h is));
 }

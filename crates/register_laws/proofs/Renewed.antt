@@ -9,7 +9,7 @@ use Rattle.register_file.specs.RegTable.declared.place.Place.{Place}
 use Rattle.register_file.specs.IntrUnit.declared.group.Group.{Group}
 use Rattle.register_file.specs.Bits.{has_bit}
 use Rattle.register_file.specs.Columns.{place}
-use Rattle.register_file.specs.Groups.{index_of, told_by, with_told}
+use Rattle.register_file.specs.Groups.{index_of, reported_by, with_reported}
 use Rattle.register_file.specs.Owner.{is_owner, is_group}
 use Rattle.register_file.specs.PoolReset.{Renewal, takes, mixed, renewed, word_reset, is_renewed}
 use Rattle.register_file.specs.Registers.{Registers, is_wanted, with_wanted}
@@ -23,9 +23,9 @@ use Rattle.register_laws.specs.Sound.{HasShape}
 use Rattle.register_laws.proofs.Bits.{same_word, has_bit-mixed}
 use Rattle.register_laws.proofs.Footprints.{within-refl, within-either}
 use Rattle.register_laws.proofs.Owners.{is_dir-same, is_group-itself, is_group-same, is_owner-itself, is_place-same}
-use Rattle.register_laws.proofs.Shape.{put_stands, HasShape-put, HasShape-with_wanted, HasShape-with_told}
-use Rattle.register_laws.proofs.Standing.{told_by-with_told}
-use Rattle.register_laws.proofs.WithinParts.{within-bits, within-with_wanted, within-with_told}
+use Rattle.register_laws.proofs.Shape.{put_stands, HasShape-put, HasShape-with_wanted, HasShape-with_reported}
+use Rattle.register_laws.proofs.Standing.{reported_by-with_reported}
+use Rattle.register_laws.proofs.WithinParts.{within-bits, within-with_wanted, within-with_reported}
 
 -- all that a footprint has is as a reset leaves it, where the registers have their shape, and all else is as it was
 pub record IsRenewed (f : Footprint) (old new : Registers) : Type 0 where
@@ -35,7 +35,7 @@ pub record IsRenewed (f : Footprint) (old new : Registers) : Type 0 where
       → has_bit bit (word_at new.words p) ≡ has_bit bit (row_of p.row).reset
   pub wanted : HasShape old → (dir : Dir) (queue : ℕ) → f.wanted dir queue ≡ true → queue < 128
       → is_wanted new dir queue ≡ false
-  pub told : HasShape old → (g : Group) → f.told g ≡ true → index_of g < 64 → told_by new g ≡ 0
+  pub reported : HasShape old → (g : Group) → f.reported g ≡ true → index_of g < 64 → reported_by new g ≡ 0
 
 -- a word with all its bits
 pub word_renewed : {f : Footprint} {old new : Registers} → IsRenewed f old new → HasShape old → (p : Place)
@@ -48,7 +48,7 @@ renewed-refl r = record {
   shape = λ h. h;
   bits = λ h p bit is b. cc;
   wanted = λ h dir queue is b. cc;
-  told = λ h g is b. cc;
+  reported = λ h g is b. cc;
 }
 
 -- one after another
@@ -66,8 +66,8 @@ renewed-either f g r s t first then = record {
   wanted = λ h dir queue is b. one_of (f.wanted dir queue) (g.wanted dir queue) is
       (λ e. then.wanted (first.shape h) dir queue e b)
       (λ e n. then.alone.wanted dir queue n ∙ first.wanted h dir queue e b);
-  told = λ h k is b. one_of (f.told k) (g.told k) is (λ e. then.told (first.shape h) k e b)
-      (λ e n. then.alone.told k n ∙ first.told h k e b);
+  reported = λ h k is b. one_of (f.reported k) (g.reported k) is (λ e. then.reported (first.shape h) k e b)
+      (λ e n. then.alone.reported k n ∙ first.reported h k e b);
 }
 
 abbrev pub any_of : {A : Type 0} → (A → Footprint) → List A → Footprint
@@ -86,19 +86,19 @@ renewed-each f step each (x ∷ xs) r =
 pub record IsSame (f g : Footprint) : Type 0 where
   pub bits : (p : Place) (bit : ℕ) → f.bits p bit ≡ g.bits p bit
   pub wanted : (dir : Dir) (queue : ℕ) → f.wanted dir queue ≡ g.wanted dir queue
-  pub told : (h : Group) → f.told h ≡ g.told h
+  pub reported : (h : Group) → f.reported h ≡ g.reported h
 
 pub renewed-same : (f g : Footprint) (r s : Registers) → IsSame f g → IsRenewed f r s → IsRenewed g r s
 renewed-same f g r s same new = record {
   alone = record {
     bits = λ p bit n. new.alone.bits p bit (same.bits p bit ∙ n);
     wanted = λ dir queue n. new.alone.wanted dir queue (same.wanted dir queue ∙ n);
-    told = λ h n. new.alone.told h (same.told h ∙ n);
+    reported = λ h n. new.alone.reported h (same.reported h ∙ n);
   };
   shape = new.shape;
   bits = λ h p bit is b. new.bits h p bit (same.bits p bit ∙ is) b;
   wanted = λ h dir queue is b. new.wanted h dir queue (same.wanted dir queue ∙ is) b;
-  told = λ h k is b. new.told h k (same.told k ∙ is) b;
+  reported = λ h k is b. new.reported h k (same.reported k ∙ is) b;
 }
 
 -- of a footprint what the reset of a pool takes: nothing, one part after another, and the same of two footprints
@@ -107,7 +107,7 @@ taken-refl r =
     renewed-same nothing (renewed_of nothing) r r (record {
       bits = λ p bit. sym (and-false (is_renewed p.row bit));
       wanted = λ dir queue. refl;
-      told = λ g. refl;
+      reported = λ g. refl;
     })
     (renewed-refl r)
 
@@ -121,7 +121,7 @@ taken-either f g r s t first then =
     renewed-same (either (renewed_of f) (renewed_of g)) (renewed_of (either f g)) r t (record {
       bits = λ p bit. of_either (is_renewed p.row bit) (f.bits p bit) (g.bits p bit);
       wanted = λ dir queue. refl;
-      told = λ h. refl;
+      reported = λ h. refl;
     })
     (renewed-either (renewed_of f) (renewed_of g) r s t first then)
 
@@ -139,7 +139,7 @@ taken-same f g r s same new =
     renewed-same (renewed_of f) (renewed_of g) r s (record {
       bits = λ p bit. ap (λ b. is_renewed p.row bit && b) (same.bits p bit);
       wanted = same.wanted;
-      told = same.told;
+      reported = same.reported;
     })
     new
 
@@ -155,7 +155,7 @@ has_bit-renewed renewal old bit = all_or_some renewal.whole
     all_or_some true = refl
     all_or_some false = has_bit-mixed bit renewal.mask old (row_of renewal.row).reset
 
--- a word, what is wanted of a side, and what is told of a group
+-- a word, what is wanted of a side, and what is reported a group
 abbrev pub of_renewal : ℕ → Renewal → Footprint
 of_renewal index renewal = the_bits (place renewal.row index) (takes renewal)
 
@@ -175,7 +175,7 @@ renewed-word index r renewal =
           (is_place-same there p parts.0)
           (λ inside. ap (has_bit bit) (put_stands r there new h inside) ∙ is_new bit ∙ cond-true _ _ _ parts.1) b;
       wanted = λ h dir queue is b. cc;
-      told = λ h g is b. cc;
+      reported = λ h g is b. cc;
     }
 
 abbrev pub wanted_of : Dir → ℕ → Footprint
@@ -200,20 +200,20 @@ renewed-with_wanted dir r queue = record {
       let same = eqb-true queue number parts.1 in
       (λ k. is_wanted (with_wanted r dir queue false) (sym (is_dir-same dir other parts.0) k) (sym same k))
       ∙ unwanted r h dir queue (subst (λ n. n < 128) (sym same) b);
-  told = λ h g is b. cc;
+  reported = λ h g is b. cc;
 }
 
-abbrev pub told_of : Group → Footprint
-told_of g = record nothing { told = is_group g }
+abbrev pub reported_of : Group → Footprint
+reported_of g = record nothing { reported = is_group g }
 
-pub renewed-with_told : (r : Registers) (g : Group) → IsRenewed (told_of g) r (with_told r g 0)
-renewed-with_told r g = record {
-  alone = within-with_told (told_of g) r g 0 (is_group-itself g);
-  shape = HasShape-with_told r g 0;
+pub renewed-with_reported : (r : Registers) (g : Group) → IsRenewed (reported_of g) r (with_reported r g 0)
+renewed-with_reported r g = record {
+  alone = within-with_reported (reported_of g) r g 0 (is_group-itself g);
+  shape = HasShape-with_reported r g 0;
   bits = λ h p bit is b. cc;
   wanted = λ h dir queue is b. cc;
-  told = λ h other is b.
+  reported = λ h other is b.
       let same = is_group-same g other is in
-      ap (told_by (with_told r g 0)) (sym same)
-      ∙ told_by-with_told r g 0 h.told_vf (subst (λ x. index_of x < 64) (sym same) b);
+      ap (reported_by (with_reported r g 0)) (sym same)
+      ∙ reported_by-with_reported r g 0 h.reported_vf (subst (λ x. index_of x < 64) (sym same) b);
 }

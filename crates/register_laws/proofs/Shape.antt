@@ -9,7 +9,7 @@ use Rattle.register_file.specs.IntrUnit.Interrupts.{Interrupts}
 use Rattle.register_file.specs.IntrUnit.declared.group.Group.{Group}
 use Rattle.register_file.specs.IntrUnit.declared.group.Group.TheVariants.{Pf, Vf}
 use Rattle.register_file.specs.Columns.{place}
-use Rattle.register_file.specs.Groups.{cause_row, mask_row, index_of, with_told, with_interrupts}
+use Rattle.register_file.specs.Groups.{cause_row, mask_row, index_of, with_reported, with_interrupts}
 use Rattle.register_file.specs.Registers.{Registers, reset_registers, with_wanted}
 use Rattle.register_file.specs.Words.{word_at, put, row_words, reset_words}
 use Rattle.register_file.specs.DmaRing.declared.dir.Dir.{Dir}
@@ -32,7 +32,7 @@ HasShape-reset = record {
   has_indices = λ row. ap length (row_words-reset row) ∙ length-replicate (row_of row).count (row_of row).reset;
   wanted_rx = length-replicate 128 false;
   wanted_tx = length-replicate 128 false;
-  told_vf = length-replicate {A = ℕ} 64 0;
+  reported_vf = length-replicate {A = ℕ} 64 0;
 }
 
 pub HasShape-put : (r : Registers) (p : Place) (v : ℕ) → HasShape r → HasShape (record r { words = put r.words p v })
@@ -47,12 +47,13 @@ pub HasShape-with_wanted : (r : Registers) (dir : Dir) (queue : ℕ) (wanted : B
 HasShape-with_wanted r Rx queue wanted h = assumption (length-set r.wanted_rx queue wanted ∙ h.wanted_rx)
 HasShape-with_wanted r Tx queue wanted h = assumption (length-set r.wanted_tx queue wanted ∙ h.wanted_tx)
 
-pub HasShape-with_told : (r : Registers) (g : Group) (told : ℕ) → HasShape r → HasShape (with_told r g told)
-HasShape-with_told r Pf told h = assumption
-HasShape-with_told r (Vf v) told h = assumption (length-set r.told_vf v told ∙ h.told_vf)
+pub HasShape-with_reported : (r : Registers) (g : Group) (reported : ℕ) → HasShape r →
+    HasShape (with_reported r g reported)
+HasShape-with_reported r Pf reported h = assumption
+HasShape-with_reported r (Vf v) reported h = assumption (length-set r.reported_vf v reported ∙ h.reported_vf)
 
 pub HasShape-with_interrupts : (r : Registers) (s : Interrupts) → HasShape r → HasShape (with_interrupts r s)
 HasShape-with_interrupts r s h =
-    HasShape-with_told _ s.group s.told
+    HasShape-with_reported _ s.group s.reported
     (HasShape-put _ (place (mask_row s.group) (index_of s.group)) s.enabled
     (HasShape-put r (place (cause_row s.group) (index_of s.group)) s.causes h))

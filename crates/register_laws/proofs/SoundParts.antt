@@ -9,7 +9,7 @@ use Rattle.register_file.specs.IntrUnit.Interrupts.{Interrupts, IsConsistent}
 use Rattle.register_file.specs.IntrUnit.declared.group.Group.{Group}
 use Rattle.register_file.specs.IntrUnit.declared.group.Group.TheVariants.{Pf, Vf}
 use Rattle.register_file.specs.Columns.{place}
-use Rattle.register_file.specs.Groups.{cause_row, mask_row, index_of, told_by, with_interrupts}
+use Rattle.register_file.specs.Groups.{cause_row, mask_row, index_of, reported_by, with_interrupts}
 use Rattle.register_file.specs.Owner.{is_group}
 use Rattle.register_file.specs.Registers.{Registers, with_wanted}
 use Rattle.register_file.specs.Words.{word_at, put}
@@ -21,12 +21,12 @@ use Rattle.register_laws.proofs.Pending.{none_pending}
 use Rattle.register_laws.proofs.Settled.{IsSettled}
 use Rattle.register_laws.specs.Footprint.{Footprint, ChangesWithin, Misses, is_place, is_pending, nothing, the_word, of_group, pending, any_pending}
 use Rattle.register_laws.specs.Sound.{AreSound, IsMail, bits_of_row, pending_bits}
-use Rattle.register_laws.proofs.Fields.{words-with_wanted, words-with_told}
+use Rattle.register_laws.proofs.Fields.{words-with_wanted, words-with_reported}
 use Rattle.register_laws.proofs.Covers.{fails, cause_is_pending, mask_is_pending}
 use Rattle.register_laws.proofs.Footprints.{word_stands, misses-narrower, misses-within, misses-owner, covers-pending, covers-any_pending}
 use Rattle.register_laws.proofs.Owners.{is_group-itself, is_group-same, is_place-itself, is_place-same}
 use Rattle.register_laws.proofs.Shape.{HasShape-put, HasShape-with_wanted, HasShape-with_interrupts}
-use Rattle.register_laws.proofs.Standing.{causes_there, enabled_there, told_there}
+use Rattle.register_laws.proofs.Standing.{causes_there, enabled_there, report_there}
 use Rattle.register_laws.proofs.WithinParts.{within-put, within-with_wanted, within-with_interrupts}
 use Rattle.register_laws.proofs.ReadBack.{masks}
 use Rattle.register_laws.proofs.RowBits.{HaveRowBits, row_bits-put}
@@ -40,16 +40,17 @@ use Rattle.register_laws.specs.Sound.{bits_of_kind}
 use Rattle.register_laws.proofs.GroupChanges.{GroupChange, kept, changed}
 use Rattle.register_laws.proofs.RowBits.{IsSubset-trans, IsSubset-and_left, IsSubset-merged, within_row}
 
--- told bits stand where a footprint misses what is pending of their group
-pub told_stands : (f : Footprint) (r s : Registers) (g : Group) → Misses f (pending g) → ChangesWithin f r s
-    → IsSubset (told_by r g) (pending_bits r g) → IsSubset (told_by s g) (pending_bits s g)
-told_stands f r s g out only told =
+-- reported bits stand where a footprint misses what is pending of their group
+pub reported_stands : (f : Footprint) (r s : Registers) (g : Group) → Misses f (pending g) → ChangesWithin f r s
+    → IsSubset (reported_by r g) (pending_bits r g) → IsSubset (reported_by s g) (pending_bits s g)
+reported_stands f r s g out only reported =
     let cause : Place = place (cause_row g) (index_of g) in
     let mask : Place = place (mask_row g) (index_of g) in
     let causes = word_stands only cause (λ bit. out.bits cause bit (cause_is_pending g bit)) in
     let masks = word_stands only mask (λ bit. out.bits mask bit (mask_is_pending g bit)) in
-    let tells = only.told g (out.told g (is_group-itself g)) in
-    subst (λ (x : ℕ × ℕ × ℕ). IsSubset x.0 (intersection x.1 x.2)) (λ k. (sym tells k, sym causes k, sym masks k)) told
+    let tells = only.reported g (out.reported g (is_group-itself g)) in
+    subst (λ (x : ℕ × ℕ × ℕ). IsSubset x.0 (intersection x.1 x.2)) (λ k. (sym tells k, sym causes k, sym masks k))
+    reported
 
 -- a word at a place of no cause or mask, and what is wanted
 steady_misses : (p : Place) (g : Group) → is_pending (row_of p.row).kind ≡ false → Misses (the_word p) (pending g)
@@ -57,7 +58,7 @@ steady_misses p g steady = misses-within (the_word p) any_pending (pending g) (c
   bits = λ q bit is. fails (is_place p q) (is_pending (row_of p.row).kind)
       (λ same. ap (λ (x : Place). is_pending (row_of x.row).kind) (is_place-same p q same) ∙ is) steady;
   wanted = λ dir queue is. refl;
-  told = λ h is. refl;
+  reported = λ h is. refl;
 })
 
 pub sound-put : (r : Registers) (p : Place) (v : ℕ) → AreSound r → IsSubset v (bits_of_row p.row)
@@ -66,8 +67,8 @@ pub sound-put : (r : Registers) (p : Place) (v : ℕ) → AreSound r → IsSubse
 sound-put r p v sound own steady mail = record {
   shape = HasShape-put r p v sound.shape;
   words = row_bits-put r p v sound.shape sound.words own;
-  told = λ g b. told_stands (the_word p) r (record r { words = put r.words p v }) g (steady_misses p g steady)
-      (within-put (the_word p) r p v (λ bit. is_place-itself p)) (sound.told g b);
+  reported = λ g b. reported_stands (the_word p) r (record r { words = put r.words p v }) g (steady_misses p g steady)
+      (within-put (the_word p) r p v (λ bit. is_place-itself p)) (sound.reported g b);
   mail = mail-put r p v mail sound.mail;
 }
 
@@ -85,9 +86,9 @@ sound-with_wanted r dir queue wanted sound = record {
   shape = HasShape-with_wanted r dir queue wanted sound.shape;
   words = λ p. subst (λ ws. IsSubset (word_at ws p) (bits_of_row p.row)) (sym (words-with_wanted r dir queue wanted))
       (sound.words p);
-  told = λ g b. told_stands (wanted_alone dir queue) r (with_wanted r dir queue wanted) g
-      (record { bits = λ p bit is. refl; wanted = λ other number is. cc; told = λ h is. refl })
-      (within-with_wanted (wanted_alone dir queue) r dir queue wanted refl) (sound.told g b);
+  reported = λ g b. reported_stands (wanted_alone dir queue) r (with_wanted r dir queue wanted) g
+      (record { bits = λ p bit is. refl; wanted = λ other number is. cc; reported = λ h is. refl })
+      (within-with_wanted (wanted_alone dir queue) r dir queue wanted refl) (sound.reported g b);
   mail = λ v. mail_same _ _ (ap (λ ws. word_at ws (place Pvfmailbox v)) (words-with_wanted r dir queue wanted))
       (sound.mail v);
 }
@@ -115,7 +116,7 @@ bits-with_interrupts r s sound c p =
     let caused : Registers = record r { words = put r.words cause s.causes } in
     let mask : Place = place (mask_row s.group) (index_of s.group) in
     let masked : Registers = record caused { words = put caused.words mask s.enabled } in
-    subst (λ ws. IsSubset (word_at ws p) (bits_of_row p.row)) (sym (words-with_told masked s.group s.told))
+    subst (λ ws. IsSubset (word_at ws p) (bits_of_row p.row)) (sym (words-with_reported masked s.group s.reported))
     (row_bits-put caused mask s.enabled (HasShape-put r cause s.causes sound.shape)
     (row_bits-put r cause s.causes sound.shape sound.words
     (subst (IsSubset s.causes) (sym (cause_bits s.group)) c.causes_exist))
@@ -125,21 +126,21 @@ pub sound-with_interrupts : (r : Registers) (s : Interrupts) → AreSound r → 
 sound-with_interrupts r s sound settled = record {
   shape = HasShape-with_interrupts r s sound.shape;
   words = bits-with_interrupts r s sound settled.consistent;
-  told =
-      λ g b. elim (cases_Bool (is_group s.group g)) as (λ _. IsSubset (told_by (with_interrupts r s) g)
+  reported =
+      λ g b. elim (cases_Bool (is_group s.group g)) as (λ _. IsSubset (reported_by (with_interrupts r s) g)
       (pending_bits (with_interrupts r s) g)) [
-        | inr other ↦ told_stands (pending s.group) r (with_interrupts r s) g (others_miss g s.group other)
-            (within-with_interrupts r s) (sound.told g b)
+        | inr other ↦ reported_stands (pending s.group) r (with_interrupts r s) g (others_miss g s.group other)
+            (within-with_interrupts r s) (sound.reported g b)
         | inl same ↦
             let own : index_of s.group < 64 = subst (λ h. index_of h < 64) (sym (is_group-same s.group g same)) b in
-            let told = sym (told_there r sound.shape s own) in
+            let reported = sym (report_there r sound.shape s own) in
             let causes = sym (causes_there r sound.shape s own) in
             let enabled = sym (enabled_there r sound.shape s own) in
-            subst (λ h. IsSubset (told_by (with_interrupts r s) h) (pending_bits (with_interrupts r s) h))
+            subst (λ h. IsSubset (reported_by (with_interrupts r s) h) (pending_bits (with_interrupts r s) h))
             (is_group-same s.group g same)
             (subst (λ (x : ℕ × ℕ × ℕ). IsSubset x.0 (intersection x.1 x.2))
-            (λ k. (told k, causes k, enabled k))
-            settled.consistent.told_is_pending)
+            (λ k. (reported k, causes k, enabled k))
+            settled.consistent.reported_is_pending)
       ];
   mail = λ v. mail_same _ _ (word_stands (within-with_interrupts r s) (place Pvfmailbox v)
       (none_pending (place Pvfmailbox v) refl s.group)) (sound.mail v);

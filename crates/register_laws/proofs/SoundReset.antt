@@ -5,7 +5,7 @@ use Rattle.register_file.specs.IntrUnit.BitSet.{IsSubset}
 use Rattle.register_file.specs.IntrUnit.declared.group.Group.{Group}
 use Rattle.register_file.specs.IntrUnit.declared.group.Group.TheVariants.{Pf, Vf}
 use Rattle.register_file.proofs.IntrUnit.Subsets.{IsSubset-no_bits}
-use Rattle.register_file.specs.Groups.{index_of, told_by}
+use Rattle.register_file.specs.Groups.{index_of, reported_by}
 use Rattle.register_file.specs.Registers.{reset_registers}
 use Rattle.register_laws.specs.Sound.{AreSound, pending_bits}
 use Rattle.register_laws.proofs.Holders.{mail-reset}
@@ -13,16 +13,16 @@ use Rattle.register_laws.proofs.Shape.{HasShape-reset}
 use Rattle.register_laws.proofs.RowBits.{row_bits-reset}
 
 -- after a reset
-pub none_told : (g : Group) → index_of g < 64 → told_by reset_registers g ≡ 0
-none_told Pf b = refl
-none_told (Vf v) b = get_or-replicate 64 v 0 0 b
+pub none_reported : (g : Group) → index_of g < 64 → reported_by reset_registers g ≡ 0
+none_reported Pf b = refl
+none_reported (Vf v) b = get_or-replicate 64 v 0 0 b
 
 pub sound-reset : AreSound reset_registers
 sound-reset = record {
   shape = HasShape-reset;
   words = row_bits-reset;
-  told =
-      λ g b. subst (λ t. IsSubset t (pending_bits reset_registers g)) (sym (none_told g b))
+  reported =
+      λ g b. subst (λ t. IsSubset t (pending_bits reset_registers g)) (sym (none_reported g b))
       (IsSubset-no_bits (pending_bits reset_registers g));
   mail = mail-reset;
 }

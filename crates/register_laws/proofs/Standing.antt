@@ -10,7 +10,7 @@ use Rattle.register_file.specs.IntrUnit.Interrupts.{Interrupts, IsConsistent}
 use Rattle.register_file.specs.IntrUnit.declared.group.Group.{Group}
 use Rattle.register_file.specs.IntrUnit.declared.group.Group.TheVariants.{Pf, Vf}
 use Rattle.register_file.specs.Columns.{place}
-use Rattle.register_file.specs.Groups.{cause_row, mask_row, auto_clear_row, auto_mask_row, index_of, told_by, with_told, interrupts_of, with_interrupts}
+use Rattle.register_file.specs.Groups.{cause_row, mask_row, auto_clear_row, auto_mask_row, index_of, reported_by, with_reported, interrupts_of, with_interrupts}
 use Rattle.register_file.specs.Registers.{Registers, word_of, with_word}
 use Rattle.register_file.specs.Words.{word_at}
 use Rattle.register_file.proofs.Own.{intersection-within}
@@ -19,7 +19,7 @@ use Rattle.register_laws.specs.Laws.{HasShape}
 use Rattle.register_laws.proofs.Footprints.{word_stands}
 use Rattle.register_laws.proofs.Puts.{word_at-put_other}
 use Rattle.register_laws.proofs.Shape.{put_stands, HasShape-put}
-use Rattle.register_laws.proofs.Fields.{words-with_told}
+use Rattle.register_laws.proofs.Fields.{words-with_reported}
 use Rattle.register_laws.proofs.WithinParts.{within-with_interrupts}
 
 pub cause_index : (g : Group) → index_of g < 64 → index_of g < (row_of (cause_row g)).count
@@ -42,10 +42,11 @@ auto_mask-steady : (g : Group) → LacksWord (pending g) (place (auto_mask_row g
 auto_mask-steady Pf bit = refl
 auto_mask-steady (Vf v) bit = refl
 
-pub told_by-with_told : (r : Registers) (g : Group) (told : ℕ) → length r.told_vf ≡ 64 → index_of g < 64
-    → told_by (with_told r g told) g ≡ told
-told_by-with_told r Pf told h b = refl
-told_by-with_told r (Vf v) told h b = get_or-set_same r.told_vf v told 0 (subst (λ n. v < n) (sym h) b)
+pub reported_by-with_reported : (r : Registers) (g : Group) (reported : ℕ) → length r.reported_vf ≡ 64 → index_of g < 64
+    → reported_by (with_reported r g reported) g ≡ reported
+reported_by-with_reported r Pf reported h b = refl
+reported_by-with_reported r (Vf v) reported h b = get_or-set_same r.reported_vf v reported 0
+    (subst (λ n. v < n) (sym h) b)
 
 module _ (r : Registers) (h : HasShape r) (s : Interrupts) (b : index_of s.group < 64) where
   caused : Registers
@@ -57,7 +58,8 @@ module _ (r : Registers) (h : HasShape r) (s : Interrupts) (b : index_of s.group
   pub causes_there : word_of (with_interrupts r s) (cause_row s.group) (index_of s.group) ≡ s.causes
   unfolding caused masked
   causes_there =
-      ap (λ ws. word_at ws (place (cause_row s.group) (index_of s.group))) (words-with_told masked s.group s.told)
+      ap (λ ws. word_at ws (place (cause_row s.group) (index_of s.group)))
+      (words-with_reported masked s.group s.reported)
       ∙ word_at-put_other caused.words (place (mask_row s.group) (index_of s.group))
       (place (cause_row s.group) (index_of s.group)) s.enabled (cause_not_mask s.group)
       ∙ put_stands r (place (cause_row s.group) (index_of s.group)) s.causes h (cause_index s.group b)
@@ -65,21 +67,22 @@ module _ (r : Registers) (h : HasShape r) (s : Interrupts) (b : index_of s.group
   pub enabled_there : word_of (with_interrupts r s) (mask_row s.group) (index_of s.group) ≡ s.enabled
   unfolding caused masked
   enabled_there =
-      ap (λ ws. word_at ws (place (mask_row s.group) (index_of s.group))) (words-with_told masked s.group s.told)
+      ap (λ ws. word_at ws (place (mask_row s.group) (index_of s.group)))
+      (words-with_reported masked s.group s.reported)
       ∙ put_stands caused (place (mask_row s.group) (index_of s.group)) s.enabled
       (HasShape-put r (place (cause_row s.group) (index_of s.group)) s.causes h) (mask_index s.group b)
 
-  pub told_there : told_by (with_interrupts r s) s.group ≡ s.told
+  pub report_there : reported_by (with_interrupts r s) s.group ≡ s.reported
   unfolding caused masked
-  told_there = told_by-with_told masked s.group s.told h.told_vf b
+  report_there = reported_by-with_reported masked s.group s.reported h.reported_vf b
 
-  pub interrupts_of-with_interrupts : IsConsistent s → s.causes < 2 ^ 32 → s.enabled < 2 ^ 32 → s.told < 2 ^ 32
+  pub interrupts_of-with_interrupts : IsConsistent s → s.causes < 2 ^ 32 → s.enabled < 2 ^ 32 → s.reported < 2 ^ 32
       → interrupts_of (with_interrupts r s) s.group ≡ record s {
         auto_clear =
             (interrupts_of r s.group).auto_clear;
         auto_mask = (interrupts_of r s.group).auto_mask;
       }
-  interrupts_of-with_interrupts c small_causes small_enabled small_told =
+  interrupts_of-with_interrupts c small_causes small_enabled small_reported =
       let bits = group_bits s.group in
       let only = within-with_interrupts r s in
       let causes = ap (λ w. intersection w bits) causes_there
@@ -88,13 +91,13 @@ module _ (r : Registers) (h : HasShape r) (s : Interrupts) (b : index_of s.group
       ∙ intersection-within s.enabled bits small_enabled c.masks_exist in
       let clear = word_stands only (place (auto_clear_row s.group) (index_of s.group)) (auto_clear-steady s.group) in
       let mask = word_stands only (place (auto_mask_row s.group) (index_of s.group)) (auto_mask-steady s.group) in
-      let pending = (λ k. intersection (told_there k) (intersection (causes k) (enabled k)))
-      ∙ intersection-within s.told (intersection s.causes s.enabled) small_told c.told_is_pending in
+      let pending = (λ k. intersection (report_there k) (intersection (causes k) (enabled k)))
+      ∙ intersection-within s.reported (intersection s.causes s.enabled) small_reported c.reported_is_pending in
       λ k. record {
         group = s.group;
         causes = causes k;
         enabled = enabled k;
         auto_clear = intersection (clear k) bits;
         auto_mask = intersection (mask k) bits;
-        told = pending k;
+        reported = pending k;
       }

@@ -86,5 +86,5 @@ pub group_stands : (f : Footprint) (old new : Registers) (g : Group) → Misses 
 group_stands f old new g out only =
     let same = own_words g (λ p. word_at new.words p ≡ word_at old.words p)
     (λ p is. word_stands only p (λ bit. out.bits p bit (ap (is_owner (owner.Group g)) is ∙ is_group-itself g))) in
-    let told = only.told g (out.told g (is_group-itself g)) in
-    λ k. of_words g (same.0 k) (same.1 k) (same.2 k) (same.3 k) (told k)
+    let reported = only.reported g (out.reported g (is_group-itself g)) in
+    λ k. of_words g (same.0 k) (same.1 k) (same.2 k) (same.3 k) (reported k)

@@ -7,13 +7,13 @@ use Rattle.register_file.specs.IntrUnit.Interrupts.{Interrupts}
 use Rattle.register_file.specs.IntrUnit.declared.group.Group.{Group}
 use Rattle.register_file.specs.Bits.{has_bit}
 use Rattle.register_file.specs.Columns.{place}
-use Rattle.register_file.specs.Groups.{cause_row, mask_row, index_of, with_told, with_interrupts}
+use Rattle.register_file.specs.Groups.{cause_row, mask_row, index_of, with_reported, with_interrupts}
 use Rattle.register_file.specs.Registers.{Registers, with_word, with_wanted}
 use Rattle.register_file.specs.Words.{word_at, put}
 use Rattle.register_file.specs.DmaRing.declared.dir.Dir.{Dir}
 use Rattle.register_laws.specs.Footprint.{Footprint, ChangesWithin, is_place, the_word, the_bits, pending}
 use Rattle.register_laws.proofs.HasWord.{HasWord}
-use Rattle.register_laws.proofs.Fields.{is_wanted-put, told_by-put, words-with_wanted, is_wanted-with_wanted_other, told_by-with_wanted, words-with_told, is_wanted-with_told, told_by-with_told_other}
+use Rattle.register_laws.proofs.Fields.{is_wanted-put, reported_by-put, words-with_wanted, is_wanted-with_wanted_other, reported_by-with_wanted, words-with_reported, is_wanted-with_reported, reported_by-with_reported_other}
 use Rattle.register_laws.proofs.Covers.{cause_is_pending, mask_is_pending}
 use Rattle.register_laws.proofs.Footprints.{within-trans}
 use Rattle.register_laws.proofs.Owners.{apart, is_group-itself, is_place-itself, is_place-same}
@@ -28,14 +28,14 @@ use Rattle.register_laws.proofs.Owners.{is_owner-itself}
 use Rattle.register_laws.proofs.Footprints.{within-refl}
 use Rattle.register_laws.specs.Footprint.{nothing, pending_of}
 
--- a word at one place, what is wanted of one side, and what is told of one group, each within what has it
+-- a word at one place, what is wanted of one side, and what is reported one group, each within what has it
 pub within-put : (f : Footprint) (r : Registers) (p : Place) (v : ℕ) → HasWord f p
     → ChangesWithin f r (record r { words = put r.words p v })
 within-put f r p v has = record {
   bits = λ q bit n.
       ap (has_bit bit) (word_at-put_other r.words p q v (apart (λ x. f.bits x bit) p q (has bit) n));
   wanted = λ dir queue n. is_wanted-put r p v dir queue;
-  told = λ g n. told_by-put r p v g;
+  reported = λ g n. reported_by-put r p v g;
 }
 
 -- some bits of a word, where the others are as they were
@@ -54,7 +54,7 @@ within-bits r p v has kept = record {
             (put_cases r.words p v (λ w. has_bit bit w ≡ has_bit bit (word_at r.words p)) (kept bit off) refl)
       ];
   wanted = λ dir queue n. is_wanted-put r p v dir queue;
-  told = λ g n. told_by-put r p v g;
+  reported = λ g n. reported_by-put r p v g;
 }
 
 pub within-with_wanted : (f : Footprint) (r : Registers) (dir : Dir) (queue : ℕ) (wanted : Bool)
@@ -64,15 +64,15 @@ within-with_wanted f r dir queue wanted has = record {
   bits = λ q bit n. ap (λ ws. has_bit bit (word_at ws q)) (words-with_wanted r dir queue wanted);
   wanted = λ other number n. is_wanted-with_wanted_other r dir other queue number wanted
       (λ e i. both_ways (f.wanted other number) n (sym (λ k. f.wanted (e k) (i k)) ∙ has));
-  told = λ g n. told_by-with_wanted r dir queue wanted g;
+  reported = λ g n. reported_by-with_wanted r dir queue wanted g;
 }
 
-pub within-with_told : (f : Footprint) (r : Registers) (g : Group) (told : ℕ) → f.told g ≡ true
-    → ChangesWithin f r (with_told r g told)
-within-with_told f r g told has = record {
-  bits = λ q bit n. ap (λ ws. has_bit bit (word_at ws q)) (words-with_told r g told);
-  wanted = λ dir queue n. is_wanted-with_told r g told dir queue;
-  told = λ h n. told_by-with_told_other r g h told (apart f.told g h has n);
+pub within-with_reported : (f : Footprint) (r : Registers) (g : Group) (reported : ℕ) → f.reported g ≡ true
+    → ChangesWithin f r (with_reported r g reported)
+within-with_reported f r g reported has = record {
+  bits = λ q bit n. ap (λ ws. has_bit bit (word_at ws q)) (words-with_reported r g reported);
+  wanted = λ dir queue n. is_wanted-with_reported r g reported dir queue;
+  reported = λ h n. reported_by-with_reported_other r g h reported (apart f.reported g h has n);
 }
 
 pub within-word : (r : Registers) (row : RowId) (index word : ℕ)
@@ -88,11 +88,11 @@ within-with_interrupts r s =
     let mask : Place = place (mask_row s.group) (index_of s.group) in
     let caused : Registers = record r { words = put r.words cause s.causes } in
     let masked : Registers = record caused { words = put caused.words mask s.enabled } in
-    within-trans f r masked (with_told masked s.group s.told)
+    within-trans f r masked (with_reported masked s.group s.reported)
     (within-trans f r caused masked
     (within-put f r cause s.causes (cause_is_pending s.group))
     (within-put f caused mask s.enabled (mask_is_pending s.group)))
-    (within-with_told f masked s.group s.told (is_group-itself s.group))
+    (within-with_reported f masked s.group s.reported (is_group-itself s.group))
 
 pub within-change : (r : Registers) (g : Group) (s : Registers) → GroupChange r g s → ChangesWithin (pending g) r s
 within-change r g s unchanged = within-refl (pending g) r

@@ -9,7 +9,7 @@ use Rattle.register_file.specs.VfMap.Owner.{is_of_pool, has_queue}
 use Rattle.register_file.specs.VfMap.declared.mode.Mode.{Mode}
 use Rattle.register_file.specs.Behaviour.{behaviour_of}
 use Rattle.register_file.specs.Bits.{has_bit}
-use Rattle.register_file.specs.Groups.{told_by}
+use Rattle.register_file.specs.Groups.{reported_by}
 use Rattle.register_file.specs.Mailbox.{by_sending}
 use Rattle.register_file.specs.Owner.{owner_of, is_owner, is_group}
 use Rattle.register_file.specs.PoolReset.{is_renewed}
@@ -21,16 +21,16 @@ use Rattle.register_file.specs.declared.owner.Owner.TheVariants as owner
 pub use Rattle.register_file.specs.Footprint.{Footprint, nothing, either, is_place, the_word, the_bits, the_enable}
 pub use Rattle.register_file.specs.Footprint.{pending, pending_of}
 
--- a part of the registers: whole words at places, which sides are asked to be enabled, and the causes, masks and told
--- bits of groups
+-- a part of the registers: whole words at places, which sides are asked to be enabled, and the causes, masks and
+-- reported bits of groups
 pub record Part : Type 0 where
   pub words : Place → Bool
   pub wanted : Dir → ℕ → Bool
-  pub told : Group → Bool
+  pub reported : Group → Bool
 
 -- what may change where a part may, each word with all its bits
 abbrev pub all_of : Part → Footprint
-all_of part = record { bits = λ p bit. part.words p; wanted = part.wanted; told = part.told }
+all_of part = record { bits = λ p bit. part.words p; wanted = part.wanted; reported = part.reported }
 
 -- a footprint has no bit of a word
 abbrev pub LacksWord : Footprint → Place → Type 0
@@ -42,37 +42,37 @@ pub record ChangesWithin (f : Footprint) (old new : Registers) : Type 0 where
       → has_bit bit (word_at new.words p) ≡ has_bit bit (word_at old.words p)
   pub wanted : (dir : Dir) (queue : ℕ) → IsFalse (f.wanted dir queue)
       → is_wanted new dir queue ≡ is_wanted old dir queue
-  pub told : (g : Group) → IsFalse (f.told g) → told_by new g ≡ told_by old g
+  pub reported : (g : Group) → IsFalse (f.reported g) → reported_by new g ≡ reported_by old g
 
 -- a footprint has all that another has
 pub record Covers (f e : Footprint) : Type 0 where
   pub bits : (p : Place) (bit : ℕ) → IsTrue (e.bits p bit) → IsTrue (f.bits p bit)
   pub wanted : (dir : Dir) (queue : ℕ) → IsTrue (e.wanted dir queue) → IsTrue (f.wanted dir queue)
-  pub told : (g : Group) → IsTrue (e.told g) → IsTrue (f.told g)
+  pub reported : (g : Group) → IsTrue (e.reported g) → IsTrue (f.reported g)
 
 -- a footprint has nothing that another has
 pub record Misses (f g : Footprint) : Type 0 where
   pub bits : (p : Place) (bit : ℕ) → IsTrue (g.bits p bit) → IsFalse (f.bits p bit)
   pub wanted : (dir : Dir) (queue : ℕ) → IsTrue (g.wanted dir queue) → IsFalse (f.wanted dir queue)
-  pub told : (h : Group) → IsTrue (g.told h) → IsFalse (f.told h)
+  pub reported : (h : Group) → IsTrue (g.reported h) → IsFalse (f.reported h)
 
 -- two registers have the same of all that is of a part
 pub record AgreeWithin (f : Part) (a b : Registers) : Type 0 where
   pub words : (p : Place) → IsTrue (f.words p) → word_at a.words p ≡ word_at b.words p
   pub wanted : (dir : Dir) (queue : ℕ) → IsTrue (f.wanted dir queue) → is_wanted a dir queue ≡ is_wanted b dir queue
-  pub told : (g : Group) → IsTrue (f.told g) → told_by a g ≡ told_by b g
+  pub reported : (g : Group) → IsTrue (f.reported g) → reported_by a g ≡ reported_by b g
 
 -- all
 abbrev pub everything : Footprint
-everything = record { bits = λ p bit. true; wanted = λ dir queue. true; told = λ g. true }
+everything = record { bits = λ p bit. true; wanted = λ dir queue. true; reported = λ g. true }
 
--- all that is an owner's: the words at its places, of a side whether it is wanted on, and of a group what is told
+-- all that is an owner's: the words at its places, of a side whether it is wanted on, and of a group what is reported
 abbrev pub of_owner : Owner → Footprint
 of_owner o =
     record {
       bits = λ p bit. is_owner o (owner_of p);
       wanted = λ dir queue. is_owner o (owner.Side dir queue);
-      told = λ g. is_owner o (owner.Group g);
+      reported = λ g. is_owner o (owner.Group g);
     }
 
 abbrev pub counters : Footprint
@@ -84,14 +84,14 @@ of_side dir queue = of_owner (owner.Side dir queue)
 abbrev pub of_group : Group → Footprint
 of_group g = of_owner (owner.Group g)
 
--- all that is a pool's: the words at its places, of its queues whether their sides are wanted on, and what is told of
+-- all that is a pool's: the words at its places, of its queues whether their sides are wanted on, and what is reported
 -- the virtual function with its number
 abbrev pub pool_agrees : Mode → ℕ → Part
 pool_agrees mode v =
     record {
       words = is_of_pool mode v;
       wanted = λ dir queue. has_queue mode v queue;
-      told = is_group (Vf v);
+      reported = is_group (Vf v);
     }
 
 abbrev pub pool_has : Mode → ℕ → Footprint
@@ -123,7 +123,7 @@ is_own k = (behaviour_of k).is_own
 -- what is pending of all groups
 abbrev pub any_pending : Footprint
 any_pending =
-    record { bits = λ p bit. is_pending (row_of p.row).kind; wanted = λ dir queue. false; told = λ g. true }
+    record { bits = λ p bit. is_pending (row_of p.row).kind; wanted = λ dir queue. false; reported = λ g. true }
 
 -- what a read of a place may change, and what a write that asks for no reset, of the device or a pool, may: by its
 -- row's kind

@@ -15,7 +15,7 @@ use Rattle.register_file.specs.Bits.{merged, has_bit}
 use Rattle.register_file.specs.Columns.{place}
 use Rattle.register_file.specs.Counters.{counted, counted_wrapping, mapping_row, counter_of}
 use Rattle.register_file.specs.Eeprom.{eeprom_index, eeprom_asked, eeprom_answered}
-use Rattle.register_file.specs.Groups.{cause_row, mask_row, auto_clear_row, auto_mask_row, index_of, told_by, interrupts_of, with_interrupts, clears_others, auto_masks, vector_row, vector_entry, causes_raised, queue_raised, message_made}
+use Rattle.register_file.specs.Groups.{cause_row, mask_row, auto_clear_row, auto_mask_row, index_of, reported_by, interrupts_of, with_interrupts, clears_others, auto_masks, vector_row, vector_entry, causes_raised, queue_raised, message_made}
 use Rattle.register_file.specs.Owner.{owner_of, is_owner}
 use Rattle.register_file.specs.Queue.{ring_of, is_on, base_low_row, base_high_row, length_row, head_row, enable_row, with_head, switched, shut}
 use Rattle.register_file.specs.Registers.{Registers, reset_registers, word_of, with_word, is_wanted}
@@ -46,7 +46,7 @@ ResetSwitchesOff =
     IsFalse (is_on reset_registers dir queue) × IsFalse (is_wanted reset_registers dir queue)
 
 abbrev pub ResetTellsNothing : Type 0
-ResetTellsNothing = (g : Group) → index_of g < 64 → told_by reset_registers g ≡ 0
+ResetTellsNothing = (g : Group) → index_of g < 64 → reported_by reset_registers g ≡ 0
 
 -- a word that was put at a place is there, and all else is as it was
 abbrev pub PutWordIsThere : Type 0
@@ -211,12 +211,12 @@ EepromAnswerIsRead =
     (r : Registers) → HasShape r → (word : ℕ) → word < 2 ^ 16 →
     IsAnswered (eeprom_answered r word) (eeprom_index r) word
 
--- the causes, masks and told bits of a group that were stored in its registers are read back, with the auto-clear and
--- the auto-mask as they were
+-- the causes, masks and reported bits of a group that were stored in its registers are read back, with the auto-clear
+-- and the auto-mask as they were
 abbrev pub InterruptsStand : Type 0
 InterruptsStand =
     (r : Registers) → HasShape r → (s : Interrupts) → IsConsistent s → index_of s.group < 64 →
-    s.causes < 2 ^ 32 → s.enabled < 2 ^ 32 → s.told < 2 ^ 32 →
+    s.causes < 2 ^ 32 → s.enabled < 2 ^ 32 → s.reported < 2 ^ 32 →
     interrupts_of (with_interrupts r s) s.group
     ≡ record s {
       auto_clear = (interrupts_of r s.group).auto_clear;

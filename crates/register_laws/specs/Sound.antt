@@ -8,18 +8,18 @@ use Rattle.register_file.specs.IntrUnit.BitSet.{intersection, IsSubset}
 use Rattle.register_file.specs.IntrUnit.declared.group.Group.{Group}
 use Rattle.register_file.specs.Behaviour.{behaviour_of}
 use Rattle.register_file.specs.Bits.{has_bit}
-use Rattle.register_file.specs.Groups.{cause_row, mask_row, index_of, told_by}
+use Rattle.register_file.specs.Groups.{cause_row, mask_row, index_of, reported_by}
 use Rattle.register_file.specs.Mailbox.{mail_of}
 use Rattle.register_file.specs.Registers.{Registers, word_of}
 use Rattle.register_file.specs.Words.{row_words, word_at}
 
--- the registers have each place of the table, what is wanted of each queue, and what is told of each virtual function
+-- the registers have each place of the table, what is wanted of each queue, and what is reported each virtual function
 pub record HasShape (r : Registers) : Type 0 where
   pub has_rows : length r.words ≡ length rows
   pub has_indices : (row : RowId) → length (row_words r.words row) ≡ (row_of row).count
   pub wanted_rx : length r.wanted_rx ≡ 128
   pub wanted_tx : length r.wanted_tx ≡ 128
-  pub told_vf : length r.told_vf ≡ 64
+  pub reported_vf : length r.reported_vf ≡ 64
 
 -- the bits that can become 1 in a word of this kind and mask: of a written word those of the mask, of an enable word
 -- bit 25 too, which a switch sets; of a counter and of EERD, into which an answer is put, all; and of a register that
@@ -40,10 +40,10 @@ pub record IsMail (mail : ℕ) : Type 0 where
   pub holder : IsFalse (has_bit 2 mail && has_bit 3 mail)
   pub end : IsFalse (has_bit 6 mail && has_bit 7 mail)
 
--- the registers have their shape, in each word only bits that its row can have, and told bits only where cause and mask
--- are 1; and each mailbox is one
+-- the registers have their shape, in each word only bits that its row can have, and reported bits only where cause and
+-- mask are 1; and each mailbox is one
 pub record AreSound (r : Registers) : Type 0 where
   pub shape : HasShape r
   pub words : (p : Place) → IsSubset (word_at r.words p) (bits_of_row p.row)
-  pub told : (g : Group) → index_of g < 64 → IsSubset (told_by r g) (pending_bits r g)
+  pub reported : (g : Group) → index_of g < 64 → IsSubset (reported_by r g) (pending_bits r g)
   pub mail : (v : ℕ) → IsMail (mail_of r v)

@@ -13,7 +13,7 @@ ghost use Rattle.register_laws.specs.PoolReset.{PoolIsReset, PoolResetTakesTheRe
 ghost use Rattle.register_laws.specs.Agreement.{PoolReadsStayWithin, PoolWritesStayWithin, SharedReadsChangeNothing, SharedWritesChangeNothing, PoolReadsTellTheSame, SharedReadsTellTheSame, PoolReadsKeepAgreement, PoolWritesKeepAgreement, PoolResetKeepsAgreement, PoolsHaveNothingInCommon, MissedAgreementStands};
 
 /// Registers are sound after a reset and after every change: they have each place of the table, in each word only bits
-/// that its row can have, and told bits only where cause and mask are 1.
+/// that its row can have, and reported bits only where cause and mask are 1.
 pub fn soundness_is_kept()
     ensures reset { ResetIsSound }
     ensures read { ReadKeepsSound }
@@ -39,11 +39,11 @@ pub fn sound_words_are_of_their_rows()
 {}
 
 /// After a reset each register has its reset value, no side of a queue is enabled or asked to be enabled, and no bit is
-/// told.
+/// reported.
 pub fn reset_is_the_tables()
     ensures words { ResetGivesResetValues }
     ensures off { ResetSwitchesOff }
-    ensures told { ResetTellsNothing }
+    ensures reported { ResetTellsNothing }
 {}
 
 /// A word that was stored at a place is there, and all else is unchanged.
@@ -63,7 +63,7 @@ pub fn stored_word_reads_back()
 {}
 
 /// What an operation changes is in its footprint: for a read and a write that of its place; for a count, an answer of
-/// the EEPROM and a moved head the one word; for raised causes and a message the causes, masks and told bits of the
+/// the EEPROM and a moved head the one word; for raised causes and a message the causes, masks and reported bits of the
 /// group; for a switch the enable word; for a fault the enable word and whether the side is asked to be enabled.
 pub fn changes_stay_in_their_footprint()
     ensures read { ReadStaysWithin }
@@ -80,7 +80,7 @@ pub fn changes_stay_in_their_footprint()
 {}
 
 /// A place belongs to its owner. A read changes nothing of another owner, nor does a write, except where its kind
-/// reaches others as those of mailboxes do. Raised causes and messages change only causes, masks and told bits.
+/// reaches others as those of mailboxes do. Raised causes and messages change only causes, masks and reported bits.
 pub fn accesses_stay_with_their_owner()
     ensures read { ReadStaysWithOwner }
     ensures write { WriteStaysWithOwner }
@@ -164,8 +164,8 @@ pub fn eeprom_answer_is_read()
     ensures { EepromAnswerIsRead }
 {}
 
-/// What changes the interrupts of a group is stored in its registers: causes, masks and told bits, with the auto-clear
-/// and the auto-mask unchanged.
+/// What changes the interrupts of a group is stored in its registers: causes, masks and reported bits, with the
+/// auto-clear and the auto-mask unchanged.
 pub fn interrupts_stand()
     ensures { InterruptsStand }
 {}

@@ -69,10 +69,10 @@ module _ (ring size slot : ℕ) (below : slot < size) where
   unfolding step_of
   slot_looked s has = rw (aligned ring slot, slot_lent s.memory has) refl
 
-  pub slot_told : (s : State) (d : List ℕ) → Has s.memory
+  pub slot_as_reported : (s : State) (d : List ℕ) → Has s.memory
       → reply_to s (event.Peek16 (descriptor_in ring slot)) ≡ Bytes d
       → d ≡ read_at s.memory (descriptor_in ring slot) 16
-  slot_told s d has told = let is = slot_looked s has in cc
+  slot_as_reported s d has reported = let is = slot_looked s has in cc
 
   pub slot_poked : (s : State) (bytes : List ℕ) → Has s.memory
       → step_of s (event.Poke16 (descriptor_in ring slot) bytes)
@@ -198,7 +198,7 @@ module _ (x : Segment) (short : length x.part.bytes ≤ 2048) (whole : x.part.wh
 pub length-asking : (x : Segment) → length (asking x) ≡ 16
 length-asking x = (halves_come_back (2048 * x.block) (word_of x)).size
 
--- what is told of the slot, and what fetching it leaves
+-- what is reported the slot, and what fetching it leaves
 abbrev pub segment_fetched : Ring → List ℕ → Segment → Fetched
 segment_fetched r staged x = record {
   slot = r.head;

@@ -147,16 +147,16 @@ none_received queue s sound none =
     λ w others e.
     gone queue 0 w others (subst AreWaiting e sound.waiting) (subst (Has queue 0) e none) (λ own. refl) in
     received_cases (λ o. reported_pieces queue s.waiting o.reply ≡ [] → Has queue 0 o.state.waiting) s (record {
-      idle = λ told. none;
-      dropped = λ w others e why told. gone_first w others e;
-      slotless = λ w others e told. gone_first w others e;
-      fault = λ w others e fault told. gone_first w others e;
+      idle = λ reported. none;
+      dropped = λ w others e why reported. gone_first w others e;
+      slotless = λ w others e reported. gone_first w others e;
+      fault = λ w others e fault reported. gone_first w others e;
       filled = grind (arith, common_steps, elsewhere);
     })
 
 pub begun_stays : (queue : ℕ) (s : State) → IsSound s → partial_on queue s.waiting ≡ 0 → (e : Event Block)
     → pieces queue s e ≡ [] → partial_on queue (after s e).waiting ≡ 0
-begun_stays queue s sound none e told = grind (arith, still_begun, none_received)
+begun_stays queue s sound none e reported = grind (arith, still_begun, none_received)
 
 -- Frames that fit as many slots as the driver takes for a packet stay so, and the pieces that are written of them fit.
 

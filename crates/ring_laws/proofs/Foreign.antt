@@ -1,6 +1,6 @@
 -- A slot of the driver's ring is filled, and other events that aren't the driver's own: there is no fault, they keep
 -- the agreement, with the piece that is written, and a side up that is.
-use Rattle.history_laws.proofs.DeviceLaws.{Delivered.told-lt, KeptSettings.settings_stand, Standing.stays_within}
+use Rattle.history_laws.proofs.DeviceLaws.{Delivered.reported-lt, KeptSettings.settings_stand, Standing.stays_within}
 use Rattle.history_laws.proofs.{Blocks.IsSparedBy, Deeds.left_deed, Deeds.left_did, Deeds.side_did, Leaving.left-side}
 use Rattle.history_laws.proofs.{Blocks.reported_elsewhere, DeviceLaws.StandingQueues.switching_rest, Leaving.receive_of}
 use Rattle.history_laws.proofs.{Blocks.spared_block, Deeds.switching_did, Leaving.receive_left, Steady.resting_same}
@@ -143,7 +143,7 @@ module _ {queue : ℕ} {s : State} {out : List Piece} {v : Receive} {gone here :
       let n : Memory = (fill_on s queue rest).memory in
       let room = slot_left x.tried in
       let low = posted_in v (suc (length here)) room in
-      let fits = told-lt x.work.frame (subst AreWaiting x.work.first.waits sound.waiting).0 in
+      let fits = reported-lt x.work.frame (subst AreWaiting x.work.first.waits sound.waiting).0 in
       let fill = fills_here room sound.blocks.whole rest f fits x.work.answer in
       let more = length_push here p in
       record {
@@ -206,12 +206,13 @@ piece_inside queue s out v sound (gone, here, h) slot end desc at len is = elim 
       let f = x.work.filled in
       let room = slot_left h x.tried in
       let t = takes_piece s.memory _ _ (rest_of x.work.frame) f x.work.answer in
-      let told : Wrote queue f.slot f.end f.desc f.at f.len ≡ Wrote queue slot end desc at len = sym x.work.told ∙ is in
+      let reported : Wrote queue f.slot f.end f.desc f.at f.len
+      ≡ Wrote queue slot end desc at len = sym x.work.reported ∙ is in
       let short : f.len ≤ 2048 = omega (arith, t.len, h.side.buffer_size) in
-      let desc_is : desc ≡ descriptor_at l (length here) = cc (told, t.desc, (ring_is h).head) in
+      let desc_is : desc ≡ descriptor_at l (length here) = cc (reported, t.desc, (ring_is h).head) in
       let at_is : at ≡ 2048 * block_at l (length here) =
-      cc (told, t.at, buffer_is h room, posted_block v (length here) room) in
-      let len_is : len ≡ f.len = cc told in
+      cc (reported, t.at, buffer_is h room, posted_block v (length here) room) in
+      let len_is : len ≡ f.len = cc reported in
       record {
         descriptor = rw desc_is (record {
           part = k / 128;

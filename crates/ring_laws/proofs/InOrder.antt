@@ -14,14 +14,14 @@ use Rattle.pmd_tx.specs.Sending.{advanced, asked, at_start}
 use Rattle.ring_laws.proofs.{Kept.none_of, Leaving.look_tells, Playing.end-last, Playing.look-fetched}
 use Rattle.ring_laws.proofs.{Playing.look-tells, Sparing.added-one, TransmitLent.frame_of_end}
 use Rattle.ring_laws.specs.Agreeing.{AgreesAt, SendsInOrder, bytes_of, frames_from}
-use Rattle.ring_laws.specs.Counting.{IsEndOf, NeverGoesOn, SentIsCounted, SentIsTold, reported_lengths}
+use Rattle.ring_laws.specs.Counting.{IsEndOf, NeverGoesOn, SentIsCounted, SentIsReported, reported_lengths}
 use Rattle.ring_laws.specs.TransmitPrelude.{Accepts, Advances, IsOwn, Kept, Outgoing, Segment, Sender, accepted_by}
 use Rattle.ring_laws.specs.TransmitPrelude.{first_end, has_lent, is_sent, no_segment}
 use Rattle.ring_laws.specs.{Delivered.IsPrefixOf, Delivered.pieces_in, Delivered.pieces_since, Finding.HandedIsPrefix}
 use Rattle.ring_laws.specs.{Finding.NoneIsAll, Finding.NoneIsAllTaken, Joint.AreOpen, Joint.AreSeen, Laws.IdleIsAllSent}
 use Rattle.ring_laws.specs.{Laws.LeftAloneIsSpared, Laws.SentIsPrefix, Laws.WaitingIsNotAllSent, Pieces.Piece}
 use Rattle.ring_laws.specs.{Pieces.reported_packet, Pieces.packets_after, Pieces.packets_of, ReceivePrelude.Kept}
-use Rattle.ring_laws.specs.{ReceivePrelude.Told, Sent.counted_by, Sent.frames_added, Sent.goes_on, Sent.sent_by}
+use Rattle.ring_laws.specs.{ReceivePrelude.Reported, Sent.counted_by, Sent.frames_added, Sent.goes_on, Sent.sent_by}
 use Rattle.ring_laws.specs.{Sent.sent_in, Sent.sent_since, Sparing.IsLeft, Sparing.ReceiveOwes, Sparing.is_transmit_of}
 use Rattle.std.proofs.Common.{IsTrue, List, Option, [], ap, append-nil, append_assoc, arith, drop, false, if◌then◌else◌}
 use Rattle.std.proofs.Common.{inl, inr, length, length-append, map, refl, replicate, slice_index_or, sym, true, ℕ, ◌++◌}
@@ -38,7 +38,7 @@ pub handed_first : HandedIsPrefix
 handed_first queue s out v h1 = grind (arith, common_steps)
 
 -- pieces of which none ends its packet make none
-none_whole : (front : List ℕ) (seen : List Told) (here : List Piece) → AreOpen seen → AreSeen seen here
+none_whole : (front : List ℕ) (seen : List Reported) (here : List Piece) → AreOpen seen → AreSeen seen here
     → length here ≤ length seen → packets_after front here ≡ []
 none_whole front seen [] opens are all = refl
 none_whole front [] (p ∷ here) opens are all = absurd (omega (arith, all))
@@ -179,7 +179,7 @@ waiting-left s queue sent v (f, h) finds xs more split same =
     elim (cases_lt end f) [
       | inl some ↦
           both_ways (is_sent finds.bytes) finds.waits
-          (rw (look-tells h finds.posted finds.bytes finds.told) (look-fetched h finds.posted some))
+          (rw (look-tells h finds.posted finds.bytes finds.reported) (look-fetched h finds.posted some))
       | inr none ↦ left-over h xs more split finds.posted none same
     ]
 
@@ -231,18 +231,18 @@ sent_is_counted = record { never = never; last = last; joined = joined; end = en
 
 -- The frames that a history sends are those that its replies tell.
 
-event_told : (queue : ℕ) (s : State) (e : Event Block) (r : Reply Block) → may_answer e r ≡ true
+event_reported : (queue : ℕ) (s : State) (e : Event Block) (r : Reply Block) → may_answer e r ≡ true
     → out_after e r s (after s e) → map length (sent_by queue s e) ≡ reported_lengths queue r
-event_told queue s e r fits out = grind (arith, common_steps)
+event_reported queue s e r fits out = grind (arith, common_steps)
 
 -- a history
 
-pub sent_is_told : SentIsTold
-sent_is_told queue s [] sound events legal = refl
-sent_is_told queue s (e ∷ es) sound events legal =
-    let told = event_told queue s e.event (reply_to s e.event) (step_suits s e.event sound events.0).fits
+pub sent_is_reported : SentIsReported
+sent_is_reported queue s [] sound events legal = refl
+sent_is_reported queue s (e ∷ es) sound events legal =
+    let reported = event_reported queue s e.event (reply_to s e.event) (step_suits s e.event sound events.0).fits
     (frames_out s e.event) in
-    let rest = sent_is_told queue (after s e.event) es (keeps_sound s sound e.event events.0) events.1 legal.1 in
+    let rest = sent_is_reported queue (after s e.event) es (keeps_sound s sound e.event events.0) events.1 legal.1 in
     (grind (arith, common_steps))
 
 -- a piece of these bytes

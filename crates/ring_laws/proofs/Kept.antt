@@ -6,7 +6,7 @@ use Rattle.pmd_rx.{proofs.PmdAccess.Copying.bytes-more, proofs.PmdAccess.Rings.e
 use Rattle.pmd_rx.{proofs.PmdAccess.Rings.ring_block_among, specs.Keeping.fresh_block, specs.Keeping.has_lent}
 use Rattle.pmd_rx.{specs.PmdAccess.Bufs.bytes_of}
 use Rattle.ring_laws.specs.Joint.{AreOpen, AreSeen, InOrder, IsRing, StageHolds, still_held}
-use Rattle.ring_laws.specs.ReceivePrelude.{EachRingBlock, Layout, Lent, Takes, Told, block_at, ended_of, reach, slot_at}
+use Rattle.ring_laws.specs.ReceivePrelude.{EachRingBlock, Layout, Lent, Takes, Reported, block_at, ended_of, reach, slot_at}
 use Rattle.ring_laws.specs.ReceivePrelude.{Receive, Stage, is_ring_block, kept_of, left_of, no_packet, records_of, took}
 use Rattle.ring_laws.specs.{Joint.EndLast, Joint.HasSlots, Joint.IsAt, Pieces.Piece, Pieces.packets_after, Steps.Each}
 use Rattle.ring_laws.specs.{Joint.IsNamed, Joint.IsOpen, Joint.Saw, Pieces.open_after, Pieces.packets_of, Steps.IfFresh}
@@ -107,34 +107,37 @@ pub named_kept : (s t : State) (queue : ℕ) (l : Layout) → mode_in t.register
 named_kept s t queue l mode vfs h = assumption (named-same s t mode vfs l.port l.tail ∙ h.tail)
 
 -- what was seen stays so as a piece more is written
-pub seen_longer : (seen : List Told) (here : List Piece) (p : Piece) → AreSeen seen here → AreSeen seen (here ++ p ∷ [])
+pub seen_longer : (seen : List Reported) (here : List Piece) (p : Piece) → AreSeen seen here →
+    AreSeen seen (here ++ p ∷ [])
 seen_longer [] here p is = tt
 seen_longer (t ∷ ts) [] p is = absurd is
 seen_longer (t ∷ ts) (q ∷ here) p is = (is.0, seen_longer ts here p is.1)
 
 -- a slot more is seen
-pub seen_more : (seen : List Told) (here : List Piece) (t : Told) → AreSeen seen here → length seen < length here
+pub seen_more : (seen : List Reported) (here : List Piece) (t : Reported) → AreSeen seen here →
+    length seen < length here
     → Saw t (piece_at here (length seen)) → AreSeen (seen ++ t ∷ []) here
 seen_more ts [] t is below saw = absurd (omega (arith, below))
 seen_more [] (q ∷ here) t is below saw = (saw, tt)
 seen_more (u ∷ ts) (q ∷ here) t is below saw = (is.0, seen_more ts here t is.1 (omega (arith, below)) saw)
 
-pub seen_within : (seen : List Told) (here : List Piece) → AreSeen seen here → length seen ≤ length here
+pub seen_within : (seen : List Reported) (here : List Piece) → AreSeen seen here → length seen ≤ length here
 seen_within [] here is = omega arith
 seen_within (t ∷ ts) [] is = absurd is
 seen_within (t ∷ ts) (q ∷ here) is = let e = seen_within ts here is.1 in omega (arith, e)
 
-pub open_more : (seen : List Told) (t : Told) → AreOpen seen → IsOpen t → AreOpen (seen ++ t ∷ [])
+pub open_more : (seen : List Reported) (t : Reported) → AreOpen seen → IsOpen t → AreOpen (seen ++ t ∷ [])
 open_more [] t is opens = (opens, tt)
 open_more (u ∷ ts) t is opens = (is.0, open_more ts t is.1 opens)
 
-pub end_more : (seen : List Told) (t : Told) → AreOpen seen → ends_packet t.second ≡ true → EndLast (seen ++ t ∷ [])
+pub end_more : (seen : List Reported) (t : Reported) → AreOpen seen → ends_packet t.second ≡ true →
+    EndLast (seen ++ t ∷ [])
 end_more [] t is end = end
 end_more (u ∷ []) t is end = (is.0, end)
 end_more (u ∷ w ∷ ts) t is end = (is.0, end_more (w ∷ ts) t is.1 end)
 
 -- where nothing is held, it is the same whatever was seen
-pub none_of : (seen : List Told) → (ended_of seen no_packet ≡ []) × (left_of seen no_packet ≡ no_packet)
+pub none_of : (seen : List Reported) → (ended_of seen no_packet ≡ []) × (left_of seen no_packet ≡ no_packet)
 none_of [] = (refl, refl)
 none_of (t ∷ ts) = (refl, refl)
 
@@ -145,11 +148,11 @@ open_pushed n [] p = refl
 open_pushed n (q ∷ ps) p = open_pushed (cond q.end 0 (n + 1)) ps p
 
 -- a driver that is to take the parts that it saw
-abbrev pub taking : Receive → Told → List Told → Receive
+abbrev pub taking : Receive → Reported → List Reported → Receive
 taking v t ts = record v { seen = t ∷ ts; stage = Takes }
 
 -- the part of the next slot is taken
-module _ (out gone ps : List Piece) (v : Receive) (p : Piece) (t : Told) (b : Block)
+module _ (out gone ps : List Piece) (v : Receive) (p : Piece) (t : Reported) (b : Block)
     (bytes : take (bytes_in t.second) b.bytes ≡ p.bytes) (whole : length b.bytes ≡ 2048) where
   -- before it was taken, by what was seen
   module _ (cut : (rest : List Piece)
@@ -157,12 +160,12 @@ module _ (out gone ps : List Piece) (v : Receive) (p : Piece) (t : Told) (b : Bl
       ≡ (v.handed ++ records_of (v.whole ++ [])) ++ packets_after (kept_of v.held).bytes rest)
       (parts : open_after 0 gone ≡ length v.held.bufs) (full : length (bytes_of v.held.bufs) ≡ v.held.len)
       (saw : Saw t p) where
-    taken : (ts : List Told) → EndLast (t ∷ ts) → AreSeen ts ps → out ≡ gone ++ p ∷ ps
+    taken : (ts : List Reported) → EndLast (t ∷ ts) → AreSeen ts ps → out ≡ gone ++ p ∷ ps
         → InOrder out (took v (t ∷ ts) b) (gone ++ p ∷ []) ps
     taken [] last seen order = grind (arith, common_steps, open_pushed, bytes-more, take-append-add)
     taken (u ∷ ts) last seen order = grind (arith, common_steps, open_pushed, bytes-more)
 
-pub order_on : (out gone here : List Piece) (v : Receive) (t : Told) (ts : List Told) (b : Block)
+pub order_on : (out gone here : List Piece) (v : Receive) (t : Reported) (ts : List Reported) (b : Block)
     → InOrder out (taking v t ts) gone here → 0 < length here
     → take (bytes_in t.second) b.bytes ≡ (piece_at here 0).bytes → length b.bytes ≡ 2048
     → InOrder out (took v (t ∷ ts) b) (gone ++ piece_at here 0 ∷ []) (drop 1 here)
@@ -175,7 +178,8 @@ pub order_same : (out gone here : List Piece) (v w : Receive) → InOrder out v 
 order_same out gone here v w o had still seen stage = grind arith
 
 -- while nothing is held, what is seen may change
-pub none_held : (out gone here : List Piece) (v : Receive) (seen : List Told) (stage : Stage) → InOrder out v gone here
+pub none_held : (out gone here : List Piece) (v : Receive) (seen : List Reported) (stage : Stage) →
+    InOrder out v gone here
     → v.held ≡ no_packet → AreSeen seen here → IsAt stage seen v.held
     → InOrder out (record v { seen = seen; stage = stage }) gone here
 none_held out gone here v seen stage o none are at = grind arith

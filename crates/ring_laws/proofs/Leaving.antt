@@ -4,13 +4,13 @@ use Rattle.history_laws.specs.Prelude.{receive_queue_of, second_half, step_of}
 use Rattle.history_laws.{proofs.Lent.anew_is_done, specs.Prelude.Block, specs.Prelude.Event, specs.Prelude.IsSound}
 use Rattle.pmd_rx.proofs.NicDevice.DmaArena.Bus.{get-insert_same}
 use Rattle.pmd_rx.proofs.NicDevice.{Cases.either_way, Cases.lent_cases, DmaArena.Bus.get-insert_other}
-use Rattle.pmd_rx.specs.{Receive.LendsNext, Receive.looked, Receive.saw, Receive.told_by, Wrong.is_healthy}
+use Rattle.pmd_rx.specs.{Receive.LendsNext, Receive.looked, Receive.saw, Receive.reported_by, Wrong.is_healthy}
 use Rattle.ring_laws.proofs.Kept.{each_slot, end_more, named_kept, none_held, open_more, posted_in, seen_more}
-use Rattle.ring_laws.proofs.{Blocks.same_stays, Blocks.slot_looked, Blocks.slot_told, Kept.each_fresh, Kept.each_ring}
+use Rattle.ring_laws.proofs.{Blocks.same_stays, Blocks.slot_looked, Blocks.slot_as_reported, Kept.each_fresh, Kept.each_ring}
 use Rattle.ring_laws.proofs.{Kept.slot_below, Kept.slots_stay, Kept.stage_stays, ReceiveLent.unknown}
 use Rattle.ring_laws.specs.Joint.{Agree, AreOpen, AreSeen, EndLast, HasSlots, Holds, IsAt, IsSetUp, StageHolds}
 use Rattle.ring_laws.specs.Pieces.{AllFit, Fits, Piece, open_after, piece_at}
-use Rattle.ring_laws.specs.ReceivePrelude.{Layout, LendsAnew, Looks, PeeksNext, Receive, Stage, Takes, Told}
+use Rattle.ring_laws.specs.ReceivePrelude.{Layout, LendsAnew, Looks, PeeksNext, Receive, Stage, Takes, Reported}
 use Rattle.ring_laws.specs.ReceivePrelude.{descriptor_at, drive, is_part, reach, slot_at}
 use Rattle.ring_laws.specs.Steps.{LookTellsSlot, SwitchingKeeps, TellsSlot}
 use Rattle.ring_laws.specs.{ReceiveUp.IsUp, Starting.StartAgrees, Steps.Leaves, Steps.LeavesButOn, Steps.LeavingKeeps}
@@ -53,7 +53,7 @@ tells_bytes m l here k h some = grind arith
 pub look_tells : LookTellsSlot
 look_tells queue s out v gone here k h some d is =
     let below = slot_below (reach v) k h.ring (posted_in v k (omega (arith, some))) in
-    rw (slot_told v.layout.ring v.layout.size (slot_at v.layout k) below s d h.slots.there is)
+    rw (slot_as_reported v.layout.ring v.layout.size (slot_at v.layout k) below s d h.slots.there is)
     (tells_bytes s.memory (reach v) here k h.slots (posted_in v (suc k) some))
 
 -- the pieces that stand in slots fit, as all do, and the one after those that were seen
@@ -62,7 +62,8 @@ fit-last : (most n : ℕ) (gone here : List Piece) → AllFit most n (gone ++ he
 fit-last most n [] here all = all
 fit-last most n (p ∷ gone) here all = fit-last most (cond p.end 0 (n + 1)) gone here all.1
 
-next-fits : (most n : ℕ) (seen : List Told) (here : List Piece) → AllFit most n here → AreSeen seen here → AreOpen seen
+next-fits : (most n : ℕ) (seen : List Reported) (here : List Piece) → AllFit most n here → AreSeen seen here →
+    AreOpen seen
     → length seen < length here → Fits most (n + length seen) (piece_at here (length seen))
 next-fits most n seen [] all are opens below = absurd (omega (arith, below))
 next-fits most n [] (p ∷ here) all are opens below = grind arith
@@ -79,7 +80,7 @@ module _ {queue : ℕ} {s : State} {out : List Piece} {v : Receive} {gone here :
   looked_holds : v.stage ≡ Looks → (d : List ℕ) → TellsSlot here (length v.seen) d
       → Holds queue s out (looked v d) gone here
   looked_holds looks d tells =
-      let t = told_by d in
+      let t = reported_by d in
       let ends = ends_packet (second_half d) in
       let at : IsAt Looks v.seen v.held = subst (λ (x : Stage). IsAt x v.seen v.held) looks h.order.stage in
       cond_both (is_done (second_half d) && is_part v.layout.most (length v.seen) (second_half d)) (saw v d) v
@@ -94,9 +95,9 @@ module _ {queue : ℕ} {s : State} {out : List Piece} {v : Receive} {gone here :
       )) (λ no. h)
 
   -- a look that finds a descriptor done
-  told_part : AllFit v.layout.most 0 out → v.stage ≡ Looks → (d : List ℕ) → TellsSlot here (length v.seen) d
+  reported_part : AllFit v.layout.most 0 out → v.stage ≡ Looks → (d : List ℕ) → TellsSlot here (length v.seen) d
       → is_done (second_half d) ≡ true → is_part v.layout.most (length v.seen) (second_half d) ≡ true
-  told_part all looks d tells done =
+  reported_part all looks d tells done =
       let some : length v.seen < length here = tells.done.0 done in
       let at : IsAt Looks v.seen v.held = subst (λ (x : Stage). IsAt x v.seen v.held) looks h.order.stage in
       let rest : AllFit v.layout.most 0 here = (grind (arith, fit-last)) in
@@ -134,7 +135,7 @@ look_keeps queue s out v a (gone, here, h) own =
     (slot_looked v.layout.ring v.layout.size (slot_at v.layout k)
     (slot_below (reach v) k h.ring (posted_in v k (omega (arith, own.posted)))) s h.slots.there)
     (λ i. (gone, here, looked_holds h own.stage _ tells)) (λ i up. up)
-    (λ all anew. (grind (arith, told_part)))
+    (λ all anew. (grind (arith, reported_part)))
 
 -- A fresh block is lent.
 

@@ -50,5 +50,5 @@ pub guard_is_off : GuardIsOff
 guard_is_off = record {
   written = λ queue s port n word small sound names none.
       ap (λ (x : Side). x.wanted) (asked queue s sound small port n word Tx names) ∙ none;
-  read = λ queue s port n word none names told zero. seen_off queue s port n word told Tx names zero none;
+  read = λ queue s port n word none names reported zero. seen_off queue s port n word reported Tx names zero none;
 }

@@ -11,7 +11,7 @@ use Rattle.pmd_rx.{proofs.PmdAccess.Rings.ring_block_apart, specs.Receive.TakesN
 use Rattle.ring_laws.proofs.Kept.{named_kept, order_on, order_same, posted_block, seen_within, slot_below}
 use Rattle.ring_laws.proofs.{Blocks.same_stays, Blocks.written_stays, Kept.reach_long, Kept.taking, Leaving.lend_keeps}
 use Rattle.ring_laws.specs.Joint.{Agree, HasSlots, Holds, InOrder, IsLoose, IsRing, IsSetUp, StageHolds}
-use Rattle.ring_laws.specs.ReceivePrelude.{IsOwn, Receive, Told, block_at, drive, ended_of, extended, next_stage, reach}
+use Rattle.ring_laws.specs.ReceivePrelude.{IsOwn, Receive, Reported, block_at, drive, ended_of, extended, next_stage, reach}
 use Rattle.ring_laws.specs.ReceivePrelude.{Layout, MovesNext, NamesNext, Packet, descriptor_at, posts, records_of, took}
 use Rattle.ring_laws.specs.{Pieces.Piece, Pieces.no_piece, Pieces.piece_at, Pieces.pieces, ReceivePrelude.names}
 use Rattle.ring_laws.specs.{ReceivePrelude.fresh_of, ReceivePrelude.slot_at, ReceivePrelude.vacant, Steps.OwnEventKeeps}
@@ -172,7 +172,7 @@ packet_bytes m b bytes a p len is whole f e =
     ap (λ n. take n bytes) e
     ∙ sym (read_at_in m (2048 * b) (length p.bytes) b 0 bytes is whole (omega arith) (omega (arith, f.short))) ∙ f.bytes
 
-take_next : (queue : ℕ) (s : State) (out : List Piece) (v : Receive) (n : ℕ) (t : Told) (ts : List Told)
+take_next : (queue : ℕ) (s : State) (out : List Piece) (v : Receive) (n : ℕ) (t : Reported) (ts : List Reported)
     → Agree queue s out (taking v t ts) → n ≡ block_at v.layout 0 → Driven queue s out (taking v t ts) (event.Take n)
 take_next queue s out v n t ts (gone, here, h) own =
     let l = reach v in
@@ -205,7 +205,7 @@ take_next queue s out v n t ts (gone, here, h) own =
       ),
     )) (λ i up. up) (λ all anew. refl)
 
-pub take_keeps : (queue : ℕ) (s : State) (out : List Piece) (v : Receive) (n : ℕ) (seen : List Told)
+pub take_keeps : (queue : ℕ) (s : State) (out : List Piece) (v : Receive) (n : ℕ) (seen : List Reported)
     → Agree queue s out v → TakesNext v n → v.seen ≡ seen → Driven queue s out v (event.Take n)
 take_keeps queue s out v n [] j own is = grind arith
 take_keeps queue s out v n (t ∷ ts) j own is =

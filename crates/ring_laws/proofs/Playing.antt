@@ -7,7 +7,7 @@ use Rattle.history_laws.{proofs.Steady.up_kept, proofs.Written.transmit-tail, sp
 use Rattle.pmd_rx.proofs.NicDevice.DmaArena.Bus.{of_some}
 use Rattle.pmd_rx.proofs.NicDevice.{Cases.lent_cases, DmaArena.Bus.get-remove_other, DmaArena.Bus.small_of_lent}
 use Rattle.pmd_tx.specs.Sending.{MayLend, asked, is_healthy, reaped}
-use Rattle.ring_laws.proofs.Blocks.{asking-waits, done-sent, later-layout, slot-below, slot_told}
+use Rattle.ring_laws.proofs.Blocks.{asking-waits, done-sent, later-layout, slot-below, slot_as_reported}
 use Rattle.ring_laws.proofs.Blocks.{descriptor-later, slot-apart, slot_looked, slot_poked, written_here, written_stays}
 use Rattle.ring_laws.proofs.TransmitLent.{count-accepted, early-accepted, known-accepted, lent_holds, sends-accepted}
 use Rattle.ring_laws.proofs.{Blocks.Stays, Blocks.same_stays, Sparing.Does, Sparing.never-shuts, TransmitLent.first_at}
@@ -148,16 +148,16 @@ module _ {s : State} {queue : ℕ} {sent : List (List ℕ)} {v : Sender} {f : �
     pub look-fetched : end < f → is_sent descriptor ≡ true
     look-fetched before = grind (arith, small_of_lent, end-last, done-sent)
 
-    -- those that are told to be done were fetched
+    -- those that are reported to be done were fetched
     done_tells : (b : Bool) → is_sent descriptor ≡ b → (if b then end + 1 else 0) ≤ f
     done_tells b is = grind (arith, asking-waits)
 
     -- it answers that descriptor's bytes
     pub look-tells : (bytes : List ℕ) → reply_to s (event.Peek16 (descriptor_at v.layout end)) ≡ reply.Bytes bytes
         → bytes ≡ descriptor
-    look-tells bytes told =
-        slot_told v.layout.ring v.layout.size (slot_at v.layout end)
-        (slot-below v.layout h.based.layout end (omega (arith, known))) s bytes h.shows.ring told
+    look-tells bytes reported =
+        slot_as_reported v.layout.ring v.layout.size (slot_at v.layout end)
+        (slot-below v.layout h.based.layout end (omega (arith, known))) s bytes h.shows.ring reported
 
   fetched_known : f ≤ length v.outstanding
   fetched_known = let c = h.counted in omega (arith, c.fetched_posted, c.posted_poked, c.poked_lent, c.lent_known)

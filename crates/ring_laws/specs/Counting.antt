@@ -41,7 +41,7 @@ reported_lengths queue other = []
 
 -- the frames that a legal history of a sound device sends on a queue are those that its replies report, by their
 -- lengths
-abbrev pub SentIsTold : Type 0
-SentIsTold =
+abbrev pub SentIsReported : Type 0
+SentIsReported =
     (queue : ℕ) (s : State) (h : List Entry) → IsSound s → AreEvents h → IsLegal s h →
     map length (sent_in queue s h) ≡ flat_map (λ (e : Entry). reported_lengths queue e.reply) h

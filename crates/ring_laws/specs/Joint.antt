@@ -5,7 +5,7 @@ use Rattle.history_laws.specs.Prelude.{Memory, Rdt, ReceiveQueue, Register, Stat
 use Rattle.history_laws.specs.Prelude.{descriptor_type_of, ends_packet, first_half, has_block, is_done, named, place}
 use Rattle.history_laws.specs.Prelude.{read_at, receive_queue_of, second_half}
 use Rattle.ring_laws.specs.ReceivePrelude.{EachRingBlock, Kept, Layout, Lent, Looks, Packet, Receive, Stage, Takes}
-use Rattle.ring_laws.specs.ReceivePrelude.{Told}
+use Rattle.ring_laws.specs.ReceivePrelude.{Reported}
 use Rattle.ring_laws.specs.ReceivePrelude.{block_at, blocks_for, descriptor_at, ended_of, is_ring_block, kept_of}
 use Rattle.ring_laws.specs.ReceivePrelude.{left_of}
 use Rattle.ring_laws.specs.ReceivePrelude.{no_packet, reach, records_of, slot_at, vacant}
@@ -77,33 +77,33 @@ pub record HasSlots (m : Memory) (l : Layout) (here : List Piece) : Type 0 where
   pub posted : (k : ℕ) → length here ≤ k → k < length l.blocks → IsPosted m (descriptor_at l k) (block_at l k)
 
 -- what the driver saw of the first pieces in slots
-pub record Saw (t : Told) (p : Piece) : Type 0 where
+pub record Saw (t : Reported) (p : Piece) : Type 0 where
   pub first_is : t.first ≡ p.first
   pub len_is : bytes_in t.second ≡ length p.bytes
   pub end_is : ends_packet t.second ≡ p.end
 
-abbrev pub AreSeen : List Told → List Piece → Type 0
+abbrev pub AreSeen : List Reported → List Piece → Type 0
 AreSeen [] ps = ⊤
 AreSeen (t ∷ ts) [] = ⊥
 AreSeen (t ∷ ts) (p ∷ ps) = Saw t p × AreSeen ts ps
 
 -- a part that fills its block and doesn't end its packet
-pub record IsOpen (t : Told) : Type 0 where
+pub record IsOpen (t : Reported) : Type 0 where
   pub goes_on : ends_packet t.second ≡ false
   pub full : bytes_in t.second ≡ 2048
 
-abbrev pub AreOpen : List Told → Type 0
+abbrev pub AreOpen : List Reported → Type 0
 AreOpen [] = ⊤
 AreOpen (t ∷ ts) = IsOpen t × AreOpen ts
 
 -- the last parts of a packet, of which the last alone ends it. There may be none
-abbrev pub EndLast : List Told → Type 0
+abbrev pub EndLast : List Reported → Type 0
 EndLast [] = ⊤
 EndLast (t ∷ []) = ends_packet t.second ≡ true
 EndLast (t ∷ u ∷ ts) = IsOpen t × EndLast (u ∷ ts)
 
 -- while the driver looks, it holds nothing and saw no end; else it saw where the packet ends
-abbrev pub IsAt : Stage → List Told → Packet → Type 0
+abbrev pub IsAt : Stage → List Reported → Packet → Type 0
 IsAt Looks seen held = (held ≡ no_packet) × AreOpen seen
 IsAt Takes seen held = EndLast seen
 IsAt Owes seen held = EndLast seen

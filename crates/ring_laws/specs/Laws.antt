@@ -51,7 +51,7 @@ IdleIsAllSent =
 pub record FindsWaiting (s : State) (v : Sender) : Type 0 where
   pub bytes : List ℕ
   pub posted : first_end v.outstanding < v.posted
-  pub told : reply_to s (event.Peek16 (descriptor_at v.layout (first_end v.outstanding))) ≡ reply.Bytes bytes
+  pub reported : reply_to s (event.Peek16 (descriptor_at v.layout (first_end v.outstanding))) ≡ reply.Bytes bytes
   pub waits : is_sent bytes ≡ false
 
 -- where a look that comes next does, neither all that were sent are those accepted, nor those sent earlier

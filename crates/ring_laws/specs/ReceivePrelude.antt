@@ -6,5 +6,5 @@ pub use Rattle.pmd_rx.specs.Receive.{IsOwn, Layout, MovesNext, NamesNext, PeeksN
 pub use Rattle.pmd_rx.specs.Receive.{drive, ended_of, extended, fresh_of, is_part, left_of, names, next_stage}
 pub use Rattle.pmd_rx.specs.Receive.{no_packet, posts, reach, records_of, slot_at, took, vacant}
 pub use Rattle.pmd_rx.specs.declared.ring.Stage.TheVariants.{Lent, Looks, Takes}
-pub use Rattle.pmd_rx.specs.{PmdAccess.Events.is_step, declared.ring.Stage.Stage, declared.ring.Told.Told}
+pub use Rattle.pmd_rx.specs.{PmdAccess.Events.is_step, declared.ring.Stage.Stage, declared.ring.Reported.Reported}
 pub use Rattle.history_laws.specs.Lent.{LendsAnew}

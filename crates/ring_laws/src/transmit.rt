@@ -4,7 +4,7 @@
 //! `specs/Agreeing` what device and driver agree on, `specs/Sparing` which events spare the driver, that is leave alone
 //! what it relies on, and `specs/Moves` which events can be its next move.
 
-ghost use Rattle.ring_laws.specs.Counting.{SentIsCounted, SentIsTold};
+ghost use Rattle.ring_laws.specs.Counting.{SentIsCounted, SentIsReported};
 ghost use Rattle.ring_laws.specs.Enable.{EnableWordsKeep};
 ghost use Rattle.ring_laws.specs.TransmitHealthy.{OwnRepliesAreHealthy};
 ghost use Rattle.ring_laws.specs.TransmitLent.{OwnLendsAreKnown};
@@ -55,9 +55,9 @@ pub fn sent_is_counted_since_the_side_went_on()
 {}
 
 /// The frames that a legal history of a sound device sends on a queue are as many, and as long, as its replies report.
-#[tactic(auto, using(crate::proofs::InOrder::sent_is_told))]
-pub fn sent_frames_are_told()
-    ensures { SentIsTold }
+#[tactic(auto, using(crate::proofs::InOrder::sent_is_reported))]
+pub fn sent_frames_are_reported()
+    ensures { SentIsReported }
 {}
 
 /// A transmit side that isn't asked to be enabled stays so, and one that is also disabled stays disabled and sends

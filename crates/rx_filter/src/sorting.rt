@@ -54,7 +54,7 @@ fn target(registers: &RegisterFile, frame: &[u8], pool: u16) -> Target
     Target {
         queue: queue(QueueMode::of(mrqc), registers.mode(), pool, entry),
         rss,
-        hash: told(registers, hash),
+        hash: reported(registers, hash),
     }
 }
 
@@ -70,7 +70,7 @@ fn entry_at(registers: &RegisterFile, rss: u8, hash: u32) -> u8
 }
 
 /// The hash that descriptors report: 0 unless RXCSUM enables it.
-fn told(registers: &RegisterFile, hash: u32) -> u32
+fn reported(registers: &RegisterFile, hash: u32) -> u32
     ensures { result ≡ (if has_bit PCSD (word_of registers.now Rxcsum 0) then hash else 0) }
 {
     if has_flag(

@@ -33,7 +33,7 @@ unfolding joined
 last_piece frame len all [] p behind e =
     let here : piece_of frame len true ≡ p = cc in
     subst (λ (q : Piece). IsPieceOf frame [] q behind) here (record {
-      told = refl;
+      reported = refl;
       end = (λ ends. take_all len frame.bytes (omega arith), λ whole. refl);
       last = λ ends. (cc);
     })
@@ -54,7 +54,7 @@ unfolding joined
 more_pieces frame len ps within some make [] p behind e =
     let here : piece_of frame len false ≡ p = cc in
     subst (λ (q : Piece). IsPieceOf frame [] q behind) here (record {
-      told = refl;
+      reported = refl;
       end = (
         λ ends. absurd (cc),
         λ whole. absurd (some (sym (length-take-le len frame.bytes within) ∙ ap length whole)),
@@ -69,7 +69,7 @@ more_pieces frame len ps within some make (q ∷ qs) p behind e =
     let regroup : (q.bytes ++ joined qs) ++ p.bytes ≡ q.bytes ++ (joined qs ++ p.bytes) =
     append_assoc q.bytes (joined qs) p.bytes in
     record {
-      told = there.told;
+      reported = there.reported;
       end = (
         λ ends. regroup ∙ ap (λ (xs : List ℕ). q.bytes ++ xs) (there.end.0 ends) ∙ whole,
         λ all. there.end.1

@@ -7,7 +7,7 @@ use Rattle.dma_arena.proofs.Bus.{is_lent-same, SameLent-write_at, IsWhole-write_
 use Rattle.std.specs.FinMap as map
 use Rattle.dma_arena.proofs.Blocks.{get-write_at_in, get-write_at_out}
 use Rattle.dma_arena.proofs.Inside.{inside_avoids}
-use Rattle.dma_ring.proofs.Fields.{halves_come_back, piece_is_told}
+use Rattle.dma_ring.proofs.Fields.{halves_come_back, piece_is_reported}
 use Rattle.dma_ring.specs.Descriptor.{first_half, second_half, of_halves}
 use Rattle.dma_ring.specs.Receive.{written_back, is_done, ends_packet, bytes_in}
 use Rattle.rx_ring.specs.declared.filled.Filled.{Filled}
@@ -52,13 +52,13 @@ pub ShowsPiece-memory_with : (m : Memory) (rest : Rest) (f : Filled) → IsWhole
 ShowsPiece-memory_with m rest f whole fits short within descriptor buffer =
     let read = read_at-descriptor m rest f whole descriptor in
     let halves = halves_come_back rest.first (written_back f.len f.end) in
-    let told = piece_is_told f.len f.end short in
+    let reported = piece_is_reported f.len f.end short in
     let second : second_half (read_at (memory_with m rest f) f.desc 16) ≡ written_back f.len f.end =
-    ap second_half read ∙ halves.second told.fits in
+    ap second_half read ∙ halves.second reported.fits in
     record {
-      done = ap is_done second ∙ told.done;
-      end = ap ends_packet second ∙ told.end;
-      len = ap bytes_in second ∙ told.len;
+      done = ap is_done second ∙ reported.done;
+      end = ap ends_packet second ∙ reported.end;
+      len = ap bytes_in second ∙ reported.len;
       first = ap first_half read ∙ halves.first fits;
       bytes = read_at-bytes m rest f whole within buffer;
     }

@@ -60,7 +60,7 @@ joined (p ∷ ps) = p.bytes ++ joined ps
 -- a piece after others reports the packet as they do, and has EOP exactly where the frame is complete with it; then no
 -- piece comes after it
 pub record IsPieceOf (frame : Rest) (before : List Piece) (p : Piece) (behind : List Piece) : Type 0 where
-  pub told : p.first ≡ frame.first
+  pub reported : p.first ≡ frame.first
   pub end : IsTrue p.end ↔ (joined before ++ p.bytes ≡ frame.bytes)
   pub last : IsTrue p.end → behind ≡ []
 

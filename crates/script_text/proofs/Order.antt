@@ -11,11 +11,11 @@ use Rattle.script_text.specs.declared.faults.LineFault.TheVariants.{Syntax, Unkn
 use Rattle.script_text.specs.declared.faults.ScriptFault.TheVariants.{TwoLabels}
 use Rattle.script_text.specs.declared.statements.Statement.TheVariants.{Label, Data}
 
--- the fault that is told is one of the two, and stands before neither
-record IsFirst (e f told : LineFault) : Type 0 where
-  one : (e ≡ told) ⊎ (f ≡ told)
-  before_one : rank told ≤ rank e
-  before_other : rank told ≤ rank f
+-- the fault that is reported is one of the two, and stands before neither
+record IsFirst (e f reported : LineFault) : Type 0 where
+  one : (e ≡ reported) ⊎ (f ≡ reported)
+  before_one : rank reported ≤ rank e
+  before_other : rank reported ≤ rank f
 
 reported_first-IsFirst : (e f : LineFault) → IsFirst e f (reported_first e f)
 reported_first-IsFirst Syntax f = record { one = inl refl; before_one = omega arith; before_other = omega arith }

@@ -79,7 +79,7 @@ pub enum LineFault {
 impl From<NumberFault> for LineFault {
     ghost use Rattle.script_text.specs.Fault.{number_fault};
 
-    ghost from_gives = { λ fault told. told ≡ number_fault fault };
+    ghost from_gives = { λ fault reported. reported ≡ number_fault fault };
 
     fn from(fault: NumberFault) -> LineFault {
         match fault {

@@ -3,7 +3,7 @@
 use Rattle.start_laws.proofs.Prelude.{AllAre, Done, Fits, HasGround, IsKept, IsPlain, NamesRow, Outcome, Tdwbah}
 use Rattle.start_laws.proofs.Prelude.{WritesNoSetting, across, asks_pool_reset, asks_reset, gives, is_receive}
 use Rattle.start_laws.proofs.Prelude.{is_setting, is_transmit, left_did, named_written, owner_of, plain-write, row_of}
-use Rattle.start_laws.proofs.Prelude.{settings_stand, side_with, stays_within, step_of, told_on, transmit_left}
+use Rattle.start_laws.proofs.Prelude.{settings_stand, side_with, stays_within, step_of, reported_on, transmit_left}
 use Rattle.start_laws.proofs.{Prelude.word_of, Prelude.write_memory, Prelude.write_rest}
 use Rattle.start_laws.specs.Numbers.{NamedQueueHasTheNumbers, NumbersName, queue_at, queue_in}
 use Rattle.start_laws.specs.Prelude.{Access, AtPort, Block, Blocks, Dir, Event, IsNumberOf, IsSound, Pf, Port, Rdbah}
@@ -294,11 +294,13 @@ named_registers_reply queue q frame s row number g is named =
     }
 
 pub off_sides_are_seen_off : OffSidesAreSeenOff
-off_sides_are_seen_off queue q frame s number word quiet (inl named) told =
-    told_on queue s q.port number word told Rx (ground_names queue q frame s quiet.ground Rxdctl number refl named)
+off_sides_are_seen_off queue q frame s number word quiet (inl named) reported =
+    reported_on queue s q.port number word reported Rx
+    (ground_names queue q frame s quiet.ground Rxdctl number refl named)
     ∙ quiet.receive.off
-off_sides_are_seen_off queue q frame s number word quiet (inr named) told =
-    told_on queue s q.port number word told Tx (ground_names queue q frame s quiet.ground Txdctl number refl named)
+off_sides_are_seen_off queue q frame s number word quiet (inr named) reported =
+    reported_on queue s q.port number word reported Tx
+    (ground_names queue q frame s quiet.ground Txdctl number refl named)
     ∙ quiet.transmit.off
 
 -- a driver's register is accessed, or written

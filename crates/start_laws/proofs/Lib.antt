@@ -1,7 +1,7 @@
 pub use Rattle.start_laws.proofs.Meeting as Beside
 pub use Rattle.start_laws.proofs.Ground as Words
 pub use Rattle.start_laws.proofs.TimedOut as Filling
-pub use Rattle.start_laws.proofs.Parts as Retold
+pub use Rattle.start_laws.proofs.Parts as Retagged
 pub use Rattle.pmd_driver.proofs.DeviceLock.Histories
 pub use Rattle.ring_laws.proofs as RingLaws
 pub use Rattle.ring_laws.proofs.HistoryLaws

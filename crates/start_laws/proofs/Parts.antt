@@ -1,8 +1,8 @@
--- A history by the calls that a pass made: in parts, around one of them, and told anew with other tags.
+-- A history by the calls that a pass made: in parts, around one of them, and retagged with other tags.
 use Rattle.start_laws.proofs.Prelude.{calls_other, calls_own, gathered}
 use Rattle.start_laws.specs.Prelude.{AreEvents, Call, Entry, IsEvent, IsLegal, Piece, State, after, call_in, calls_of}
 use Rattle.start_laws.specs.Prelude.{entries_in, leads_to, pieces, pieces_since, reply_to, sent_since}
-use Rattle.start_laws.specs.Retold.{AreSame, RetoldIsSame, SameDelivers, SameIsLegal, SameLeads, SameSends}
+use Rattle.start_laws.specs.Retagged.{AreSame, RetaggedIsSame, SameDelivers, SameIsLegal, SameLeads, SameSends}
 use Rattle.std.proofs.Common.{Bool, List, Option, [], ap, arith, false, inl, inr, map, refl, subst, sym}
 use Rattle.std.proofs.Common.{true, ℕ, ◌++◌, ◌∙◌, ◌∷◌, ◌≡◌, ◌≢◌, ◌⊎◌}
 use Rattle.std.proofs.lemmas.Bool.{cases_Bool, eq-eqb, eqb-true}
@@ -133,10 +133,10 @@ none_behind (x ∷ xs) ys is = none_behind xs ys (cc)
 
 -- an entry is the same call, whoever made it
 
-pub retold_same : RetoldIsSame
-retold_same other [] h = refl
-retold_same other (is ∷ own) [] = refl
-retold_same other (is ∷ own) (e ∷ es) = grind (arith, common_steps, retold_same other own es)
+pub retagged_same : RetaggedIsSame
+retagged_same other [] h = refl
+retagged_same other (is ∷ own) [] = refl
+retagged_same other (is ∷ own) (e ∷ es) = grind (arith, common_steps, retagged_same other own es)
 
 -- what of a history looks at its calls alone is as if one pass had made them all
 

@@ -4,7 +4,7 @@ use Rattle.start_laws.proofs.Ground.{driven, each_side, ground_names, ground_sam
 use Rattle.start_laws.proofs.Prelude.{AtEntries, IsAlong, IsIdle, IsMet, IsPlain, IsZero, Point, Sides, Stands, across}
 use Rattle.start_laws.proofs.Prelude.{after_access, after_accesses, and_one, begun_stays, idle_silent, idle_steady}
 use Rattle.start_laws.proofs.Prelude.{left_deed, left_did, lent_cases, queues_left, read_rest, seen_by}
-use Rattle.start_laws.proofs.Prelude.{sent_is_counted, side_with, since-append, steady_kept, step_of, told_on}
+use Rattle.start_laws.proofs.Prelude.{sent_is_counted, side_with, since-append, steady_kept, step_of, reported_on}
 use Rattle.start_laws.proofs.Reached.{AddsCall, KeptOver, OfCall, added_before, added_leads, made_by, reached_next}
 use Rattle.start_laws.proofs.StopCalls.{IsLentBy, and_all, lending}
 use Rattle.start_laws.proofs.{Ground.words_taken, Parts.ends_some, Prelude.AllMay, Prelude.AreUnused}
@@ -62,8 +62,8 @@ write_stands dir queue s sides rings port n word row met stand unwanted fits goe
 -- an enable word is read
 
 pub read_stands : (dir : Dir) → ReadStands dir
-read_stands dir queue s sides rings port n word stand names told =
-    grind (arith, common_steps, queues_left, told_on, read_rest s port n)
+read_stands dir queue s sides rings port n word stand names reported =
+    grind (arith, common_steps, queues_left, reported_on, read_rest s port n)
 
 -- a block of zero bytes is lent
 
@@ -114,10 +114,10 @@ module _ {w : Watched} {origin : State} {h : List Entry} (q : AtPort) (frame : �
   -- an enable word is read
   seen_goes : (dir : Dir) (F : Sides → Sides) (on : Bool)
       → OfCall q (Sees (enable_row dir) on) (Goes F (λ p. seen_by (enable_row dir) on (F p)))
-  seen_goes dir F on number word named is p known s met made told x =
+  seen_goes dir F on number word named is p known s met made reported x =
       let names = ground_names w.queue q frame s x.ground (enable_row dir) number (side_driven dir) named in
       let ground = plain_keeps w.queue q frame s (event.Read q.port number) tt x.ground in
-      let stand = read_stands dir w.queue s (F p).side (F p).rings q.port number word x.stand names (sym told) in
+      let stand = read_stands dir w.queue s (F p).side (F p).rings q.port number word x.stand names (sym reported) in
       rw (← is) (assumption (stand, ground), refl, refl)
 
   -- or a word is written
@@ -126,7 +126,7 @@ module _ {w : Watched} {origin : State} {h : List Entry} (q : AtPort) (frame : �
   access_goes (Sees Rxdctl on) F may = seen_goes Rx F on
   access_goes (Sees Txdctl on) F may = seen_goes Tx F on
   access_goes (Sees other on) F may = λ number word named is p known. absurd (may p known)
-  access_goes (Sets row word) F may = λ number named p known s met made told x.
+  access_goes (Sets row word) F may = λ number named p known s met made reported x.
       let (dir, may) = may p known in
       let own = (driven dir row word may.fits).0 in
       let plain : IsPlain q (event.Write q.port number word) = (row, refl, own, named) in
@@ -138,9 +138,9 @@ module _ {w : Watched} {origin : State} {h : List Entry} (q : AtPort) (frame : �
   -- or a block is lent
   lend_goes : (F : Sides → Sides) (ring : ℕ) → IsLentBy w.pass ring h
       → Goes F (λ p. with_all (ring ∷ []) (F p)) (lending ring)
-  lend_goes F ring own p known s met made told x =
+  lend_goes F ring own p known s met made reported x =
       let there : Standing (with_all (ring ∷ []) (F p)) (after s (event.Lend (zero_block ring))) = record {
-        stand = lend_stands w.queue s (F p).side (F p).rings ring x.stand (sym told);
+        stand = lend_stands w.queue s (F p).side (F p).rings ring x.stand (sym reported);
         ground = plain_keeps w.queue q frame s (event.Lend (zero_block ring)) tt x.ground;
         covers = λ n one. grind (arith, or_cases, eqb-true, x.covers n, own.mine);
         low = λ n one. grind (arith, or_cases, eqb-true, x.low n, own.low);
@@ -164,8 +164,8 @@ module _ {w : Watched} {origin : State} {h : List Entry} (q : AtPort) (frame : �
   added_at : (F G : Sides → Sides) (old new : List Call) → AddsCall (Goes F G) old new → At old F → At new G
   added_at F G old new a (at, some) =
       let next = added_leads along (SomePoint F) (SomePoint G) (some_kept G) old new a.call.event a.call.reply
-      (λ done e same met made told (p, known, x, n).
-      let here = subst (Goes F G) (sym same) a.is p known (leads_to origin done) met made told x in
+      (λ done e same met made reported (p, known, x, n).
+      let here = subst (Goes F G) (sym same) a.is p known (leads_to origin done) met made reported x in
       (p, known, subst (Standing (G p)) (sym (reached_next w origin done e)) here.0, idle done e here.1 here.2 n))
       (a.before, a.added, a.steps)
       (added_before along (SomePoint F) (some_kept F) old new _ _ (a.before, a.added, a.steps) some at) in

@@ -17,7 +17,7 @@ pub use Rattle.ring_laws.proofs.DeviceLaws.Standing.{memory_blocks, memory_rest,
 pub use Rattle.ring_laws.proofs.DeviceLaws.StandingAccesses.{read_rest, write_memory, write_rest}
 pub use Rattle.ring_laws.proofs.HistoryLaws.Leaving.{plain-write, queues_left, transmit_left}
 pub use Rattle.ring_laws.proofs.HistoryLaws.Steady.{IsIdle, asked, idle_silent, idle_steady, not_again, steady_kept}
-pub use Rattle.ring_laws.proofs.HistoryLaws.{Alone.histories_sound, Deeds.left_deed, Deeds.left_did, Steady.told_on}
+pub use Rattle.ring_laws.proofs.HistoryLaws.{Alone.histories_sound, Deeds.left_deed, Deeds.left_did, Steady.reported_on}
 pub use Rattle.ring_laws.proofs.{InOrder.sent_is_counted, ReceiveLent.mine_driven, TransmitLent.mine-moved}
 pub use Rattle.ring_laws.proofs.{DeviceLaws.KeptSettings.settings_stand, Fitting.none_begun_while_off}
 pub use Rattle.ring_laws.specs.{Delivered.gathered, DeviceLaws.Laws.WritesNoSetting, Fitting.AreFitting, ReceiveUp.IsUp}

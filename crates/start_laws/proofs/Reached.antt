@@ -79,7 +79,7 @@ module _ {w : Watched} {origin : State} {h : List Entry} (x : IsAlong w origin h
     pub met : IsMet w.queue (leads_to origin done)
     pub vfs : w.vfs ≡ (leads_to origin done).vfs
     pub made : IsEvent e.event
-    pub told : e.reply ≡ reply_to (leads_to origin done) e.event
+    pub reported : e.reply ≡ reply_to (leads_to origin done) e.event
 
   pub entry_is : (done rest : List Entry) (e : Entry) → done ++ e ∷ rest ≡ h → IsEntry done e
   entry_is done rest e all =
@@ -127,7 +127,7 @@ module _ {w : Watched} {origin : State} {h : List Entry} (x : IsAlong w origin h
       (walk (λ so_far cs. Q so_far × (cs ≡ [])) (λ cs so_far g left p. (kept so_far g left p.0, p.1))
       (λ so_far more g cs there some p. absurd (cc p.1)) (a.before ++ e ∷ [])
       a.behind done rest (append_assoc a.before (e ∷ []) a.behind ∙ a.all) all (own_some w.pass a.before e a.own)
-      (leads a.before e a.call here.met here.made here.told p, a.later)).0
+      (leads a.before e a.call here.met here.made here.reported p, a.later)).0
 
 -- calls of one kind keep what each of them keeps
 pub all_lead : (w : Watched) (origin : State) (h : List Entry) (P : List Entry → Type 0) (Own : Call → Type 0)
@@ -140,7 +140,7 @@ all_lead w origin h P Own x kept leads calls old each some at done rest all is =
     (λ so_far more e cs here made y.
     let is = entry_is x so_far more e here in
     let steps = (alone x so_far more e here made).steps in
-    (leads (call_in e) y.1.0 so_far e refl is.met is.made is.told steps y.0, y.1.1))
+    (leads (call_in e) y.1.0 so_far e refl is.met is.made is.reported steps y.0, y.1.1))
     p.front p.back done rest p.both all (λ none. some (sym p.fronts ∙ none))
     (at p.front (p.back ++ rest) (cc (append_assoc p.front p.back rest)) p.fronts, rw p.backs each)).0
 
@@ -167,7 +167,7 @@ module _ {w : Watched} {origin : State} {h : List Entry} (x : IsAlong w origin h
       (f : Event Block) (r : Reply Block) → Adds old new f r → old ≢ [] → AtEntries w h old P → Before w h new P
   added_before P kept old new f r (before, added, steps) some at done rest e all own is =
       all_lead w origin h P (λ c. IsTrue (is_step c.event)) x kept
-      (λ c is done e same met made told outside p. search (rules, free_left, vfs_stays, no_registers)) before old
+      (λ c is done e same met made reported outside p. search (rules, free_left, vfs_stays, no_registers)) before old
       (steps_are (λ g. IsTrue (is_step g)) (λ g step. step) before steps) some at done (e ∷ rest) all
       (same_from_push (calls_of w.pass done) (old ++ before) (call_in e) (call_of f r)
       (cc (append_assoc old before (call_of f r ∷ [])))).0
@@ -178,7 +178,7 @@ module _ {w : Watched} {origin : State} {h : List Entry} (x : IsAlong w origin h
       → Never w origin h new
   added_never P old new f r refutes adds at =
       added_leads x (λ done. P (leads_to origin done)) (λ done. ⊥) (λ done e left none. none) old new f r
-      (λ done e same met made told p. grind (arith, common_steps, reached_next)) adds at
+      (λ done e same met made reported p. grind (arith, common_steps, reached_next)) adds at
 
   -- nor is such a call the next one that is no step, where this holds before that
   pub next_never : (P : State → Type 0) → (old new : List Call) (f : Event Block) (r : Reply Block)
@@ -209,7 +209,7 @@ module _ {w : Watched} {origin : State} {h : List Entry} (x : IsAlong w origin h
               then_before P kept now (ends_some old [] c)
               (added_leads x (λ done. P (leads_to origin done)) (λ done. P (leads_to origin done))
               (state_kept w origin (lent_by w.pass h) P kept) old now c.event c.reply
-              (λ done e same met made told p. grind (arith, common_steps, reached_next)) ([], refl, tt)
+              (λ done e same met made reported p. grind (arith, common_steps, reached_next)) ([], refl, tt)
               (at [] c tt apart))
         ])
 
@@ -288,7 +288,7 @@ module _ (q : AtPort) where
         let x = made_by (λ c. Leads w.queue c P Q) a leads old new made in
         added_leads along (λ done. P (leads_to origin done)) (λ done. Q (leads_to origin done))
         (state_kept w origin (lent_by w.pass h) Q kept) old new x.call.event x.call.reply
-        (λ done e same met made told p. let leads = x.is in grind (arith, common_steps, reached_next))
+        (λ done e same met made reported p. let leads = x.is in grind (arith, common_steps, reached_next))
         (x.before, x.added, x.steps)
 
 -- a read that may be the pass's first call
@@ -297,4 +297,4 @@ pub first_seen : (w : Watched) (q : AtPort) (origin : State) (h : List Entry) (P
     → (row : RowId) (on : Bool) (old new : List Call) → IsMade q old new (Sees row on) → BeforeLast w origin h new P
     → AtCalls w origin h new P
 first_seen w q origin h P along kept read row on =
-    access_leads q along P P (Sees row on) kept (λ number word named is s met made told p. read s number p)
+    access_leads q along P P (Sees row on) kept (λ number word named is s met made reported p. read s number p)

@@ -180,34 +180,34 @@ module _ (s : State) (queue : ℕ) (sent : List (List ℕ)) (u : Sender) (f : �
 module _ (queue : ℕ) (mine : Blocks) (s : State) (sound : IsSound s) (out : List Piece) (v : Receive)
     (j : Agree queue s out v) (outside : WritesOutside queue mine (reply_to s event.RxStep)) where
   -- what is received is outside a block of the other half's
-  told_outside : (n : ℕ) → IsTrue (mine n) → Each v (λ b. b ≢ n) → (r : Reply Block) → reply_to s event.RxStep ≡ r
+  reported_outside : (n : ℕ) → IsTrue (mine n) → Each v (λ b. b ≢ n) → (r : Reply Block) → reply_to s event.RxStep ≡ r
       → WritesOutside queue mine r → IsSparedBy r n
-  told_outside n is away (Wrote on slot end desc at len) told left =
+  reported_outside n is away (Wrote on slot end desc at len) reported left =
       elim (cases_eq on queue) as (λ _. IsOutside desc at len n) [
         | inl own ↦
             let here = piece_inside queue s out v sound j slot end desc at len
-            (subst (λ q. reply_to s event.RxStep ≡ Wrote q slot end desc at len) own told) in
+            (subst (λ q. reply_to s event.RxStep ≡ Wrote q slot end desc at len) own reported) in
             let ring = each_ring v (λ b. b ≢ n) away here.descriptor.part here.descriptor.known in
             let posted = each_posted v (λ b. b ≢ n) away here.slot here.known in
             let slot = inside_avoids _ n desc 16 here.descriptor.descriptor (λ e. ring (sym e)) in
             assumption (slot, λ (some : 0 < len). inside_avoids _ n at len here.bytes (λ e. posted (sym e)))
         | inr ne ↦ clear_outside mine desc at len n (left ne) is
       ]
-  told_outside n is away other told left = tt
+  reported_outside n is away other reported left = tt
 
   -- so it spares the transmit half
   pub received_spares : (u : Sender) → ((n : ℕ) → IsTrue (has_lent u n) → IsTrue (mine n))
       → ((n : ℕ) → IsTrue (has_lent u n) → Each v (λ b. b ≢ n)) → Spares queue u s event.RxStep
-  received_spares u lent apart = search (rules, receiving_rest, spared_block, told_outside)
+  received_spares u lent apart = search (rules, receiving_rest, spared_block, reported_outside)
 
 -- what the queue's own transmit side reports is in a block of its ring
 pub reports_spare : (s : State) (queue : ℕ) (sent : List (List ℕ)) (u : Sender) (f : ℕ) → AgreesAt s queue sent u f
     → (v : Receive) → ((n : ℕ) → IsTrue (has_lent u n) → Each v (λ b. b ≢ n)) → OwnReportsSpare queue v s
-reports_spare s queue sent u f h v apart back told =
+reports_spare s queue sent u f h v apart back reported =
     let l = u.layout in
     let low : has_bit 0 (word_of s.registers Tdwbal queue) ≡ false = grind (arith, common_steps, h.set_up.writeback) in
     let at = reported queue (reply_to s (event.TxStep queue)) s (after s (event.TxStep queue))
-    (transmitting_tells s h.based.sound queue) back told in
+    (transmitting_tells s h.based.sound queue) back reported in
     let head : report_of s.registers queue ≡ descriptor_at l f = rw low (head_is h) in
     let below = slot-below l h.based.layout f (let c = h.counted in omega arith) in
     let here : back / 2048 ≡ l.ring + slot_at l f / 128 = let is = at ∙ head in omega (arith, is) in

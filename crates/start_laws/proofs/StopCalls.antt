@@ -89,7 +89,7 @@ module _ (q : AtPort) (P : Event Block → Type 0) (K : Access → Type 0)
   otherwise_is (Sees row on) old new own (inl (number, word, named, is, adds)) =
       adds_made P steps old new _ _ adds (reads q.port number)
   otherwise_is (Sees row on) old new own (inr stray) = stray_is old new row stray
-  otherwise_is (Sets row word) old new own (number, told, named, adds) =
+  otherwise_is (Sets row word) old new own (number, reported, named, adds) =
       adds_made P steps old new _ _ adds (writes row word number own named)
 
   fails_is : (f : PmdFault) (a : Access) (old new : List Call) → K a → FailsBy f q old new a → Are old new

@@ -140,17 +140,17 @@ module _ {w : Watched} {origin : State} {h : List Entry} (q : AtPort) (frame : �
         both_parts q xs _ old new (subst (AllAre MayAsk) same ask) (subst (AreMade q old new) same made) in
         let (m3, then, (m4, sees, rest), ask_y, (_, ask_z)) = both_parts q ys _ m2 new ask_m more in
         let asked_at = asked_leads dir (λ x. ⊤) IsUnwanted shutting.0 shutting.1 xs (Sets (enable_row dir) 0)
-        (λ number named s met made told (g, p).
+        (λ number named s met made reported (g, p).
         let names = ground_names w.queue q frame s g (enable_row dir) number (side_driven dir) named in
         let plain : IsPlain q (event.Write q.port number 0) = (enable_row dir, refl, side_driven dir, named) in
         let ground = plain_keeps w.queue q frame s (event.Write q.port number 0) plain g in
         (ground, ap (λ (x : Side). x.wanted) (asked w.queue s met.sound met.small q.port number 0 dir names)))
         ask_x old m1 m2 first asks some (λ done rest all is. (at done rest all is, tt)) in
         let off_at = asked_leads dir IsUnwanted IsOff shutting.1 shutting.2 ys (Sees (enable_row dir) false)
-        (λ number word named zero s met made told (g, none).
+        (λ number word named zero s met made reported (g, none).
         let names = ground_names w.queue q frame s g (enable_row dir) number (side_driven dir) named in
         let ground = plain_keeps w.queue q frame s (event.Read q.port number) tt g in
-        (ground, seen_off w.queue s q.port number word (sym told) dir names zero none))
+        (ground, seen_off w.queue s q.port number word (sym reported) dir names zero none))
         ask_y m2 m3 m4 then sees (made_some q m1 m2 (Sets (enable_row dir) 0) asks) asked_at in
         made_keep (One dir IsOff) (IsEnding q) along (one_kept dir IsOff off_steady) (one_ending dir IsOff shutting.2)
         m4 new
@@ -183,7 +183,7 @@ pub receive_guard_is_off : ReceiveGuardIsOff
 receive_guard_is_off = record {
   written = λ queue s port n word met names none. grind (arith, asked queue s met.sound met.small port n word Rx names);
   left = λ w mine s e x none. steady_kept Rx w.queue s e IsUnwanted none unwanted_steady (left_deed Rx w mine s e x);
-  read = λ queue s port n word none names told zero. seen_off queue s port n word told Rx names zero none;
+  read = λ queue s port n word none names reported zero. seen_off queue s port n word reported Rx names zero none;
 }
 
 pub off_sides_stand : OffSidesStand

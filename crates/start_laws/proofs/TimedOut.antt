@@ -11,7 +11,7 @@ use Rattle.start_laws.proofs.StopCalls.{quiet_plain, ready_plain, step_ends, the
 use Rattle.start_laws.proofs.{On.agrees_at, On.are_on, On.goes_on_at, SwitchedOff.ending_quiet, SwitchedOff.quiet_kept}
 use Rattle.start_laws.specs.Faultless.{NoneIsLent, ReceiveIsReady, SwitchingIsNeverStray, TransmitIsReady}
 use Rattle.start_laws.specs.Filling.{FaultsAreEarlyOrFilling, FillingBeginsWell, NoFaultIsEarly}
-use Rattle.start_laws.specs.Polls.{AreEnables, Enables, PollsAreTold, asked_after, is_missed, missed_in}
+use Rattle.start_laws.specs.Polls.{AreEnables, Enables, PollsAreReported, asked_after, is_missed, missed_in}
 use Rattle.start_laws.specs.Prelude.{Access, AreMade, AreSteps, AtPort, Block, Call, DeviceFault, Dir, Entry, Event}
 use Rattle.start_laws.specs.Prelude.{IsNumberOf, Numbers, PmdFault, Port, PreparingFails, Reply, RowId, Rx, Rxdctl}
 use Rattle.start_laws.specs.Prelude.{Sees, Sets, StartRefused, StartTimeout, State, StopsStarting, SwitchFails, Tx}
@@ -123,20 +123,21 @@ module _ (q : AtPort) (w : Enables) (are : AreEnables q w) where
   access_tells : (a : Access) → IsOfEnable a → OfCall q a (Tells a)
   access_tells a of = grind (arith, common_steps)
 
-  accesses_told : (all : List Access) (old new : List Call) (x : Asked) → AllAre IsOfEnable all → AreMade q old new all
+  accesses_reported : (all : List Access) (old new : List Call) (x : Asked) → AllAre IsOfEnable all →
+      AreMade q old new all
       → (these : List Call) × (new ≡ old ++ these) × (missed_in w x these ≡ misses x all)
-  accesses_told [] old new x of made = ([], made ∙ sym (append-nil old), refl)
-  accesses_told (a ∷ rest) old new x of (mid, one, more) =
+  accesses_reported [] old new x of made = ([], made ∙ sym (append-nil old), refl)
+  accesses_reported (a ∷ rest) old new x of (mid, one, more) =
       let t = made_by q (Tells a) a (access_tells a of.0) old mid one in
       let (missed, asked) = t.is x in
-      let later = accesses_told rest mid new (asked_by a x) of.1 more in
+      let later = accesses_reported rest mid new (asked_by a x) of.1 more in
       let own : List Call = t.before ++ t.call ∷ [] in
       grind (arith, common_steps, append_assoc, skipped)
 
-pub polls_are_told : PollsAreTold
-polls_are_told q old new x w are =
-    let told = accesses_told q w are x.all (old ++ x.before) new none_asked x.enables x.made in
-    (told.0, told.1, told.2 ∙ x.polls)
+pub polls_are_reported : PollsAreReported
+polls_are_reported q old new x w are =
+    let reported = accesses_reported q w are x.all (old ++ x.before) new none_asked x.enables x.made in
+    (reported.0, reported.1, reported.2 ∙ x.polls)
 
 -- an access by which a side is seen off, or asked to be
 abbrev IsQuieting : Access → Type 0
@@ -174,7 +175,7 @@ module _ {w : Watched} {origin : State} {h : List Entry} (q : AtPort) (frame : �
       → Next Ground old → Never w origin h new
   read_never_stray row driven old new (number, word, named, adds) =
       next_never along Ground old new (event.Read q.port number) (reply.Stray word) refl
-      (λ s g told.
+      (λ s g reported.
       let (seen, is) = (named_registers_reply w.queue q frame s row number g driven named).read in cc) adds
 
   write_never_stray : (a : Access) → IsWrite a → (old new : List Call) → IsOtherwise q old new a → Next Ground old
@@ -182,7 +183,7 @@ module _ {w : Watched} {origin : State} {h : List Entry} (q : AtPort) (frame : �
   write_never_stray (Sees row on) is old new fails = absurd is
   write_never_stray (Sets row word) is old new (number, seen, named, adds) =
       next_never along Ground old new (event.Write q.port number word) (reply.Stray seen) refl
-      (λ s g told.
+      (λ s g reported.
       let done = (named_registers_reply w.queue q frame s row number g is named).write word in cc) adds
 
   writes_never_stop : (all : List Access) → AllAre IsWrite all → (old new : List Call)

@@ -26,7 +26,7 @@ pub mod Prelude
 pub mod Quiet
 pub mod Quieting
 pub mod Replies
-pub mod Retold
+pub mod Retagged
 pub mod Silent
 pub mod Standing
 pub mod Start

@@ -51,7 +51,7 @@ missed_in w x [] = 0
 missed_in w x (c ∷ cs) = (if is_missed w x c.event c.reply then 1 else 0) + missed_in w (asked_after w x c.event) cs
 
 -- where a start timed out, 1,000 of its pass's calls do, by whatever numbers the two words have
-abbrev pub PollsAreTold : Type 0
-PollsAreTold =
+abbrev pub PollsAreReported : Type 0
+PollsAreReported =
     (q : AtPort) (old new : List Call) (x : TimesOut q old new) (w : Enables) → AreEnables q w →
     (these : List Call) × (new ≡ (old ++ x.before) ++ these) × (missed_in w none_asked these ≡ 1000)

@@ -26,11 +26,11 @@ ghost use Rattle.start_laws.specs.Moves.{WriteStands, ReadStands, LendStands, Fr
 ghost use Rattle.start_laws.specs.Numbers.{NamedQueueHasTheNumbers};
 ghost use Rattle.start_laws.specs.On.{SwitchedSidesAgree, SwitchedSidesBeginNone, SwitchedSidesGoOn};
 ghost use Rattle.start_laws.specs.Points.{AccessesLead};
-ghost use Rattle.start_laws.specs.Polls.{PollsAreTold};
+ghost use Rattle.start_laws.specs.Polls.{PollsAreReported};
 ghost use Rattle.start_laws.specs.Quiet.{ReceiveGuardIsOff, OffSidesStand};
 ghost use Rattle.start_laws.specs.Quieting.{QuietingLeads, QuietSidesStand};
 ghost use Rattle.start_laws.specs.Replies.{NamedRegistersReply, OffSidesAreSeenOff};
-ghost use Rattle.start_laws.specs.Retold.{RetoldIsSame, SameDelivers, SameIsLegal, SameLeads, SameSends};
+ghost use Rattle.start_laws.specs.Retagged.{RetaggedIsSame, SameDelivers, SameIsLegal, SameLeads, SameSends};
 ghost use Rattle.start_laws.specs.Standing.{StandingSidesAreLeft};
 ghost use Rattle.start_laws.specs.Start.{StartAgrees, StartGoesOn};
 ghost use Rattle.start_laws.specs.TimedOut.{TimeoutsPoll};
@@ -132,9 +132,9 @@ pub fn timeouts_poll_a_thousand_times()
 {}
 
 /// These reads are among the calls of the start's pass, by the numbers that RXDCTL and TXDCTL have at its port.
-#[tactic(auto, using(crate::proofs::TimedOut::polls_are_told))]
-pub fn polls_of_a_timeout_are_told()
-    ensures { PollsAreTold }
+#[tactic(auto, using(crate::proofs::TimedOut::polls_are_reported))]
+pub fn polls_of_a_timeout_are_reported()
+    ensures { PollsAreReported }
 {}
 
 /// Where port and queue name a queue of the device, a start isn't refused with `DeviceFault` before any event: the port
@@ -251,8 +251,8 @@ pub fn entries_before_lead_there()
 /// The tags of a history say who made its calls, and nothing else depends on them: with other tags, a history has the
 /// same calls. It is as legal, its events are such as a driver can make, it leads to the same state, and it delivers
 /// and sends the same on each queue.
-pub fn history_is_told_anew()
-    ensures retold { RetoldIsSame }
+pub fn history_is_retagged()
+    ensures retagged { RetaggedIsSame }
     ensures legal { SameIsLegal }
     ensures leads { SameLeads }
     ensures delivered { SameDelivers }

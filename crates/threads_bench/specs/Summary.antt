@@ -60,12 +60,12 @@ abbrev pub HaveTheirQueues : ℕ → List Entry → Type 0
 HaveTheirQueues workers history = (worker : ℕ) → worker < workers → HasItsQueue worker history
 
 -- this many frames were sent in a history of the controller that is legal, and in which the workers have their queues
-abbrev pub IsTold : ℕ → ℕ → Type 0
-IsTold workers sent =
+abbrev pub IsReported : ℕ → ℕ → Type 0
+IsReported workers sent =
     (history : List Entry) × IsLegal (new_state 0 64) history × HaveTheirQueues workers history
     × (sent ≡ sent_in history)
 
 -- the summary of this many queues is written, and of a legal history in which the workers have them
 abbrev pub Tells : ℕ → Option (List ℕ) → Option (List ℕ) → Type 0
-Tells queues old new = (reports : List (List Report)) × (sent : ℕ) × (length reports ≡ queues) × IsTold queues sent
+Tells queues old new = (reports : List (List Report)) × (sent : ℕ) × (length reports ≡ queues) × IsReported queues sent
     × Appends old new (summary_text reports sent)

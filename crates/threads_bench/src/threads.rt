@@ -1,7 +1,7 @@
 //! The run: from its options to a status.
 
 ghost use Rattle.std.specs.Prelude.{◌≡◌, ◌≢◌, ◌+◌, ◌≤◌, ◌<◌, ◌⊎◌, ◌↔◌, IsTrue, IfOk, true, vec_len};
-ghost use Rattle.threads_bench.specs.Summary.{HasItsQueue, HaveTheirQueues, IsTold, Tells};
+ghost use Rattle.threads_bench.specs.Summary.{HasItsQueue, HaveTheirQueues, IsReported, Tells};
 
 use crate::ending::{end_device, end_jobs};
 use crate::frames::frames;
@@ -124,7 +124,7 @@ fn have_their_queues(closed: &Closed<0, 64>, workers: u8) -> bool
 /// Closes the history, and returns how many frames were transmitted in it. Refused where the history doesn't leave the
 /// workers' queues alone, or where a driver doesn't start from a clean state.
 fn close(bench: Bench, passes: Vec<Pass>, workers: u8) -> Result<usize, Refused>
-    ensures { IfOk result (λ sent. IsTold workers sent) }
+    ensures { IfOk result (λ sent. IsReported workers sent) }
 {
     match bench.close(passes) {
         Ok(closed) => {
@@ -154,7 +154,7 @@ fn run<R: Threads + Wait + Sync>(
     count: u8,
 ) -> Result<Summary, Refused>
     requires { workers ≤ 8 }
-    ensures { IfOk result (λ s. (vec_len s.reports ≡ workers) × IsTold workers s.sent) }
+    ensures { IfOk result (λ s. (vec_len s.reports ≡ workers) × IsReported workers s.sent) }
 {
     let (bench, passes) = Bench::new(alloc, 0, workers + 1, LIMIT)?;
     match drive(rt, alloc, &bench, passes, workers, count) {
@@ -187,7 +187,7 @@ pub fn bench_threads<R: Threads + Wait + Sync, W: Write>(
     frames: u8,
 ) -> u8
     ensures status { (result ≡ 0) ⊎ ((result ≡ 2) ⊎ (result ≡ 4)) }
-    ensures told { result ≡ 0 → Tells workers (W.contents output.old.writer) (W.contents output.new.writer) }
+    ensures reported { result ≡ 0 → Tells workers (W.contents output.old.writer) (W.contents output.new.writer) }
     ensures silent { result ≢ 0 → (output.new ≡ output.old) ⊎ (output.new.has_failed ≡ true) }
     ensures memory { result ≡ 4 → output.new ≡ output.old }
     ensures number { ((workers ≡ 0) ⊎ (8 < workers)) → (result ≡ 2) × (output.new ≡ output.old) }

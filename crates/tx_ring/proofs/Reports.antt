@@ -53,13 +53,13 @@ inside : (r : Ring) (writeback : Option ℕ) → r.base % 16 ≡ 0 → ((a : ℕ
 inside r (Some a) base four = let low = four a refl in (omega arith, omega arith)
 inside r None base four = let low = slots_are_in_blocks r r.head base in (omega (arith, low), omega (arith, low))
 
--- what is reported lies where it is told
+-- what is reported lies where it is reported
 answered_at : (asked : Bool) (r : Ring) (tx : Tx) (f : Fetched) (at : ℕ) → f.rs ≡ asked → ReportsAt r tx f
     → f.back ≡ Some at
     → (writeback : Option ℕ) → tx.writeback ≡ writeback → unwrap_or writeback (head_address r) ≡ at
-answered_at false r tx f at is told back writeback w = absurd (cc (told.none is))
-answered_at true r tx f at is told back (Some a) w = let e = told.head a w is in cc
-answered_at true r tx f at is told back None w = let e = told.descriptor w is in cc
+answered_at false r tx f at is reported back writeback w = absurd (cc (reported.none is))
+answered_at true r tx f at is reported back (Some a) w = let e = reported.head a w is in cc
+answered_at true r tx f at is reported back None w = let e = reported.descriptor w is in cc
 
 pub reports_in_one_block : ReportsInOneBlock
 reports_in_one_block m staged r tx f at aligned is back =

@@ -4,9 +4,9 @@ use Rattle.std.proofs.Math.Seq.{take-append_seam}
 use Rattle.std.proofs.lemmas.Bool.{cases_eq}
 use Rattle.std.proofs.lemmas.List.{length-set, get_or-set_same, get_or-set_other}
 use Rattle.rtrb.specs.Ring.{sent}
-use Rattle.workers.specs.Seats.{IsEnded, EachEnded}
-use Rattle.workers.specs.declared.seat.Seat.{Seat}
-use Rattle.workers.specs.declared.seat.Seat.TheVariants.{Waits, Ended, Empty}
+use Rattle.workers.specs.TaskCells.{IsEnded, EachEnded}
+use Rattle.workers.specs.declared.cell.TaskCell.{TaskCell}
+use Rattle.workers.specs.declared.cell.TaskCell.TheVariants.{Waits, Ended, Empty}
 use Rattle.workers.specs.declared.job.Job.{Job}
 use Rattle.workers.specs.declared.reports.Collector.{Collector}
 use Rattle.workers.specs.Coming.{Sits, AllSit, IsDrained, AreDrained, HasEnded, AllEnded, HasCome, HaveCome, IsMade, AreMade}
@@ -49,8 +49,9 @@ drained_more old cs i x d inside drained one = (
   ],
 )
 
--- one worker's seat, and the collector of its reports, after the run
-one_ended : (j : Job) (s t : Seat Assignment Back) (c d : Collector) → Sits j s c → IsEnded IsBack s t → IsDrained c d
+-- one worker's cell, and the collector of its reports, after the run
+one_ended : (j : Job) (s t : TaskCell Assignment Back) (c d : Collector) → Sits j s c → IsEnded IsBack s t →
+    IsDrained c d
     → HasEnded j t d
 one_ended j (Waits assignment) (Ended b) c d (is, pair, room) (end, ring) (same, kept) = (
   subst (λ (x : Job). IsEndOf x b.pass b.rest (sent b.producer) b.fault) is end,
@@ -67,68 +68,70 @@ one_ended j (Waits assignment) Empty c d sits ended drained = absurd ended
 one_ended j (Ended b) t c d sits ended drained = absurd sits
 one_ended j Empty t c d sits ended drained = absurd sits
 
-pub all_ended : (jobs : List Job) (seats after : List (Seat Assignment Back)) (old new : List Collector)
-    → AllSit jobs seats old → length after ≡ length seats → EachEnded IsBack seats after → AreDrained old new
+pub all_ended : (jobs : List Job) (cells after : List (TaskCell Assignment Back)) (old new : List Collector)
+    → AllSit jobs cells old → length after ≡ length cells → EachEnded IsBack cells after → AreDrained old new
     → AllEnded jobs after new
 all_ended [] [] [] [] [] sit count ended drained = tt
 all_ended [] [] [] [] (d ∷ new) sit count ended drained = absurd (omega (arith, drained.0))
 all_ended [] [] (t ∷ after) old new sit count ended drained = absurd (omega (arith, count))
-all_ended (j ∷ jobs) (s ∷ seats) [] old new sit count ended drained = absurd (omega (arith, count))
-all_ended (j ∷ jobs) (s ∷ seats) (t ∷ after) (c ∷ old) [] sit count ended drained = absurd (omega (arith, drained.0))
-all_ended (j ∷ jobs) (s ∷ seats) (t ∷ after) (c ∷ old) (d ∷ new) sit count ended drained = (
+all_ended (j ∷ jobs) (s ∷ cells) [] old new sit count ended drained = absurd (omega (arith, count))
+all_ended (j ∷ jobs) (s ∷ cells) (t ∷ after) (c ∷ old) [] sit count ended drained = absurd (omega (arith, drained.0))
+all_ended (j ∷ jobs) (s ∷ cells) (t ∷ after) (c ∷ old) (d ∷ new) sit count ended drained = (
   one_ended j s t c d sit.0 (ended 0 s (omega arith)) (drained.1 0 c (omega arith)),
-  all_ended jobs seats after old new sit.1 (omega (arith, count))
+  all_ended jobs cells after old new sit.1 (omega (arith, count))
       (λ i x less. ended (suc i) x (omega (arith, less)))
       (omega (arith, drained.0), λ i x less. drained.1 (suc i) x (omega (arith, less))),
 )
-all_ended [] (s ∷ seats) after old new sit count ended drained = absurd sit
+all_ended [] (s ∷ cells) after old new sit count ended drained = absurd sit
 all_ended [] [] after (c ∷ old) new sit count ended drained = absurd sit
 all_ended (j ∷ jobs) [] after old new sit count ended drained = absurd sit
-all_ended (j ∷ jobs) (s ∷ seats) after [] new sit count ended drained = absurd sit
+all_ended (j ∷ jobs) (s ∷ cells) after [] new sit count ended drained = absurd sit
 
 -- what a vector is after its slice was changed
 taken : {A : Type 0} → (xs rest : List A) (n : ℕ) → n ≡ length xs → take n (xs ++ rest) ≡ xs
 taken xs rest n is = ap (λ (k : ℕ). take k (xs ++ rest)) is ∙ take-append_seam xs rest
 
--- a run over the seats and the collectors of vectors
-pub run_over : (jobs : List Job) (seats after : List (Seat Assignment Back)) (old new : List Collector) (len count : ℕ)
-    (rest : List (Seat Assignment Back)) (left : List Collector) → AllSit jobs seats old → len ≡ length seats
-    → length after ≡ length seats → count ≡ length old → EachEnded IsBack seats after → AreDrained old new
+-- a run over the cells and the collectors of vectors
+pub run_over : (jobs : List Job) (cells after : List (TaskCell Assignment Back)) (old new : List Collector)
+    (len count : ℕ)
+    (rest : List (TaskCell Assignment Back)) (left : List Collector) → AllSit jobs cells old → len ≡ length cells
+    → length after ≡ length cells → count ≡ length old → EachEnded IsBack cells after → AreDrained old new
     → AllEnded jobs (take len (after ++ rest)) (take count (new ++ left))
-run_over jobs seats after old new len count rest left sit is same has ended drained =
+run_over jobs cells after old new len count rest left sit is same has ended drained =
     rw (taken after rest len (is ∙ sym same), taken new left count (has ∙ sym drained.0))
-    (all_ended jobs seats after old new sit same ended drained)
+    (all_ended jobs cells after old new sit same ended drained)
 
-one_come : (j : Job) (t : Seat Assignment Back) (d : Collector) → HasEnded j t d → HasCome t d
+one_come : (j : Job) (t : TaskCell Assignment Back) (d : Collector) → HasEnded j t d → HasCome t d
 one_come j (Ended b) d (end, pair, room) = (pair, omega (arith, end.few, room))
 one_come j (Waits assignment) d ended = absurd ended
 one_come j Empty d ended = absurd ended
 
 -- the rest of all reports can be taken
-pub all_come : (jobs : List Job) (seats : List (Seat Assignment Back)) (collectors : List Collector)
-    → AllEnded jobs seats collectors → HaveCome seats collectors
+pub all_come : (jobs : List Job) (cells : List (TaskCell Assignment Back)) (collectors : List Collector)
+    → AllEnded jobs cells collectors → HaveCome cells collectors
 all_come [] [] [] ended = tt
-all_come (j ∷ jobs) (t ∷ seats) (d ∷ collectors) ended =
-    (one_come j t d ended.0, all_come jobs seats collectors ended.1)
-all_come [] (t ∷ seats) collectors ended = absurd ended
+all_come (j ∷ jobs) (t ∷ cells) (d ∷ collectors) ended =
+    (one_come j t d ended.0, all_come jobs cells collectors ended.1)
+all_come [] (t ∷ cells) collectors ended = absurd ended
 all_come [] [] (d ∷ collectors) ended = absurd ended
 all_come (j ∷ jobs) [] collectors ended = absurd ended
-all_come (j ∷ jobs) (t ∷ seats) [] ended = absurd ended
+all_come (j ∷ jobs) (t ∷ cells) [] ended = absurd ended
 
-one_end : (j : Job) (t : Seat Assignment Back) (d : Collector) (e : WorkerEnd) → HasEnded j t d → IsMade t e → IsEnd j e
+one_end : (j : Job) (t : TaskCell Assignment Back) (d : Collector) (e : WorkerEnd) → HasEnded j t d → IsMade t e →
+    IsEnd j e
 one_end j (Ended b) d e ended (pass, rest, reports, fault) = rw (pass, rest, reports, fault) ended.0
 one_end j (Waits assignment) d e ended made = absurd ended
 one_end j Empty d e ended made = absurd ended
 
 -- the ends that were made are those of the jobs
-pub all_ends : (jobs : List Job) (seats : List (Seat Assignment Back)) (collectors : List Collector)
-    (ends : List WorkerEnd) → AllEnded jobs seats collectors → AreMade seats ends → AreEnds jobs ends
+pub all_ends : (jobs : List Job) (cells : List (TaskCell Assignment Back)) (collectors : List Collector)
+    (ends : List WorkerEnd) → AllEnded jobs cells collectors → AreMade cells ends → AreEnds jobs ends
 all_ends [] [] [] [] ended made = tt
-all_ends (j ∷ jobs) (t ∷ seats) (d ∷ collectors) (e ∷ ends) ended made =
-    (one_end j t d e ended.0 made.0, all_ends jobs seats collectors ends ended.1 made.1)
+all_ends (j ∷ jobs) (t ∷ cells) (d ∷ collectors) (e ∷ ends) ended made =
+    (one_end j t d e ended.0 made.0, all_ends jobs cells collectors ends ended.1 made.1)
 all_ends [] [] [] (e ∷ ends) ended made = absurd made
-all_ends (j ∷ jobs) (t ∷ seats) (d ∷ collectors) [] ended made = absurd made
-all_ends [] (t ∷ seats) collectors ends ended made = absurd ended
+all_ends (j ∷ jobs) (t ∷ cells) (d ∷ collectors) [] ended made = absurd made
+all_ends [] (t ∷ cells) collectors ends ended made = absurd ended
 all_ends [] [] (d ∷ collectors) ends ended made = absurd ended
 all_ends (j ∷ jobs) [] collectors ends ended made = absurd ended
-all_ends (j ∷ jobs) (t ∷ seats) [] ends ended made = absurd ended
+all_ends (j ∷ jobs) (t ∷ cells) [] ends ended made = absurd ended

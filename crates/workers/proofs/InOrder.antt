@@ -9,7 +9,7 @@ use Rattle.driver_laws.proofs.Prelude.{halted_of, halves_of, inl, inr, is_step, 
 use Rattle.driver_laws.proofs.Prelude.{new_sound, new_state, none_behind, refl, rules, same_from_push, sent_since}
 use Rattle.driver_laws.proofs.Prelude.{subst, sym, ℕ, ⊎_elim, ◌++◌, ◌∙◌, ◌∷◌, ◌≡◌}
 use Rattle.driver_laws.proofs.Closed.{isnt_none}
-use Rattle.workers.proofs.WorkerTold.{calls_from, ground_there, named_below, starts_more}
+use Rattle.workers.proofs.WorkerReported.{calls_from, ground_there, named_below, starts_more}
 use Rattle.driver_laws.proofs.{Order.along_before, StartLaws.HistoryLaws.Alone.new_is_left_alone}
 use Rattle.driver_laws.proofs.{Order.along_behind, Order.life_of, Prelude.AreSteps, Prelude.AreUp, Prelude.AtPort}
 use Rattle.driver_laws.proofs.{Prelude.◌≢◌, Prelude.◌⊎◌, Refused.left_in_order, Shifted.Behind, Shifted.Shifts}

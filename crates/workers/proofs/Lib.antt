@@ -17,4 +17,4 @@ pub mod Telling
 pub mod Walks
 pub mod Ways
 pub mod WellBegun
-pub mod WorkerTold
+pub mod WorkerReported

@@ -4,9 +4,9 @@ use Rattle.std.specs.List.{remove}
 use Rattle.std.specs.declared.alloc.Global.{Global}
 use Rattle.rtrb.specs.declared.AnyItems.{AnyItems}
 use Rattle.rtrb.specs.declared.producer.Producer.{Producer}
-use Rattle.workers.specs.Seats.{waits}
-use Rattle.workers.specs.declared.seat.Seat.{Seat}
-use Rattle.workers.specs.declared.seat.Seat.TheVariants.{Waits, Ended, Empty}
+use Rattle.workers.specs.TaskCells.{waits}
+use Rattle.workers.specs.declared.cell.TaskCell.{TaskCell}
+use Rattle.workers.specs.declared.cell.TaskCell.TheVariants.{Waits, Ended, Empty}
 use Rattle.workers.specs.declared.job.Job.{Job}
 use Rattle.workers.specs.declared.reports.Collector.{Collector}
 use Rattle.workers.specs.declared.reports.Report.{Report}
@@ -15,8 +15,8 @@ use Rattle.workers.specs.declared.assignment.Back.{Back}
 use Rattle.workers.specs.declared.assignment.Assignment.{Assignment}
 
 -- one more sits
-sit_more : (jobs : List Job) (ss : List (Seat Assignment Back)) (cs : List Collector) (j : Job)
-    (s : Seat Assignment Back) (c : Collector) → AllSit jobs ss cs → Sits j s c
+sit_more : (jobs : List Job) (ss : List (TaskCell Assignment Back)) (cs : List Collector) (j : Job)
+    (s : TaskCell Assignment Back) (c : Collector) → AllSit jobs ss cs → Sits j s c
     → AllSit (jobs ++ j ∷ []) (ss ++ s ∷ []) (cs ++ c ∷ [])
 sit_more [] [] [] j s c sit sits = (sits, tt)
 sit_more (k ∷ jobs) (t ∷ ss) (d ∷ cs) j s c sit sits = (sit.0, sit_more jobs ss cs j s c sit.1 sits)
@@ -27,7 +27,7 @@ sit_more (k ∷ jobs) (t ∷ ss) [] j s c sit sits = absurd sit
 
 -- some jobs sit, and the others have ways
 pub record IsSitting (all : List Job) (collectors : List Collector) (jobs : List Job)
-    (ps : List (Producer Report Global AnyItems)) (ss : List (Seat Assignment Back)) : Type 0 where
+    (ps : List (Producer Report Global AnyItems)) (ss : List (TaskCell Assignment Back)) : Type 0 where
   pub before : List Job
   pub taken : List Collector
   pub left : List Collector
@@ -37,7 +37,7 @@ pub record IsSitting (all : List Job) (collectors : List Collector) (jobs : List
   pub ways : AreWays jobs ps left
 
 first_sits : (all : List Job) (collectors : List Collector) (jobs : List Job)
-    (ps : List (Producer Report Global AnyItems)) (ss : List (Seat Assignment Back)) (d : Assignment) (k : Job)
+    (ps : List (Producer Report Global AnyItems)) (ss : List (TaskCell Assignment Back)) (d : Assignment) (k : Job)
     (q : Producer Report Global AnyItems) (before : List Job) (taken left : List Collector)
     → before ++ jobs ≡ all → taken ++ left ≡ collectors → AllSit before ss taken
     → AreWays jobs ps left → 0 < length jobs → d.job ≡ slice_index_or jobs 0 k
@@ -62,7 +62,7 @@ first_sits all collectors (j ∷ jobs) (p ∷ ps) ss d k q before taken [] jobs_
 
 -- the first of the others sits down
 pub one_sits : (all : List Job) (collectors : List Collector) (jobs : List Job)
-    (ps : List (Producer Report Global AnyItems)) (ss : List (Seat Assignment Back)) (d : Assignment) (k : Job)
+    (ps : List (Producer Report Global AnyItems)) (ss : List (TaskCell Assignment Back)) (d : Assignment) (k : Job)
     (q : Producer Report Global AnyItems) → IsSitting all collectors jobs ps ss → 0 < length jobs → d.job ≡ k
     → k ≡ slice_index_or jobs 0 k → d.producer ≡ q → q ≡ slice_index_or ps 0 q
     → IsSitting all collectors (remove jobs 0) (remove ps 0) (ss ++ Waits d ∷ [])
@@ -72,14 +72,14 @@ one_sits all collectors jobs ps ss d k q i some job is producer here =
 
 -- nobody sits yet
 pub none_sits : (all : List Job) (collectors : List Collector) (ps : List (Producer Report Global AnyItems))
-    (ss : List (Seat Assignment Back)) → ss ≡ [] → AreWays all ps collectors → IsSitting all collectors all ps ss
+    (ss : List (TaskCell Assignment Back)) → ss ≡ [] → AreWays all ps collectors → IsSitting all collectors all ps ss
 none_sits all collectors ps ss empty ways = record {
   before = [];
   taken = [];
   left = collectors;
   jobs_are = refl;
   collectors_are = refl;
-  sit = subst (λ (l : List (Seat Assignment Back)). AllSit [] l []) (sym empty) tt;
+  sit = subst (λ (l : List (TaskCell Assignment Back)). AllSit [] l []) (sym empty) tt;
   ways = ways;
 }
 
@@ -90,29 +90,29 @@ nobody_left (p ∷ ps) left ways = absurd ways
 
 -- when all sit, each has its collector
 pub all_sit : (all : List Job) (collectors : List Collector) (ps : List (Producer Report Global AnyItems))
-    (ss : List (Seat Assignment Back)) → IsSitting all collectors [] ps ss → AllSit all ss collectors
+    (ss : List (TaskCell Assignment Back)) → IsSitting all collectors [] ps ss → AllSit all ss collectors
 all_sit all collectors ps ss i =
     let none = nobody_left ps i.left i.ways in
     subst (λ (l : List Job). AllSit l ss collectors) (sym (append-nil i.before) ∙ i.jobs_are)
     (subst (λ (l : List Collector). AllSit i.before ss l)
     (sym (append-nil i.taken) ∙ (ap (λ (l : List Collector). i.taken ++ l) (sym none) ∙ i.collectors_are)) i.sit)
 
--- each seat has a task
-pub seats_wait : (jobs : List Job) (ss : List (Seat Assignment Back)) (cs : List Collector) → AllSit jobs ss cs
-    → (k : ℕ) (d : Seat Assignment Back) → k < length ss → waits (slice_index_or ss k d) ≡ true
-seats_wait (j ∷ jobs) (Waits assignment ∷ ss) (c ∷ cs) sit zero d inside = refl
-seats_wait (j ∷ jobs) (Ended b ∷ ss) (c ∷ cs) sit zero d inside = absurd sit.0
-seats_wait (j ∷ jobs) (Empty ∷ ss) (c ∷ cs) sit zero d inside = absurd sit.0
-seats_wait (j ∷ jobs) (s ∷ ss) (c ∷ cs) sit (suc k) d inside =
-    seats_wait jobs ss cs sit.1 k d (omega (arith, inside))
-seats_wait [] [] [] sit k d inside = absurd (omega (arith, inside))
-seats_wait [] (s ∷ ss) cs sit k d inside = absurd sit
-seats_wait [] [] (c ∷ cs) sit k d inside = absurd sit
-seats_wait (j ∷ jobs) [] cs sit k d inside = absurd sit
-seats_wait (j ∷ jobs) (s ∷ ss) [] sit k d inside = absurd sit
+-- each cell has a task
+pub cells_wait : (jobs : List Job) (ss : List (TaskCell Assignment Back)) (cs : List Collector) → AllSit jobs ss cs
+    → (k : ℕ) (d : TaskCell Assignment Back) → k < length ss → waits (slice_index_or ss k d) ≡ true
+cells_wait (j ∷ jobs) (Waits assignment ∷ ss) (c ∷ cs) sit zero d inside = refl
+cells_wait (j ∷ jobs) (Ended b ∷ ss) (c ∷ cs) sit zero d inside = absurd sit.0
+cells_wait (j ∷ jobs) (Empty ∷ ss) (c ∷ cs) sit zero d inside = absurd sit.0
+cells_wait (j ∷ jobs) (s ∷ ss) (c ∷ cs) sit (suc k) d inside =
+    cells_wait jobs ss cs sit.1 k d (omega (arith, inside))
+cells_wait [] [] [] sit k d inside = absurd (omega (arith, inside))
+cells_wait [] (s ∷ ss) cs sit k d inside = absurd sit
+cells_wait [] [] (c ∷ cs) sit k d inside = absurd sit
+cells_wait (j ∷ jobs) [] cs sit k d inside = absurd sit
+cells_wait (j ∷ jobs) (s ∷ ss) [] sit k d inside = absurd sit
 
--- there is a seat for each job
-pub sit_count : (jobs : List Job) (ss : List (Seat Assignment Back)) (cs : List Collector) → AllSit jobs ss cs
+-- there is a cell for each job
+pub sit_count : (jobs : List Job) (ss : List (TaskCell Assignment Back)) (cs : List Collector) → AllSit jobs ss cs
     → length ss ≡ length jobs
 sit_count [] [] [] sit = refl
 sit_count (j ∷ jobs) (s ∷ ss) (c ∷ cs) sit = ap (λ (n : ℕ). suc n) (sit_count jobs ss cs sit.1)

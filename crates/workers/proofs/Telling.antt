@@ -2,7 +2,7 @@
 use Rattle.std.proofs.Common.{◌≡◌, ℕ, suc, ◌+◌, List, [], ◌∷◌, ◌++◌, length, refl, sym, ap, ◌∙◌, arith}
 use Rattle.pmd_driver.specs.PmdAccess.Packet.{Kept}
 use Rattle.workers.specs.declared.reports.Report.{Report}
-use Rattle.workers.specs.Told.{report_of, reports_from, reports_of}
+use Rattle.workers.specs.Reported.{report_of, reports_from, reports_of}
 
 from_more : (queue number : ℕ) (packets : List Kept) (k : Kept)
     → reports_from queue number (packets ++ k ∷ [])
@@ -16,18 +16,18 @@ from_more queue number (first ∷ packets) k =
     (from_more queue (suc number) packets k
     ∙ ap (λ (n : ℕ). reports_from queue (suc number) packets ++ report_of queue n k ∷ []) e)
 
--- what was told of packets, and of one more
-pub told_more : (queue : ℕ) (packets : List Kept) (k : Kept) (reports : List Report)
+-- what was reported packets, and of one more
+pub reported_more : (queue : ℕ) (packets : List Kept) (k : Kept) (reports : List Report)
     → reports ≡ reports_of queue packets
     → reports ++ report_of queue (length packets) k ∷ [] ≡ reports_of queue (packets ++ k ∷ [])
-told_more queue packets k reports told =
+reported_more queue packets k reports reported =
     let e : length packets ≡ 0 + length packets = omega arith in
-    ap (λ (l : List Report). l ++ report_of queue (length packets) k ∷ []) told
+    ap (λ (l : List Report). l ++ report_of queue (length packets) k ∷ []) reported
     ∙ ap (λ (n : ℕ). reports_of queue packets ++ report_of queue n k ∷ []) e
     ∙ sym (from_more queue 0 packets k)
 
 -- there are as many reports as packets
-pub told_count : (queue number : ℕ) (packets : List Kept)
+pub reported_count : (queue number : ℕ) (packets : List Kept)
     → length (reports_from queue number packets) ≡ length packets
-told_count queue number [] = refl
-told_count queue number (k ∷ packets) = ap (λ (n : ℕ). suc n) (told_count queue (suc number) packets)
+reported_count queue number [] = refl
+reported_count queue number (k ∷ packets) = ap (λ (n : ℕ). suc n) (reported_count queue (suc number) packets)

@@ -2,14 +2,14 @@
 use Rattle.std.proofs.Common.{◌≡◌, ℕ, true, List, [], ◌∷◌, Option, Some, None, refl, sym, ap, subst}
 use Rattle.std.specs.Prelude.{◌↔◌, IsTrue}
 use Rattle.std.proofs.lemmas.Bool.{and_parts, eq-eqb, eqb-true}
-use Rattle.pmd_driver.specs.DeviceLock.Told.{settings_through}
+use Rattle.pmd_driver.specs.DeviceLock.Reported.{settings_through}
 use Rattle.pmd_driver.specs.DeviceLock.declared.alone.Watched.{Watched}
 use Rattle.pmd_driver.specs.DeviceLock.declared.entry.Entry.{Entry}
-use Rattle.pmd_driver.specs.DeviceLock.declared.told.Settings.{Settings}
-use Rattle.workers.specs.Before.{first_told, holds_of, told_after, told_before, told_after_entry, told_through}
+use Rattle.pmd_driver.specs.DeviceLock.declared.reported.Settings.{Settings}
+use Rattle.workers.specs.Before.{first_reported, holds_of, reported_after, reported_before, reported_after_entry, reported_through}
 use Rattle.workers.specs.Beginning.{BeginsWell, Fits, begins, is_queue}
 use Rattle.workers.specs.Queues.{queue_at}
-use Rattle.workers.specs.declared.before.Told.{Told}
+use Rattle.workers.specs.declared.before.Reported.{Reported}
 use Rattle.workers.specs.declared.beginning.Given.{Given}
 use Rattle.workers.proofs.FirstOwn.{test_decides}
 
@@ -31,23 +31,25 @@ fitting w s given is =
 is_fitting : (w : Watched) (s : Settings) (given : Given) → Fits w s given → begins w s given ≡ true
 is_fitting w s given x = rw (is_named _ w.queue x.names) (eq-eqb _ _ x.limit)
 
--- the settings that are told
+-- the settings that are reported
 
-settings_told : (w : Watched) (t : Told) (h : List Entry)
-    → (told_through w t h).settings ≡ settings_through w.vfs t.settings h
-settings_told w t [] = refl
-settings_told w t (e ∷ es) = settings_told w (told_after w t e.event) es
+settings_reported : (w : Watched) (t : Reported) (h : List Entry)
+    → (reported_through w t h).settings ≡ settings_through w.vfs t.settings h
+settings_reported w t [] = refl
+settings_reported w t (e ∷ es) = settings_reported w (reported_after w t e.event) es
 
-pub begins_decides : (w : Watched) (from : ℕ) (given : Given) (h : List Entry) (o : Option Told)
-    → o ≡ told_before w first_told from h
+pub begins_decides : (w : Watched) (from : ℕ) (given : Given) (h : List Entry) (o : Option Reported)
+    → o ≡ reported_before w first_reported from h
     → IsTrue (holds_of (λ t. begins w t.settings given) o) ↔ BeginsWell w from given h
-begins_decides w from given h o told =
-    let decides = test_decides (told_after_entry w) w (λ t. begins w t.settings given) first_told from h o told in (
+begins_decides w from given h o reported =
+    let decides = test_decides (reported_after_entry w) w (λ t. begins w t.settings given) first_reported from h o
+    reported in (
       λ is old long x.
-          subst (λ (s : Settings). Fits w s given) (settings_told w first_told x.before)
+          subst (λ (s : Settings). Fits w s given) (settings_reported w first_reported x.before)
           (fitting w _ given (decides.0 is old long x)),
       λ well.
           decides.1 (λ old long x.
-          is_fitting w _ given (subst (λ (s : Settings). Fits w s given) (sym (settings_told w first_told x.before))
+          is_fitting w _ given (subst (λ (s : Settings). Fits w s given)
+          (sym (settings_reported w first_reported x.before))
           (well old long x))),
     )

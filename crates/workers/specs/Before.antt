@@ -2,12 +2,12 @@
 use Rattle.std.specs.Prelude.{ℕ, ◌-◌, ◌==◌, Bool, true, false, not, ◌&&◌, ◌||◌, List, [], ◌∷◌, Option, Some, None, if◌then◌else◌}
 use Rattle.pmd_driver.specs.NicDevice.DmaArena.Block.{Block}
 use Rattle.pmd_driver.specs.NicDevice.declared.event.Event.{Event}
-use Rattle.pmd_driver.specs.DeviceLock.Told.{first_settings, settings_after}
+use Rattle.pmd_driver.specs.DeviceLock.Reported.{first_settings, settings_after}
 use Rattle.pmd_driver.specs.DeviceLock.declared.alone.Watched.{Watched}
 use Rattle.pmd_driver.specs.DeviceLock.declared.entry.Entry.{Entry}
 use Rattle.pmd_driver.specs.PmdAccess.Events.{is_step}
 use Rattle.workers.specs.Quiet.{asks_on}
-use Rattle.workers.specs.declared.before.Told.{Told}
+use Rattle.workers.specs.declared.before.Reported.{Reported}
 
 -- whether an entry is the first of a driver's own, where so many calls of its pass are left before it
 abbrev pub is_first : Watched → ℕ → Entry → Bool
@@ -36,23 +36,23 @@ module _ {S : Type 0} (next : S → Entry → S) where
 
 -- what the entries of a new device's history tell: at first
 
-abbrev pub first_told : Told
-first_told = record { settings = first_settings; asked = false }
+abbrev pub first_reported : Reported
+first_reported = record { settings = first_settings; asked = false }
 
 -- after an event, and after an entry
-abbrev pub told_after : Watched → Told → Event Block → Told
-told_after w t e = record {
+abbrev pub reported_after : Watched → Reported → Event Block → Reported
+reported_after w t e = record {
   settings = settings_after w.vfs t.settings e;
   asked = t.asked || asks_on w t.settings.mode e;
 }
 
-abbrev pub told_after_entry : Watched → Told → Entry → Told
-told_after_entry w t e = told_after w t e.event
+abbrev pub reported_after_entry : Watched → Reported → Entry → Reported
+reported_after_entry w t e = reported_after w t e.event
 
 -- after those of a history
-abbrev pub told_through : Watched → Told → List Entry → Told
-told_through w = known_through (told_after_entry w)
+abbrev pub reported_through : Watched → Reported → List Entry → Reported
+reported_through w = known_through (reported_after_entry w)
 
 -- and just before the first of a driver's own
-abbrev pub told_before : Watched → Told → ℕ → List Entry → Option Told
-told_before w = known_before (told_after_entry w) w
+abbrev pub reported_before : Watched → Reported → ℕ → List Entry → Option Reported
+reported_before w = known_before (reported_after_entry w) w

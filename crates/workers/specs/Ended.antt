@@ -11,12 +11,12 @@ abbrev pub is_home : Rest → Bool
 is_home (Home h) = true
 is_home (Running p) = false
 
--- whether it is told that no thread was made
+-- whether it is reported that no thread was made
 abbrev pub is_threadless : WorkerFault → Bool
 is_threadless NoThread = true
 is_threadless other = false
 
--- whether it is told that the gate didn't let the worker on
+-- whether it is reported that the gate didn't let the worker on
 abbrev pub is_shut_out : WorkerFault → Bool
 is_shut_out GateShut = true
 is_shut_out other = false

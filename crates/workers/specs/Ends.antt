@@ -9,15 +9,15 @@ use Rattle.workers.specs.declared.job.Job.{Job}
 use Rattle.workers.specs.declared.reports.Report.{Report}
 use Rattle.workers.specs.Ended.{is_home}
 use Rattle.workers.specs.Lived.{HasRun}
-use Rattle.workers.specs.Told.{reports_of}
+use Rattle.workers.specs.Reported.{reports_of}
 use Rattle.workers.specs.declared.fault.WorkerFault.{WorkerFault}
 use Rattle.workers.specs.declared.fault.WorkerFault.TheVariants.{NoThread}
 use Rattle.workers.specs.declared.assignment.Back.{Back}
 use Rattle.workers.specs.declared.assignment.Assignment.{Assignment}
 use Rattle.workers.specs.declared.ends.WorkerEnd.{WorkerEnd}
 
--- how the worker of a job ends, with its pass, what its driver left, what it told, and a fault
-pub record IsEndOf (j : Job) (pass : PassValue) (rest : Rest) (told : List Report) (fault : Option WorkerFault) :
+-- how the worker of a job ends, with its pass, what its driver left, what it reported, and a fault
+pub record IsEndOf (j : Job) (pass : PassValue) (rest : Rest) (reported : List Report) (fault : Option WorkerFault) :
     Type 0 where
   pub bench : pass.bench ≡ j.pass.bench
   pub tag : pass.tag ≡ j.pass.tag
@@ -25,8 +25,8 @@ pub record IsEndOf (j : Job) (pass : PassValue) (rest : Rest) (told : List Repor
   pub lived : fault ≢ Some NoThread
       → HasRun (record { port = j.port; queue = j.queue }) j.size j.frame j.pass.calls j.arena pass.calls rest fault
   -- one report for each packet that its driver handed out
-  pub reports : told ≡ reports_of j.queue (left_handed rest)
-  pub few : length told ≤ j.rounds
+  pub reports : reported ≡ reports_of j.queue (left_handed rest)
+  pub few : length reported ≤ j.rounds
   -- without a fault the driver stopped
   pub home : IfNone fault (is_home rest ≡ true)
   -- no block went astray: where none is lost, the numbers of an arena that is home are free where they were

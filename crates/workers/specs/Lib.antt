@@ -19,7 +19,7 @@ pub mod Points
 pub mod Queues
 pub mod Quiet
 pub mod Refusing
-pub mod Seats
+pub mod TaskCells
 pub mod Standing
 pub mod Starts
-pub mod Told
+pub mod Reported

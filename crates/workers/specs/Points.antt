@@ -1,6 +1,6 @@
 -- How a device that was new stands where a driver starts.
 use Rattle.std.specs.Prelude.{List, ℕ}
-use Rattle.driver_laws.specs.{Prelude.BeforeLast, Prelude.BeforeNext, Told.IsTold, Told.Moment}
+use Rattle.driver_laws.specs.{Prelude.BeforeLast, Prelude.BeforeNext, Reported.IsReported, Reported.Moment}
 use Rattle.driver_laws.specs.StartLaws.Prelude.{AtPort, Call, Entry, Numbers, State, Watched, leads_to, new_state}
 use Rattle.workers.specs.Starts.{Starts}
 
@@ -14,5 +14,5 @@ pub record HoldsAtFirst (w : Watched) (fifo : ℕ) (old : List Call) (h : List E
   pub next : BeforeNext w (new_state w.vfs fifo) h old P
   pub started :
       (q : AtPort) (size frame : ℕ) (a : Numbers) (m : Moment) (later : List Moment)
-      (told : IsTold q size frame old a m later)
-      → BeforeLast w (new_state w.vfs fifo) h told.started.2.receive.quiet.0 P
+      (reported : IsReported q size frame old a m later)
+      → BeforeLast w (new_state w.vfs fifo) h reported.started.2.receive.quiet.0 P

@@ -9,7 +9,7 @@ use Rattle.pmd_driver.specs.NicDevice.VfMap.declared.mode.Mode.{Mode}
 use Rattle.pmd_driver.specs.NicDevice.declared.event.Event.{Event}
 use Rattle.pmd_driver.specs.NicDevice.declared.event.Event.TheVariants as event
 use Rattle.pmd_driver.specs.DeviceLock.Alone.{place_at}
-use Rattle.pmd_driver.specs.DeviceLock.Told.{first_settings, settings_through}
+use Rattle.pmd_driver.specs.DeviceLock.Reported.{first_settings, settings_through}
 use Rattle.pmd_driver.specs.DeviceLock.declared.alone.Watched.{Watched}
 use Rattle.pmd_driver.specs.DeviceLock.declared.entry.Call.{Call}
 use Rattle.pmd_driver.specs.DeviceLock.declared.entry.Entry.{Entry}

@@ -2,7 +2,7 @@
 
 ghost use Rattle.std.specs.Prelude.{◌≡◌};
 ghost use Rattle.pmd_driver.specs.PmdAccess.Events.{is_step};
-ghost use Rattle.workers.specs.Before.{first_told, is_first, still_left, told_after, told_before};
+ghost use Rattle.workers.specs.Before.{first_reported, is_first, still_left, reported_after, reported_before};
 ghost use Rattle.workers.specs.Quiet.{asks_on, is_enable};
 
 use pmd_driver::{Entry, Event, EventNote, Mode, Place, RowId, Settings, Watched, place_at};
@@ -10,7 +10,7 @@ use register_bits::{Rxdctl, has_flag};
 
 /// What the entries before a point report: the settings, and whether the watched queue was asked on.
 #[derive(Clone, Copy, PartialEq, Eq, Debug)]
-pub(crate) struct Told {
+pub(crate) struct Reported {
     /// The device's settings after them.
     pub settings: Settings,
     /// Whether one of them asks the watched queue on.
@@ -44,23 +44,23 @@ fn asks_on(watched: Watched, mode: Mode, event: &EventNote) -> bool
     }
 }
 
-impl Told {
+impl Reported {
     /// Of a new device.
-    fn new() -> Told
-        ensures { result ≡ first_told }
+    fn new() -> Reported
+        ensures { result ≡ first_reported }
     {
-        Told {
+        Reported {
             settings: Settings::new(),
             asked: false,
         }
     }
 
     /// What is reported after one more event.
-    fn after(self, watched: Watched, event: &EventNote) -> Told
-        ensures { result ≡ told_after watched self event.now }
+    fn after(self, watched: Watched, event: &EventNote) -> Reported
+        ensures { result ≡ reported_after watched self event.now }
     {
         let asks = asks_on(watched, self.settings.mode, event);
-        Told {
+        Reported {
             settings: self.settings.after(watched.vfs, event),
             asked: self.asked || asks,
         }
@@ -99,18 +99,18 @@ pub(crate) fn still_left(watched: Watched, left: usize, entry: &Entry) -> usize
     }
 }
 
-/// What is told just before the first entry of the driver's own, which is after so many calls of its pass and no step
-/// of the device; none where there is no such entry. No memory is asked for.
-pub(crate) fn told_before(watched: Watched, from: usize, history: &[Entry]) -> Option<Told>
-    ensures { result ≡ told_before watched first_told from history.now }
+/// What is reported just before the first entry of the driver's own, which is after so many calls of its pass and no
+/// step of the device; none where there is no such entry. No memory is asked for.
+pub(crate) fn reported_before(watched: Watched, from: usize, history: &[Entry]) -> Option<Reported>
+    ensures { result ≡ reported_before watched first_reported from history.now }
 {
-    let mut told = Told::new();
+    let mut reported = Reported::new();
     let mut left = from;
     for entry in history {
         if is_first(watched, left, entry) {
-            return Some(told);
+            return Some(reported);
         }
-        told = told.after(watched, &entry.event);
+        reported = reported.after(watched, &entry.event);
         left = still_left(watched, left, entry);
     }
     None

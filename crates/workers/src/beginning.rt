@@ -1,11 +1,11 @@
 //! Whether a driver begins well, as the entries of a history tell: its port and queue name its queue as it starts, and
-//! frames are as long as it was told.
+//! frames are as long as it was reported.
 
 ghost use Rattle.std.specs.Prelude.{◌≡◌, ◌↔◌, true, IsTrue};
 ghost use Rattle.workers.specs.Beginning.{BeginsWell, begins, is_queue};
 ghost use Rattle.workers.specs.Queues.{queue_at};
 
-use crate::before::told_before;
+use crate::before::reported_before;
 use pmd_driver::{Entry, Mode, Port, QUEUES, Settings, Watched, queues_of};
 
 /// How many bytes the frame check sequence has.
@@ -59,8 +59,8 @@ fn begins(watched: Watched, settings: Settings, given: Given) -> bool
 pub fn begins_well(watched: Watched, from: usize, given: Given, history: &[Entry]) -> bool
     ensures { IsTrue result ↔ BeginsWell watched from given history.now }
 {
-    match told_before(watched, from, history) {
-        Some(told) => begins(watched, told.settings, given),
+    match reported_before(watched, from, history) {
+        Some(reported) => begins(watched, reported.settings, given),
         None => true,
     }
 }

@@ -13,7 +13,7 @@ ghost use Rattle.pmd_driver.specs.Started.{left_accepted, left_handed, HasStarte
 ghost use Rattle.workers.specs.Ended.{first_fault, is_home, is_shut_out, is_threadless};
 ghost use Rattle.workers.specs.Kept.{KeepsAll};
 ghost use Rattle.workers.specs.Lived.{HasRun};
-ghost use Rattle.workers.specs.Told.{reports_of};
+ghost use Rattle.workers.specs.Reported.{reports_of};
 
 use crate::fault::WorkerFault;
 use crate::gate::Gate;
@@ -61,10 +61,10 @@ fn work<G: Gate, N: Nic>(
     pmd: &mut Pmd,
     producer: &mut Producer<Report>,
 ) -> Result<(), WorkerFault>
-    requires told { sent producer.old ≡ reports_of order.queue (handed_of pmd.old.rings) }
+    requires reported { sent producer.old ≡ reports_of order.queue (handed_of pmd.old.rings) }
     requires none { handed_of pmd.old.rings ≡ [] }
     requires room { order.rounds ≤ known_free producer.old }
-    ensures told { sent producer.new ≡ reports_of order.queue (handed_of pmd.new.rings) }
+    ensures reported { sent producer.new ≡ reports_of order.queue (handed_of pmd.new.rings) }
     ensures ring { SameProducer producer.old producer.new }
     ensures few { length (handed_of pmd.new.rings) ≤ order.rounds }
     ensures blocks { KeepsAll pmd.old.rings [] pmd.new.rings [] }
@@ -142,7 +142,7 @@ fn drive<G: Gate, N: Nic>(
     ensures lived { (q : AtPort) (size frame : ℕ) (old : List Call) (arena : Numbers)
         → HasStarted q size frame old arena (N.made nic.old) pmd
         → HasRun q size frame old arena (N.made nic.new) result.0 result.1 }
-    ensures told { sent producer.new ≡ reports_of order.queue (left_handed result.0) }
+    ensures reported { sent producer.new ≡ reports_of order.queue (left_handed result.0) }
     ensures few { length (sent producer.new) ≤ order.rounds }
     ensures ring { SameProducer producer.old producer.new }
     ensures home { IfNone result.1 (is_home result.0 ≡ true) }
@@ -178,7 +178,7 @@ pub fn run_worker<G: Gate, N: Nic>(
     requires room { order.rounds ≤ known_free producer.old }
     ensures lived { HasRun (record { port = order.port; queue = order.queue }) order.size order.frame
         (N.made nic.old) arena (N.made nic.new) result.0 result.1 }
-    ensures told { sent producer.new ≡ reports_of order.queue (left_handed result.0) }
+    ensures reported { sent producer.new ≡ reports_of order.queue (left_handed result.0) }
     ensures few { length (sent producer.new) ≤ order.rounds }
     ensures ring { SameProducer producer.old producer.new }
     ensures home { IfNone result.1 (is_home result.0 ≡ true) }

@@ -4,10 +4,10 @@ ghost use Rattle.std.specs.Prelude.{◌≡◌, [], ◌≤◌, length, vec_len, v
 ghost use Rattle.workers.specs.Coming.{HasCome, HaveCome, IsMade, AreMade};
 
 use crate::assignment::Back;
+use crate::cell::TaskCell;
 use crate::fault::WorkerFault;
 use crate::job::Job;
 use crate::reports::{Collector, Report};
-use crate::seat::Seat;
 use pmd_driver::{Pass, Rest};
 
 /// What a worker leaves. It can't be dropped.
@@ -16,7 +16,7 @@ pub struct WorkerEnd {
     pub pass: Pass,
     /// What its driver left.
     pub rest: Rest,
-    /// What it told of the packets that it took, in order.
+    /// What it reported the packets that it took, in order.
     pub reports: Vec<Report>,
     /// Why it ended early, if it did, or why its driver didn't stop.
     pub fault: Option<WorkerFault>,
@@ -51,13 +51,13 @@ pub struct RunRefused {
     pub frames: Vec<Vec<u8>>,
 }
 
-/// The end of a worker whose thread is joined, with all that it told.
-fn end_of<T>(seat: Seat<T, Back>, collector: Collector) -> WorkerEnd
-    requires { HasCome seat collector }
-    ensures { IsMade seat result }
+/// The end of a worker whose thread is joined, with all that it reported.
+fn end_of<T>(cell: TaskCell<T, Back>, collector: Collector) -> WorkerEnd
+    requires { HasCome cell collector }
+    ensures { IsMade cell result }
 {
-    match seat {
-        Seat::Ended(back) => {
+    match cell {
+        TaskCell::Ended(back) => {
             let Back {
                 pass,
                 rest,
@@ -71,30 +71,30 @@ fn end_of<T>(seat: Seat<T, Back>, collector: Collector) -> WorkerEnd
                 fault,
             }
         }
-        Seat::Waits(_task) => unreachable!(),
-        Seat::Empty => unreachable!(),
+        TaskCell::Waits(_task) => unreachable!(),
+        TaskCell::Empty => unreachable!(),
     }
 }
 
 /// The ends of all workers, in their order, for which there is room.
 pub(crate) fn gather<T>(
-    seats: Vec<Seat<T, Back>>,
+    cells: Vec<TaskCell<T, Back>>,
     collectors: Vec<Collector>,
     room: Vec<WorkerEnd>,
 ) -> Vec<WorkerEnd>
-    requires come { HaveCome seats.items collectors.items }
+    requires come { HaveCome cells.items collectors.items }
     requires empty { room.items ≡ [] }
-    requires room { vec_len seats ≤ vec_capacity room }
-    ensures { AreMade seats.items result.items }
+    requires room { vec_len cells ≤ vec_capacity room }
+    ensures { AreMade cells.items result.items }
 {
-    let mut seats = seats;
+    let mut cells = cells;
     let mut collectors = collectors;
     let mut ends = room;
-    for _ in 0..seats.len() {
-        let seat = seats.remove(0);
+    for _ in 0..cells.len() {
+        let cell = cells.remove(0);
         let collector = collectors.remove(0);
-        ends.push_reserved(end_of(seat, collector));
+        ends.push_reserved(end_of(cell, collector));
     }
-    seats.destroy_empty();
+    cells.destroy_empty();
     ends
 }

@@ -17,7 +17,7 @@ pub enum WorkerFault {
 }
 
 impl From<PmdFault> for WorkerFault {
-    ghost from_gives = { λ fault told. told ≡ Pmd fault };
+    ghost from_gives = { λ fault reported. reported ≡ Pmd fault };
 
     fn from(fault: PmdFault) -> WorkerFault {
         WorkerFault::Pmd(fault)

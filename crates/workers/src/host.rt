@@ -51,7 +51,7 @@ fn feed_at<R: Wait, G: Gate, const VFS: u8, const FIFO: u16>(
 }
 
 /// What the calling thread does while the workers run: it is the worker after the last of them at the gate, passes
-/// point 0, feeds, passes point 1, leaves, and then takes what they told so far. How many frames were let in.
+/// point 0, feeds, passes point 1, leaves, and then takes what they reported so far. How many frames were let in.
 pub(crate) fn host<R: Wait, G: Gate, const VFS: u8, const FIFO: u16>(
     rt: &R,
     alloc: Global,

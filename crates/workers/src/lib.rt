@@ -3,7 +3,7 @@
 //! `run_workers` has the jobs done, with the calling thread to feed them and to collect what they tell; `run_worker` is
 //! the run of one of them, over any way to a device.
 //!
-//! Tasks on threads: a task sits in a `Seat`, and after `run` its end does; one whose thread doesn't begin in time
+//! Tasks on threads: a task sits in a `TaskCell`, and after `run` its end does; one whose thread doesn't begin in time
 //! gives up, so that nobody waits for it, and `Start` tells whether it began. A place to meet: `Gate` is what a worker
 //! asks of it, and `Lockstep` is the gate at which all members meet that haven't left.
 //!
@@ -22,6 +22,7 @@
 mod assignment;
 mod before;
 mod beginning;
+mod cell;
 mod driving;
 mod ends;
 mod fault;
@@ -37,7 +38,6 @@ mod meeting;
 mod quiet;
 mod reports;
 mod room;
-mod seat;
 mod standing;
 mod start;
 mod team;
@@ -47,6 +47,7 @@ mod widening;
 mod worker_task;
 
 pub use beginning::{Given, begins_well, queue_at};
+pub use cell::{Task, TaskCell};
 pub use driving::{Order, run_worker};
 pub use ends::{Ran, RunFault, RunRefused, WorkerEnd};
 pub use fault::WorkerFault;
@@ -66,7 +67,6 @@ pub use pmd_driver::{
 };
 pub use quiet::never_asked_on;
 pub use reports::{Collector, Report};
-pub use seat::{Seat, Task};
 pub use start::Start;
 pub use team::run_workers;
 pub use verdict::{Doubt, Driven, judge};

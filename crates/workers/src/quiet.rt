@@ -3,7 +3,7 @@
 ghost use Rattle.std.specs.Prelude.{◌≡◌, ◌↔◌, IsTrue};
 ghost use Rattle.workers.specs.Quiet.{NeverAskedOn};
 
-use crate::before::told_before;
+use crate::before::reported_before;
 use pmd_driver::{Entry, Watched};
 
 /// Whether no entry of a history from a new device asks the watched queue on before the first event of its driver's
@@ -13,8 +13,8 @@ use pmd_driver::{Entry, Watched};
 pub fn never_asked_on(watched: Watched, from: usize, history: &[Entry]) -> bool
     ensures { IsTrue result ↔ NeverAskedOn watched from history.now }
 {
-    match told_before(watched, from, history) {
-        Some(told) => !told.asked,
+    match reported_before(watched, from, history) {
+        Some(reported) => !reported.asked,
         None => true,
     }
 }

@@ -16,7 +16,7 @@ pub struct Report {
     pub number: u32,
     /// How many bytes the packet has.
     pub len: u16,
-    /// Its RSS hash, 0 where none was told.
+    /// Its RSS hash, 0 where none was reported.
     pub hash: u32,
 }
 

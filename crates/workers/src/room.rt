@@ -4,11 +4,11 @@ ghost use Rattle.std.specs.Prelude.{◌≡◌, ◌≤◌, [], IfOk, IfSome, leng
 ghost use Rattle.workers.specs.Coming.{AreWays, AllSit};
 
 use crate::assignment::{Assignment, Back};
+use crate::cell::TaskCell;
 use crate::ends::WorkerEnd;
 use crate::gate::Gate;
 use crate::job::Job;
 use crate::reports::{Collector, Report};
-use crate::seat::Seat;
 use crate::start::Start;
 use crate::worker_task::WorkerTask;
 use pmd_driver::Shared;
@@ -53,23 +53,23 @@ pub(crate) fn make_all_room<T>(
 ) -> Option<(Room, Vec<T>, Vec<WorkerEnd>)>
     ensures starts { IfSome result (λ all. vec_len all.0.starts ≡ length jobs.now) }
     ensures ways { IfSome result (λ all. AreWays jobs.now all.0.producers.items all.0.collectors.items) }
-    ensures seats { IfSome result (λ all. (all.1.items ≡ []) × (length jobs.now ≤ vec_capacity all.1)) }
+    ensures cells { IfSome result (λ all. (all.1.items ≡ []) × (length jobs.now ≤ vec_capacity all.1)) }
     ensures ends { IfSome result (λ all. (all.2.items ≡ []) × (length jobs.now ≤ vec_capacity all.2)) }
 {
     let Ok(room) = make_room(alloc, jobs) else {
         return None;
     };
-    let Ok(seats) = Vec::with_capacity(alloc, jobs.len()) else {
+    let Ok(cells) = Vec::with_capacity(alloc, jobs.len()) else {
         return None;
     };
     let Ok(ends) = Vec::with_capacity(alloc, jobs.len()) else {
-        seats.destroy_empty();
+        cells.destroy_empty();
         return None;
     };
-    Some((room, seats, ends))
+    Some((room, cells, ends))
 }
 
-/// Each job in a seat, with its worker's end of the way for reports. There is room for the seats.
+/// Each job in a cell, with its worker's end of the way for reports. There is room for the cells.
 pub(crate) fn sit<'a, R: Wait, G: Gate, const VFS: u8, const FIFO: u16>(
     rt: &'a R,
     alloc: Global,
@@ -78,8 +78,8 @@ pub(crate) fn sit<'a, R: Wait, G: Gate, const VFS: u8, const FIFO: u16>(
     jobs: Vec<Job>,
     producers: Vec<Producer<Report>>,
     collectors: &[Collector],
-    room: Vec<Seat<WorkerTask<'a, R, G, VFS, FIFO>, Back>>,
-) -> Vec<Seat<WorkerTask<'a, R, G, VFS, FIFO>, Back>>
+    room: Vec<TaskCell<WorkerTask<'a, R, G, VFS, FIFO>, Back>>,
+) -> Vec<TaskCell<WorkerTask<'a, R, G, VFS, FIFO>, Back>>
     requires ways { AreWays jobs.items producers.items collectors.now }
     requires empty { room.items ≡ [] }
     requires room { vec_len jobs ≤ vec_capacity room }
@@ -87,15 +87,15 @@ pub(crate) fn sit<'a, R: Wait, G: Gate, const VFS: u8, const FIFO: u16>(
 {
     let mut jobs = jobs;
     let mut producers = producers;
-    let mut seats = room;
+    let mut cells = room;
     for worker in 0..jobs.len() {
         let assignment = Assignment {
             worker,
             job: jobs.remove(0),
             producer: producers.remove(0),
         };
-        seats.push_reserved(Seat::Waits(WorkerTask::new(rt, alloc, gate, shared, assignment)));
+        cells.push_reserved(TaskCell::Waits(WorkerTask::new(rt, alloc, gate, shared, assignment)));
     }
     jobs.destroy_empty();
-    seats
+    cells
 }

@@ -1,7 +1,7 @@
 //! A run of workers.
 
 ghost use Rattle.std.specs.Prelude.{◌≡◌, ◌≤◌, [], All, length, map, vec_len, vec_capacity, true, IfOk, IfErr, IfSome, IfNone, OnOk, OnErr};
-ghost use Rattle.workers.specs.Seats.{waits, EachEnded};
+ghost use Rattle.workers.specs.TaskCells.{waits, EachEnded};
 ghost use Rattle.workers.specs.Feeding.{AreFed, done_in, gained};
 ghost use Rattle.workers.specs.Coming.{AreDrained, AreWays};
 ghost use Rattle.workers.specs.Ends.{AreEnds, IsBack};
@@ -9,6 +9,7 @@ ghost use Rattle.workers.specs.Order.{AreInOrder};
 ghost use Rattle.workers.specs.Refusing.{IsTeam, IsWhy, is_certain, is_team_size};
 
 use crate::assignment::Back;
+use crate::cell::TaskCell;
 use crate::ends::{Ran, RunFault, RunRefused, WorkerEnd, gather};
 use crate::gate::Gate;
 use crate::host::host;
@@ -16,7 +17,6 @@ use crate::hosted::run;
 use crate::job::{Job, overlap};
 use crate::reports::Collector;
 use crate::room::{Room, make_all_room, sit};
-use crate::seat::Seat;
 use crate::start::Start;
 use crate::worker_task::WorkerTask;
 use pmd_driver::{Pass, Shared};
@@ -50,9 +50,9 @@ fn refusal(jobs: &[Job]) -> Option<RunFault>
     }
 }
 
-/// Does the tasks in their seats, each on a thread of its own, and the calling thread's part meanwhile. How many frames
+/// Does the tasks in their cells, each on a thread of its own, and the calling thread's part meanwhile. How many frames
 /// were let in.
-fn run_seats<R: Threads + Wait + Sync, G: Gate + Sync, const VFS: u8, const FIFO: u16>(
+fn run_cells<R: Threads + Wait + Sync, G: Gate + Sync, const VFS: u8, const FIFO: u16>(
     rt: &R,
     alloc: Global,
     gate: &G,
@@ -61,11 +61,11 @@ fn run_seats<R: Threads + Wait + Sync, G: Gate + Sync, const VFS: u8, const FIFO
     pass: &mut Pass,
     frames: Vec<Vec<u8>>,
     collectors: &mut [Collector],
-    seats: &mut [Seat<WorkerTask<'_, R, G, VFS, FIFO>, Back>],
+    cells: &mut [TaskCell<WorkerTask<'_, R, G, VFS, FIFO>, Back>],
 ) -> usize
-    requires waits { All (λ s. waits s ≡ true) seats.old }
-    requires starts { length starts.now ≡ length seats.old }
-    ensures ended { EachEnded IsBack seats.old seats.new }
+    requires waits { All (λ s. waits s ≡ true) cells.old }
+    requires starts { length starts.now ≡ length cells.old }
+    ensures ended { EachEnded IsBack cells.old cells.new }
     ensures fed { AreFed (map (λ frame. frame.items) frames.items) pass.old pass.new }
     ensures count { result ≡ done_in (gained pass.old pass.new) }
     ensures drained { AreDrained collectors.old collectors.new }
@@ -83,7 +83,7 @@ fn run_seats<R: Threads + Wait + Sync, G: Gate + Sync, const VFS: u8, const FIFO
             let frames = mem::replace(&mut frames, Vec::new(alloc));
             fed = host(rt, alloc, gate, shared, starts, pass, frames, collectors);
         },
-        seats,
+        cells,
     );
     fed
 }
@@ -98,12 +98,12 @@ fn run_in<R: Threads + Wait + Sync, G: Gate + Sync, const VFS: u8, const FIFO: u
     pass: &mut Pass,
     frames: Vec<Vec<u8>>,
     room: Room,
-    seats: Vec<Seat<WorkerTask<'_, R, G, VFS, FIFO>, Back>>,
+    cells: Vec<TaskCell<WorkerTask<'_, R, G, VFS, FIFO>, Back>>,
     ends: Vec<WorkerEnd>,
 ) -> Ran
     requires starts { vec_len room.starts ≡ vec_len jobs }
     requires ways { AreWays jobs.items room.producers.items room.collectors.items }
-    requires seats { (seats.items ≡ []) × (vec_len jobs ≤ vec_capacity seats) }
+    requires cells { (cells.items ≡ []) × (vec_len jobs ≤ vec_capacity cells) }
     requires ends { (ends.items ≡ []) × (vec_len jobs ≤ vec_capacity ends) }
     ensures ends { AreEnds jobs.items result.ends.items }
     ensures fed { AreFed (map (λ frame. frame.items) frames.items) pass.old pass.new }
@@ -114,8 +114,8 @@ fn run_in<R: Threads + Wait + Sync, G: Gate + Sync, const VFS: u8, const FIFO: u
         producers,
         mut collectors,
     } = room;
-    let mut seats = sit(rt, alloc, gate, shared, jobs, producers, &collectors, seats);
-    let fed = run_seats(
+    let mut cells = sit(rt, alloc, gate, shared, jobs, producers, &collectors, cells);
+    let fed = run_cells(
         rt,
         alloc,
         gate,
@@ -124,10 +124,10 @@ fn run_in<R: Threads + Wait + Sync, G: Gate + Sync, const VFS: u8, const FIFO: u
         pass,
         frames,
         &mut collectors,
-        &mut seats,
+        &mut cells,
     );
     Ran {
-        ends: gather(seats, collectors, ends),
+        ends: gather(cells, collectors, ends),
         fed,
     }
 }
@@ -137,7 +137,7 @@ fn run_in<R: Threads + Wait + Sync, G: Gate + Sync, const VFS: u8, const FIFO: u
 /// Each worker starts a driver of its queue, passes the points 0 and 1 of the gate, looks `rounds` times for a packet,
 /// tells of each and sends it again, reaps, passes point 2, and stops the driver. The calling thread, whose number at
 /// the gate is that of the jobs, passes point 0, has the frames arrive up to the first that is refused, none where the
-/// gate doesn't let it on, passes point 1 and leaves; then it takes what the workers told, and joins them. A worker
+/// gate doesn't let it on, passes point 1 and leaves; then it takes what the workers reported, and joins them. A worker
 /// that ends early leaves the gate, and so does the calling thread for one whose thread doesn't begin.
 ///
 /// What each end tells is in order over every history of the device that leaves the queue of its job alone, up to the
@@ -178,7 +178,7 @@ pub fn run_workers<R: Threads + Wait + Sync, G: Gate + Sync, const VFS: u8, cons
             frames,
         });
     }
-    let Some((room, seats, ends)) = make_all_room(alloc, &jobs) else {
+    let Some((room, cells, ends)) = make_all_room(alloc, &jobs) else {
         return Err(RunRefused {
             fault: RunFault::OutOfMemory,
             jobs,
@@ -186,6 +186,6 @@ pub fn run_workers<R: Threads + Wait + Sync, G: Gate + Sync, const VFS: u8, cons
         });
     };
     Ok(run_in(
-        rt, alloc, gate, shared, jobs, pass, frames, room, seats, ends,
+        rt, alloc, gate, shared, jobs, pass, frames, room, cells, ends,
     ))
 }

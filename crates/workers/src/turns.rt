@@ -1,4 +1,4 @@
-//! One packet after another: it is taken, told of, and sent again.
+//! One packet after another: it is taken, reported of, and sent again.
 
 ghost use Rattle.std.specs.Prelude.{◌≡◌, ◌+◌, ◌<◌, ◌≤◌, ◌++◌, ◌∷◌, [], length, true, IfOk, IfSome, IfNone, OnErr};
 ghost use Rattle.rtrb.specs.Ring.{sent, known_free, SameProducer};
@@ -9,7 +9,7 @@ ghost use Rattle.pmd_driver.specs.Driver.{handed_of, goes_back_to};
 ghost use Rattle.pmd_driver.specs.Life.{KeepsHalves, RunsOn};
 ghost use Rattle.pmd_driver.specs.PmdRx.Keeping.{handed_blocks, numbers_in};
 ghost use Rattle.workers.specs.Kept.{KeepsAll};
-ghost use Rattle.workers.specs.Told.{report_of, reports_of};
+ghost use Rattle.workers.specs.Reported.{report_of, reports_of};
 
 use crate::reports::Report;
 use pmd_driver::{Nic, Packet, Pmd, PmdFault, Reaped, TxAnswer, TxFault, bytes_in};
@@ -109,7 +109,7 @@ fn forward<N: Nic>(
     sent
 }
 
-/// One look for a packet. Where one came, it is told of and sent again.
+/// One look for a packet. Where one came, it is reported and sent again.
 fn turn<N: Nic>(
     alloc: Global,
     nic: &mut N,
@@ -117,10 +117,10 @@ fn turn<N: Nic>(
     pmd: &mut Pmd,
     producer: &mut Producer<Report>,
 ) -> Result<(), PmdFault>
-    requires told { sent producer.old ≡ reports_of queue (handed_of pmd.old.rings) }
+    requires reported { sent producer.old ≡ reports_of queue (handed_of pmd.old.rings) }
     requires room { 0 < known_free producer.old }
     requires few { length (handed_of pmd.old.rings) < 4294967296 }
-    ensures told { sent producer.new ≡ reports_of queue (handed_of pmd.new.rings) }
+    ensures reported { sent producer.new ≡ reports_of queue (handed_of pmd.new.rings) }
     ensures ring { SameProducer producer.old producer.new }
     ensures room { known_free producer.old ≤ known_free producer.new + 1 }
     ensures few { length (handed_of pmd.new.rings) ≤ length (handed_of pmd.old.rings) + 1 }
@@ -158,10 +158,10 @@ fn round<N: Nic>(
     pmd: &mut Pmd,
     producer: &mut Producer<Report>,
 ) -> Result<(), PmdFault>
-    requires told { sent producer.old ≡ reports_of queue (handed_of pmd.old.rings) }
+    requires reported { sent producer.old ≡ reports_of queue (handed_of pmd.old.rings) }
     requires room { 0 < known_free producer.old }
     requires few { length (handed_of pmd.old.rings) < 4294967296 }
-    ensures told { sent producer.new ≡ reports_of queue (handed_of pmd.new.rings) }
+    ensures reported { sent producer.new ≡ reports_of queue (handed_of pmd.new.rings) }
     ensures ring { SameProducer producer.old producer.new }
     ensures room { known_free producer.old ≤ known_free producer.new + 1 }
     ensures few { length (handed_of pmd.new.rings) ≤ length (handed_of pmd.old.rings) + 1 }
@@ -184,10 +184,10 @@ pub(crate) fn do_rounds<N: Nic>(
     pmd: &mut Pmd,
     producer: &mut Producer<Report>,
 ) -> Result<(), PmdFault>
-    requires told { sent producer.old ≡ reports_of queue (handed_of pmd.old.rings) }
+    requires reported { sent producer.old ≡ reports_of queue (handed_of pmd.old.rings) }
     requires none { handed_of pmd.old.rings ≡ [] }
     requires room { rounds ≤ known_free producer.old }
-    ensures told { sent producer.new ≡ reports_of queue (handed_of pmd.new.rings) }
+    ensures reported { sent producer.new ≡ reports_of queue (handed_of pmd.new.rings) }
     ensures ring { SameProducer producer.old producer.new }
     ensures few { length (handed_of pmd.new.rings) ≤ rounds }
     ensures drives { RunsOn (N.made nic.old) pmd.old.rings (N.made nic.new) pmd.new.rings }

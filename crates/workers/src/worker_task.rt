@@ -4,11 +4,11 @@ ghost use Rattle.std.specs.Prelude.{◌≡◌};
 ghost use Rattle.workers.specs.Ends.{IsBack};
 
 use crate::assignment::{Assignment, Back};
+use crate::cell::Task;
 use crate::driving::{Order, run_worker};
 use crate::fault::WorkerFault;
 use crate::gate::Gate;
 use crate::job::Job;
-use crate::seat::Task;
 use crate::widening::widen;
 use pmd_driver::{Home, Rest, Shared, ThroughLock};
 use std::alloc::Global;

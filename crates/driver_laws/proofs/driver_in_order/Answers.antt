@@ -1,7 +1,7 @@
 use Rattle.driver_laws.proofs.Prelude.{◌∙◌, HasNoneOut, Rings, accepted_of, ap, bytes_of, handed_of, subst}
-use Rattle.driver_laws.proofs.{Told.goes, Told.life, Told.none_before, Told.none_first, Told.up_next}
+use Rattle.driver_laws.proofs.{Reported.goes, Reported.life, Reported.none_before, Reported.none_first, Reported.up_next}
 use Rattle.driver_laws.{proofs.Order.handed, proofs.Order.idle, proofs.Order.ran, proofs.Order.sent_first}
-use Rattle.driver_laws.{specs.Told.now}
+use Rattle.driver_laws.{specs.Reported.now}
 
 pub returns : Rattle.driver_laws.proofs.driver_in_order.Goals.returns
 returns c = record {

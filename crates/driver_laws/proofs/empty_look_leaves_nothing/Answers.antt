@@ -1,4 +1,4 @@
-use Rattle.driver_laws.proofs.Told.{none_before, none_first}
+use Rattle.driver_laws.proofs.Reported.{none_before, none_first}
 
 pub returns : Rattle.driver_laws.proofs.empty_look_leaves_nothing.Goals.returns
 returns c = record {

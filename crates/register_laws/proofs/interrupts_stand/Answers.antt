@@ -3,4 +3,5 @@ use Rattle.register_laws.proofs.interrupts_stand.Goals as goal
 
 pub returns : goal.returns
 returns c =
-    λ r h s consistent b causes enabled told. interrupts_of-with_interrupts r h s b consistent causes enabled told
+    λ r h s consistent b causes enabled reported. interrupts_of-with_interrupts r h s b consistent causes enabled
+    reported

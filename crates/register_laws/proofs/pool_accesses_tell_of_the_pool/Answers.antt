@@ -1,10 +1,10 @@
 use Rattle.register_laws.proofs.PoolAfterReset.{agree-reset}
 use Rattle.register_laws.proofs.PoolAgreement.{agree-read, agree-write}
-use Rattle.register_laws.proofs.PoolReads.{same_told, same_shared}
+use Rattle.register_laws.proofs.PoolReads.{same_reported, same_shared}
 use Rattle.register_laws.proofs.pool_accesses_tell_of_the_pool.Goals as goal
 
 pub returns-clause-word : goal.returns-clause-word
-returns-clause-word c = same_told
+returns-clause-word c = same_reported
 
 pub returns-clause-shared_word : goal.returns-clause-shared_word
 returns-clause-shared_word c = same_shared

@@ -1,6 +1,6 @@
 use Rattle.register_file.proofs.ResetWords.{word_at-reset}
 use Rattle.register_laws.proofs.ReadBack.{off-reset}
-use Rattle.register_laws.proofs.SoundReset.{none_told}
+use Rattle.register_laws.proofs.SoundReset.{none_reported}
 use Rattle.register_laws.proofs.reset_is_the_tables.Goals as goal
 
 pub returns-clause-words : goal.returns-clause-words
@@ -9,5 +9,5 @@ returns-clause-words c = word_at-reset
 pub returns-clause-off : goal.returns-clause-off
 returns-clause-off c = off-reset
 
-pub returns-clause-told : goal.returns-clause-told
-returns-clause-told c = none_told
+pub returns-clause-reported : goal.returns-clause-reported
+returns-clause-reported c = none_reported

@@ -6,7 +6,7 @@ pub returns-clause-reset : goal.returns-clause-reset
 returns-clause-reset c =
     λ r h mode v.
     let new = renewed-pool r mode v in
-    record { bits = new.bits h; wanted = new.wanted h; told = new.told h }
+    record { bits = new.bits h; wanted = new.wanted h; reported = new.reported h }
 
 pub returns-clause-alone : goal.returns-clause-alone
 returns-clause-alone c = λ r mode v. (renewed-pool r mode v).alone

@@ -10,10 +10,11 @@ pub returns-in-Err : goal.returns-in-Err
 returns-in-Err g c =
     ended-given-up _ (g.W.Write.contents c.answer.new.output.writer) _ _ c.args.request _ _ c.in-Err.failure
     c.end_given_up.result c.in-Err.ensures.answer
-    (λ is. let told = c.in-Err.ensures.unread (ap Err is) in (told.0, ap (λ o. g.W.Write.contents o.writer) told.1))
+    (λ is. let reported = c.in-Err.ensures.unread (ap Err is) in
+    (reported.0, ap (λ o. g.W.Write.contents o.writer) reported.1))
     c.end_given_up.ensures.read c.end_given_up.ensures.memory
-    (λ is. let told = c.end_given_up.ensures.write is in
-    subst (EndsUnwritten (IsUnwritten c.end_given_up.new.output)) (sym told.0) (
-      ap (λ o. o.has_failed) told.1 ∙ c.in-Err.ensures.unwritten (ap Err is),
-      ap (λ o. unwritten_status o.lacked_memory) (sym told.1),
+    (λ is. let reported = c.end_given_up.ensures.write is in
+    subst (EndsUnwritten (IsUnwritten c.end_given_up.new.output)) (sym reported.0) (
+      ap (λ o. o.has_failed) reported.1 ∙ c.in-Err.ensures.unwritten (ap Err is),
+      ap (λ o. unwritten_status o.lacked_memory) (sym reported.1),
     ))

@@ -16,9 +16,9 @@ returns-then-not-is_out c =
     let end = c.loop-number.auto.number-end in
     let test = c.loop-number-test.true in
     let out = λ (n : ℕ). is_own a n && not (is_free a n) && not (list_any (λ b. n == b) rest) in
-    let told = c.is_out.ensures ∙ ap out c.block-block.ensures.number in
+    let reported = c.is_out.ensures ∙ ap out c.block-block.ensures.number in
     sym (c.loop-number.invariant
-    ∙ out-left a bs k c.get.result.now (omega (arith, count, end, test)) c.get.ensures c.is_out.result told
+    ∙ out-left a bs k c.get.result.now (omega (arith, count, end, test)) c.get.ensures c.is_out.result reported
     ∙ ap (λ (t : Bool). t && are_out a rest) c.if-not-is_out.true)
 
 pub loop-number-preserved : goal.loop-number-preserved
@@ -31,7 +31,7 @@ loop-number-preserved c =
     let end = c.loop-number.auto.number-end in
     let test = c.loop-number-test.true in
     let out = λ (n : ℕ). is_own a n && not (is_free a n) && not (list_any (λ b. n == b) rest) in
-    let told = c.is_out.ensures ∙ ap out c.block-block.ensures.number in
+    let reported = c.is_out.ensures ∙ ap out c.block-block.ensures.number in
     c.loop-number.invariant
-    ∙ out-left a bs k c.get.result.now (omega (arith, count, end, test)) c.get.ensures c.is_out.result told
+    ∙ out-left a bs k c.get.result.now (omega (arith, count, end, test)) c.get.ensures c.is_out.result reported
     ∙ ap (λ (t : Bool). t && are_out a rest) c.if-not-is_out.false

@@ -7,6 +7,6 @@ pub returns-in-Ok-clause-ok : goal.returns-in-Ok-clause-ok
 returns-in-Ok-clause-ok c = hex_bytes_of-decoded c.args.word.now _ c.in-Ok.ensures.ok
 
 pub returns-in-Err-clause-malformed : goal.returns-in-Err-clause-malformed
-returns-in-Err-clause-malformed c = λ told.
+returns-in-Err-clause-malformed c = λ reported.
     let fault : c.fault_of.result ≡ Malformed = cc in
     hex_bytes_of-refused c.args.word.now c.in-Err.error (c.fault_of.ensures fault) c.in-Err.ensures.err

@@ -2,15 +2,15 @@ use Rattle.std.proofs.Common.{length, ap, inl, arith}
 use Rattle.pmd_driver.specs.Driver.{handed_of}
 use Rattle.pmd_driver.proofs.Living.{has_lived}
 use Rattle.workers.proofs.Ending.{home_without, had_thread, shut_out}
-use Rattle.workers.proofs.Telling.{told_count}
+use Rattle.workers.proofs.Telling.{reported_count}
 use Rattle.workers.proofs.driving.drive.Goals as goal
 
 pub returns-clause-few : goal.returns-clause-few
 returns-clause-few g c = omega (
   arith,
   c.work-worked.ensures.few,
-  ap (λ l. length l) c.work-worked.ensures.told,
-  told_count c.args.order.queue 0 (handed_of c.work-worked.new.pmd.rings),
+  ap (λ l. length l) c.work-worked.ensures.reported,
+  reported_count c.args.order.queue 0 (handed_of c.work-worked.new.pmd.rings),
 )
 
 pub returns-clause-home : goal.returns-clause-home

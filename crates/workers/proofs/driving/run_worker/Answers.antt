@@ -6,5 +6,5 @@ returns-in-Err-clause-whole g c = c.end.ensures.whole c.args.arena c.in-Err.ensu
 pub returns-in-Ok-clause-lived : goal.returns-in-Ok-clause-lived
 returns-in-Ok-clause-lived g c = c.drive.ensures.lived _ _ _ _ _ c.in-Ok.ensures.started
 
-pub returns-in-Ok-clause-told : goal.returns-in-Ok-clause-told
-returns-in-Ok-clause-told g c = c.drive.ensures.told
+pub returns-in-Ok-clause-reported : goal.returns-in-Ok-clause-reported
+returns-in-Ok-clause-reported g c = c.drive.ensures.reported

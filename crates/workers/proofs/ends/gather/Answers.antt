@@ -1,5 +1,5 @@
 use Rattle.std.proofs.Common.{◌<◌, List, length, arith, subst}
-use Rattle.workers.specs.declared.seat.Seat.{Seat}
+use Rattle.workers.specs.declared.cell.TaskCell.{TaskCell}
 use Rattle.workers.specs.declared.assignment.Back.{Back}
 use Rattle.workers.proofs.Emptied.{emptied}
 use Rattle.workers.proofs.Gathering.{IsGathered, first_come, one_gathered, all_gathered}
@@ -8,16 +8,16 @@ use Rattle.workers.proofs.ends.gather.Goals as goal
 pub loop-preserved : goal.loop-preserved
 loop-preserved g c =
     let i = c.loop.invariant in
-    let some : 0 < length c.loop.seats.items =
-    omega (arith, i.left, c.loop-test.true, c.len-end.ensures, c.loop.seats.ok.0) in
-    let first = first_come c.loop.seats.items c.loop.collectors.items c.remove-seat.result c.remove-collector.result
-    some i.come c.remove-seat.ensures.value c.remove-collector.ensures.value in
+    let some : 0 < length c.loop.cells.items =
+    omega (arith, i.left, c.loop-test.true, c.len-end.ensures, c.loop.cells.ok.0) in
+    let first = first_come c.loop.cells.items c.loop.collectors.items c.remove-cell.result c.remove-collector.result
+    some i.come c.remove-cell.ensures.value c.remove-collector.ensures.value in
     record {
-      gathered = rw (c.remove-seat.ensures.items, c.push_reserved.ensures.items)
-          (one_gathered c.args.seats.items c.loop.seats.items c.loop.ends.items c.remove-seat.result c.end_of.result
-          i.gathered some c.remove-seat.ensures.value c.end_of.ensures);
-      come = rw (c.remove-seat.ensures.items, c.remove-collector.ensures.items) first.2;
-      left = omega (arith, c.remove-seat.ensures.len, i.left);
+      gathered = rw (c.remove-cell.ensures.items, c.push_reserved.ensures.items)
+          (one_gathered c.args.cells.items c.loop.cells.items c.loop.ends.items c.remove-cell.result c.end_of.result
+          i.gathered some c.remove-cell.ensures.value c.end_of.ensures);
+      come = rw (c.remove-cell.ensures.items, c.remove-collector.ensures.items) first.2;
+      left = omega (arith, c.remove-cell.ensures.len, i.left);
       made = omega (arith, c.push_reserved.ensures.len, i.made);
       room = rw c.push_reserved.ensures.capacity i.room;
     }
@@ -25,7 +25,7 @@ loop-preserved g c =
 pub returns : goal.returns
 returns g c =
     let i = c.loop.invariant in
-    let none = emptied c.loop.seats.items
-    (omega (arith, i.left, c.loop-test.false, c.len-end.ensures, c.loop.seats.ok.0)) in
-    all_gathered c.args.seats.items c.loop.ends.items
-    (subst (λ (l : List (Seat _ Back)). IsGathered c.args.seats.items l c.loop.ends.items) none i.gathered)
+    let none = emptied c.loop.cells.items
+    (omega (arith, i.left, c.loop-test.false, c.len-end.ensures, c.loop.cells.ok.0)) in
+    all_gathered c.args.cells.items c.loop.ends.items
+    (subst (λ (l : List (TaskCell _ Back)). IsGathered c.args.cells.items l c.loop.ends.items) none i.gathered)

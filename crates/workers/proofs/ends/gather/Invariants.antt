@@ -7,9 +7,9 @@ use Rattle.workers.proofs.ends.gather.Given as goal
 abbrev pub invariant-loop : goal.invariant-loop
 invariant-loop g l =
     record {
-      gathered : IsGathered l.fn.seats.items l.seats.items l.ends.items;
-      come : HaveCome l.seats.items l.collectors.items;
-      left : vec_len l.seats + l.counter ≡ vec_len l.fn.seats;
+      gathered : IsGathered l.fn.cells.items l.cells.items l.ends.items;
+      come : HaveCome l.cells.items l.collectors.items;
+      left : vec_len l.cells + l.counter ≡ vec_len l.fn.cells;
       made : vec_len l.ends ≡ l.counter;
-      room : vec_len l.fn.seats ≤ vec_capacity l.ends;
+      room : vec_len l.fn.cells ≤ vec_capacity l.ends;
     }

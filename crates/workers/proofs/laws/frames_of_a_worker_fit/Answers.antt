@@ -4,7 +4,7 @@ use Rattle.driver_laws.proofs.Prelude.{All, Block, Event, FitsBlocks, Waiting, a
 use Rattle.driver_laws.proofs.Prelude.{State, [], arith, common_steps, leads_to, legal_before, max, refl, sym, ℕ, ◌∷◌}
 use Rattle.driver_laws.proofs.{Prelude.Entry, Prelude.IsLegal, Prelude.List, Prelude.length, Prelude.subst}
 use Rattle.driver_laws.proofs.{StartLaws.RingLaws.Fitting.all_wait}
-use Rattle.workers.proofs.WorkerTold.{holds_at_first}
+use Rattle.workers.proofs.WorkerReported.{holds_at_first}
 use Rattle.workers.specs.AtFirst.{AllFitBlocks}
 use Rattle.std.proofs.lemmas.List.Elements.{All-nil, All-push, All-weaker}
 use Rattle.workers.specs.{Before.known_through, Fitting.let_in_by, Fitting.longest_after, Fitting.longest_let_in}

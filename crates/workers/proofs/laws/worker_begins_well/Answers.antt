@@ -1,5 +1,5 @@
 use Rattle.driver_laws.proofs.Prelude.{HasGround, new_sound}
-use Rattle.workers.proofs.WorkerTold.{ground_there, holds_at_first}
+use Rattle.workers.proofs.WorkerReported.{ground_there, holds_at_first}
 
 pub returns : Rattle.workers.proofs.laws.worker_begins_well.Goals.returns
 returns c w fifo old given h device events well =

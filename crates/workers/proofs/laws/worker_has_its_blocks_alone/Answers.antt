@@ -11,27 +11,27 @@ use Rattle.driver_laws.specs.StartLaws.RingLaws.HistoryLaws.Lent.{LendsNone}
 use Rattle.pmd_driver.specs.NicDevice.declared.event.Event.TheVariants as event
 use Rattle.driver_laws.proofs.Prelude.{events_before, false, has_block, is_own, is_some, leads_to, legal_before, lends}
 use Rattle.driver_laws.proofs.Prelude.{nat_cmp, nat_lt, new_state, refl, reply_to, subst, sym, ℕ, ◌&&◌, ◌||◌, ◌∷◌}
-use Rattle.workers.proofs.WorkerTold.{holds_at_first}
+use Rattle.workers.proofs.WorkerReported.{holds_at_first}
 use Rattle.std.{proofs.lemmas.Bool.Decides.nat_tests, proofs.lemmas.Bool.or_left, specs.Prelude.not}
 use Rattle.workers.specs.Lending.{lends_none, takes}
 use Rattle.workers.specs.{Before.known_through, Lending.lent_after, Lending.lent_through, Lending.no_block}
 use Rattle.std.specs.FinMap as map
-use Rattle.workers.specs.Lending as told
+use Rattle.workers.specs.Lending as reported
 
 -- which of some blocks are lent
 
--- what is told after an event and its reply
+-- what is reported after an event and its reply
 abbrev LentBehind : Blocks → Event Block → Reply Block → Blocks
 LentBehind known e r n = (nat_lt n 65536 && lends e r n) || (known n && not (takes e r n))
 
-told_follows : (known : Blocks) (e : Event Block) → IsEvent e → AllFollow known (LentBehind known e) e
-told_follows known e made r n = grind (arith, common_steps, nat_tests)
+reported_follows : (known : Blocks) (e : Event Block) → IsEvent e → AllFollow known (LentBehind known e) e
+reported_follows known e made r n = grind (arith, common_steps, nat_tests)
 
 lent_here : (own known : Blocks) (s : State) → OnlyLent own known s.memory → (e : Event Block) → IsEvent e
     → OnlyLent own (LentBehind known e (reply_to s e)) (after s e).memory
 lent_here own known s only e made n is has =
     let follows = follows_known own no_block s known (λ k mine there. or_left (known k) false (only k mine there)) e
-    (LentBehind known e) (told_follows known e made) n in
+    (LentBehind known e) (reported_follows known e made) n in
     grind (arith, common_steps, follows)
 
 lent_along : (own known : Blocks) (s : State) (h : List Entry) → IsLegal s h → AreEvents h
@@ -48,7 +48,7 @@ lends_fewer : (own asks : Blocks) (e : Event Block) → IsTrue (lends_none own e
 lends_fewer own asks (event.Lend block) none = grind (arith, common_steps)
 lends_fewer own asks other none = tt
 
-spared : (pass : ℕ) (own asks : Blocks) (h : List Entry) → told.OnlyPassLends pass own h → (before : List Entry)
+spared : (pass : ℕ) (own asks : Blocks) (h : List Entry) → reported.OnlyPassLends pass own h → (before : List Entry)
     (e : Entry) (behind : List Entry) → h ≡ before ++ e ∷ behind → e.pass ≢ pass → LendsNone (Both own asks) e.event
 spared pass own asks [] none [] e behind is other = cc
 spared pass own asks [] none (c ∷ before) e behind is other = cc
@@ -59,13 +59,13 @@ spared pass own asks (d ∷ h) none [] e behind is other =
 spared pass own asks (d ∷ h) none (c ∷ before) e behind is other =
     spared pass own asks h none.1 before e behind (cc) other
 
-told_none : (pass : ℕ) (own asks : Blocks) (h : List Entry) → told.OnlyPassLends pass own h
+reported_none : (pass : ℕ) (own asks : Blocks) (h : List Entry) → reported.OnlyPassLends pass own h
     → OthersLendNone pass (Both own asks) h
-told_none pass own asks h none before e behind is begun other = spared pass own asks h none before e behind is other
+reported_none pass own asks h none before e behind is begun other = spared pass own asks h none before e behind is other
 
 pub returns : Rattle.workers.proofs.laws.worker_has_its_blocks_alone.Goals.returns
 returns c w fifo old a h legal events others = (
-  told_none w.pass (is_own a) (is_asked (calls_of w.pass h)) h others.others,
+  reported_none w.pass (is_own a) (is_asked (calls_of w.pass h)) h others.others,
   holds_at_first w fifo old h (NoneLent (asked_of w a h)) (λ x number both.
       let own = (and_parts (is_own a number) (is_asked (calls_of w.pass h) number) both).0 in
       let new : State = new_state w.vfs fifo in

@@ -9,7 +9,7 @@ use Rattle.pmd_driver.specs.NicDevice.{EepromImage.Triples.triples_of, PoolReset
 use Rattle.pmd_driver.specs.NicDevice.{Step.step_of, declared.named.Named.Named, declared.named.Named.TheVariants.Nothing}
 use Rattle.driver_laws.proofs.StartLaws.HistoryLaws.Written.{place_in, place_named}
 use Rattle.driver_laws.proofs.StartLaws.HistoryLaws.{Deeds.side_did, DeviceLaws.PoolResets.asked_pool_resets}
-use Rattle.driver_laws.proofs.StartLaws.HistoryLaws.{Limits.settings_told, Steady.off_steady, Steady.steady_kept}
+use Rattle.driver_laws.proofs.StartLaws.HistoryLaws.{Limits.settings_reported, Steady.off_steady, Steady.steady_kept}
 use Rattle.driver_laws.proofs.StartLaws.{Histories.leads-append, HistoryLaws.Alone.histories_sound}
 use Rattle.driver_laws.proofs.Prelude.{AreEvents, Block, Dir, Entry, Event, IsSound, List, Place, Port, Register, Rx}
 use Rattle.driver_laws.proofs.Prelude.{State, Tx, Watched, [], after, ap, append-nil, append_assoc, arith}
@@ -18,7 +18,7 @@ use Rattle.driver_laws.proofs.Prelude.{false, has_bit, has_queue, image_stays, i
 use Rattle.driver_laws.proofs.Prelude.{named, new_sound, new_state, place, refl, row_of, rules, subst, sym, true}
 use Rattle.driver_laws.proofs.Prelude.{vfs_stays, ℕ, ⊎_elim, ◌++◌}
 use Rattle.driver_laws.proofs.{Prelude.◌<◌, Prelude.◌∙◌, Prelude.◌∷◌, Prelude.◌≡◌}
-use Rattle.workers.proofs.WorkerTold.{ground_there, named_below}
+use Rattle.workers.proofs.WorkerReported.{ground_there, named_below}
 use Rattle.driver_laws.specs.StartLaws.HistoryLaws.Sides.{side_of}
 use Rattle.driver_laws.specs.StartLaws.HistoryLaws.Sides.{IsOff}
 use Rattle.std.proofs.lemmas.Bool.{cond_both}
@@ -135,9 +135,9 @@ module _ (w : Watched) (fifo : ℕ) (sound : IsSound (new_state w.vfs fifo)) (sm
   along done [] both off = grind (arith, common_steps, new, append-nil)
   along done (e ∷ rest) both off =
       let early = events_before done (e ∷ rest) (subst AreEvents (sym both) events) in
-      let told = (settings_told w.vfs fifo done sound early).0 in
+      let reported = (settings_reported w.vfs fifo done sound early).0 in
       let next = stays_off w (leads_to new done) small (histories_sound new done sound early) (image_stays new done)
-      (sym (vfs_stays new done)) dir e.event (cc (told, none done e rest both)) off in
+      (sym (vfs_stays new done)) dir e.event (cc (reported, none done e rest both)) off in
       along (done ++ e ∷ []) rest (append_assoc done (e ∷ []) rest ∙ both) (rw leads-append next)
 
 pub returns : Rattle.workers.proofs.laws.worker_starts_quiet.Goals.returns

@@ -10,7 +10,7 @@ loop-worker-init g c =
     record {
       sitting = none_sits _ _ _ _ c.requires.empty c.requires.ways;
       left = omega arith;
-      seated = omega (arith, c.args.room.ok.0, ap (λ l. length l) c.requires.empty);
+      placed = omega (arith, c.args.room.ok.0, ap (λ l. length l) c.requires.empty);
       room = c.requires.room;
     }
 
@@ -20,12 +20,12 @@ loop-worker-preserved g c =
     record {
       sitting = rw (c.remove.ensures.items, c.remove-in-loop-worker.ensures.items, c.push_reserved.ensures.items)
           (one_sits c.args.jobs.items c.args.collectors.now c.loop-worker.jobs.items c.loop-worker.producers.items
-          c.loop-worker.seats.items c.new.result c.remove.result c.remove-in-loop-worker.result i.sitting
+          c.loop-worker.cells.items c.new.result c.remove.result c.remove-in-loop-worker.result i.sitting
           (omega (arith, i.left, c.loop-worker-test.true, c.len-worker-end.ensures, c.loop-worker.jobs.ok.0))
           (ap (λ (d : Assignment). d.job) c.new.ensures) c.remove.ensures.value
           (ap (λ (d : Assignment). d.producer) c.new.ensures) c.remove-in-loop-worker.ensures.value);
       left = omega (arith, c.remove.ensures.len, i.left);
-      seated = omega (arith, c.push_reserved.ensures.len, i.seated);
+      placed = omega (arith, c.push_reserved.ensures.len, i.placed);
       room = rw c.push_reserved.ensures.capacity i.room;
     }
 
@@ -34,6 +34,6 @@ returns g c =
     let i = c.loop-worker.invariant in
     let none = emptied c.loop-worker.jobs.items
     (omega (arith, i.left, c.loop-worker-test.false, c.len-worker-end.ensures, c.loop-worker.jobs.ok.0)) in
-    all_sit c.args.jobs.items c.args.collectors.now c.loop-worker.producers.items c.loop-worker.seats.items
+    all_sit c.args.jobs.items c.args.collectors.now c.loop-worker.producers.items c.loop-worker.cells.items
     (subst (λ (l : List Job). IsSitting c.args.jobs.items c.args.collectors.now l c.loop-worker.producers.items
-    c.loop-worker.seats.items) none i.sitting)
+    c.loop-worker.cells.items) none i.sitting)

@@ -6,8 +6,8 @@ use Rattle.workers.proofs.room.sit.Given as goal
 abbrev pub invariant-loop-worker : goal.invariant-loop-worker
 invariant-loop-worker g l =
     record {
-      sitting : IsSitting l.fn.jobs.items l.collectors l.jobs.items l.producers.items l.seats.items;
+      sitting : IsSitting l.fn.jobs.items l.collectors l.jobs.items l.producers.items l.cells.items;
       left : vec_len l.jobs + l.worker ≡ vec_len l.fn.jobs;
-      seated : vec_len l.seats ≡ l.worker;
-      room : vec_len l.fn.jobs ≤ vec_capacity l.seats;
+      placed : vec_len l.cells ≡ l.worker;
+      room : vec_len l.fn.jobs ≤ vec_capacity l.cells;
     }

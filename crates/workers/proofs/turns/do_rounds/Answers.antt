@@ -4,7 +4,7 @@ use Rattle.workers.proofs.turns.do_rounds.Goals as goal
 
 pub loop-init : goal.loop-init
 loop-init g c = record {
-  told = c.requires.told;
+  reported = c.requires.reported;
   ring = search rules;
   room = search rules;
   few = search rules;
@@ -18,7 +18,7 @@ pub loop-preserved : goal.loop-preserved
 loop-preserved g c =
     let i = c.loop.invariant in
     record {
-      told = c.round.ensures.told;
+      reported = c.round.ensures.reported;
       ring = search rules;
       room = search rules;
       few = search rules;

@@ -3,14 +3,14 @@ use Rattle.rtrb.specs.Ring.{sent, known_free, SameProducer}
 use Rattle.pmd_driver.specs.Driver.{handed_of}
 use Rattle.pmd_driver.specs.Life.{RunsOn}
 use Rattle.pmd_driver.specs.PmdAccess.Begun.{BeganAs}
-use Rattle.workers.specs.Told.{reports_of}
+use Rattle.workers.specs.Reported.{reports_of}
 use Rattle.workers.specs.Kept.{KeepsAll}
 use Rattle.workers.proofs.turns.do_rounds.Given as goal
 
 abbrev pub invariant-loop : goal.invariant-loop
 invariant-loop g l =
     record {
-      told : sent l.producer ≡ reports_of l.queue (handed_of l.pmd.rings);
+      reported : sent l.producer ≡ reports_of l.queue (handed_of l.pmd.rings);
       ring : SameProducer l.fn.producer l.producer;
       room : l.rounds ≤ known_free l.producer + l.counter;
       few : length (handed_of l.pmd.rings) ≤ l.counter;

@@ -4,12 +4,12 @@ use Rattle.pmd_driver.specs.PmdAccess.Packet.{Kept, kept_of}
 use Rattle.pmd_driver.specs.PmdAccess.declared.packet.Packet.{Packet}
 use Rattle.pmd_driver.specs.Driver.{handed_of}
 use Rattle.pmd_driver.proofs.Living.{runs_on}
-use Rattle.workers.specs.Told.{report_of, reports_of}
-use Rattle.workers.proofs.Telling.{told_more}
+use Rattle.workers.specs.Reported.{report_of, reports_of}
+use Rattle.workers.proofs.Telling.{reported_more}
 use Rattle.workers.proofs.turns.turn.Goals as goal
 
-pub returns-in-Some-clause-told : goal.returns-in-Some-clause-told
-returns-in-Some-clause-told g c =
+pub returns-in-Some-clause-reported : goal.returns-in-Some-clause-reported
+returns-in-Some-clause-reported g c =
     let old : List Kept = handed_of c.args.pmd.now.rings in
     let k : Kept = kept_of c.in-Some.packet in
     let given = subst
@@ -17,7 +17,7 @@ returns-in-Some-clause-told g c =
     c.in-Some.is c.in_ok-receive.ensures.given in
     c.tell.ensures.sent
     ∙ (ap (λ (h : List Kept). sent c.args.producer.now ++ report_of c.args.queue (length h) k ∷ []) c.handed.ensures
-    ∙ (told_more c.args.queue old k (sent c.args.producer.now) c.requires.told
+    ∙ (reported_more c.args.queue old k (sent c.args.producer.now) c.requires.reported
     ∙ ap (λ (l : List Kept). reports_of c.args.queue l) (sym given ∙ sym c.forward.ensures.handed)))
 
 pub returns-in-Some-clause-drives : goal.returns-in-Some-clause-drives

@@ -8,7 +8,7 @@ pub each-init : goal.each-init
 each-init c =
     let all : length c.self.inside.copies.items ≤ c.len-at.result = omega arith in record {
       inside = omega arith;
-      told = subst (λ (m : Memory). TellsTaken c.args.arena.now m None)
+      reported = subst (λ (m : Memory). TellsTaken c.args.arena.now m None)
           (sym (memory-past c.self.inside.copies.items c.len-at.result all)) (tells_none c.args.arena.now);
     }
 
@@ -18,7 +18,7 @@ each-preserved-then-not-is_free c =
     let next = next-copy c.self.inside.copies.items c.each.at copy c.self.invariant (omega arith)
     c.each.invariant.inside c.index.ensures in record {
       inside = omega arith;
-      told = subst (λ (m : Memory). TellsTaken c.args.arena.now m (Some copy.0)) (sym (ap memory_of next.next))
+      reported = subst (λ (m : Memory). TellsTaken c.args.arena.now m (Some copy.0)) (sym (ap memory_of next.next))
           (tells_lower c.args.arena.now copy (drop c.each.at c.self.inside.copies.items) next.rising
           (sym c.is_free.ensures ∙ c.if-not-is_free.true));
     }
@@ -29,7 +29,7 @@ each-preserved c =
     let next = next-copy c.self.inside.copies.items c.each.at copy c.self.invariant (omega arith)
     c.each.invariant.inside c.index.ensures in record {
       inside = omega arith;
-      told = subst (λ (m : Memory). TellsTaken c.args.arena.now m c.each.lowest) (sym (ap memory_of next.next))
+      reported = subst (λ (m : Memory). TellsTaken c.args.arena.now m c.each.lowest) (sym (ap memory_of next.next))
           (tells_more c.args.arena.now copy (drop c.each.at c.self.inside.copies.items) c.each.lowest
-          (sym c.is_free.ensures ∙ c.if-not-is_free.false) c.each.invariant.told);
+          (sym c.is_free.ensures ∙ c.if-not-is_free.false) c.each.invariant.reported);
     }

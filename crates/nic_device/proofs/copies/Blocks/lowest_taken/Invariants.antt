@@ -6,7 +6,7 @@ use Rattle.nic_device.proofs.copies.Blocks.lowest_taken.Given as goal
 abbrev pub invariant-each : goal.invariant-each
 invariant-each l = record {
   inside : l.at ≤ length l.copies.items;
-  told : TellsTaken l.arena (memory_of (drop l.at l.copies.items)) l.lowest;
+  reported : TellsTaken l.arena (memory_of (drop l.at l.copies.items)) l.lowest;
 }
 
 abbrev pub decreases-each : goal.decreases-each

@@ -28,8 +28,8 @@ returns-in-Err-Fault c =
     c.index_mut-staged.ensures.value small (sym c.self.invariant) in
     let by : c.index_mut-staged.result.now ≡ staged_by s queue =
     read ∙ ap (λ i. get_or items i []) c.from.ensures ∙ ap (λ (t : State). get_or t.staged queue []) view in
-    let told = (c.in-Err-Fault.ensures.fault c.in-Err-Fault.fault).0 (ap Err c.in-Err-Fault.field-0-is) in
-    let met = slot_fetched-fault s queue q c.in-Err-Fault.fault _ _ _ _ told memory ring sending by in
+    let reported = (c.in-Err-Fault.ensures.fault c.in-Err-Fault.fault).0 (ap Err c.in-Err-Fault.field-0-is) in
+    let met = slot_fetched-fault s queue q c.in-Err-Fault.fault _ _ _ _ reported memory ring sending by in
     let failed = c.fail_side.ensures
     ∙ ap (λ r. side_failed r Tx queue) (c.deref_mut-in-Err-Fault.ensures.value ∙ registers) in
     let cleared = set-again items s.staged c.from.result c.from-in-Err-Fault.result queue c.fetch.new.staged

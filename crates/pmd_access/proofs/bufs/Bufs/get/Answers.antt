@@ -24,8 +24,8 @@ listed c =
     c.self.view_is c.requires in
     let few = stand_few c.self.inside.count c.self.inside.places c.self.invariant.0 in
     let five = c.self.invariant.1 in
-    let told = c.self.invariant.1 in
-    omega (arith, i, few, five, told)
+    let reported = c.self.invariant.1 in
+    omega (arith, i, few, five, reported)
 
 pub bounds-places-number : goal.bounds-places-number
 bounds-places-number c =

@@ -20,8 +20,8 @@ pub listed : goal.listed
 listed c =
     let i = below c.self.inside.count c.self.inside.places c.args.self.now c.self.invariant.0 c.self.view_is
     c.requires in
-    let told = c.self.invariant.1 in
-    omega (arith, i, told)
+    let reported = c.self.invariant.1 in
+    omega (arith, i, reported)
 
 pub bounds-self-inside-self-inside : goal.bounds-self-inside-self-inside
 bounds-self-inside-self-inside c =

@@ -25,13 +25,13 @@ returns-in-Ok-RingFull-clause-ends g c ends =
 pub returns-in-Ok-RingFull-clause-queues : goal.returns-in-Ok-RingFull-clause-queues
 returns-in-Ok-RingFull-clause-queues g c =
     let e = c.queue_packet.ensures in
-    let told = c.in-Ok-RingFull.is ∙ ap (λ (x : TxAnswer). Ok x) c.in-Ok-RingFull.field-0-is in
+    let reported = c.in-Ok-RingFull.is ∙ ap (λ (x : TxAnswer). Ok x) c.in-Ok-RingFull.field-0-is in
     rw c.push_front_reserved.ensures.items
     (queues_back _ _ c.args.self.now c.queue_packet.new.self c.args.packets.now.items c.pop_front.new.self.items
     c.in-Some.packet c.in-Some.ensures.items e.drives None tt e.tail (returned c.queue_packet.result)
-    c.in-Ok-RingFull.full (ap returned told)
+    c.in-Ok-RingFull.full (ap returned reported)
     (full_left _ _ c.args.self.now c.queue_packet.new.self c.in-Some.packet e.shut c.queue_packet.result
-    c.in-Ok-RingFull.full c.pop_front.new.self.items told e.answer)
+    c.in-Ok-RingFull.full c.pop_front.new.self.items reported e.answer)
     e.kept c.queue_packet.ensures.blocks)
 
 pub returns-in-None-packet-clause-queues : goal.returns-in-None-packet-clause-queues

@@ -1,7 +1,7 @@
 use Rattle.std.proofs.Common.{sym, ◌∙◌}
 use Rattle.pmd_driver.proofs.Both.{rings_on}
 use Rattle.pmd_driver.proofs.Posting.{burst_posted, burst_refused, burst_unposted}
-use Rattle.pmd_driver.proofs.Shut.{shut_met, shut_told}
+use Rattle.pmd_driver.proofs.Shut.{shut_met, shut_reported}
 use Rattle.pmd_driver.proofs.running.Running.send_burst.Goals as goal
 
 pub returns-in-Some-clause-sent : goal.returns-in-Some-clause-sent
@@ -27,7 +27,7 @@ returns-in-Ok-clause-sent g c =
     (g.N.Nic.made b.new.nic) c.args.self.now b.new.self b.ensures.queues b.ensures.stops c.flush.new.self
     (g.N.Nic.made c.flush.new.nic) (sym c.at_first.ensures ∙ c.in-None.is) c.flush.ensures.drives
     c.flush.ensures.kept
-    (λ T f refused. shut_told (g.N.Nic.made c.args.nic.now) (g.N.Nic.made b.new.nic) c.args.self.now b.new.self
+    (λ T f refused. shut_reported (g.N.Nic.made c.args.nic.now) (g.N.Nic.made b.new.nic) c.args.self.now b.new.self
     c.args.packets.now.items b.new.packets.items b.result.sent b.result.met b.ensures.shut T
     (sym c.at_first.ensures ∙ c.in-None.is) f refused)
     c.in-Ok.ensures.settled
@@ -45,7 +45,7 @@ returns-in-Err-clause-sent g c =
     (g.N.Nic.made c.args.nic.now) (g.N.Nic.made b.new.nic) c.args.self.now b.new.self b.ensures.queues b.ensures.stops
     c.flush.new.self (g.N.Nic.made c.flush.new.nic) (sym c.at_first.ensures ∙ c.in-None.is) c.flush.ensures.drives
     c.flush.ensures.kept
-    (λ T f refused. shut_told (g.N.Nic.made c.args.nic.now) (g.N.Nic.made b.new.nic) c.args.self.now b.new.self
+    (λ T f refused. shut_reported (g.N.Nic.made c.args.nic.now) (g.N.Nic.made b.new.nic) c.args.self.now b.new.self
     c.args.packets.now.items b.new.packets.items b.result.sent b.result.met b.ensures.shut T
     (sym c.at_first.ensures ∙ c.in-None.is) f refused)
     c.in-Err.fault c.in-Err.ensures.late c.in-Err.ensures.amid

@@ -17,14 +17,15 @@ invariant_of-self c =
       next = r.next;
       blocks = r.slots.items;
     } in (
-      joined_steady l r.posted r.seen.items r.held r.whole.items r.stage c.in-Some.told c.pop_front.new.self.items
+      joined_steady l r.posted r.seen.items r.held r.whole.items r.stage c.in-Some.reported c.pop_front.new.self.items
           c.next_slot-self-inside.result c.pop_front-consumed.new.self.items (r.posted - 1) c.push.new.self c.args.buf
           c.reported_length.result c.reported_rss-self-inside.result c.reported_hash-self-inside.result
           c.self.invariant.0 (ap (λ (y : Receive). y.stage) c.self.view_is ∙ c.requires.stage) c.in-Some.ensures.items
           (subst (λ (n : ℕ). n < r.size) (sym c.next_slot-self-inside.ensures)
           (next_below r.size r.next c.self.invariant.0.0.next))
           c.pop_front-consumed.ensures.rest
-          (posted_some l r.posted r.seen.items r.held r.whole.items r.stage c.in-Some.told c.pop_front.new.self.items
+          (posted_some l r.posted r.seen.items r.held r.whole.items r.stage c.in-Some.reported
+          c.pop_front.new.self.items
           c.self.invariant.0 c.in-Some.ensures.items)
           c.reported_length.ensures c.push.ensures,
       c.self.invariant.1,
@@ -43,10 +44,11 @@ returns c =
       blocks = r.slots.items;
     } in
     shown_took l r.posted (r.posted - 1) c.next_slot-self-inside.result c.pop_front-consumed.new.self.items
-    r.records.items r.handed r.seen.items c.pop_front.new.self.items c.in-Some.told r.held c.push.new.self c.args.buf
+    r.records.items r.handed r.seen.items c.pop_front.new.self.items c.in-Some.reported r.held c.push.new.self
+    c.args.buf
     c.reported_length.result c.reported_rss-self-inside.result c.reported_hash-self-inside.result r.whole.items r.stage
     c.in-Some.ensures.items c.next_slot-self-inside.ensures
-    (posted_some l r.posted r.seen.items r.held r.whole.items r.stage c.in-Some.told c.pop_front.new.self.items
+    (posted_some l r.posted r.seen.items r.held r.whole.items r.stage c.in-Some.reported c.pop_front.new.self.items
     c.self.invariant.0 c.in-Some.ensures.items)
     c.pop_front-consumed.ensures.rest c.push.ensures c.reported_length.ensures c.reported_rss-self-inside.ensures.value
     c.reported_hash-self-inside.ensures

@@ -6,7 +6,7 @@ use Rattle.pmd_driver.specs.PmdAccess.Begun.{OfPass, began_at_lock}
 use Rattle.pmd_driver.specs.PmdAccess.Stepped.{AtLock}
 use Rattle.pmd_driver.specs.Started.{left_handed}
 use Rattle.workers.specs.Lived.{HasRun}
-use Rattle.workers.specs.Told.{reports_of}
+use Rattle.workers.specs.Reported.{reports_of}
 use Rattle.workers.specs.declared.assignment.Assignment.{Assignment}
 use Rattle.workers.proofs.worker_task.WorkerTaskTaskBack.run.Goals as goal
 
@@ -30,7 +30,7 @@ returns g c =
             (subst (λ (t : AtLock). HasRun (record { port = d.job.port; queue = d.job.queue }) d.job.size d.job.frame
             t.pass.calls d.job.arena c.run_worker-rest.new.nic.pass.calls left.0 left.1) c.new-nic.ensures
             c.run_worker-rest.ensures.lived));
-        reports = c.run_worker-rest.ensures.told
+        reports = c.run_worker-rest.ensures.reported
             ∙ ap (λ (x : Assignment). reports_of x.job.queue (left_handed left.0)) c.self.view_is;
         few = subst (λ (x : Assignment). length (sent c.run_worker-rest.new.producer) ≤ x.job.rounds) c.self.view_is
             c.run_worker-rest.ensures.few;

@@ -1,0 +1,113 @@
+//! What the entries of a history tell of the settings of its device.
+
+ghost use Rattle.std.specs.Prelude.{◌≡◌};
+ghost use Rattle.device_lock.specs.Reported.{first_settings, frames_set, frames_written, limit_of, settings_after, usual_frames};
+
+use crate::alone::{mode_after, place_at};
+use nic_device::{Event, EventNote, Mode, Place, RowId, asks_reset};
+use register_bits::{Hlreg0, has_flag};
+
+/// What MAXFRS bits 31 to 16 say after a reset.
+const USUAL_LONGEST: u16 = 1518;
+
+/// The frame limit where MAXFRS doesn't count.
+const USUAL_LIMIT: u16 = 1514;
+
+/// The frame check sequence of a frame.
+const FRAME_CHECK: u16 = 4;
+
+/// How long frames may be.
+#[derive(Clone, Copy, PartialEq, Eq, Debug)]
+pub struct Frames {
+    /// Whether MAXFRS counts: HLREG0 bit 2.
+    pub jumbo: bool,
+    /// What MAXFRS bits 31 to 16 say.
+    pub longest: u16,
+}
+
+/// Settings of a device that a driver's start rests on.
+#[derive(Clone, Copy, PartialEq, Eq, Debug)]
+pub struct Settings {
+    /// How the queues are divided among pools.
+    pub mode: Mode,
+    /// How long frames may be.
+    pub frames: Frames,
+}
+
+impl Frames {
+    /// As a reset leaves it.
+    fn usual() -> Frames
+        ensures { result ≡ usual_frames }
+    {
+        Frames {
+            jumbo: false,
+            longest: USUAL_LONGEST,
+        }
+    }
+
+    /// The frame limit: how many bytes a frame has at most, without its check sequence.
+    pub fn limit(self) -> u16
+        ensures { result ≡ limit_of self }
+    {
+        if self.jumbo {
+            self.longest.saturating_sub(FRAME_CHECK)
+        } else {
+            USUAL_LIMIT
+        }
+    }
+
+    /// After a write of a register.
+    fn set(self, place: Place, word: u32) -> Frames
+        ensures { result ≡ frames_set self place.row word }
+    {
+        match place.row {
+            RowId::Hlreg0 => Frames {
+                jumbo: has_flag(word, Hlreg0::JUMBOEN),
+                longest: self.longest,
+            },
+            RowId::Maxfrs => Frames {
+                jumbo: self.jumbo,
+                longest: (word >> 16) as u16,
+            },
+            RowId::Ctrl if asks_reset(place, word) => Frames::usual(),
+            _ => self,
+        }
+    }
+
+    /// The limits on frames after a write of a word to a place. A write to no place changes nothing.
+    fn written(self, place: Option<Place>, word: u32) -> Frames
+        ensures { result ≡ frames_written self place word }
+    {
+        match place {
+            None => self,
+            Some(place) => self.set(place, word),
+        }
+    }
+}
+
+impl Settings {
+    /// Those of a new device.
+    pub fn new() -> Settings
+        ensures { result ≡ first_settings }
+    {
+        Settings {
+            mode: Mode::Off,
+            frames: Frames::usual(),
+        }
+    }
+
+    /// Those after an event of a device with so many virtual functions.
+    pub fn after(self, vfs: u8, event: &EventNote) -> Settings
+        ensures { result ≡ settings_after vfs self event.now }
+    {
+        match event {
+            Event::Write(port, number, word) => Settings {
+                mode: mode_after(vfs, self.mode, event),
+                frames: self
+                    .frames
+                    .written(place_at(self.mode, vfs, *port, *number), *word),
+            },
+            _ => self,
+        }
+    }
+}

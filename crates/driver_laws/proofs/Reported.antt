@@ -1,0 +1,239 @@
+-- A call of a driver that looks last and finds no packet whole, or the oldest outstanding one not done, within a longer
+-- history. What the call tells may be reported after other calls: what it added comes after a life. And a driver's life
+-- as its calls tell it is a life: it runs on, over calls as they are reported, and harmless ones between.
+use Rattle.driver_laws.proofs.Order.{Ran, all_apart, begun, counted, driven, fresh_own, in_parts, last as last_there}
+use Rattle.driver_laws.proofs.Prelude.{AllFollow, AllOwn, AtPort, Block, Blocks, Call, Doer, Drives, Drove, Entry}
+use Rattle.driver_laws.proofs.Prelude.{Event, FindsNone, Follows, Halves, IsReported, Leads, LeadsApart, Life, List, Lives}
+use Rattle.driver_laws.proofs.Prelude.{LooksLast, Moment, Numbers, OwnsSame, Packet, Parts, Receive, Reply, Rings}
+use Rattle.driver_laws.proofs.Prelude.{Running, Sender, Reported, Up, WhereUp, [], ap, append-nil, append_assoc}
+use Rattle.driver_laws.proofs.Prelude.{append_cancel_left, arith, bytes_of, call_in, call_of, calls_joined, calls_of}
+use Rattle.driver_laws.proofs.Prelude.{common_steps, delivered, drives_lead, first_of, halves_of, harmless_apart, inl}
+use Rattle.driver_laws.proofs.Prelude.{inr, is_own, last, leads_on, leads_to, legal_behind, length, played_by}
+use Rattle.driver_laws.proofs.Prelude.{receiving_drives, refl, reply_to, rules, same_from_push, sending_drives}
+use Rattle.driver_laws.proofs.Prelude.{sent_since, sized, subst, sym, ℕ, ◌++◌, ◌+◌, ◌<◌, ◌∙◌, ◌∷◌, ◌≡◌, ◌≢◌, ◌≤◌}
+use Rattle.driver_laws.proofs.{Order.life_before, Order.life_of, Order.none, Order.ran, Order.whole, Prelude.Adds}
+use Rattle.driver_laws.specs.{FullRing.AcceptsNone, FullRing.TellsFull, FullRing.outstanding, Looks.EndsAt, Reported.now}
+use Rattle.start_laws.{proofs.PmdDriver.Both.rings_still, specs.PmdDriver.Driver.Driver, specs.PmdDriver.PmdRx.Plays.LooksInVain}
+use Rattle.start_laws.proofs.Beside.{apart_leads_on, driven_apart, harmless_lead, steps_harmless}
+use Rattle.start_laws.proofs.{InOrder.none_is_all_before, InOrder.waiting_is_not_all, RingLaws.Packets.length-segments}
+use Rattle.start_laws.specs.{Beside.AddsHarmless, Prelude.after_call, Prelude.parts_for, RingLaws.Laws.FindsWaiting}
+
+-- a later place of a life's history, to which its calls led its halves
+module _ (x : Life) (late rest : List Entry) (split : late ++ rest ≡ x.h) {then : Halves}
+    (goes : Leads x.started (halves_of x.r) (calls_of x.w.pass late) then) where
+  open x use {w, origin, k}
+
+  abbrev later : Life
+  later = life_before x late rest split (calls_of w.pass late) then goes
+
+  -- and an earlier one, after which its halves were as they are
+  module _ (early more : List Entry) (all : early ++ more ≡ late) (is : AddsHarmless x.made (calls_of w.pass early))
+    where
+      abbrev sooner : Life
+      sooner =
+          life_before later early more all (calls_of w.pass early) k
+          (leads_on x.started x.made (calls_of w.pass early) (halves_of x.r) k k x.is.since
+          (harmless_lead x.made (calls_of w.pass early) k is))
+
+      abbrev p : Parts w.pass early x.is.up.on.mid (whole sooner).1
+      p = in_parts (ran sooner) refl
+
+      joined : p.front ++ (p.back ++ more) ≡ late
+      joined = sym (append_assoc p.front p.back more) ∙ ap (λ (es : List Entry). es ++ more) p.both ∙ all
+
+      -- both begin as the sides went on
+      abbrev p_late : Parts w.pass late x.is.up.on.mid (whole later).1
+      p_late = record {
+        front = p.front;
+        back = p.back ++ more;
+        both = joined;
+        fronts = p.fronts;
+        backs = search (rules, append_cancel_left, calls_joined, joined);
+      }
+
+      -- where a look there finds none, and hands out nothing, all was handed out that was delivered before
+      none_sooner : FindsNone (leads_to origin late) then.receive → then.receive.handed ≡ k.receive.handed
+          → k.receive.handed ≡ delivered w.queue origin early
+      none_sooner finds same =
+          let here = last_there (ran sooner) p in
+          let there = last_there (ran later) p_late in
+          let all = none_is_all_before w origin _ _ more _ _ _ (driven (ran sooner) p) (driven (ran later) p_late)
+          (grind (arith, there, joined)) (cc (here, there)) in
+          cc (here, p.both, all)
+
+      -- and where it finds one waiting, not all was sent before
+      waiting_sooner : FindsWaiting (leads_to origin late) then.transmit
+          → bytes_of then.transmit.accepted ≢ sent_since w.queue origin [] early
+      waiting_sooner finds same =
+          let is = waiting_is_not_all w origin _ _ more _ _ (driven (ran later) p_late) in
+          grind (arith, is, last_there (ran later) p_late, joined, counted (ran sooner) p)
+
+-- calls that drive halves on were added, and then one call more
+module _ (old : List Call) {h k : Halves} {mid new : List Call} (e : Event Block) (reply : Reply Block)
+    (drives : Drives old h mid k) (adds : Adds mid new e reply) where
+  abbrev pub added : List Call
+  added = drives.1 ++ (adds.0 ++ call_of e reply ∷ [])
+
+  pub added_is : new ≡ old ++ added
+  added_is = grind (arith, common_steps)
+
+-- after a life, at an entry of the history, where whatever was added comes after the calls of that life
+module _ (x : Life) (old : List Call) {mid new now : List Call} (e : Event Block) (reply : Reply Block)
+    {then : Halves} (drives : Drives old x.k mid then) (adds : Adds mid new e reply) (at : EndsAt x.w.pass x.h now)
+    (behind : (since : List Call) → new ≡ old ++ since → now ≡ x.made ++ since) where
+  abbrev till : List Call
+  till = (x.made ++ drives.1) ++ adds.0
+
+  ends : (calls_of x.w.pass at.before ≡ till) × (call_in at.entry ≡ call_of e reply)
+  ends =
+      same_from_push _ till _ (call_of e reply)
+      (at.made ∙ behind (added old e reply drives adds) (added_is old e reply drives adds) ∙ simp (append_assoc))
+
+  -- the life goes on up to it
+  goes_up : Leads x.started (halves_of x.r) (calls_of x.w.pass at.before) then
+  goes_up =
+      let mine : List Call = x.made ++ drives.1 in
+      rw ends.0
+      (leads_on _ mine till _ _ then (leads_on _ _ mine _ _ then x.is.since (drives_lead _ _ _ _ (search rules)))
+      (harmless_lead mine till then (search (rules, steps_harmless))))
+
+  -- and the device answers it
+  answered : reply_to (leads_to x.origin at.before) e ≡ reply
+  answered =
+      grind (arith, common_steps, ends, legal_behind x.origin at.before (at.entry ∷ at.behind))
+
+-- a look in vain, and one that finds a packet waiting
+
+module _ (x : Life) {old new now : List Call} (at : EndsAt x.w.pass x.h now)
+    (behind : (since : List Call) → new ≡ old ++ since → now ≡ x.made ++ since) where
+  open x use {w, origin, k}
+
+  module _ {v : Receive} (y : LooksInVain old k.receive new v) where
+    abbrev vain : Drives old k y.mid (record k { receive = v })
+    vain = receiving_drives old y.mid k (record k { receive = v }) y.looks refl
+
+    abbrev vain_goes : Leads x.started (halves_of x.r) (calls_of w.pass at.before) (record k { receive = v })
+    vain_goes = goes_up x old _ _ vain y.last at behind
+
+    finds : FindsNone (leads_to origin at.before) v
+    finds = let reply = answered x old _ _ vain y.last at behind in search rules
+
+    pub none_before : k.receive.handed ≡ delivered w.queue origin at.before
+    none_before = cc (none (ran (later x at.before (at.entry ∷ at.behind) at.all vain_goes)) refl finds, y.left)
+
+    pub none_first : (early more : List Entry) → early ++ more ≡ at.before → AddsHarmless x.made (calls_of w.pass early)
+        → k.receive.handed ≡ delivered w.queue origin early
+    none_first early more all is =
+        none_sooner x at.before (at.entry ∷ at.behind) at.all vain_goes early more all is finds (cc (y.left))
+
+  pub waiting_first : {v : Sender} → LooksLast old k.transmit new v → (early more : List Entry)
+      → early ++ more ≡ at.before → AddsHarmless x.made (calls_of w.pass early)
+      → bytes_of k.transmit.accepted ≢ sent_since w.queue origin [] early
+  waiting_first y early more all is sent =
+      let drives = sending_drives old y.mid k (record k { transmit = y.before }) y.plays refl in
+      waiting_sooner x at.before (at.entry ∷ at.behind) at.all (goes_up x old _ _ drives y.looks at behind) early more
+      all is
+      (search (rules, answered)) (ap bytes_of y.accepted ∙ sent)
+
+-- a driver runs, and by the numbers of an arena, which it keeps, its halves were led there after some calls
+pub record RunsOn (a : Numbers) (old : List Call) (h : Halves) (n : Moment) : Type 0 where
+  pub rings : Running
+  pub up : n.driver.rings ≡ Up rings
+  pub owns : OwnsSame a rings.arena
+  pub apart : LeadsApart (is_own a) old h n.made (halves_of rings)
+
+pub up_next : (P : Running → Running → Type 0) (a b : Rings) (r : Running) → a ≡ Up r → WhereUp a b P
+    → (s : Running) × (b ≡ Up s) × P r s
+up_next P a b r is holds = grind (arith, common_steps)
+
+module _ {a : Numbers} {old : List Call} {h : Halves} where
+  runs_next : (m n : Moment) (x : RunsOn a old h m) (s : Running) → n.driver.rings ≡ Up s
+      → OwnsSame x.rings.arena s.arena → LeadsApart (is_own a) m.made (halves_of x.rings) n.made (halves_of s)
+      → RunsOn a old h n
+  runs_next m n x s up owns apart =
+      let all = apart_leads_on (is_own a) old m.made n.made h (halves_of x.rings) (halves_of s) x.apart apart in
+      search (rules, all)
+
+  follows : (m n : Moment) → RunsOn a old h m → Follows m n → RunsOn a old h n
+  follows m n x (inl drove) =
+      let (s, up, drives) = up_next _ m.driver.rings n.driver.rings x.rings x.up drove in
+      runs_next m n x s up drives.owns
+      (subst (λ (own : Blocks). LeadsApart own m.made (halves_of x.rings) n.made (halves_of s)) (λ i k. x.owns k i)
+      (driven_apart _ _ _ _ _ drives.apart))
+  follows m n x (inr (halves, added)) =
+      let (s, up, same) = up_next _ m.driver.rings n.driver.rings x.rings x.up halves in
+      runs_next m n x s up same.1
+      (grind (arith, common_steps, is_own, harmless_apart))
+
+  all_follow : (m : Moment) (later : List Moment) → RunsOn a old h m → AllFollow m later → RunsOn a old h (last m later)
+  all_follow m [] x all = x
+  all_follow m (n ∷ later) x all = all_follow n later (follows m n x all.0) all.1
+
+-- a ring of so many slots, one of which is vacant
+abbrev HasRoom : ℕ → Sender → Type 0
+HasRoom size v = (v.layout.size ≡ size) × (length v.outstanding < size)
+
+-- so it is after calls of the halves
+
+played_room : (size : ℕ) (h : Halves) (doers : List Doer) (calls : List Call) → AllOwn h doers calls
+    → HasRoom size h.transmit → HasRoom size (played_by h doers calls).transmit
+played_room size h [] calls own x = x
+played_room size h (d ∷ doers) [] own x = absurd own
+played_room size h (d ∷ doers) (n ∷ calls) own x =
+    played_room size (after_call h d n) doers calls own.1 (grind (arith, common_steps, length-segments))
+
+module _ {q : AtPort} {size frame : ℕ} {old : List Call} {a : Numbers} {m : Moment} {later : List Moment}
+    (x : IsReported q size frame old a m later) where
+  -- as its start answered it, it lived
+  abbrev lives : Lives q size frame old a m.made x.started.0
+  lives = record { made = m.made; fresh = x.started.0; up = x.started.2; drives = rings_still m.made x.started.0 }
+
+  pub runs : RunsOn a m.made (halves_of x.started.0) (last m later)
+  runs =
+      all_follow m later
+      (search (rules, ap (λ (p : Driver). p.rings) x.started.1, fresh_own lives, harmless_apart, append-nil)) x.since
+
+  -- and so from the place on where both sides of its queue were on
+  pub led : LeadsApart (is_own a) x.started.2.on.mid (first_of q size frame old a m.made x.started.0 lives)
+      (last m later).made (halves_of runs.rings)
+  led =
+      apart_leads_on _ _ _ _ _ _ _ (driven_apart _ _ _ _ _ (all_apart lives)) runs.apart
+
+  -- its transmit ring has one slot vacant
+  pub room : HasRoom size runs.rings.transmit
+  room = search (rules, runs, played_room, halves_of, sized)
+
+-- so it is a life
+module _ (x : Reported) where
+  abbrev pub goes : RunsOn x.a x.m.made (halves_of x.reported.started.0) (now x)
+  goes = runs x.reported
+
+  abbrev pub life : Life
+  life =
+      life_of x.course x.m.made x.reported.started.0 (now x).made (halves_of goes.rings)
+      (record { along = x.along; up = x.reported.started.2; begins = x.begins; since = goes.apart.leads })
+
+  -- with its blocks apart
+  abbrev pub reported_ran : Ran x.course
+  reported_ran = record {
+    there = begun life;
+    new = (now x).made;
+    k = halves_of goes.rings;
+    goes = (led x.reported).leads;
+  }
+
+-- Where a driver tells that its ring is full, or accepts none of several packets and answers no fault, its ring has no
+-- room for the first.
+
+-- a driver that runs with one slot vacant
+module _ (size : ℕ) (m n : Moment) (r : Running) (p : Packet) (is : m.driver.rings ≡ Up r)
+    (some : HasRoom size r.transmit) where
+  -- tells that its ring is full
+  pub full_lacks : TellsFull m n p
+      → (outstanding m.driver.rings < size) × (size ≤ outstanding m.driver.rings + parts_for p.len)
+  full_lacks tells = grind (arith, common_steps)
+
+  -- or accepts none
+  pub none_lacks : Drove m n → AcceptsNone m n p
+      → (outstanding n.driver.rings < size) × (size ≤ outstanding n.driver.rings + parts_for p.len)
+  none_lacks drove none = grind (arith, common_steps)

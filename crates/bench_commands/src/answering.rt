@@ -74,10 +74,18 @@ fn answer_input<W: Write>(
 }
 
 /// Reads all input, and writes the answer to a request, to an output of which no write has failed before. Returns the
-/// exit status: the output and the status are then those of the request for all bytes of the input.
+/// exit status: the output and the status are then those of the request for all bytes of the input: by their number, by
+/// whether they are text where a text is wanted, and by the script, debugger's commands, lines of hex, object, EEPROM
+/// text or image that they are.
 ///
-/// Errors: after `Failure::Read` nothing is written; after `Failure::OutOfMemory` a part of the answer is, from its
-/// beginning on; after `Failure::Write` nothing more is written.
+/// A session of `debug` prints, command by command, the view of the machine after as many steps as the commands so far
+/// lead to, or the command's refusal; a register that is shown prints what a read of it would return. A faulty script,
+/// then a faulty command anywhere or a missing `%`, then a device that can't be made refuse it before anything is
+/// printed.
+///
+/// Errors: `Failure::Read`, only where a read failed, or a million reads were made of a reader with as many bytes:
+/// nothing is written. `Failure::OutOfMemory`: a part of the answer is written, from its beginning on.
+/// `Failure::Write`, only where a write of this call failed: nothing more is written.
 pub fn answer<R: Read, W: Write>(
     alloc: Global,
     input: &mut Input<R>,

@@ -107,11 +107,12 @@ fn end_words<W: Write>(output: &mut Output<W>, error: &Error) -> Outcome
 
 /// Reads the words, the program's own name first, then all input where they ask for it, and writes all output, to an
 /// output of which no write has failed before. The words are read before anything else; where they are refused, no
-/// input is read.
+/// input is read, and the status is one that clap may give: 0 for the help and the version, else 3.
 ///
-/// After a failed write nothing more is written, and the status is that of the write: `NO_MEMORY` where the writer had
-/// none, else `FAILED`. A failed read is reported as the refusal `Input`, missing memory as the refusal `OutOfMemory`.
-/// Where the words ask for `threads` nothing is read or written, except for that refusal.
+/// After a failed write nothing more is written, and the status is that of the write: `NO_MEMORY` (4) where the writer
+/// had none, else `FAILED` (2). A failed read, or a million reads of a reader that had as many bytes, is reported as
+/// the refusal `Input`, with 2; missing memory as the refusal `OutOfMemory`, with 4, after what was written of the
+/// answer. Where the words ask for `threads` nothing is read or written, except for that refusal.
 pub fn bench<'a, R: Read, W: Write, S: AsStr>(
     alloc: Global,
     input: &mut Input<R>,

@@ -41,6 +41,7 @@ impl<W: Write> Output<W> {
     /// The exit status after a failed write: `NO_MEMORY` where the writer's error is `OutOfMemory`, else `FAILED`.
     pub fn failed_status(&self) -> u8
         ensures value { result ≡ unwritten_status self.now.lacked_memory }
+        // 4 or 2
         ensures either { (result ≡ 2) ⊎ (result ≡ 4) }
     {
         let Output { lacked_memory, .. } = self;
@@ -93,8 +94,8 @@ impl<W: Write> Output<W> {
         }
     }
 
-    /// Flushes the writer, and returns the exit status: the given one, or where flushing fails the status of that.
-    /// After a failed write, nothing is flushed, and the status stays.
+    /// Flushes the writer, which then has written what it kept back, and returns the exit status: the given one, or
+    /// where flushing fails the status of that, 2 or 4. After a failed write, nothing is flushed, and the status stays.
     pub fn flush(&mut self, status: u8) -> u8
         ensures bytes { self.old.has_failed ≡ false
             → Keeps (W.contents self.old.writer) (W.contents self.new.writer) }

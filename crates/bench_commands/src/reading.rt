@@ -40,13 +40,15 @@ fn buffer(alloc: Global) -> Result<Vec<u8>, AllocError>
     vec![in alloc; 0u8; READ_BYTES]
 }
 
-/// All bytes of the input, until its end. A failed read isn't tried again. After an error some bytes may have been
-/// read.
+/// All bytes of the input, until its end: 8,388,608 at most. A failed read isn't tried again. After an error some bytes
+/// may have been read.
 pub fn read_input<R: Read>(alloc: Global, input: &mut Input<R>) -> Result<Vec<u8>, InputFault>
     ensures whole { IfOk result (λ v. IfSome (R.remaining input.old.reader) (λ bytes. v.items ≡ bytes)) }
     ensures fits { IfOk result (λ v. vec_len v ≤ BYTES) }
+    // only where there are more bytes
     ensures too_long { result ≡ Err InputFault.TooLong
         → IfSome (R.remaining input.old.reader) (λ bytes. BYTES < length bytes) }
+    // only where a read failed, or where a million reads were made of a reader with as many bytes
     ensures unread { result ≡ Err InputFault.Unread
         → CouldNotBeRead (R.remaining input.old.reader) input.new }
 {

@@ -171,6 +171,7 @@ impl Card {
         requires { IsFalse (moves_block event) }
         ensures reply { IfOk result (λ reply. reply ≡ reply_to self.old.device event) }
         ensures made { OnOk result (self.new ≡ made self.old event) }
+        // it moves no block
         ensures none { IfOk result (λ reply. IsFalse (hands_out reply)) }
         ensures unchanged { OnErr result (self.new ≡ self.old) }
         ensures memory { OnErr result (TakesMemory self.old.device event) }
@@ -216,8 +217,10 @@ impl Card {
     pub fn lend(&mut self, block: u32) -> Result<bool, AllocError>
         ensures free { IfOk result (λ lent. lent ≡ is_free self.old.arena block) }
         ensures lent { OnOk result (self.new ≡ with_lent self.old block) }
+        // the device's reply is `Done`
         ensures done { result ≡ Ok true → reply_to self.old.device (Event.Lend (zero_block block)) ≡ Reply.Done }
         ensures unchanged { OnErr result (self.new ≡ self.old) }
+        // only where the block is free
         ensures wanted { OnErr result (is_free self.old.arena block ≡ true) }
         ensures memory { OnErr result (TakesMemory self.old.device (Event.Lend (zero_block block))) }
     {

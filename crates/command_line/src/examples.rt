@@ -13,14 +13,15 @@ pub fn run_alone()
         (Input (Text (Run (record { vfs = 0; fifo = 64; limit = 100000 })))) }
 {}
 
-/// A value follows its option or a `=` after it, with or without a plus sign or leading zeros.
+/// A value follows its option or a `=` after it, with or without a plus sign or leading zeros: `--vfs 63 --limit=+5
+/// --fifo 004096` asks for 63 functions, 4,096 frames and 5 instructions.
 pub fn run_with_options()
     ensures { Asks (codes "nicbench" ∷ codes "run" ∷ codes "--vfs" ∷ codes "63"
         ∷ codes "--limit=+5" ∷ codes "--fifo" ∷ codes "004096" ∷ [])
         (Input (Text (Run (record { vfs = 63; fifo = 4096; limit = 5 })))) }
 {}
 
-/// `nicbench debug` asks for the same device, and takes the options for another.
+/// `nicbench debug` asks for the same device; with `--fifo=1 --vfs 2` it asks for 1 frame and 2 virtual functions.
 pub fn debug_either_way()
     ensures alone { Asks (codes "nicbench" ∷ codes "debug" ∷ [])
         (Input (Text (Debug (record { vfs = 0; fifo = 64 })))) }
@@ -46,13 +47,14 @@ pub fn eeprom_either_way()
         (Input (Bytes LoadEeprom)) }
 {}
 
-/// `nicbench threads` asks for these numbers of workers and frames.
+/// `nicbench threads --workers 8 --frames=60` asks for 8 workers and 60 frames.
 pub fn threads_with_options()
     ensures { Asks (codes "nicbench" ∷ codes "threads" ∷ codes "--workers" ∷ codes "8"
         ∷ codes "--frames=60" ∷ []) (Threads (record { workers = 8; frames = 60 })) }
 {}
 
-/// `nicbench threads` requires both options, with 1 to 8 workers and at most 60 frames.
+/// `nicbench threads` requires both options, with 1 to 8 workers and at most 60 frames: it refuses 0 workers, 9
+/// workers, 61 frames, and words that lack one of the two: each of these with the kind of refusal that clap gives it.
 pub fn refused_threads()
     ensures no_worker { refusal_of (codes "nicbench" ∷ codes "threads" ∷ codes "--workers"
         ∷ codes "0" ∷ codes "--frames" ∷ codes "1" ∷ []) ≡ kind.ValueValidation ∷ [] }
@@ -62,43 +64,57 @@ pub fn refused_threads()
         ∷ codes "1" ∷ codes "--frames" ∷ codes "61" ∷ []) ≡ kind.ValueValidation ∷ [] }
     ensures without_workers { refusal_of (codes "nicbench" ∷ codes "threads" ∷ codes "--frames"
         ∷ codes "1" ∷ []) ≡ kind.MissingRequiredArgument ∷ [] }
+    // words without `--frames`
     ensures without_frames { refusal_of (codes "nicbench" ∷ codes "threads" ∷ codes "--workers"
         ∷ codes "1" ∷ []) ≡ kind.MissingRequiredArgument ∷ [] }
 {}
 
-/// A number beyond the option's type, an option twice, a further word after a command, an unknown command and no word
-/// are refused.
+/// Words that are refused, each with the kind of refusal that clap gives it.
 pub fn refused_words()
+    // `run --vfs 256`, a number beyond the option's type
     ensures beyond { refusal_of (codes "nicbench" ∷ codes "run" ∷ codes "--vfs"
         ∷ codes "256" ∷ []) ≡ kind.ValueValidation ∷ [] }
+    // `run --vfs=1 --vfs=1`, an option twice
     ensures twice { refusal_of (codes "nicbench" ∷ codes "run" ∷ codes "--vfs=1"
         ∷ codes "--vfs=1" ∷ []) ≡ kind.ArgumentConflict ∷ [] }
+    // a further word after `run`
     ensures further { refusal_of (codes "nicbench" ∷ codes "run" ∷ codes "script.nic"
         ∷ []) ≡ kind.UnknownArgument ∷ [] }
+    // a further word after `hash`
     ensures further_than_hash { refusal_of (codes "nicbench" ∷ codes "hash"
         ∷ codes "further" ∷ []) ≡ kind.UnknownArgument ∷ [] }
+    // `debug --limit=5`, an option of another command
     ensures limit_of_debug { refusal_of (codes "nicbench" ∷ codes "debug"
         ∷ codes "--limit=5" ∷ []) ≡ kind.UnknownArgument ∷ [] }
+    // `eeprom --load --load`
     ensures load_twice { refusal_of (codes "nicbench" ∷ codes "eeprom" ∷ codes "--load"
         ∷ codes "--load" ∷ []) ≡ kind.ArgumentConflict ∷ [] }
+    // `eeprom --load=true`
     ensures load_with_a_value { refusal_of (codes "nicbench" ∷ codes "eeprom"
         ∷ codes "--load=true" ∷ []) ≡ kind.TooManyValues ∷ [] }
+    // an unknown command
     ensures unknown { refusal_of (codes "nicbench" ∷ codes "hashes" ∷ [])
         ≡ kind.UnknownArgument ∷ kind.InvalidSubcommand ∷ [] }
+    // no words
     ensures none { refusal_of (codes "nicbench" ∷ [])
         ≡ kind.DisplayHelpOnMissingArgumentOrSubcommand ∷ [] }
 {}
 
 /// The help and the version are shown.
 pub fn shown_texts()
+    // for `--help`
     ensures help { refusal_of (codes "nicbench" ∷ codes "--help" ∷ [])
         ≡ kind.DisplayHelp ∷ [] }
+    // for `run -h`
     ensures help_of_run { refusal_of (codes "nicbench" ∷ codes "run" ∷ codes "-h" ∷ [])
         ≡ kind.DisplayHelp ∷ [] }
+    // for `debug --help`
     ensures help_of_debug { refusal_of (codes "nicbench" ∷ codes "debug" ∷ codes "--help"
         ∷ []) ≡ kind.DisplayHelp ∷ [] }
+    // for `hash --help`
     ensures help_of_hash { refusal_of (codes "nicbench" ∷ codes "hash" ∷ codes "--help"
         ∷ []) ≡ kind.DisplayHelp ∷ [] }
+    // for `-V`
     ensures version { refusal_of (codes "nicbench" ∷ codes "-V" ∷ [])
         ≡ kind.DisplayVersion ∷ [] }
 {}

@@ -98,8 +98,9 @@ fn asked_in(matches: &ArgMatches<'_>) -> Option<Asked>
     }
 }
 
-/// What the words ask for, the program's own name first. The error has the text for the user: why the words were
-/// refused, or the help or the version that they asked for.
+/// What the words ask for, by clap's definitions of the commands, the program's own name first. The error has the text
+/// for the user: why the words were refused, or the help or the version that they asked for. Words that ask for
+/// something are refused only for lack of memory.
 pub fn asked<'a, S: AsStr>(alloc: Global, words: &'a [S]) -> Result<Asked, Error>
     ensures ok { IfOk result (Asks (map S.text words.entry.now)) }
     ensures refused { IfErr result (HasKind (refusal_of (map S.text words.entry.now))) }

@@ -17,7 +17,8 @@ ghost use Rattle.datasheet_laws.specs.Settings.{DevicesAreSet, QueuesAreSet, Cou
 ghost use Rattle.datasheet_laws.specs.Table.{RegistersAreListed, HasAliases, HasLowViews, OtherAddressesMeetNone};
 
 /// Each register has the name, number of indices, kind, mask and reset value that are listed by hand, and the listed
-/// addresses: the first ones, further ones, and those that show bits 15 to 0 alone.
+/// addresses: the first ones, which show all bits, as the further ones of CTRL, SRRCTL, RAL, RAH, MRQC, RETA, RSSRK and
+/// PSRTYPE do; and the further ones of EICS, EIMS, EIMC and EIAM, which show bits 15 to 0 alone.
 pub fn registers_are_listed()
     ensures lines { RegistersAreListed }
     ensures aliases { HasAliases }
@@ -29,9 +30,9 @@ pub fn other_addresses_meet_none()
     ensures { OtherAddressesMeetNone }
 {}
 
-/// Each offset of a virtual function reaches the physical function's address that is listed by hand: for the registers
-/// of which it has one each, for its mailbox memory, for its vectors, and for each of its queues, with 16, 32 and 64
-/// pools.
+/// Each offset of virtual function v below `vfs` reaches the physical function's address that is listed by hand, with
+/// GCR_EXT bits 1 to 0 at 1 (16 pools of 8 queues), 2 (32 of 4) and 3 (64 of 2): for the 14 registers of which it has
+/// one each, for its 16 words of mailbox memory, for its vectors, and for the 15 registers of each of its queues.
 pub fn offsets_are_listed()
     ensures { OffsetsAreListed }
 {}
@@ -42,11 +43,12 @@ pub fn other_offsets_are_holes()
     ensures { OtherOffsetsAreHoles }
 {}
 
-/// A write of PVFMAILBOX[v], at 0x04C00 + 4v, with bit 2 takes the mailbox for the function where bit 3 reads 0, and
-/// without it releases it. A write of PFMAILBOX[v], at 0x04B00 + 4v, with bit 4 frees the mailbox from the function,
-/// with bit 3 takes it for the physical function where bit 2 reads 0, or is freed by this write, and without bit 3
-/// releases it. Both sides read who holds it, and the physical function reads no more. Bits 0 and 1 of PFMAILBOX[v] are
-/// read as bits 4 and 5 of PVFMAILBOX[v], until one read.
+/// A write of PVFMAILBOX[v], at 0x04C00 + 4v, with bit 2 takes the mailbox for the function where bit 3 reads 0,
+/// changes neither bit where that reads 1, and without bit 2 releases it. A write of PFMAILBOX[v], at 0x04B00 + 4v,
+/// with bit 4 frees the mailbox from the function, with bit 3 takes it for the physical function where bit 2 reads 0,
+/// or is freed by this write, and without bit 3 releases it. Both sides read who holds it, and the physical function
+/// reads no more. Bits 0 and 1 of PFMAILBOX[v] are read as bits 4 and 5 of PVFMAILBOX[v], until one read, which clears
+/// bits 4, 5 and 7 alone.
 pub fn mailboxes_shake()
     ensures { MailboxesShake }
 {}
@@ -85,9 +87,10 @@ pub fn pool_resets_leave_mailboxes()
 {}
 
 /// A unicast frame is accepted exactly where bit 9 of FCTRL, at 0x05080, is 1 or one of the 128 receive addresses is
-/// its destination, byte by byte: the first in bits 7 to 0 of 0x0A200 + 8i, the fifth in bits 7 to 0 of 0x0A204 + 8i,
-/// whose bit 31 marks it as valid. A multicast frame is accepted by bit 8, by a receive address, or by MTA, from
-/// 0x05200 on, where bit 2 of MCSTCTRL, at 0x05090, is 1; a broadcast frame by bit 10 or bit 8.
+/// its destination, byte by byte: bytes 0 to 3 in bits 7 to 0, 15 to 8, 23 to 16 and 31 to 24 of 0x0A200 + 8i, bytes 4
+/// and 5 in bits 7 to 0 and 15 to 8 of 0x0A204 + 8i, whose bit 31 marks it as valid. A multicast frame is accepted by
+/// bit 8, by a receive address, or by its bit of MTA, from 0x05200 on, where bit 2 of MCSTCTRL, at 0x05090, is 1; a
+/// broadcast frame by bit 10 or bit 8.
 pub fn frames_are_let_in()
     ensures { FramesAreLetIn }
 {}
@@ -95,21 +98,23 @@ pub fn frames_are_let_in()
 /// VT_CTL, at 0x051B0, distributes frames among pools by bit 0. A frame's pool is the lowest one of the first receive
 /// address that is its destination: for address i the bits of 0x0A600 + 8i are pools 0 to 31, those of the next word
 /// pools 32 to 63. A frame without such an address is for the pool in bits 12 to 7 of VT_CTL, or for none with bit 29.
-/// A pool has reception enabled by its bit of 0x051E0 or of the next word.
+/// Pool p has reception enabled by bit p mod 32 of 0x051E0 + 4(p/32).
 pub fn pools_are_chosen()
     ensures { PoolsAreChosen }
 {}
 
-/// Codes 1, 0xA and 0xB of MRQC bits 3 to 0 enable hashing, and no other does: bit 16 for TCP over IPv4, type 1; bit 22
-/// for UDP over IPv4, type 7; bit 17 for IPv4 by its addresses, type 2; bit 21 for TCP over IPv6, type 3; bit 23 for
-/// UDP over IPv6, type 8; bit 20 for IPv6 by its addresses, type 5; else type 0.
+/// Codes 1, 0xA and 0xB of MRQC bits 3 to 0 enable hashing, and no other does, ports before addresses: bit 16 for TCP
+/// over IPv4, type 1; bit 22 for UDP over IPv4, type 7; bit 17 for IPv4 by its addresses, type 2; bit 21 for TCP over
+/// IPv6, type 3; bit 23 for UDP over IPv6, type 8; bit 20 for IPv6 by its addresses, type 5; else type 0.
 pub fn types_are_chosen()
     ensures { TypesAreChosen }
 {}
 
-/// The queue of a frame, by MRQC bits 3 to 0, at 0x05818, and GCR_EXT bits 1 to 0, at 0x11050; the entry of RETA, from
-/// 0x05C00 on, four in each word and the first in bits 3 to 0; and the hash, which descriptors report where RXCSUM bit
-/// 13, at 0x05000, is 1.
+/// The queue of a frame, by MRQC bits 3 to 0, at 0x05818, and GCR_EXT bits 1 to 0, at 0x11050: with MRQC at 1 the
+/// entry; for pool p 2p with 8, 4p and two bits of the entry with 0xA, and 2p and one bit with 0xB; while GCR_EXT bits
+/// 1 to 0 are 1, 8p with 8, and 8p and three bits of the entry with 0xA and 0xB. The entry of a frame with a type is in
+/// bits 8(n mod 4) + 3 to 8(n mod 4) of 0x05C00 + 4(n/4), n the low seven bits of its hash. The hash is reported where
+/// RXCSUM bit 13, at 0x05000, is 1, else 0.
 pub fn queues_are_chosen()
     ensures { QueuesAreChosen }
 {}
@@ -158,9 +163,11 @@ pub fn hash_is_of_the_key()
 {}
 
 /// CTRL bit 2, at 0x00000, stops the device's steps; RXCTRL bit 0, at 0x03000, and DMATXCTL bit 0, at 0x04A80, let
-/// frames in and out; HLREG0, at 0x04240, has padding in bit 10 and jumbo frames in bit 2, whose limit is in MAXFRS
-/// bits 31 to 16, at 0x04268; GPIE, at 0x00898, has bits 5 and 30 of interrupts. Of a queue SRRCTL bit 28 drops frames,
-/// and TDWBAL bit 0 has its head written back. A counter that a read clears stays at the largest word.
+/// frames in and out; HLREG0, at 0x04240, pads frames by bit 10. The frame limit is 1,514 bytes, or with HLREG0 bit 2
+/// MAXFRS bits 31 to 16, at 0x04268, less 4. GPIE, at 0x00898, says by bit 5 whether a read of EICR clears bits 29 to
+/// 16 alone, and by bit 30 whether the auto-mask is for messages alone. SRRCTL[q] bit 28 drops frames without a
+/// descriptor, and TDWBAL[q] bit 0 has the head written to the address in TDWBAH[q] and TDWBAL[q] bits 31 to 2. A
+/// counter that a read clears counts one more each time, and stays at 0xFFFFFFFF.
 pub fn settings_are_bits()
     ensures device { DevicesAreSet }
     ensures queue { QueuesAreSet }

@@ -50,8 +50,10 @@ impl Model for Debugger {
 }
 
 impl Debugger {
-    /// A debugger of a program at step 0, on a new device of this configuration, without breakpoints. The error says
-    /// why there is no such device, and returns the program.
+    /// A debugger of a program at step 0, on a new device of this configuration, without breakpoints.
+    ///
+    /// Errors: those of `Device::new` for the configuration, each exactly where it is the device's: `TooManyVfs`, then
+    /// `Fifo`. Each returns the program.
     pub fn new(alloc: Global, program: Program, config: Config) -> Result<Debugger, NewRefused>
         ensures made { IfOk result
             (λ debugger. debugger ≡ record { program = program; config = config; steps = 0; breakpoints = [] }) }
@@ -81,8 +83,12 @@ impl Debugger {
         }
     }
 
-    /// Executes a command, and returns the machine's state. After a refusal the debugger is unchanged; but `Step` and
-    /// `Continue` that find no memory have made the steps before, and the next step is one that may take memory.
+    /// Executes a command, and returns the machine's state: after the number of steps that the commands so far lead to,
+    /// whichever way it was reached. Which snapshots are kept shows in no answer but that for lack of memory.
+    ///
+    /// After a refusal the debugger is unchanged; but `Step` and `Continue` that find no memory have made the steps
+    /// before, and the next step is one that may take memory. A command that goes back lacks memory only where there
+    /// are so many steps, and no other command does.
     pub fn exec(&mut self, command: Command) -> Result<View, DebugRefusal>
         ensures answer { result ≢ Err DebugRefusal.OutOfMemory → result ≡ (command_of self.old command).answer }
         ensures session { result ≢ Err DebugRefusal.OutOfMemory → self.new ≡ (command_of self.old command).session }

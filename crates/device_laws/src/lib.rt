@@ -24,22 +24,24 @@ pub fn devices_stay_sound()
     ensures event { EventKeepsSound }
 {}
 
-/// After every event, a bit of a group is reported only while its cause and its mask are 1.
+/// After every event that a driver can make, a bit of a group is reported only while its cause and its mask are 1.
 pub fn reported_is_pending()
     ensures { ReportedIsPending }
 {}
 
-/// A register of a new device reads as its reset value.
+/// A plain read/write register of a new device reads as its reset value, in the bits that the address shows.
 pub fn new_device_reads_reset_values()
     ensures { NewDeviceReadsResetValues }
 {}
 
-/// A write shows at each address of its register, aliases included, whatever happened before.
+/// A read right after a write of a plain read/write register, each at any address of it, aliases included, returns the
+/// written bits that the mask and the written address let through, and the former bits elsewhere, as far as its own
+/// address shows them.
 pub fn write_shows_at_each_address()
     ensures { WriteShowsAtEachAddress }
 {}
 
-/// A write of one register doesn't show in any other.
+/// A write of one plain read/write register doesn't show in any other.
 pub fn write_leaves_other_registers()
     ensures { WriteLeavesOtherRegisters }
 {}
@@ -54,7 +56,7 @@ pub fn stray_access_changes_nothing()
     ensures { StrayAccessChangesNothing }
 {}
 
-/// A counter that was read reads as 0 after that, until it counts again.
+/// A counter that was read reads as 0 right after that, at each of its addresses.
 pub fn read_counter_starts_again()
     ensures { ReadCounterStartsAgain }
 {}
@@ -68,7 +70,7 @@ pub fn let_in_frame_is_counted()
 /// MPC counts the frames that find the receive list full, RUC those too short, ROC those too long, GPRC those accepted,
 /// and GPTC those transmitted. QPRC, QPRDC and QPTC count the frames of queues in the counters that RQSMR and TQSM
 /// assign: QPRC those written to their end, QPRDC those dropped because no descriptor was free, QPTC those transmitted.
-/// Only a read of a counter and a reset change it otherwise.
+/// 0xFFFFFFFF stays. Only a read of a counter and a reset change it otherwise.
 pub fn events_count()
     ensures { EventsCount }
 {}
@@ -88,28 +90,31 @@ pub fn events_raise()
     ensures { EventsRaise }
 {}
 
-/// A write that asks for a reset empties the receive list, drops the staged bytes, and changes nothing else but
-/// registers. With an image that writes no register, each register has its reset value then, no side of a queue is
-/// asked to be enabled, and no bit is reported; `reset_applies_the_image` says what more an image does.
+/// A write of CTRL that asks for a reset empties the receive list, drops the staged bytes, and changes nothing else but
+/// registers: lent memory, the transmitted frames, the link, the image and the configuration are unchanged. With an
+/// image that writes no register, each register has its reset value then, no side of a queue is asked to be enabled,
+/// and no bit is reported; `reset_applies_the_image` says what more an image does.
 pub fn asked_reset_resets()
     ensures rest { AskedResetResets }
     ensures values { ResetGivesResetValues }
 {}
 
 /// A reset makes the register writes of the EEPROM image one by one: an image with one more write at its end leaves the
-/// device as the image without it does, changed by that write. A write of CTRL or EERD is skipped.
+/// device as the image without it does, changed by that write. A write of CTRL or EERD is skipped, and none ends the
+/// list.
 pub fn reset_applies_the_image()
     ensures writes { LastWriteIsMade }
     ensures steps_over { SteppedOverWriteIsNotMade }
 {}
 
-/// EEC reports the size of the installed image.
+/// EEC reports the size of the installed image: it reads 0x300 + 0x800 s where that has 64 * 2^s words.
 pub fn image_is_reported_by_its_size()
     ensures { ControlTellsSize }
 {}
 
-/// An EEPROM step provides the word that EERD asks for: EERD reads as that word then, with the index and DONE. Where
-/// none is asked for, the step is idle and changes nothing. It changes no queue, no group, no memory and no frame.
+/// An EEPROM step, while CTRL bit 2 is 0, provides the word that EERD asks for: EERD reads as the index, DONE, START at
+/// 0, and the image's word at that index, 0xFFFF outside the image. Where none is asked for, the step is idle and
+/// changes nothing. It changes no queue, no group, no memory and no frame.
 pub fn eeprom_step_gives_the_word()
     ensures word { StepGivesWord }
     ensures idle { StepWithoutStartIsIdle }
@@ -144,7 +149,8 @@ pub fn access_leaves_the_rest()
     ensures memory { WriteLeavesMemory }
 {}
 
-/// A memory call changes no queue, no group, no frame, and no block but the one that it lends, takes or writes.
+/// A memory call changes no queue, no group and no frame; and no block but the one that it lends or takes, or those
+/// with the 16 bytes that it writes.
 pub fn memory_call_leaves_the_rest()
     ensures rest { MemoryCallsLeaveTheRest }
     ensures blocks { MemoryCallsLeaveOtherBlocks }
@@ -210,14 +216,16 @@ pub fn transmitting_tells()
     ensures { TransmittingTells }
 {}
 
-/// While VT_CTL bit 0 is 1, a transmit step of a queue whose pool has its bit of VFTE at 0 is idle and changes nothing.
+/// While VT_CTL bit 0 is 1, a transmit step of a queue below 128 whose pool has its bit of VFTE at 0 is idle and
+/// changes nothing.
 pub fn muted_queue_is_idle()
     ensures { MutedQueueIsIdle }
 {}
 
-/// Where a bit of a group is due, its cause and its mask at 1, not reported, with a vector, an interrupt step of the
-/// group sends the vector of the lowest such bit and marks that bit as reported. It clears the bit's cause where EIAC
-/// has the bit, and its mask where GPIE bit 30 is 1 and EIAM has the bit; the group's other bits are unchanged.
+/// Where a bit of a group is due, its cause and its mask at 1, not reported, with a vector, and CTRL bit 2 is 0, an
+/// interrupt step of the group sends the vector of the lowest such bit and marks that bit as reported. It clears the
+/// bit's cause where EIAC has the bit, and its mask where GPIE bit 30 is 1 and EIAM has the bit; the group's other bits
+/// are unchanged.
 pub fn due_bit_is_reported()
     ensures { DueBitIsReported }
 {}
@@ -243,7 +251,8 @@ pub fn fault_changes_no_memory()
     ensures { FaultChangesNoMemory }
 {}
 
-/// While CTRL bit 2 is 1, every device step of an existing queue or group is idle and changes nothing.
+/// While CTRL bit 2 is 1, every receive step, every EEPROM step, every transmit or enable step of a queue below 128,
+/// and every interrupt step of an existing group is idle and changes nothing.
 pub fn stopped_device_is_idle()
     ensures { StoppedDeviceIsIdle }
 {}
@@ -256,12 +265,13 @@ pub fn vf_access_is_the_physical_functions()
     ensures nothing { HolesAndAbsentFunctionsMeetNothing }
 {}
 
-/// An access of a virtual function changes only what belongs to its pool: registers, enable requests, reported bits,
-/// staged bytes, and the frames of the receive list for its own queues; and the bits by which it signals the physical
-/// function, two of PFMBICR and EICR bit 19. The frames of other pools keep their order. It changes staged bytes and
-/// frames of its own pool only where it asks for a reset of the pool. Two devices that agree in what belongs to the
-/// pool, in the number of functions, in GCR_EXT, in CTRL bit 2 and in the link give the same reply to it, and agree
-/// there again.
+/// An access of a virtual function changes only what belongs to its pool: registers, its mailbox and the mailbox's
+/// memory among them, enable requests, reported bits, staged bytes, and the frames of the receive list for its own
+/// queues; and the bits by which it signals the physical function, two of PFMBICR and EICR bit 19. The frames of other
+/// pools keep their order, and memory, transmitted frames, link, image and configuration are unchanged. It changes
+/// staged bytes and frames of its own pool only where it asks for a reset of the pool, by PVFCTRL bit 26. Two devices
+/// that agree in what belongs to the pool, in the number of functions, in GCR_EXT, in CTRL bit 2 and in the link give
+/// the same reply to it, and agree there again.
 pub fn vf_stays_in_its_pool()
     ensures changes { VfChangesItsPoolAlone }
     ensures keeps { VfKeepsFramesButByReset }
@@ -269,7 +279,7 @@ pub fn vf_stays_in_its_pool()
 {}
 
 /// A write of PVFCTRL with bit 26, through either port, leaves what belongs to the pool as a reset does: its registers,
-/// the part of its mailbox that a pool's reset clears, enable requests and reported bits. Its queues have no staged
+/// of its mailbox bits 2, 4 and 5 of PVFMAILBOX alone, enable requests and reported bits. Its queues have no staged
 /// bytes, and the receive list keeps the frames of other queues, in their order. All else is unchanged.
 pub fn asked_pool_reset_resets()
     ensures { AskedPoolResetResets }

@@ -28,8 +28,9 @@ pub struct Watched {
     pub queue: u16,
 }
 
-/// The register that a number names at a port, in a mode of pools and with so many virtual functions: the address of a
-/// register of the physical function, or an offset among those of a virtual one. None where it names no register.
+/// The register that a number names at a port, in a mode of pools and with so many virtual functions, as `left_alone`
+/// asks of each write: the address of a register of the physical function, or an offset among those of a virtual one.
+/// None where it names no register.
 pub fn place_at(mode: Mode, vfs: u8, port: Port, number: u32) -> Option<Place>
     ensures { result ≡ place_at mode vfs port number }
 {

@@ -103,6 +103,7 @@ impl Calls {
         ensures device { OnOk result (device.new ≡ (step_of device.old event).state) }
         ensures calls { OnOk result (self.new ≡ self.old ++ call_of event (step_of device.old event).reply ∷ []) }
         ensures reply { IfOk result (λ reply. reply ≡ (step_of device.old event).reply) }
+        // the reply is one that such an event can have
         ensures fits { IfOk result (λ reply. may_answer event reply ≡ true) }
         ensures back { IfErr result (λ refused. refused.0 ≡ event) }
         ensures unchanged { OnErr result ((device.new ≡ device.old) × (self.new ≡ self.old)) }

@@ -158,9 +158,12 @@ impl<const VFS: u8, const FIFO: u16> Shared<VFS, FIFO> {
             ↔ IsMissing self.entry.bench self.entry.passes passes.items tag }
         ensures foreign { IsErrAnd result (λ refused. refused.fault ≡ CloseFault.ForeignPass)
             ↔ IsSurplus self.entry.bench self.entry.passes passes.items }
+        // some legal history differs so from the passes
         ensures mismatch { (tag : ℕ) → IsErrAnd result (λ refused. refused.fault ≡ CloseFault.Mismatch tag)
             → AreAll self.entry.bench self.entry.passes passes.items × Differs VFS FIFO passes.items tag }
+        // never for lack of memory
         ensures memory { IfErr result (λ refused. refused.fault ≢ CloseFault.OutOfMemory) }
+        // as it was; what lies under the lock no clause says
         ensures shared { IfErr result (λ refused. refused.shared ≡ self.entry) }
         ensures passes { IfErr result (λ refused. refused.passes.items ≡ passes.items) }
     {

@@ -33,7 +33,7 @@ pub(crate) type Counts = [u32; MAX_PASSES as usize];
 /// What lies under the lock: the device, and the history of its calls.
 ///
 /// Whenever the lock is free the history is legal from a new device of `VFS` virtual functions, whose receive list
-/// takes `FIFO` frames, and leads to the device held. It can't be dropped, as the device can't.
+/// takes `FIFO` frames, and leads to the device held; its tags are below 64. It can't be dropped, as the device can't.
 ///
 /// The entries of the device steps of a queue at rest take no room of their own here. Once nothing is shared any more
 /// it is unlocked, and there each entry stands by itself.
@@ -167,6 +167,7 @@ impl<const VFS: u8, const FIFO: u16> Locked<VFS, FIFO> {
         requires { tag < 64 }
         ensures reply { IfOk result (λ reply. reply ≡ (step_of self.old.device event).reply) }
         ensures made { OnOk result (self.new ≡ after_call self.old tag event) }
+        // the reply is one that such an event can have
         ensures fits { IfOk result (λ reply. may_answer event reply ≡ true) }
         ensures full { (result ≡ Err (CallFault.HistoryFull event)) ↔ (length self.old.history ≡ self.old.limit) }
         ensures refused { OnErr result ((result ≡ Err (CallFault.HistoryFull event))

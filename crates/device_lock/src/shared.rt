@@ -130,6 +130,7 @@ impl<const VFS: u8, const FIFO: u16> Shared<VFS, FIFO> {
         ensures fits { IfOk result (λ reply. may_answer event reply ≡ true) }
         ensures foreign { (result ≡ Err (CallFault.ForeignPass event))
             ↔ ¬ IsOwn self.now.bench self.now.passes pass.old }
+        // some legal history of a new device is full: which one is under the lock no clause says
         ensures full { result ≡ Err (CallFault.HistoryFull event) → IsFull VFS FIFO }
         ensures back { IfErr result (λ fault. event_of fault ≡ event) }
         ensures unchanged { OnErr result (pass.new ≡ pass.old) }

@@ -127,7 +127,8 @@ impl Arena {
 
     /// Takes a free block, all of whose bytes are 0. `None` exactly when none is free.
     ///
-    /// Which of the free blocks it is, is unspecified.
+    /// Which of the free blocks it is, is unspecified. That number alone is free no longer; where none is free, nothing
+    /// changes.
     pub fn take(&mut self) -> Option<Buf>
         ensures none { IsNone result ↔ (free_count self.old ≡ 0) }
         ensures free { IfSome result (λ b. IsTrue (is_free self.old b.number)) }
@@ -139,7 +140,8 @@ impl Arena {
         self.take_at(number)
     }
 
-    /// Takes the block of this number, all of whose bytes are 0. `None` exactly when it isn't free here.
+    /// Takes the block of this number, all of whose bytes are 0. `None` exactly when it isn't free here. That number
+    /// alone is free no longer; where it isn't free, nothing changes.
     pub fn take_at(&mut self, block: u32) -> Option<Buf>
         ensures none { IsNone result ↔ (is_free self.old block ≡ false) }
         ensures zero { IfSome result (λ b. b ≡ zero_block block) }
@@ -153,8 +155,8 @@ impl Arena {
         Some(Buf::cleared(block as u16, self.list.take(at as u32)))
     }
 
-    /// Returns a block to the arena, where it is free from then on. A block whose number isn't this arena's, or is free
-    /// here already, comes back in the error, and the arena is unchanged.
+    /// Returns a block to the arena, where its number, and no other, is free from then on. A block whose number isn't
+    /// this arena's, or is free here already, comes back in the error; the arena is unchanged then.
     pub fn give(&mut self, buf: Buf) -> Result<(), Buf>
         ensures ok { IsOk result ↔ (IsTrue (is_own self.old buf.number) × (is_free self.old buf.number ≡ false)) }
         ensures given { OnOk result (self.new ≡ with_free self.old buf.number true) }
@@ -186,7 +188,8 @@ impl Arena {
     /// Splits the arena at a number into one of the numbers below `at` and one of those from `at` on.
     ///
     /// Errors, in this order: `InUse` where a block isn't free, `OutsideArena` where one half would have no number, and
-    /// `OutOfMemory`. Each returns the arena unchanged.
+    /// `OutOfMemory`. Each returns the arena unchanged. Where it succeeds, all blocks were free, and `at` is inside the
+    /// arena.
     pub fn split(self, at: u32) -> Result<(Arena, Arena), SplitRefused>
         ensures below { IfOk result (λ p. p.0 ≡ numbers_below self at) }
         ensures above { IfOk result (λ p. p.1 ≡ numbers_from self at) }

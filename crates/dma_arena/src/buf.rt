@@ -117,9 +117,10 @@ impl Buf {
         usize::from(self.written)
     }
 
-    /// The block's number, below 65,536.
+    /// The block's number.
     pub fn block(&self) -> u32
         ensures number { result ≡ self.now.number }
+        // below 65,536
         ensures small { result < 65536 }
     {
         u32::from(self.number)

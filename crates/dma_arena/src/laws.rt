@@ -26,7 +26,7 @@ pub fn read_apart()
     ensures { ReadsApart }
 {}
 
-/// A write changes no byte outside its range, no block's length, and not which blocks are lent.
+/// A write changes no byte outside its range, no block's length of 2,048 bytes, and not which blocks are lent.
 pub fn write()
     ensures bytes { WritesInside }
     ensures blocks { WriteKeepsBlocks }
@@ -71,7 +71,8 @@ pub fn numbers_stay()
 {}
 
 /// Where arenas share no number, each block of an arena is in exactly one place: free, owned or lent. It is so at
-/// first, and each move of a block keeps it so.
+/// first, and stays so when a block is taken, given, lent or taken back, when a foreign block is lent and comes back,
+/// and when an arena is split.
 pub fn each_block_once()
     ensures { MovesKeepEachOnce }
 {}

@@ -55,7 +55,7 @@ impl LentMemory {
     /// Lends a block under its number.
     ///
     /// Errors: `Twice` exactly where that number is already lent, else `OutOfMemory`. Both return the block, and leave
-    /// the lent memory as it was.
+    /// the lent memory as it was. A number is lent at most once.
     pub fn lend(&mut self, buf: Buf) -> Result<(), LendRefused>
         ensures lent { OnOk result (self.new ≡ map.insert self.old buf.number buf.bytes) }
         ensures once { OnOk result (has_block self.old buf.number ≡ false) }
@@ -74,7 +74,8 @@ impl LentMemory {
         }
     }
 
-    /// Takes a block back, with the bytes that the bus left in it. `None` where it isn't lent.
+    /// Takes a block back, with the bytes that the bus left in it. `None` where it isn't lent. Where it isn't lent,
+    /// nothing changes.
     pub fn take(&mut self, block: u32) -> Option<Buf>
         ensures taken { result ≡ block_at self.old block }
         ensures left { self.new ≡ map.remove self.old block }
@@ -87,6 +88,7 @@ impl LentMemory {
     pub fn lowest(&self) -> Option<u32>
         ensures none { IsNone result ↔ (self.now ≡ map.empty) }
         ensures lent { IfSome result (λ number. IsTrue (has_block self.now number)) }
+        // no lower number is lent
         ensures least { IfSome result (λ number. (q : ℕ) → q < number → has_block self.now q ≡ false) }
     {
         self.blocks.lowest()
@@ -119,7 +121,8 @@ impl LentMemory {
         self.write_at(address, &bytes);
     }
 
-    /// Fills the slice with the bytes from a bus address on. All must be lent.
+    /// Fills the slice with the bytes from a bus address on. All must be lent. Each byte is the one at its address,
+    /// across blocks too.
     pub fn read_at(&self, address: u64, bytes: &mut [u8])
         requires { is_lent self.now address (length bytes.old) ≡ true }
         ensures { bytes.new ≡ read_at self.now address (length bytes.old) }
@@ -127,7 +130,8 @@ impl LentMemory {
         ranges::read_bytes(&self.blocks, address, bytes);
     }
 
-    /// Writes the bytes of the slice from a bus address on. All must be lent.
+    /// Writes the bytes of the slice from a bus address on. All must be lent. Each byte goes to its address, across
+    /// blocks too.
     pub fn write_at(&mut self, address: u64, bytes: &[u8])
         requires { is_lent self.old address (length bytes.now) ≡ true }
         ensures { self.new ≡ write_at self.old address bytes.now }

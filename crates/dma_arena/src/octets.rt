@@ -18,7 +18,7 @@ impl Model for Octets {
 }
 
 impl Octets {
-    /// Takes over the bytes of the vector: nothing is copied.
+    /// The bytes of the vector, taken over: nothing is copied.
     pub fn of(bytes: Vec<u8>) -> Octets
         ensures { result ≡ bytes.items }
     {

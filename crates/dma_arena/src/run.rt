@@ -40,15 +40,17 @@ impl Run {
         self.first
     }
 
-    /// How many blocks are left, 0 to 8.
+    /// How many blocks are left.
     pub fn count(&self) -> u32
         ensures count { result ≡ self.now.count }
+        // 8 at most
         ensures few { result ≤ 8 }
     {
         self.count
     }
 
-    /// Takes out the block with the highest number, all of whose bytes are 0. `None` exactly when no block is left.
+    /// Takes out the block with the highest number, all of whose bytes are 0. `None` exactly when no block is left. The
+    /// others are left; an empty run is unchanged.
     pub fn pop(&mut self) -> Option<Buf>
         ensures none { IsNone result ↔ (self.old.count ≡ 0) }
         ensures highest { IfSome result (λ b. b ≡ zero_block (self.old.first + self.old.count - 1)) }
@@ -123,7 +125,8 @@ impl Arena {
     }
 
     /// Takes the lowest run of `count` free blocks (1 to 8), all of whose bytes are 0. `None` exactly where no `count`
-    /// consecutive blocks are free. It allocates nothing.
+    /// consecutive blocks are free. It allocates nothing. The run's numbers alone are free no longer; without one,
+    /// nothing changes.
     pub fn take_run(&mut self, count: u32) -> Option<Run>
         requires few { (1 ≤ count) × (count ≤ 8) }
         ensures run { result ≡ option_map (λ first. record { first = first; count = count }) (run_in self.old count) }

@@ -52,9 +52,10 @@ pub fn reported_length(second: u64) -> u16
     (second / 0x1_0000_0000 % 0x1_0000) as u16
 }
 
-/// The packet's RSS type, 0 to 15, by the first half of a descriptor that was written back.
+/// The packet's RSS type by the first half of a descriptor that was written back.
 pub fn reported_rss(first: u64) -> u8
     ensures value { result ≡ rss_in first }
+    // 0 to 15
     ensures small { result < 16 }
 {
     (first % 16) as u8

@@ -18,7 +18,7 @@ pub struct Ring {
 }
 
 impl Ring {
-    /// The number of slots in the ring.
+    /// The number of slots in the ring: one for each 16 bytes of its length.
     pub fn slots(&self) -> u32
         ensures { result ≡ slots_of self.now }
     {
@@ -46,7 +46,7 @@ impl Ring {
         }
     }
 
-    /// The slot after this one: 0 after the last.
+    /// The slot after this one: 0 after the last, in a ring of at most 65,536 slots.
     pub fn next(&self, slot: u16) -> u16
         requires slot { slot < slots_of self.now }
         requires slots { slots_of self.now ≤ 65536 }
@@ -58,7 +58,7 @@ impl Ring {
         slot + 1
     }
 
-    /// The bus address of a slot's descriptor, modulo 2^64.
+    /// The bus address of a slot's descriptor: the base and 16 for each slot, modulo 2^64.
     pub fn descriptor(&self, slot: u16) -> u64
         ensures { result ≡ descriptor_address self.now slot }
     {

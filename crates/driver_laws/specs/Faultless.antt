@@ -39,7 +39,7 @@ pub record IsReportedApart (x : Reported) (n : Moment) : Type 0 where
   pub more : List Call
   pub made : calls_of x.w.pass x.h ≡ n.made ++ more
 
--- no such history has such a call
+-- over no such history a call of `rx`, `tx`, `reap`, `rx_burst` or `tx_burst` finds the device at fault
 abbrev pub NoCallFindsFault : Type 0
 NoCallFindsFault = (x : Reported) (n : Moment) → FindsFault (now x) n → ¬ IsReportedApart x n
 
@@ -60,7 +60,7 @@ SendsAtFault old r new s =
 abbrev pub MeetsFault : Moment → Moment → Type 0
 MeetsFault m n = WhereUp m.driver.rings n.driver.rings (λ r s. SendsAtFault m.made r n.made s)
 
--- no such history has such a call
+-- over no such history a call of `tx_burst` meets the device at fault
 abbrev pub NoBurstMeetsFault : Type 0
 NoBurstMeetsFault = (x : Reported) (n : Moment) → MeetsFault (now x) n → ¬ IsReportedApart x n
 

@@ -246,6 +246,7 @@ pub fn stopped_life_in_order()
 /// The calls of a stop of a `pmd_driver::Pmd` are such, beside steps of the device, and so are those of one that fails.
 pub fn stop_calls_ask_for_no_side()
     ensures stops { stopped.StopEnds }
+    // so are those of one that fails
     ensures fails { stopped.FailedStopEnds }
 {}
 

@@ -74,6 +74,7 @@ impl Image {
     /// The 16-bit words of the image, in order.
     pub fn words(&self) -> &[u16]
         ensures words { result.now ≡ self.now }
+        // they are those of an image
         ensures image { IsImage self.now }
     {
         &self.words
@@ -86,10 +87,12 @@ impl Image {
         self.words.as_slice().word(index)
     }
 
-    /// The size as a power of two: s, 0 to 8, where the image has 64 * 2^s words.
+    /// The size as a power of two: s, where the image has 64 * 2^s words.
     pub fn doublings(&self) -> u8
         ensures doublings { result ≡ doublings (length self.now) }
+        // so many words has the image
         ensures words { length self.now ≡ 64 * 2 ^ result }
+        // 0 to 8
         ensures range { result ≤ 8 }
     {
         match self.words.len() {
@@ -112,7 +115,7 @@ impl Image {
         Triples::of(self.csr_section())
     }
 
-    /// The number of register writes.
+    /// The number of register writes in the image's CSR section.
     pub fn triple_count(&self) -> usize
         ensures { result ≡ length (triples_of self.now) }
     {
@@ -139,8 +142,8 @@ impl Image {
         section(&self.words, self.word(CSR_POINTER))
     }
 
-    /// The file of the image: its words in order, little-endian. Loading it gives the same words. `AllocError` where
-    /// there is no memory for it.
+    /// The file of the image: its words in order, the low byte of each first. Loading it gives the same words.
+    /// `AllocError` where there is no memory for it.
     pub fn to_bytes(&self, alloc: Global) -> Result<Vec<u8>, AllocError>
         ensures { IfOk result (λ bytes. bytes.items ≡ bytes_of self.now) }
     {

@@ -32,74 +32,87 @@ pub fn interrupt_registers_have_addresses()
     ensures view { ReadsShowTheView }
 {}
 
-/// A write of EICS or PVTEICS sets the causes of the bits that are written as 1. EICS and PVTEICS read as 0.
+/// A write of EICS or PVTEICS sets in EICR or PVTEICR the causes of the bits that are written as 1 and that its address
+/// shows; and in EIMS or PVTEIMS those of them that EIAM or PVTEIAM has, of the physical function only while GPIE bit
+/// 30 is 0. It changes no other bit of these registers, of EIAC and of EIAM, and no other group's. EICS and PVTEICS
+/// read as 0.
 pub fn causes_are_set()
     ensures { WriteOfCauseSetSets }
 {}
 
 /// A write of EICR or PVTEICR clears the causes of the bits that are written as 1, and no other. A read clears all of
-/// them, or with GPIE bit 5 at 1 of EICR bits 29 to 16 alone.
+/// them, or with GPIE bit 5 at 1 of EICR bits 29 to 16 alone. While the auto-mask acts on accesses, a write clears the
+/// masks of the written bits that EIAM or PVTEIAM has, and a read those of all bits that it has. Neither changes
+/// another bit, or another group.
 pub fn causes_are_cleared()
     ensures write { WriteOfCausesClears }
     ensures read { ReadOfCausesClears }
 {}
 
-/// A write of EIMS or PVTEIMS sets masks, a write of EIMC or PVTEIMC clears them, and neither changes a cause.
+/// A write of EIMS or PVTEIMS sets the masks of the bits that are written as 1 and that its address shows, a write of
+/// EIMC or PVTEIMC clears them, and neither changes another bit, or another group.
 pub fn masks_are_set_and_cleared()
     ensures set { WriteOfMasksSets }
     ensures clear { WriteOfMaskClearClears }
 {}
 
-/// EICS, PVTEICS, EIMC and PVTEIMC read as 0.
+/// EICS, PVTEICS, EIMC and PVTEIMC read as 0, in their views of bits 15 to 0 too.
 pub fn set_and_clear_read_zero()
     ensures { SetAndClearReadZero }
 {}
 
-/// EIAC, PVTEIAC, EIAM and PVTEIAM keep what is written to the bits of their group.
+/// EIAC, PVTEIAC, EIAM and PVTEIAM keep what is written to the bits of their group that the address shows, and such a
+/// write changes no other bit, and no other group.
 pub fn auto_words_are_kept()
     ensures clear { WriteOfAutoClearIsKept }
     ensures mask { WriteOfAutoMaskIsKept }
 {}
 
-/// Both sides of a function's mailbox read the same holder, which is one of them at most. The function reads that a
-/// reset began or that it is done, not both.
+/// In every device that events lead to from a new one, PFMAILBOX[v] reads in bits 2 and 3 as PVFMAILBOX[v]: both sides
+/// read the same holder of a function's mailbox, the function (VFU, bit 2) or the physical one (PFU, bit 3), which is
+/// one of them at most. The function reads that a reset began (RSTI, bit 6) or that it is done (RSTD, bit 7), not both.
 pub fn mailboxes_are_shared()
     ensures { MailboxesAreShared }
 {}
 
-/// Word x of function v's mailbox memory is at address 0x13000 + 0x40 v + 4 x, and at the function's offset 0x200 + 4
-/// x. What is written at one of the two is read at both, until the word is written again or the device is reset.
+/// Word x, below 16, of function v's mailbox memory PFMBMEM is at address 0x13000 + 0x40 v + 4 x, and at the function's
+/// offset 0x200 + 4 x where the device has the function with a pool. What is written at one of the two is read at both,
+/// until the word is written again or the device is reset.
 pub fn messages_are_shared()
     ensures numbers { MessagesHaveNumbers }
     ensures shared { MessagesAreShared }
     ensures last { MessagesLast }
 {}
 
-/// Who holds a mailbox holds it after every event but those writes that end it: for the function a write of PVFMAILBOX
-/// without bit 2, one of PFMAILBOX with bit 4, and a reset of its pool or of the device; for the physical function a
-/// write of PFMAILBOX without bit 3, and a reset of the device.
+/// Who holds a mailbox holds it after every event but those writes that end it, by whichever port: for the function a
+/// write of PVFMAILBOX without bit 2, one of PFMAILBOX with bit 4, and a reset of its pool or of the device; for the
+/// physical function a write of PFMAILBOX without bit 3, and a reset of the device.
 pub fn holders_hold_on()
     ensures function { FunctionHoldsOn }
     ensures physical { PhysicalHoldsOn }
 {}
 
-/// From one reset of the device to the next, at most one read of PVFMAILBOX returns bit 7, that a reset is done. A
-/// write of CTRL_EXT with bit 14 sets it for each function that reads bit 6, that one began, and clears bit 6.
+/// From one reset of the device to the next, at most one read of PVFMAILBOX[v], through either port, returns bit 7,
+/// RSTD: that a reset is done. A write of CTRL_EXT with bit 14 makes RSTD read 1 for each function that reads bit 6,
+/// RSTI, that one began, or read RSTD already, and clears bit 6.
 pub fn ends_are_reported_once()
     ensures once { EndIsReportedOnce }
     ensures reported { EndIsReported }
 {}
 
-/// A write of PVFMAILBOX with bit 0 sets the request of its own function in PFMBICR, with bit 1 its own
-/// acknowledgement, and changes no other bit there.
+/// A write of PVFMAILBOX[v] with bit 0 makes bit v mod 16 of PFMBICR[v/16] read 1, its own function's request; with bit
+/// 1 bit 16 + v mod 16, its acknowledgement; and it changes no other bit there.
 pub fn requests_are_apart()
     ensures { RequestsAreApart }
 {}
 
 /// An interrupt step gets the reply `NoGroup` exactly for a virtual function that the device doesn't have or that has
-/// no pool. Else it is idle and changes nothing exactly while CTRL bit 2 is 1 or where no bit is due; in every other
-/// case it reports the lowest due bit, by its own number, or by the vector that IVAR_MISC has for bits 16 to 29 or for
-/// bit 30.
+/// no pool: one from `vfs` on, or from 16 on with GCR_EXT bits 1 to 0 at 1, 32 with 2, 64 with 3, and 0 with 0. Else it
+/// is idle exactly while CTRL bit 2 is 1 or where no bit is due: its cause and mask 1, not reported, with a vector.
+/// Both change nothing. In every other case it reports the lowest due bit, and no other: by its own number, for bits 0
+/// to 15 of EICR and those of PVTEICR; for bits 16 to 29 by IVAR_MISC bits 13 to 8 where bit 15 is 1, and for bit 30 by
+/// bits 5 to 0 where bit 7 is 1, each below 16. The bit's cause is cleared where EIAC has it, its mask where GPIE bit
+/// 30 is 1 and EIAM has it.
 pub fn message_steps_tell_what_is_due()
     ensures { MessageStepsTellWhatIsDue }
 {}
@@ -128,7 +141,7 @@ pub fn heads_move_on()
 /// A frame's end on queue q raises the cause that byte 2(q mod 2) of IVAR[q/2] names in EICR, and a report of the queue
 /// the cause that the next byte names. For queue x of virtual function v with k queues the bytes are those of
 /// PVTIVAR[v*k/2 + x/2], and the cause is in PVTEICR[v]. A byte names the cause in its bits 5 to 0 where bit 7 is 1: at
-/// most 15 in EICR, at most 2 in PVTEICR[v].
+/// most 15 in EICR, at most 2 in PVTEICR[v]. No other bit of EICR, EIMS, EIAC and EIAM changes, in no group.
 pub fn vectors_name_causes()
     ensures ivar { IvarNamesCauses }
     ensures pvtivar { PvtivarNamesCauses }
@@ -143,7 +156,8 @@ pub fn device_raises_by_number()
 
 /// A frame that is written to its end on queue q is counted in the QPRC, and one that is dropped because no descriptor
 /// was free in the QPRDC, whose number is in bits 8(q mod 4)+3 to 8(q mod 4) of RQSMR[q/4]; one that is transmitted in
-/// the QPTC whose number TQSM[q/4] has there. The other counters of these are unchanged.
+/// the QPTC whose number TQSM[q/4] has there. That counter reads one more, 0xFFFFFFFF at most; the other 15 are
+/// unchanged.
 pub fn mappings_name_counters()
     ensures { MappingsNameCounters }
 {}
@@ -169,25 +183,27 @@ pub fn marks_last()
 {}
 
 /// A write of a plain read/write register changes what no other register reads, and nothing else of the device. EIAC,
-/// EIAM and EITR are plain, and so are PVTEIAC and PVTEIAM; EITR stores all bits, and no interrupt step depends on it.
+/// EIAM and the 128 EITR are plain, and so are PVTEIAC and PVTEIAM; EITR stores all 32 bits, and no interrupt step
+/// depends on it.
 pub fn plain_writes_are_alone()
     ensures alone { PlainWriteIsAlone }
     ensures plain { ArePlain }
     ensures timers { TimersHaveNoEffect }
 {}
 
-/// CTRL_EXT reads 0 in a new device, stores all bits that are written, and a read of it changes nothing. A write of it
-/// changes what no other register reads but PVFMAILBOX and PFMAILBOX; without bit 14 these too read as before, and
+/// CTRL_EXT reads 0 in a new device, stores all 32 bits that are written, and a read of it changes nothing. A write of
+/// it changes what no other register reads but PVFMAILBOX and PFMAILBOX; without bit 14 these too read as before, and
 /// nothing else of the device changes.
 pub fn ctrl_ext_keeps_what_is_written()
     ensures begins { ExtendedBeginsAtZero }
     ensures keeps { ExtendedKeepsWhatIsWritten }
 {}
 
-/// While VT_CTL bit 0 is 1, a frame that is accepted is appended to the receive list for a queue by its pool p, whose
-/// bit p mod 32 of VFRE[p/32] is 1: queue 2p with MRQC bits 3 to 0 at 8, one of the four from 4p on with 10, one of the
-/// two from 2p on with 11; but where GCR_EXT has 16 pools, 8p with 8, and one of the eight from 8p on with 10 and 11.
-/// With any code but these and 1 the queue is 0, whichever the pool.
+/// While VT_CTL bit 0 is 1, a frame that is accepted is appended to the receive list with its bytes, for a queue by its
+/// pool p, below 64, whose bit p mod 32 of VFRE[p/32] is 1: the lowest pool of the first address that is its
+/// destination, or the default. The queue is 2p with MRQC bits 3 to 0 at 8, one of the four from 4p on with 10, one of
+/// the two from 2p on with 11; but where GCR_EXT has 16 pools, 8p with 8, and one of the eight from 8p on with 10 and
+/// 11. With any code but these and 1 the queue is 0, whichever the pool.
 pub fn vfre_lets_into_pools()
     ensures { VfreLetsIntoPools }
 {}

@@ -82,8 +82,10 @@ impl Model for Machine {
 }
 
 impl Machine {
-    /// A machine before its first step, on a new device of this configuration. The error says why there is no such
-    /// device, and returns the program.
+    /// A machine before its first step, on a new device of this configuration, with all 256 blocks free.
+    ///
+    /// Errors: those of `Device::new` for the configuration, each exactly where it is the device's: `TooManyVfs`, then
+    /// `Fifo`. Each returns the program.
     pub fn new(alloc: Global, program: Program, config: Config) -> Result<Machine, NewRefused>
         ensures made { IfOk result
             (λ machine. machine ≡ record { program = program; config = config; state = start_of program config }) }
@@ -105,8 +107,11 @@ impl Machine {
         })
     }
 
-    /// Executes one instruction. A machine that doesn't run, or has counted 2^64 - 1 steps, returns `Stopped`, counts
-    /// no step and stays as it is. After `OutOfMemory` the machine is unchanged, and the step can be tried again.
+    /// Executes one instruction: it makes its event and stores the word that the reply has, or acts without an event,
+    /// or reports that the block to lend isn't free. A machine that doesn't run, or has counted 2^64 - 1 steps, returns
+    /// `Stopped`, counts no step and stays as it is. After `OutOfMemory` the machine is unchanged, and the step can be
+    /// tried again. Only lending a free block, taking one back, an arrival, and a transmit step of a queue below 128
+    /// that isn't idle can lack memory.
     pub fn step(&mut self) -> Result<StepAnswer, OutOfMemory>
         ensures answer { IfOk result (λ answer. answer ≡ (machine_step self.old.program self.old.state).answer) }
         ensures state { OnOk result
@@ -117,7 +122,8 @@ impl Machine {
         self.processor.step(&self.program)
     }
 
-    /// The number of counted steps. The machine's state is the one after as many steps.
+    /// The number of counted steps. The machine's state is the one after as many steps of its program, from a new
+    /// device on.
     pub fn steps(&self) -> u64
         ensures count { result ≡ self.now.state.steps }
         ensures at { self.now.state ≡ machine_at self.now.program self.now.config result }

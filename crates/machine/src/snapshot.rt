@@ -47,7 +47,7 @@ impl Model for MachineSnapshot {
 }
 
 impl MachineSnapshot {
-    /// The number of steps that the machine had counted.
+    /// The number of steps that the machine had counted. The snapshot has the state after as many.
     pub fn steps(&self) -> u64
         ensures count { result ≡ self.now.state.steps }
         ensures at { self.now.state ≡ machine_at self.now.program self.now.config result }

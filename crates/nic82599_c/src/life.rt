@@ -61,7 +61,7 @@ pub extern "C" fn nic_new(
     }
 }
 
-/// Frees the card, with its device and all of its packet memory.
+/// Frees the card, with its device and all of its packet memory: lent blocks are taken back, and the arena closes.
 #[unsafe(no_mangle)]
 pub extern "C" fn nic_free(nic: Handle) {
     drop(nic);

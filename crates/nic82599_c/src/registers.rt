@@ -52,8 +52,8 @@ fn peek(card: &Card, port: Port, number: u32, word: &mut u32) -> u8
     }
 }
 
-/// Reads a register of the physical function by its address in bytes. DONE and the word, or STRAY and the word that a
-/// driver would read.
+/// Reads a register of the physical function by its address in bytes, with the read's side effects. DONE and the word,
+/// or STRAY and the word that a driver would read; a stray read changes nothing.
 #[unsafe(no_mangle)]
 pub extern "C" fn nic_read32(nic: &mut Handle, address: u32, word: &mut u32) -> u8
     ensures status { result ≡ status_of (reply_to nic.old.card.device (Event.Read Port.Pf address)) }
@@ -72,8 +72,8 @@ pub extern "C" fn nic_write32(nic: &mut Handle, address: u32, word: u32) -> u8
     write(nic.lend(), Port::Pf, address, word)
 }
 
-/// Reads a register of a virtual function by its offset in bytes. DONE and the word, or STRAY and the word that a
-/// driver would read, also for a function that doesn't exist.
+/// Reads a register of a virtual function by its offset in bytes, with the read's side effects. DONE and the word, or
+/// STRAY and the word that a driver would read, also for a function that doesn't exist; a stray read changes nothing.
 #[unsafe(no_mangle)]
 pub extern "C" fn nic_vf_read32(nic: &mut Handle, vf: u8, offset: u32, word: &mut u32) -> u8
     ensures status { result ≡ status_of (reply_to nic.old.card.device (Event.Read (Port.Vf vf) offset)) }
@@ -92,7 +92,8 @@ pub extern "C" fn nic_vf_write32(nic: &mut Handle, vf: u8, offset: u32, word: u3
     write(nic.lend(), Port::Vf(vf), offset, word)
 }
 
-/// What `nic_read32` would read, without its side effects. DONE and the word, or STRAY: then `word` stays unchanged.
+/// What `nic_read32` would read, without its side effects: the card is unchanged. DONE and the word, or STRAY: then
+/// `word` stays unchanged.
 #[unsafe(no_mangle)]
 pub extern "C" fn nic_peek32(nic: &mut Handle, address: u32, word: &mut u32) -> u8
     ensures status { result ≡ peek_status (reported_word (reply_to nic.old.card.device (Event.Read Port.Pf address))) }
@@ -103,7 +104,8 @@ pub extern "C" fn nic_peek32(nic: &mut Handle, address: u32, word: &mut u32) -> 
     peek(nic.lend(), Port::Pf, address, word)
 }
 
-/// What `nic_vf_read32` would read, without its side effects. DONE and the word, or STRAY: then `word` stays unchanged.
+/// What `nic_vf_read32` would read, without its side effects: the card is unchanged. DONE and the word, or STRAY: then
+/// `word` stays unchanged.
 #[unsafe(no_mangle)]
 pub extern "C" fn nic_vf_peek32(nic: &mut Handle, vf: u8, offset: u32, word: &mut u32) -> u8
     ensures status { result ≡ peek_status

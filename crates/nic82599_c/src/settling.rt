@@ -188,6 +188,7 @@ pub extern "C" fn nic_settle(
     ensures count { count.new ≤ length told.new }
     ensures settled { queues ≤ 128 → result ≢ OUT_OF_MEMORY → course nic.new.card told.new count.new result
         ≡ settled queues (length told.old) nic.old.card }
+    // the steps up to one that takes memory are made, in the same order, with no round before that would have ended it
     ensures stopped { queues ≤ 128 → result ≡ OUT_OF_MEMORY → StopsIn (length told.old) (length told.old)
         (round_of queues) (course nic.old.card told.old 0 0) (course nic.new.card told.new count.new 0) }
     ensures no_queue { 128 < queues → result ≡ NO_QUEUE }

@@ -39,6 +39,8 @@ pub extern "C" fn nic_snapshot(alloc: Global, nic: &mut Handle, kept: &mut KeptH
 #[unsafe(no_mangle)]
 pub extern "C" fn nic_restore(alloc: Global, nic: &mut Handle, kept: &mut KeptHandle) -> u8
     ensures status { result ≢ OUT_OF_MEMORY → result ≡ DONE }
+    // device, lent blocks with their bytes, and which blocks are free are the snapshot's, so that every call from then
+    // on answers as it did
     ensures restored { result ≢ OUT_OF_MEMORY → nic.new.card ≡ kept.old.kept }
     ensures unchanged { result ≡ OUT_OF_MEMORY → nic.new.card ≡ nic.old.card }
     ensures kept { kept.new.kept ≡ kept.old.kept }

@@ -39,8 +39,8 @@ pub extern "C" fn nic_rx_step(nic: &mut Handle, told: &mut Told) -> u8
     tell(nic.lend(), Event::RxStep, told)
 }
 
-/// A transmit step: fetches one descriptor of a queue, 0 to 127. ADVANCED, SENT, FAULT, IDLE, NO_QUEUE or
-/// OUT_OF_MEMORY, which changes nothing.
+/// A transmit step: fetches one descriptor of a queue, 0 to 127. ADVANCED, SENT, FAULT, IDLE or NO_QUEUE, and `told`
+/// has what the reply says. Or OUT_OF_MEMORY, which changes nothing; only a step that takes memory has it.
 #[unsafe(no_mangle)]
 pub extern "C" fn nic_tx_step(nic: &mut Handle, queue: u16, told: &mut Told) -> u8
     ensures status { result ≢ OUT_OF_MEMORY → result ≡ status_of (reply_to nic.old.card.device (Event.TxStep queue)) }

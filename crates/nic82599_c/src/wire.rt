@@ -14,8 +14,8 @@ use card::Card;
 use nic_device::{Event, Octets, Reply};
 use std::alloc::Global;
 
-/// A frame arrives from the link, without its frame check sequence. DONE where it joins the receive list, DROPPED, or
-/// OUT_OF_MEMORY, which changes nothing.
+/// A frame arrives from the link, without its frame check sequence. DONE where it joins the receive list, or DROPPED,
+/// and `told` has what the reply says. Or OUT_OF_MEMORY, which changes nothing.
 #[unsafe(no_mangle)]
 pub extern "C" fn nic_arrive(alloc: Global, nic: &mut Handle, frame: &[u8], told: &mut Told) -> u8
     ensures status { result ≢ OUT_OF_MEMORY
@@ -71,8 +71,9 @@ fn collect(card: &mut Card, room: &mut [u8], told: &mut Told) -> u8
     }
 }
 
-/// Collects the oldest transmitted frame. FRAME, with its bytes at the start of `room`; IDLE where there is none; or
-/// NO_ROOM where `room` is shorter than the frame, which stays.
+/// Collects the oldest transmitted frame. FRAME, with its bytes at the start of `room`, and `told` has what else the
+/// reply says; IDLE where there is none; or NO_ROOM where `room` is shorter than the frame: the frame stays, and
+/// nothing changes.
 #[unsafe(no_mangle)]
 pub extern "C" fn nic_collect(nic: &mut Handle, room: &mut [u8], told: &mut Told) -> u8
     ensures fits { next_out_of nic.old.card.device.out ≤ length room.old

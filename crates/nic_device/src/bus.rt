@@ -52,6 +52,7 @@ impl Device {
         ensures former { IfOk result (λ former. Some former.value ≡ map.get self.old.memory block) }
         ensures back { IfErr result (λ back. back ≡ memory) }
         ensures kept { OnErr result (self.new ≡ self.old) }
+        // so do 128 events `Poke16` of its bytes, in order
         ensures pokes { IsOk result → PokesLead self.old (2048 * block) 128 memory.value self.new }
     {
         let all: &[u8] = &*memory;

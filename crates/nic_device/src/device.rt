@@ -47,10 +47,12 @@ pub struct Parts {
 }
 
 impl Device {
-    /// A device after its reset, with no memory lent, the link up and a blank EEPROM image.
+    /// A device after its reset, with each register at its reset value, no memory lent, no frame, no staged bytes, the
+    /// link up and a blank EEPROM image.
     ///
-    /// Errors: `TooManyVfs` where there are more than `MAX_VFS` virtual functions, `Fifo` where the capacity of the
-    /// receive list is 0 or above `MAX_FIFO`, and `OutOfMemory`. A refused configuration takes no memory.
+    /// Errors: `TooManyVfs` exactly where there are more than `MAX_VFS` (63) virtual functions, then `Fifo` exactly
+    /// where the capacity of the receive list is 0 or above `MAX_FIFO` (4,096), and `OutOfMemory` only where neither
+    /// is. A refused configuration takes no memory.
     pub fn new(alloc: Global, config: Config) -> Result<Self, NewFault>
         ensures made { IfOk result (λ device. device ≡ new_state config.vfs config.fifo) }
         ensures fits { OnOk result ((config.vfs ≤ MAX_VFS) × ¬ IsBadFifo config.fifo) }
@@ -78,8 +80,8 @@ impl Device {
     }
 
     /// Makes one event. An event for which there is no memory comes back in the error, and the device is unchanged.
-    /// Only these can lack memory: `Lend` of a block that isn't lent, `Arrive` of a frame that would be accepted, and
-    /// `TxStep` of a queue that isn't idle.
+    /// Only these can lack memory: `Lend` of a block whose number isn't lent, `Arrive` of a frame that would be
+    /// accepted, and `TxStep` of a queue below 128 that isn't idle.
     #[inline(always)]
     pub fn step(&mut self, event: Event) -> Result<Reply, OutOfMemory<Event>>
         ensures reply { IfOk result (λ reply. reply ≡ (step_of self.old event).reply) }
@@ -87,14 +89,26 @@ impl Device {
         ensures back { IfErr result (λ refused. refused.0 ≡ event) }
         ensures unchanged { OnErr result (self.new ≡ self.old) }
         ensures memory { OnErr result (TakesMemory self.old event) }
+        // the reply is one that such an event can have
         ensures fits { IfOk result (λ reply. may_answer event reply ≡ true) }
     {
         event.is_of_a_driver();
         self.engine.step(event)
     }
 
-    /// States that the device is sound, whatever happened before: its registers, its lent blocks, the receive list and
-    /// the staged bytes have the shape and the ranges that `IsSound` lists. It does nothing.
+    /// States that the device is sound, as it is between two calls, whatever happened before. It does nothing.
+    ///
+    /// A device is sound where its registers are; where each lent block is whole; and where each frame of the receive
+    /// list has 60 to 65,535 bytes, some of them left to write, is for a queue below 128, and has the number of an RSS
+    /// type and a hash of 32 bits, 0 with type 0. Only the oldest of them is written in part, and only while the
+    /// receive side of its queue is enabled; there are no more than the list takes. Each of 128 queues stages at most
+    /// 65,535 bytes, and none while its transmit side is disabled. Each transmitted frame is of a queue below 128 and
+    /// has at most 65,535 bytes. The EEPROM image is one, and the configuration is in range.
+    ///
+    /// Registers are sound where each place of the table is there; where a word has only bits of its row's reset value
+    /// and those that can become 1 there: the mask's where it is written, bit 25 too in an enable word, all in a
+    /// counter and in EERD, bits 2 to 7 in PVFMAILBOX, and none in PFMAILBOX and in a register that only acts or is
+    /// calculated; and where a bit is reported only while its cause and its mask are 1.
     pub fn stays_sound(&self)
         ensures { IsSound self.now }
     {
@@ -133,6 +147,7 @@ impl Device {
     /// The most bytes that the note of the reply to an event can copy, so that room can be made before the event.
     pub fn note_room(&self, event: &Event) -> usize
         ensures room { result ≡ note_room self.now event.now }
+        // the note of the reply needs no more
         ensures enough { note_length (step_of self.now event.now).reply ≤ result }
     {
         event.is_of_a_driver();
@@ -154,7 +169,8 @@ impl Device {
         }
     }
 
-    /// Ends the device. Returns the lent memory, the transmitted frames and the image; all other state is lost.
+    /// Ends the device. Returns the lent memory, the transmitted frames that weren't collected, the oldest first, and
+    /// the EEPROM image; all other state is lost.
     pub fn dismantle(self) -> Parts
         ensures memory { result.memory ≡ self.memory }
         ensures frames { result.frames.items ≡ self.out }

@@ -42,7 +42,7 @@ impl Bufs {
         }
     }
 
-    /// A list of one block.
+    /// A list of one block. A packet is in one to five of them.
     pub fn of(buf: Buf) -> Bufs
         ensures { result ≡ buf ∷ [] }
     {
@@ -55,6 +55,7 @@ impl Bufs {
     /// How many there are.
     pub fn count(&self) -> usize
         ensures count { result ≡ length self.now }
+        // 5 at most
         ensures few { result ≤ 5 }
     {
         self.count
@@ -187,6 +188,7 @@ fn empty(place: Option<Buf>)
 /// How many bytes Bufs have.
 pub fn bytes_in(bufs: &Bufs) -> usize
     ensures sum { result ≡ 2048 * length bufs.now }
+    // each is a block, of 2,048 bytes
     ensures whole { All (λ b. IsBlock b) bufs.now }
 {
     let mut sum = 0;

@@ -153,7 +153,8 @@ impl Direct {
 }
 
 impl Direct {
-    /// Makes the device steps, and then the event. `Nic::call` does the same.
+    /// Makes the device steps of its queue, and then the event: both sides are switched, then it sends, then the device
+    /// receives. `Nic::call` does the same.
     ///
     /// `OutOfMemory` where there was no memory for one of them or its note: the steps so far are made, and the event
     /// isn't.

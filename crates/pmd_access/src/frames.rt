@@ -20,6 +20,7 @@ pub fn is_frame(frame: u16) -> bool
 pub fn packet_limit(frame: u16) -> u16
     requires { is_frame frame ≡ true }
     ensures limit { result ≡ packet_limit frame }
+    // 9,724 at most
     ensures few { result ≤ 9724 }
 {
     frame - 4
@@ -29,7 +30,9 @@ pub fn packet_limit(frame: u16) -> u16
 pub fn most_blocks(frame: u16) -> u16
     requires { is_frame frame ≡ true }
     ensures most { result ≡ most_blocks frame }
+    // at least one
     ensures some { 1 ≤ result }
+    // 5 at most
     ensures few { result ≤ 5 }
 {
     (packet_limit(frame) + 2047) / 2048

@@ -93,11 +93,15 @@ impl Interleaved {
     pub fn finish(self) -> Finished
         ensures device { result.device ≡ self.handled.device }
         ensures calls { result.calls ≡ self.handled.calls }
+        // whether each call is own
         ensures own { result.own.items ≡ self.handled.own }
+        // a mark for each call
         ensures each { length result.own.items ≡ length result.calls }
         ensures leads { (s : State) → began_scheduled self (From s)
             → LeadsTo s (marked_entries result.calls result.own.items) result.device }
+        // the foreign replies
         ensures foreign { result.foreign.items ≡ self.handled.foreign }
+        // the lists that weren't made
         ensures schedule { map (λ list. list.items) result.schedule.items ≡ self.lists }
     {
         let Interleaved { handled, schedule } = self;

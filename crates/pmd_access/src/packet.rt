@@ -132,6 +132,7 @@ impl Packet {
         ensures fits { (result ≡ true) ↔ (at + length bytes.now ≤ min self.old.len (2048 * length self.old.bufs)) }
         ensures written { result ≡ true → bytes_of self.new.bufs ≡ put_bytes (bytes_of self.old.bufs) at bytes.now }
         ensures numbers { numbers_of self.new.bufs ≡ numbers_of self.old.bufs }
+        // its length, its RSS type and its hash are as they were
         ensures rest { self.new ≡ record self.old { bufs = self.new.bufs } }
         ensures unchanged { result ≡ false → self.new ≡ self.old }
     {

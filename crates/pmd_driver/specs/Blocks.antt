@@ -21,7 +21,9 @@ pub record KeepsEach (a : Numbers) (out : List ℕ) (b : Numbers) (new : List �
 abbrev pub KeepsUp : Running → List ℕ → Running → List ℕ → Type 0
 KeepsUp r given s back = KeepsEach r.arena (rings_out r ++ given) s.arena (rings_out s ++ back)
 
--- and so a call of a driver, whether it runs or not
+-- a call of a driver, whether it runs or not: each of its blocks is free in its arena, out with its rings, or in hand
+-- as often as before. A block of a packet that is given to the call was in hand, and one of a packet that it hands out
+-- or back is so after it
 abbrev pub KeepsBlocks : Rings → List ℕ → Rings → List ℕ → Type 0
 KeepsBlocks old given new back =
     KeepsEach (halted_of old).arena (all_out (halted_of old) ++ given) (halted_of new).arena

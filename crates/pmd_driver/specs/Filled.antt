@@ -13,7 +13,7 @@ pub record IsFilled (a : Numbers) (bytes : List ℕ) (p : Packet) (b : Numbers) 
   pub bytes_are : bytes_of p.bufs ≡ bytes ++ replicate (2048 * length p.bufs - length bytes) 0
   pub rest : p ≡ record { bufs = p.bufs; len = length bytes; rss = 0; hash = 0 }
 
--- so it was, or none was made and nothing taken
+-- a packet was made so, or none was and nothing taken
 abbrev pub IsMadeOf : Numbers → List ℕ → Option Packet → Numbers → Type 0
 IsMadeOf a bytes None b = b ≡ a
 IsMadeOf a bytes (Some p) b = IsFilled a bytes p b

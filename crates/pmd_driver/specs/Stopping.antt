@@ -34,7 +34,7 @@ pub record ComesHome (old : List Call) (h : Halted) (new : List Call) (home : Ho
 abbrev pub GoesHome : AtPort → List Call → Halted → List Call → Home → Type 0
 GoesHome q old h new home = (mid : List Call) × IsSwitched q old mid false 1000 × ComesHome mid h new home
 
--- the rings were closed first
+-- a driver was stopped: its rings were closed first, and then both sides of its queue went off, and it came home
 abbrev pub Stops : AtPort → List Call → Halted → List Call → Home → Type 0
 Stops q old h new home = GoesHome q old (closed h) new home
 

@@ -290,9 +290,11 @@ impl Pmd {
     pub fn packet(&mut self, len: u16) -> Option<Packet>
         ensures none { IsNone result ↔ ((10240 < len) ⊎ (free_count (arena_of self.old.rings) < bufs_for len)) }
         ensures made { IsFresh (arena_of self.old.rings) len result (arena_of self.new.rings) }
+        // the rings are as they were
         ensures rings { self.new.rings ≡ with_arena self.old.rings (arena_of self.new.rings) }
         ensures blocks { KeepsBlocks self.old.rings [] self.new.rings (numbers_in result) }
         ensures halves { KeepsHalves self.old.rings self.new.rings }
+        // the driver's queue is as it was
         ensures queue { self.new.queue ≡ self.old.queue }
     {
         match &mut self.rings {
@@ -307,9 +309,11 @@ impl Pmd {
         ensures none { IsNone result ↔ ((10240 < length bytes.now)
             ⊎ (free_count (arena_of self.old.rings) < bufs_for (length bytes.now))) }
         ensures made { IsMadeOf (arena_of self.old.rings) bytes.now result (arena_of self.new.rings) }
+        // the rings are as they were
         ensures rings { self.new.rings ≡ with_arena self.old.rings (arena_of self.new.rings) }
         ensures blocks { KeepsBlocks self.old.rings [] self.new.rings (numbers_in result) }
         ensures halves { KeepsHalves self.old.rings self.new.rings }
+        // the driver's queue is as it was
         ensures queue { self.new.queue ≡ self.old.queue }
     {
         if bytes.len() > 10_240 {
@@ -325,12 +329,15 @@ impl Pmd {
     /// none of the arena's, or is free there, or comes twice, or this driver has it lent.
     pub fn release(&mut self, packet: Packet) -> Result<(), Packet>
         ensures ok { IsOk result ↔ (goes_back_to self.old.rings packet ≡ true) }
+        // its blocks are free in the arena then
         ensures released { OnOk result (self.new.rings
             ≡ with_arena self.old.rings (with_all_free (arena_of self.old.rings) (numbers_of packet.bufs))) }
         ensures blocks { OnOk result (KeepsBlocks self.old.rings (numbers_of packet.bufs) self.new.rings []) }
         ensures back { IfErr result (λ back. back ≡ packet) }
+        // a release that is refused changes nothing
         ensures kept { OnErr result (self.new.rings ≡ self.old.rings) }
         ensures halves { KeepsHalves self.old.rings self.new.rings }
+        // the driver's queue is as it was
         ensures queue { self.new.queue ≡ self.old.queue }
     {
         match &mut self.rings {

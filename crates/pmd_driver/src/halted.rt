@@ -161,6 +161,7 @@ impl Halted {
         ensures blocks { OnOk result (KeepsEach self.old.arena (all_out self.old ++ numbers_of packet.bufs)
             self.new.arena (all_out self.new ++ [])) }
         ensures back { IfErr result (λ back. back ≡ packet) }
+        // a release that is refused changes nothing
         ensures kept { OnErr result (self.new ≡ self.old) }
     {
         if self.goes_back(&packet) {
@@ -179,8 +180,13 @@ impl Halted {
     /// was refused. The driver comes back where it was left, and the stop may be tried again: it asks and polls again,
     /// and goes on with the blocks that are still out. A block that the device has no longer is lost.
     pub fn stop<N: Nic>(self, alloc: Global, nic: &mut N, queue: &Queue) -> Result<Home, StopFailed>
+        // between foreign accesses it makes just these: both sides are asked off and polled within 1,000 polls, and
+        // each block is taken back
         ensures home { IfOk result (λ home. Stops queue.now (N.made nic.old) self (N.made nic.new) home) }
+        // the arena owns the numbers that it owned
         ensures owns { IfOk result (λ home. (n : ℕ) → is_own home.arena n ≡ is_own self.arena n) }
+        // where no block is lost, its free numbers are those that were free and those that the driver had out; else
+        // each number is as it was, but those in hand and those whose take the device answered with the block are free
         ensures free { IfOk result (λ home. home.lost ≡ 0
             → (n : ℕ) → is_free home.arena n ≡ is_free_or_out self.arena (all_out self) n) }
         ensures failed { IfErr result (λ failed.

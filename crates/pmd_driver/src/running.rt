@@ -24,7 +24,9 @@ use std::alloc::Global;
 use std::collections::VecDeque;
 use std::marker::Model;
 
-/// A driver whose two rings are up: the arena of its blocks, and the rings.
+/// A driver whose two rings are up: the arena of its blocks, and the rings. Whatever its calls answer, no block is in
+/// two places, free in the arena or with a ring, and all slots of the receive ring are posted but one, or but those of
+/// a packet that is held.
 pub struct Running {
     arena: Arena,
     receive: ReceiveRing,
@@ -55,10 +57,12 @@ impl Running {
         }
     }
 
-    /// The arena and the rings.
+    /// The arena and the rings, which are up.
     pub fn into_parts(self) -> (Arena, ReceiveRing, TransmitRing)
         ensures arena { result.0 ≡ self.arena }
+        // the receive ring
         ensures receive { result.1 ≡ self.receive }
+        // the transmit ring
         ensures transmit { result.2 ≡ self.transmit }
         ensures up { IsUp self }
     {
@@ -91,9 +95,10 @@ impl Running {
         self.arena.free_blocks()
     }
 
-    /// How many more descriptors of the transmit ring can be filled, 0 to 1,023.
+    /// How many more descriptors of the transmit ring can be filled.
     pub fn vacant(&self) -> u16
         ensures vacant { result ≡ vacant_in self.now.transmit }
+        // 0 to 1,023
         ensures few { result < 1024 }
     {
         self.transmit.vacant()
@@ -288,7 +293,9 @@ impl Running {
         ensures released { OnOk result (IsReleased self.old packet self.new) }
         ensures blocks { OnOk result (KeepsUp self.old (numbers_of packet.bufs) self.new []) }
         ensures back { IfErr result (λ back. back ≡ packet) }
+        // a release that is refused changes nothing
         ensures kept { OnErr result (self.new ≡ self.old) }
+        // the rings are as they were
         ensures halves { (halves_of self.new ≡ halves_of self.old) × OwnsSame self.old.arena self.new.arena }
     {
         if self.goes_back(&packet) {

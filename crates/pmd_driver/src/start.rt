@@ -252,6 +252,10 @@ impl Pmd {
     ) -> Result<Pmd, StartRefused>
         ensures shut { IsShut (start_gate arena (record { port = port; queue = queue }) size frame) arena
             (N.made nic.old) (N.made nic.new) result }
+        // it saw both sides off, asked them to be off and saw them off again before any block was lent; it wrote the
+        // words of one ring and lent its blocks, which were free and follow one another, in turn, and then those of the
+        // other; it asked both sides on, polled both within 1,000 polls, and filled the receive ring; and between
+        // foreign accesses it made just these
         ensures started { IfOk result (λ p. HasStarted (record { port = port; queue = queue }) size frame
             (N.made nic.old) arena (N.made nic.new) p) }
         ensures stops { IfErr result (λ e. start_gate arena (record { port = port; queue = queue }) size frame ≡ None

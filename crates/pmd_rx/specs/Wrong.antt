@@ -79,7 +79,8 @@ IsFault fault.ForeignBlock a old v new w = ⊥
 IsFault fault.StartTimeout a old v new w = ⊥
 IsFault fault.NoBuffer a old v new w = ⊥
 
--- the same, with the arena before and after, which may have too few free blocks
+-- why a call failed: too few blocks are free for a packet that waits; or the device is at fault; or the driver's next
+-- event was refused. With the arena before and after
 abbrev pub FailsBy : PmdFault → List Call → Numbers → Receive → List Call → Numbers → Receive → Type 0
 FailsBy fault.NoBuffer old a v new b w = IsShort a v b w
 FailsBy fault.DeviceFault old a v new b w = EndsWrong a old v new w

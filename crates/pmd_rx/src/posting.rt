@@ -250,9 +250,11 @@ impl ReceiveRing {
         ensures plays { PlaysFrom arena.old (N.made nic.old) self.old (N.made nic.new) self.new }
         ensures filled { OnOk result (Fills arena.old self.old arena.new self.new) }
         ensures running { OnOk result (IsRunning self.new) }
+        // the packets that were handed out are as they were
         ensures handed { self.new.handed ≡ self.old.handed }
         ensures fails { IfErr result (λ f.
             StopsFilling f (N.made nic.old) arena.old self.old (N.made nic.new) arena.new self.new) }
+        // only where fewer blocks are free than are to be posted
         ensures short { result ≡ Err PmdFault.NoBuffer → free_count arena.old + 1 < self.old.layout.size }
         ensures keeps { Keeps arena.old self.old arena.new self.new [] }
         ensures began { BeganAs N.began nic.old nic.new }

@@ -214,6 +214,7 @@ impl ReceiveRing {
         ensures home { OnOk result (arena.new ≡ with_all_free arena.old (blocks_held self)) }
         ensures out { OnOk result (AreOut arena.new (lent_of self)) }
         ensures back { IfErr result (λ ring. ring ≡ self) }
+        // the arena is as it was then
         ensures kept { OnErr result (arena.new ≡ arena.old) }
     {
         let mut ended = self;

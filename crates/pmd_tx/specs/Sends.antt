@@ -92,7 +92,7 @@ pub record IsAccepted (v : Sender) (p : Packet) (w : Sender) : Type 0 where
   pub accepted : w.accepted ≡ v.accepted ++ accepted_of p ∷ []
   pub outstanding : w.outstanding ≡ v.outstanding ++ segments_of (outgoing_of p)
 
--- none was
+-- no packet was accepted
 pub record IsNoneAccepted (v w : Sender) : Type 0 where
   pub accepted : w.accepted ≡ v.accepted
   pub outstanding : w.outstanding ≡ v.outstanding

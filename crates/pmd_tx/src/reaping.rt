@@ -26,16 +26,22 @@ impl TransmitRing {
         arena: &mut Arena,
     ) -> Result<Reaped, PmdFault>
         requires { AreOut arena.old (blocks_of self.old.outstanding) }
+        // the calls are the ring's moves, in their order, and device steps between them, also where it fails
         ensures plays { (blocks : List ℕ) → PlaysWith blocks (N.made nic.old) self.old (N.made nic.new) self.new }
+        // exactly where no packet is outstanding
         ensures idle { IfOk result (λ done. IsTrue done.idle ↔ (self.new.outstanding ≡ [])) }
+        // its last call showed that the oldest isn't done
         ensures waits { IfOk result (λ done.
             done.idle ≡ false → LooksLast (N.made nic.old) self.old (N.made nic.new) self.new) }
         ensures freed { IfOk result (λ done. FreesSome self.old self.new arena.old arena.new done.freed) }
+        // with a fault it freed the blocks of some packets, or of none
         ensures some { OnErr result ((packets : ℕ) × FreesSome self.old self.new arena.old arena.new packets) }
         ensures out { AreOut arena.new (blocks_of self.new.outstanding) }
         ensures accepted { self.new.accepted ≡ self.old.accepted }
+        // only which is the oldest packet's slot changes
         ensures layout { self.new.layout ≡ record self.old.layout { next = self.new.layout.next } }
         ensures late { IfErr result (λ fault. IsLate fault) }
+        // where the device is at fault, the last reply is none that a healthy queue gives
         ensures faults { (blocks : List ℕ) → IfErr result (λ fault.
             FaultsBy fault blocks (N.made nic.old) self.old (N.made nic.new)) }
         ensures began { BeganAs N.began nic.old nic.new }

@@ -158,9 +158,10 @@ impl TransmitRing {
         Ok((Reclaim::of(lent), waiting, accepted))
     }
 
-    /// The number of the first block that the ring is in, below 65,536.
+    /// The number of the first block that the ring is in.
     pub fn ring_block(&self) -> u32
         ensures block { result ≡ self.now.layout.ring }
+        // below 65,536
         ensures small { result < 65536 }
     {
         u32::from(self.ring)
@@ -210,10 +211,12 @@ impl TransmitRing {
         self.pieces.len() as u16
     }
 
-    /// How many packets were accepted and aren't reaped yet.
+    /// How many packets were accepted and aren't reaped yet: as many as there are last parts among the outstanding
+    /// ones.
     #[tactic(auto, using(crate::proofs::Counting::counting))]
     pub fn outstanding(&self) -> u16
         ensures packets { result ≡ packets_in self.now.outstanding }
+        // below 1,024
         ensures few { result < 1024 }
     {
         count_ends(&self.pieces) as u16

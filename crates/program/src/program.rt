@@ -64,9 +64,10 @@ impl Program {
         })
     }
 
-    /// The number of instructions, at most 4,096.
+    /// The number of instructions.
     pub fn instructions(&self) -> u16
         ensures count { result ≡ length self.now.instructions }
+        // 4,096 at most
         ensures limit { result ≤ INSTRUCTION_LIMIT }
     {
         self.instructions.len() as u16
@@ -83,6 +84,7 @@ impl Program {
     /// The instructions, in order.
     pub fn code(&self) -> &[Instruction]
         ensures code { result.now ≡ self.now.instructions }
+        // 4,096 at most
         ensures limit { length result.now ≤ INSTRUCTION_LIMIT }
     {
         &self.instructions

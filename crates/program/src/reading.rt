@@ -184,10 +184,10 @@ fn instructions_after(
     instructions_in(alloc, strings, header.count, behind)
 }
 
-/// Decodes an object into its program, or returns its first fault.
+/// Decodes an object into the program that it means, or returns its first fault.
 ///
-/// The bytes that it accepts are exactly the object of the program that it returns. It takes time linear in the number
-/// of bytes. `OutOfMemory` may be returned in place of any other result.
+/// The bytes that it accepts are exactly the object of the program that it returns, unused fields 0. It takes time
+/// linear in the number of bytes. `OutOfMemory` may be returned in place of any other result.
 #[tactic(auto, unfolding(crate::specs::Object::read_of))]
 pub fn read(alloc: Global, bytes: &[u8]) -> Result<Program, ObjectFault>
     ensures exact { Gives (λ program. program) result (read_of bytes.now) }

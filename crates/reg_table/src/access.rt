@@ -25,6 +25,7 @@ pub fn resolve(address: u32) -> Option<Access>
     ensures value { result ≡ access_at address }
     ensures place { option_map (λ x. x.place) result ≡ place_among runs address }
     ensures view { IfSome result (λ x. x.view ≡ view_among runs address) }
+    // the index is below the row's count
     ensures in_range { IfSome result (λ x. x.place.index < (row_of x.place.row).count) }
 {
     at(address)

@@ -12,12 +12,12 @@ pub fn addresses_are_aligned()
     ensures { AddressesAreAligned }
 {}
 
-/// No two runs of addresses overlap.
+/// No two runs of addresses overlap, aliases included.
 pub fn runs_are_apart()
     ensures { RunsAreApart }
 {}
 
-/// Each place has a first address, which belongs to it and to no other.
+/// Each place, with an index below its row's count, has a first address, which belongs to it and to no other.
 pub fn first_addresses_read_back()
     ensures { FirstAddressesReadBack }
 {}

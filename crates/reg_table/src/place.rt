@@ -17,12 +17,14 @@ pub struct Place {
     pub index: u16,
 }
 
-/// The place of an address, a byte offset into the register space. `None` exactly where no register has the address; an
-/// address that is no multiple of 4 has none.
+/// The place of an address, a byte offset into the register space: that of the first run of the table that has the
+/// address. `None` exactly where no register has the address; an address that is no multiple of 4 has none.
 pub fn place_of(address: u32) -> Option<Place>
     ensures value { result ≡ place_among runs address }
+    // no run has another place there
     ensures exact { (p : Place) → (result ≡ Some p) ↔ Names address p }
     ensures nothing { (result ≡ None) ↔ ((p : Place) → ¬ (Names address p)) }
+    // the index is below the row's count
     ensures in_range { IfSome result (λ p. p.index < (row_of p.row).count) }
 {
     match resolve(address) {
@@ -31,8 +33,10 @@ pub fn place_of(address: u32) -> Option<Place>
     }
 }
 
-/// A mask of the bits that show at an address: 0xFFFF where it shows bits 15:0 alone, else 0xFFFFFFFF.
+/// A mask of the bits that show at an address: 0xFFFF exactly where a run of the table says that it shows bits 15:0
+/// alone, and 0xFFFFFFFF exactly everywhere else.
 pub fn view_of(address: u32) -> u32
+    // by the table's runs
     ensures value { result ≡ view_among runs address }
     ensures low { (result ≡ 0xFFFF) ↔ IsLow address }
     ensures whole { (result ≡ 0xFFFFFFFF) ↔ ¬ (IsLow address) }
@@ -43,11 +47,13 @@ pub fn view_of(address: u32) -> u32
     }
 }
 
-/// The first address of a place, in the table's order. All 32 bits of the register show there.
+/// The first address of a place, whose index is below its row's count, in the table's order.
 pub fn addr_of(place: Place) -> u32
     requires { place.index < (row_of place.row).count }
     ensures first { address_among runs place ≡ Some result }
+    // the address has that place, and no other
     ensures back { place_among runs result ≡ Some place }
+    // all 32 bits of the register show there
     ensures whole { view_among runs result ≡ 0xFFFFFFFF }
 {
     let run = first_of(place.row);

@@ -25,7 +25,7 @@ pub fn has_flag<F: Flags<Bits = u32>>(word: u32, flag: F) -> bool
     F::from_bits_retain(word).contains(flag)
 }
 
-/// The word with a named bit 1.
+/// The word with a named bit 1, and every other bit as it was.
 #[inline(always)]
 #[tactic(auto, using(crate::proofs::Masks::or_single))]
 pub fn with_flag<F: Flags<Bits = u32>>(word: u32, flag: F) -> u32
@@ -36,7 +36,7 @@ pub fn with_flag<F: Flags<Bits = u32>>(word: u32, flag: F) -> u32
     F::from_bits_retain(word).union(flag).bits()
 }
 
-/// The word with a named bit 0.
+/// The word with a named bit 0, and every other bit as it was.
 #[inline(always)]
 #[tactic(auto, using(crate::proofs::Masks::without_single))]
 pub fn without_flag<F: Flags<Bits = u32>>(word: u32, flag: F) -> u32

@@ -30,7 +30,8 @@ const EEPROM_PRESENT: u32 = 0x0000_0300;
 /// EEC: the lowest bit of the field of the EEPROM's size.
 const EEPROM_SIZE: u32 = 0x0000_0800;
 
-/// Whether a write of this word to a place asks for a reset of the device, and so does nothing else.
+/// Whether a write of this word to a place asks for a reset of the device, and so does nothing else: one of CTRL with
+/// bit 3 or bit 26.
 #[inline(always)]
 pub fn asks_reset(place: Place, word: u32) -> bool
     ensures { result ≡ asks_reset (row_of place.row).kind word }
@@ -57,7 +58,7 @@ pub fn asks_reset(place: Place, word: u32) -> bool
 }
 
 /// Whether a write of this word to a place asks for a reset of the pool with the place's index, and so does nothing
-/// else.
+/// else: one of PVFCTRL with bit 26.
 #[inline(always)]
 pub fn asks_pool_reset(place: Place, word: u32) -> bool
     ensures { result ≡ asks_pool_reset (row_of place.row).kind word }
@@ -101,8 +102,10 @@ fn group_of(place: Place) -> Option<Group>
 }
 
 impl RegisterFile {
-    /// The word that a read of a place returns, before the address masks it, without the read's side effects. `around`
-    /// is the state of the link and the EEPROM. The index must be below the row's count.
+    /// The word that a read of a place returns, before the address masks it, without the read's side effects: the
+    /// stored word; for STATUS, LINKS and EEC that of a formula over the registers, the link and the size of the EEPROM
+    /// image; for PFMAILBOX[v] bits 2 and 3 of PVFMAILBOX[v]; and 0 for a register that only sets causes, clears masks
+    /// or resets a pool. `around` is the state of the link and the EEPROM. The index must be below the row's count.
     pub fn peek(&self, around: Surroundings, place: Place) -> u32
         requires { place.index < (row_of place.row).count }
         ensures { result ≡ read_word (row_of place.row).kind self.now around place }
@@ -126,9 +129,13 @@ impl RegisterFile {
         }
     }
 
-    /// Reads a place: returns the word before the address masks it. `around` is the state of the link and the EEPROM. A
-    /// counter restarts from 0, a read of causes clears them, and nothing else changes. The index must be below the
-    /// row's count.
+    /// Reads a place: returns the word that `peek` returns, before the address masks it. `around` is the state of the
+    /// link and the EEPROM. The index must be below the row's count.
+    ///
+    /// A counter that a read clears restarts from 0. A read of a group's causes clears them, of EICR with GPIE bit 5 at
+    /// 1 bits 29 to 16 alone; where the auto-mask acts, it clears the masks that the auto-mask has; bits that a message
+    /// reported are forgotten where their cause or mask is 0 then. A read of PVFMAILBOX clears its bits 4, 5 and 7.
+    /// Nothing else changes.
     #[inline(always)]
     pub fn read(&mut self, around: Surroundings, place: Place) -> u32
         requires { place.index < (row_of place.row).count }
@@ -170,7 +177,21 @@ impl RegisterFile {
     }
 
     /// Writes a place through an address that shows the bits of `view`, where the write asks for no reset of the device
-    /// or of a pool. The index must be below the row's count.
+    /// or of a pool. The index must be below the row's count. Of the bits that the address shows it changes those of
+    /// the row's mask, and nothing else, but by the row's kind:
+    ///
+    /// Nothing of a calculated register, a counter or PVFCTRL changes, nor of a ring's base, length and head while that
+    /// side is enabled. An enable word stores the mask's bits, which lack bit 25, while bit 25 of what is written is
+    /// what is asked for. EERD stores bits 15 to 0 but bit 1, and its other bits become 0. PFMBICR has the bits that
+    /// are written as 1 cleared. The registers of a group's causes and masks do as `intr_unit` says.
+    ///
+    /// PVFMAILBOX[v] has bit 2 of its word set where it is written and bit 3 is 0, and cleared where it isn't written.
+    /// With bit 0 the write sets bit v mod 16 of PFMBICR[v/16], with bit 1 bit 16 + v mod 16; with either, where bit v
+    /// mod 32 of PFMBIMR[v/32] is 1, bit 19 of EICR. PFMAILBOX[v] first clears bit 2 of PVFMAILBOX[v] where bit 4 is
+    /// written; then bit 3 there is set where bit 3 is written and bit 2 is 0, and cleared where bit 3 isn't written.
+    /// With bit 0 it sets bit 4 of PVFMAILBOX[v], with bit 1 bit 5; with either, where bit 7 of PVTIVAR_MISC[v] is 1,
+    /// the cause in bits 5:0 there, at most 2, in PVTEICR[v]. CTRL_EXT is stored, and with bit 14 each PVFMAILBOX with
+    /// bit 6 at 1 has bit 6 at 0 and bit 7 at 1 then.
     #[inline(always)]
     pub fn write(&mut self, place: Place, view: u32, word: u32)
         requires { place.index < (row_of place.row).count }

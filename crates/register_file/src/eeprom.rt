@@ -30,7 +30,8 @@ impl RegisterFile {
         }
     }
 
-    /// Stores the EEPROM's answer in EERD: the index stays, the word is set, DONE becomes 1 and START 0.
+    /// Stores the EEPROM's answer in EERD: the index stays, the word, below 65,536, is in bits 31 to 16, DONE becomes 1
+    /// and START 0.
     pub fn answer_eeprom(&mut self, word: u16)
         ensures { self.new ≡ eeprom_answered self.old word }
     {

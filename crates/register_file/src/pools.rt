@@ -44,7 +44,9 @@ impl RegisterFile {
 
     /// Resets pool v, below 64: the interrupts of its virtual function with the reported bits, PSRTYPE, its mailbox,
     /// and the counters of the function; and for the queues that the mode gives the pool both sides, the enables that
-    /// were asked for, and the vectors. Where the mode doesn't have the pool, no queues are reset.
+    /// were asked for, and the vectors. Where the mode doesn't have the pool, no queues are reset. Of its mailbox
+    /// PFMBMEM stays, and all bits of PVFMAILBOX but 2, 4 and 5. Each word that it resets has its row's reset value
+    /// then; all else is unchanged.
     #[tactic(auto, unfolding(crate::specs::PoolReset::pool_reset))]
     pub fn reset_pool(&mut self, mode: Mode, v: u8)
         requires { v < 64 }

@@ -46,7 +46,7 @@ impl RegisterFile {
         is_enabled(dir, self.word(enable_row(dir), queue))
     }
 
-    /// Sets the head (RDH or TDH) of a side of a queue below `QUEUES`.
+    /// Sets the head (RDH or TDH) of a side of a queue below `QUEUES` to a number below 65,536.
     #[inline(always)]
     pub fn move_head(&mut self, dir: Dir, queue: u16, head: u16)
         requires { queue < 128 }

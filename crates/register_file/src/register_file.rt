@@ -42,7 +42,8 @@ impl Model for RegisterFile {
 }
 
 impl RegisterFile {
-    /// The registers as a reset leaves them.
+    /// The registers as a reset leaves them: each at its row's reset value, no side of the 128 queues enabled or asked
+    /// to be, and nothing reported of the physical function's group and those of 64 virtual functions.
     pub fn new() -> Self
         ensures { result ≡ reset_registers }
     {

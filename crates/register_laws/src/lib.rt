@@ -16,21 +16,33 @@ ghost use Rattle.register_laws.specs.Agreement.{PoolReadsStayWithin, PoolWritesS
 /// that its row can have, and reported bits only where cause and mask are 1.
 pub fn soundness_is_kept()
     ensures reset { ResetIsSound }
+    // a read keeps them sound
     ensures read { ReadKeepsSound }
+    // a write that asks for no reset keeps them sound
     ensures write { WriteKeepsSound }
+    // a counter that counts up, and stays at the largest word, keeps them sound
     ensures count { CountKeepsSound }
+    // a counter that counts up, and goes round, keeps them sound
     ensures count_wrapping { CountWrappingKeepsSound }
+    // an answer of the EEPROM below 65,536 keeps them sound
     ensures answer { AnswerKeepsSound }
+    // raised causes keep them sound
     ensures raise { RaiseKeepsSound }
+    // a cause that a side of a queue raises keeps them sound
     ensures queue_raise { QueueRaiseKeepsSound }
+    // a message keeps them sound
     ensures message { MessageKeepsSound }
+    // a head that is moved below 65,536 keeps them sound
     ensures head { HeadKeepsSound }
+    // a side that is switched keeps them sound
     ensures switch { SwitchKeepsSound }
+    // a side that is disabled after a fault keeps them sound
     ensures shut { ShutKeepsSound }
 {}
 
 /// A word of sound registers has 32 bits. It is 0 where the register only acts or is calculated, and it is never one
-/// whose write would ask for a reset. The base and the length of each ring are multiples of 128.
+/// whose write would ask for a reset: bits 3 and 26 of CTRL are 0. The base and the length of each ring are multiples
+/// of 128.
 pub fn sound_words_are_of_their_rows()
     ensures small { SoundWordsAreSmall }
     ensures none { ActingWordsAreNone }
@@ -52,7 +64,8 @@ pub fn put_word_is_there()
     ensures alone { PutWordIsAlone }
 {}
 
-/// The bits of a group of interrupts are the bits that its registers have in the table.
+/// The bits of a group of interrupts are the masks that its cause, mask, auto-clear and auto-mask registers have in the
+/// table.
 pub fn group_bits_are_masks()
     ensures { GroupBitsAreMasks }
 {}
@@ -67,29 +80,45 @@ pub fn stored_word_reads_back()
 /// group; for a switch the enable word; for a fault the enable word and whether the side is asked to be enabled.
 pub fn changes_stay_in_their_footprint()
     ensures read { ReadStaysWithin }
+    // a write changes nothing outside it
     ensures write { WriteStaysWithin }
+    // a counter that counts up, and stays at the largest word, changes nothing outside it
     ensures count { CountStaysWithin }
+    // a counter that counts up, and goes round, changes nothing outside it
     ensures count_wrapping { CountWrappingStaysWithin }
+    // an answer of the EEPROM changes nothing outside it
     ensures answer { AnswerStaysWithin }
+    // raised causes change nothing outside it
     ensures raise { RaiseStaysWithin }
+    // a cause that a side of a queue raises changes nothing outside it
     ensures queue_raise { QueueRaiseStaysWithin }
+    // a message changes nothing outside it
     ensures message { MessageStaysWithin }
+    // a moved head changes nothing outside it
     ensures head { HeadStaysWithin }
+    // a side that is switched changes nothing outside it
     ensures switch { SwitchStaysWithin }
+    // a side that is disabled after a fault changes nothing outside it
     ensures shut { ShutStaysWithin }
 {}
 
-/// A place belongs to its owner. A read changes nothing of another owner, nor does a write, except where its kind
-/// reaches others as those of mailboxes do. Raised causes and messages change only causes, masks and reported bits.
+/// A place belongs to its owner. A read changes nothing of another owner, nor does a write that asks for no reset,
+/// except one of PVFMAILBOX, PFMAILBOX or CTRL_EXT. Raised causes and messages change only causes, masks and reported
+/// bits.
 pub fn accesses_stay_with_their_owner()
     ensures read { ReadStaysWithOwner }
+    // nor has the write of a register that is its owner's alone
     ensures write { WriteStaysWithOwner }
+    // footprints of two owners have nothing in common
     ensures apart { OwnersAreApart }
+    // owners that aren't equal are two
     ensures differ { OwnersDiffer }
     ensures word { WordIsOnePlace }
     ensures pending { PendingIsPending }
     ensures counters { CountersAreTheirOwn }
+    // what is pending of a group is no side's
     ensures interrupts { PendingMissesSides }
+    // nor is what a read may change
     ensures no_side { ReadMissesSides }
 {}
 
@@ -97,8 +126,11 @@ pub fn accesses_stay_with_their_owner()
 /// footprint that doesn't contain them.
 pub fn what_a_footprint_misses_stands()
     ensures receive { MissedReceiveStands }
+    // a transmit side is unchanged
     ensures transmit { MissedTransmitStands }
+    // a group's interrupts are unchanged
     ensures interrupts { MissedInterruptsStand }
+    // settings in single words are unchanged
     ensures settings { MissedSettingsStand }
 {}
 
@@ -154,7 +186,8 @@ pub fn read_only_counters_go_round()
     ensures { ReadOnlyCountersGoRound }
 {}
 
-/// Each row that is calculated has its formula.
+/// The rows that are calculated are STATUS, LINKS and EEC, and each has its formula over the registers, the link and
+/// the size of the EEPROM image.
 pub fn calculated_rows_have_formulas()
     ensures { CalculatedRowsHaveFormulas }
 {}
@@ -164,14 +197,16 @@ pub fn eeprom_answer_is_read()
     ensures { EepromAnswerIsRead }
 {}
 
-/// What changes the interrupts of a group is stored in its registers: causes, masks and reported bits, with the
-/// auto-clear and the auto-mask unchanged.
+/// What changes the interrupts of a group below 64 is stored in its registers: causes, masks and reported bits, which
+/// have cause and mask at 1, with the auto-clear and the auto-mask unchanged.
 pub fn interrupts_stand()
     ensures { InterruptsStand }
 {}
 
-/// After a reset of a pool all that the reset reaches is as a reset leaves it. It reaches all that belongs to the pool,
-/// except for a part of the mailbox. All else is unchanged, and the registers are sound where they were.
+/// After a reset of a pool all that the reset reaches is as a reset leaves it: each word has its row's reset value, no
+/// side of the pool's queues is asked to be enabled, and nothing of its function's interrupts is reported. It reaches
+/// all that belongs to the pool, but of its mailbox neither PFMBMEM nor any bit of PVFMAILBOX but 2, 4 and 5. All else
+/// is unchanged, and the registers are sound where they were.
 pub fn reset_pool_is_reset()
     ensures reset { PoolIsReset }
     ensures rest { PoolResetTakesTheRest }

@@ -80,11 +80,14 @@ pub fn choose(mrqc: u32, flow: &Flow) -> (u8, Input)
     (rss_type, Input::empty().with(bytes))
 }
 
-/// The same, with the bytes that are hashed as they lie in the flow, 36 at most.
+/// The same, with the bytes that are hashed as they lie in the flow.
 pub fn choose_bytes(mrqc: u32, flow: &Flow) -> (u8, &[u8])
+    // the first type that is enabled and suits the flow, ports before addresses
     ensures rss_type { result.0 ≡ code_of (rss_type_of mrqc flow.now) }
     ensures bytes { result.1.now ≡ hashed_part (rss_type_of mrqc flow.now) flow.now.input }
+    // 36 at most
     ensures fits { length result.1.now ≤ 36 }
+    // type 0 hashes nothing
     ensures nothing { result.0 ≡ 0 → result.1.now ≡ [] }
 {
     let rss_type = RssType::of(mrqc, flow);

@@ -36,7 +36,7 @@ pub fn classify(frame: &[u8]) -> Flow
     }
 }
 
-/// A frame with a VLAN tag is neither version of IP, whatever it carries.
+/// A frame with the EtherType of a VLAN tag, 0x8100, is neither version of IP, whatever it carries: no flow.
 pub fn tagged_frames_are_no_flow()
     ensures { (frame : List ℕ) → ether_type frame ≡ 0x8100 → flow_of frame ≡ no_flow }
 {}

@@ -5,9 +5,9 @@ ghost use Rattle.rss_hash.specs.Toeplitz.{toeplitz_hash};
 use crate::tables::{refill_tables, shares};
 use std::marker::Model;
 
-/// The hash key as the registers RSSRK hold it, kept with what each half byte of an input adds, the exclusive or of the
-/// key's windows at its bits, so that a hash only joins two numbers a byte. Contracts see it as the list of the ten
-/// words.
+/// The hash key as the registers RSSRK hold it, kept with tables: for half byte k of an input and its value v, the
+/// exclusive or, over the bits j of v that are 1, of the 32 key bits from bit 4k + j on, so that a hash only joins two
+/// numbers a byte. Contracts see it as the list of the ten words.
 ///
 /// Intel 82599 datasheet, section on receive side scaling.
 #[derive(Drop)]

@@ -2,8 +2,8 @@ ghost use Rattle.std.specs.Prelude.{◌≡◌, ◌+◌, ◌≤◌, [], ◌++◌,
 
 use std::marker::Model;
 
-/// What of a frame is hashed: its addresses, and its ports where they count, in network order.
-/// Contracts see it as the list of its bytes.
+/// What of a frame is hashed: its addresses, and its ports where they count, in network order. At most 36 bytes, and
+/// what follows them in the array is 0. Contracts see it as the list of its bytes.
 #[derive(Clone, Copy, PartialEq, Eq, Debug)]
 pub struct Input {
     /// The bytes, and zero bytes after them.
@@ -54,6 +54,7 @@ impl Input {
     /// The bytes that are hashed, 36 at most.
     pub fn as_slice(&self) -> &[u8]
         ensures bytes { result.now ≡ self.now }
+        // 36 at most
         ensures fits { length result.now ≤ 36 }
     {
         &self.bytes[..self.len]

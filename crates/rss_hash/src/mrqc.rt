@@ -21,7 +21,7 @@ pub enum QueueMode {
 }
 
 impl QueueMode {
-    /// The mode in a word of MRQC.
+    /// The mode in bits 3:0 of a word of MRQC.
     #[tactic(auto, unfolding(crate::specs::Mrqc::queue_mode_of))]
     pub fn of(mrqc: u32) -> QueueMode
         ensures { result ≡ queue_mode_of mrqc }

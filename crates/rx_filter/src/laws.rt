@@ -2,7 +2,8 @@
 
 ghost use Rattle.rx_filter.specs.Laws.{FieldsStandAtTheirBits, BroadcastIsAllOnes, BroadcastIsLetIn, MulticastIsLetIn, UnicastIsLetIn, FilteredIsNotLetIn, ResetRefusesAll, SingleIsQueue0, OffPoolsGetNone, PoolOfAFrame, QueuesByMode, PoolsBeyondGetNone, FunctionsGetTheirs};
 
-/// Each field of the registers is at the datasheet's bits.
+/// Each field of the registers is at the datasheet's bits: MPE, UPE and BAM of FCTRL, MO and MFE of MCSTCTRL, AV of
+/// RAH, VT_ENA, DEF_PL and DIS_DEF_POOL of VT_CTL, and PCSD of RXCSUM.
 pub fn fields_stand_at_their_bits()
     ensures { FieldsStandAtTheirBits }
 {}
@@ -34,12 +35,14 @@ pub fn reset_refuses_all()
     ensures { ResetRefusesAll }
 {}
 
-/// Without pools and with a single queue, each accepted frame goes to queue 0, with RSS type 0 and hash 0.
+/// Without pools, VT_CTL bit 0 being 0, and with MRQC's code for a single queue, each accepted frame goes to queue 0,
+/// with RSS type 0 and hash 0.
 pub fn single_queue_is_queue_0()
     ensures { SingleIsQueue0 }
 {}
 
-/// Where pools have queues of their own, a queue gets frames only while its pool has reception enabled.
+/// Where pools have queues of their own, by VT_CTL bit 0 at 1 and MRQC's code, a queue gets frames only while its pool
+/// has reception enabled, by its bit of VFRE.
 pub fn off_pools_get_none()
     ensures { OffPoolsGetNone }
 {}
@@ -50,8 +53,8 @@ pub fn pool_is_the_lowest_of_the_first_match()
     ensures { PoolOfAFrame }
 {}
 
-/// A frame of a pool without queues is dropped: above 15 where GCR_EXT has 16 pools and MRQC distributes frames among
-/// pools, else above 31 with MRQC's code for 32.
+/// With VT_CTL bit 0 at 1 a frame of a pool without queues is dropped: above 15 where GCR_EXT has 16 pools and MRQC
+/// distributes frames among pools, else above 31 with MRQC's code for 32.
 pub fn pools_beyond_get_none()
     ensures { PoolsBeyondGetNone }
 {}
@@ -61,7 +64,10 @@ pub fn functions_get_theirs()
     ensures { FunctionsGetTheirs }
 {}
 
-/// The queue of a frame: with hashing the entry of the redirection table, with pools one of the pool's own.
+/// The queue of a frame. With hashing and no pools it is its entry: that of RETA by the low seven bits of its hash, or
+/// 0 where its RSS type is 0. With VT_CTL bit 0 at 1 it is one of those of its pool p: 8p, or with hashing 8p + entry
+/// mod 8, where GCR_EXT has 16 pools; else 4p + entry mod 4 with 32 pools, 2p + entry mod 2 with 64 and hashing, and 2p
+/// with 64 alone.
 pub fn queue_is_by_the_mode()
     ensures { QueuesByMode }
 {}

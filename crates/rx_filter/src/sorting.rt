@@ -29,6 +29,7 @@ use register_file::{
 #[tactic(auto, unfolding(crate::specs::Sorting::sorted))]
 pub fn sort(registers: &RegisterFile, frame: &[u8]) -> Result<Target, Unwanted>
     ensures sorted { result ≡ sorted registers.now frame.now }
+    // its queue is below 128, and its RSS type below 16
     ensures small { IfOk result (λ t. (t.queue < 128) × (t.rss < 16)) }
 {
     if !passes(registers, frame) {

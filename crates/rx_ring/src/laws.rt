@@ -32,14 +32,16 @@ pub fn read_back()
     ensures { DriverReads }
 {}
 
-/// What a driver reads slot by slot, joined in order, is the frame, up to what is left of it. EOP is at a piece exactly
-/// where the frame is complete with it, and no piece comes after it. Each piece reports the same packet.
+/// What a driver reads slot by slot, joined in order, is the frame, up to what is left of it: in lent memory of whole
+/// blocks, where no buffer shares a byte with its descriptor. EOP is at a piece exactly where the frame is complete
+/// with it, and no piece comes after it. Each piece reports the same packet.
 pub fn frames()
     ensures { PiecesMakeFrame }
 {}
 
-/// Filling a slot changes no byte outside the descriptor and the buffer's bytes, and not which blocks are lent. Where
-/// each is inside a block, it changes these two blocks, and no other.
+/// Filling a slot changes no byte outside the descriptor and the buffer's bytes, not which blocks are lent, and not
+/// their length of 2,048 bytes. Where each is inside a block, it changes these two blocks, and no other: where they are
+/// two, each has just what was written.
 pub fn elsewhere()
     ensures bytes { WritesInsideSlot }
     ensures blocks { FillKeepsBlocks }

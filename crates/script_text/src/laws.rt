@@ -5,13 +5,14 @@ ghost use Rattle.script_text.specs.Laws.{NamesHaveTheirPlaces};
 ghost use Rattle.script_text.specs.ReadBack.{TextsReadBack};
 
 /// A text is a program exactly where each of its lines is a statement that fits the lines before it. The statements
-/// make the program, in their order.
+/// make the program, in their order. To fit, a name is new among labels, or among data, and has at most 32 bytes; there
+/// are at most 1,024 data strings of 16,384 bytes each, and 4,096 instructions.
 pub fn program_is_what_lines_say()
     ensures { ProgramIsWhatLinesSay }
 {}
 
-/// The first faulty line of a text is reported. Where none is faulty, the first line is reported that uses a label or
-/// data which is missing, or data that can't be poked.
+/// The first faulty line of a text is reported. Where none is faulty, the first line is reported whose instruction uses
+/// a label or data which is missing, or pokes data that isn't of 16 bytes.
 pub fn first_fault_decides()
     ensures { FirstFaultDecides }
 {}

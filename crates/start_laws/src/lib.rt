@@ -61,7 +61,9 @@ pub fn standing_sides_are_left()
 
 /// While a driver lays out the empty transmit ring of a queue whose transmit side is disabled, and only after that asks
 /// for the side to be enabled, nothing is sent on the queue, over a legal history that leaves it alone, whether the
-/// side is enabled yet or not.
+/// side is enabled yet or not. Its pass writes no register but its queue's, and lays the ring out while the side is
+/// disabled and not asked to be enabled: the length first, then head and tail. Just before the first of these calls the
+/// driver begins well.
 pub fn laid_queue_is_silent()
     ensures { LaidQueueIsSilent }
 {}

@@ -32,7 +32,8 @@ fn fault_of(error: FromHexError) -> HexFault
 
 /// The bytes that a word writes in hex, two digits of either case a byte, the high one first.
 ///
-/// `Malformed` where the word isn't whole bytes of hex. `OutOfMemory` may be returned in place of any other result.
+/// `Malformed` exactly where the word isn't whole bytes of hex. `OutOfMemory` may be returned in place of any other
+/// result.
 pub fn hex_bytes(alloc: Global, word: &str) -> Result<Vec<u8>, HexFault>
     ensures ok { IfOk result (λ bytes. hex_bytes_of word.now ≡ Some bytes.items) }
     ensures malformed { result ≡ Err HexFault.Malformed → hex_bytes_of word.now ≡ None }

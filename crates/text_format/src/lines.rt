@@ -41,7 +41,7 @@ impl<'a> Model for Lines<'a> {
 }
 
 impl<'a> Lines<'a> {
-    /// The lines of a text, from its first.
+    /// The lines of a text, numbered from 1, from its first.
     #[tactic(auto, unfolding(crate::specs::Lines::lines_of))]
     pub fn of(text: &'a str) -> Lines<'a>
         ensures { result ≡ lines_of text.now }

@@ -187,6 +187,8 @@ pub fn bench_threads<R: Threads + Wait + Sync, W: Write>(
     frames: u8,
 ) -> u8
     ensures status { (result ≡ 0) ⊎ ((result ≡ 2) ⊎ (result ≡ 4)) }
+    // the pass of a queue's worker has the queue's number as its tag, and its driver begins well, after no call of that
+    // pass
     ensures reported { result ≡ 0 → Tells workers (W.contents output.old.writer) (W.contents output.new.writer) }
     ensures silent { result ≢ 0 → (output.new ≡ output.old) ⊎ (output.new.has_failed ≡ true) }
     ensures memory { result ≡ 4 → output.new ≡ output.old }

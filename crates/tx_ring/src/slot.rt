@@ -47,6 +47,7 @@ pub fn fetch(
     requires slots { slots_of ring.now ≤ 65536 }
     ensures fault { (f : RingFault) → (result ≡ Err (TxRefused.Fault f))
         ↔ (fault_of memory.old ring.now tx.now (length staged.old) ≡ Some f) }
+    // for every setting, memory and staged bytes
     ensures answer { IfOk result (λ f. (fetch_of memory.old staged.old ring.now tx.now).answer ≡ Ok f) }
     ensures memory { OnOk result (memory.new ≡ (fetch_of memory.old staged.old ring.now tx.now).memory) }
     ensures staged { OnOk result (staged.new ≡ (fetch_of memory.old staged.old ring.now tx.now).staged) }

@@ -21,7 +21,7 @@ impl Model for Staged {
 }
 
 impl Staged {
-    /// No staged bytes. It allocates nothing.
+    /// No staged bytes, as a queue has them at first. It allocates nothing.
     pub fn new(alloc: Global) -> Staged
         ensures { result ≡ [] }
     {

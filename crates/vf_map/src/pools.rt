@@ -51,8 +51,8 @@ pub fn pool_of(mode: Mode, queue: u16) -> Option<u8>
     }
 }
 
-/// The queue of a pool that a number selects, as an entry of the redirection table does: the number modulo the pool's
-/// count of queues is the index among them. The mode has to have the pool.
+/// The queue of a pool, below 128, that a number selects, as an entry of the redirection table does: the number modulo
+/// the pool's count of queues is the index among them. The mode has to have the pool.
 pub fn queue_in(mode: Mode, pool: u16, number: u8) -> u16
     requires { pool < pools_in mode }
     ensures queue { result ≡ queue_in mode pool number }

@@ -19,7 +19,7 @@ Clears d h AskedOnBefore = NeverAskedOn d.watched d.from h
 Clears d h LentByOthers = OthersLendNone d.watched d.from (are_from d.first d.count) h
 Clears d h TooLong = FramesFit d.watched d.from (2048 * most_blocks d.given.frame) h
 
--- nor any before it in the order of asking
+-- none of the doubts before it in the order of asking is there
 abbrev pub ClearsBefore : Driven → List Entry → Doubt → Type 0
 ClearsBefore d h Disturbed = ⊤
 ClearsBefore d h BeganOtherwise = Clears d h Disturbed

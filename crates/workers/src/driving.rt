@@ -179,6 +179,7 @@ pub fn run_worker<G: Gate, N: Nic>(
     ensures lived { HasRun (record { port = order.port; queue = order.queue }) order.size order.frame
         (N.made nic.old) arena (N.made nic.new) result.0 result.1 }
     ensures reported { sent producer.new ≡ reports_of order.queue (left_handed result.0) }
+    // it makes no more reports than it looks
     ensures few { length (sent producer.new) ≤ order.rounds }
     ensures ring { SameProducer producer.old producer.new }
     ensures home { IfNone result.1 (is_home result.0 ≡ true) }

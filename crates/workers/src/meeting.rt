@@ -73,6 +73,7 @@ impl<'a, R: Wait> Gate for Lockstep<'a, R> {
     /// False exactly for a worker that is no member; nobody then waits for it, nor it for anybody.
     fn pass(&self, worker: usize, point: u8) -> bool
         ensures shut { result ≡ false → self.now ≤ worker }
+        // a member is let on at each point, and nobody else
         ensures lets_on { result ≡ nat_lt worker self.now }
     {
         if worker >= self.members {

@@ -65,8 +65,11 @@ impl Collector {
     /// Takes what has come so far, while the worker goes on.
     pub fn drain(&mut self)
         ensures ring { SameConsumer self.old.consumer self.new.consumer }
+        // the room is as it was
         ensures room { vec_capacity self.new.reports ≡ vec_capacity self.old.reports }
+        // the reports that it has stay
         ensures kept { IsPrefix self.old.reports.items self.new.reports.items }
+        // all that it knows of is taken, as far as there is room
         ensures taken { (known_items self.new.consumer ≡ [])
             ⊎ (vec_capacity self.new.reports ≤ vec_len self.new.reports) }
     {

@@ -1,0 +1,299 @@
+#!/usr/bin/env python3
+"""Writes the pages of docs/promises from the comments of the sources: each public contract with its sentences.
+
+    dev/promise_pages.py            rewrites what stands below the line MARK on each page of the list PAGES
+    dev/promise_pages.py --check    says which page is stale, and ends with status 1 if any is
+
+A row of a page is a public function with what it ensures, a law among them, or a public type with what its values keep
+to: its doc comment, and of each clause that has a comment of its own that one. Where several contracts of a section
+have a clause by one definition, its comment has a row by itself. So what is written stands once, at the contract.
+
+Both end with status 1 too, and name the place, where a public contract has no doc comment or more clauses than its
+comments have statements (each ends with '.', ';' or ':'), where a public contract is on no page, and where a page names
+a contract or a clause in its part by hand that isn't there.
+"""
+
+from __future__ import annotations
+
+import argparse
+import re
+import sys
+from collections.abc import Iterator
+from pathlib import Path
+
+sys.dont_write_bytecode = True
+sys.path.append(str(Path(__file__).resolve().parent))
+from contracts import Contract, Crate, sentence  # noqa: E402
+from generated import ROOT, renewed, table, told  # noqa: E402
+
+CITED = re.compile(r" *Intel 82599 datasheet, sections? on [^.]*\.")
+# A comment of which so much stands in another one isn't repeated beside that.
+SAME = 0.7
+FOLDER = ROOT / "docs/promises"
+MARK = "<!-- Below this line dev/promise_pages.py writes, from the comments of the sources. -->\n"
+
+# Each page with its sections. A section has crates, or of one crate the named files, or what stands from a law on; what
+# no other section of a crate has is in the one that names the crate alone.
+PAGES = """
+table.md
+    Lines and words: text_format
+    The register table: reg_table register_bits
+    The offsets of virtual functions: vf_map
+memory.md
+    Packet memory: dma_arena
+    Descriptor rings: dma_ring
+    One receive descriptor: rx_ring
+    One transmit descriptor: tx_ring
+parts.md
+    Receive side scaling: rss_hash
+    Interrupts of one group: intr_unit
+    EEPROM images: eeprom_image
+nic.md
+    The register file: register_file
+    What accesses of registers change: register_laws
+    Where a received frame goes: rx_filter
+    The device: nic_device
+    Notes of events and replies: nic_device/event nic_device/notes nic_device/notes_shared
+share.md
+    Making and closing: device_lock
+    Calls under the lock: device_lock/shared device_lock/stepping device_lock/locked device_lock/fault
+    Calls that are kept: device_lock/calls
+driver.md
+    A driver, running or not: pmd_driver/driver
+    Start: pmd_driver/start
+    Stop, and a driver that doesn't run: pmd_driver
+    A driver whose rings are up: pmd_driver/running pmd_driver/bursts
+    Packets: pmd_access/packet pmd_access/bufs pmd_access/frames
+    Ways to a device: pmd_access pmd_driver/arriving
+    Set-up, queues and blocks: pmd_access/names pmd_access/setup pmd_access/sides pmd_access/both pmd_access/slots \
+pmd_access/home
+    The receive half: pmd_rx
+    The transmit half: pmd_tx
+laws.md
+    What stays so: device_laws
+    Registers: device_laws@new_device_reads_reset_values
+    Counters and causes: device_laws@events_count
+    Resets and the EEPROM: device_laws@asked_reset_resets
+    Each event has a reach: device_laws@other_events_keep_settings
+    Memory, frames and steps: device_laws@receiving_has_an_order
+    Virtual functions: device_laws@vf_access_is_the_physical_functions
+    Registers and interrupts, by the datasheet's names: interrupt_laws
+    The datasheet's numbers, a second time: datasheet_laws
+    Frames and memory, by the registers' bits: frame_laws
+interleaving.md
+    A driver's life: driver_laws
+    Together with other calls of its author: driver_laws@driver_among_any_calls_in_order
+    Stop, and a start that was refused: driver_laws@what_is_left_is_in_order
+    Where a start leads, and both halves: start_laws
+    The receive ring: ring_laws/receive
+    The transmit ring: ring_laws/transmit
+    Histories: history_laws
+    A device in hand: pmd_access/history device_lock/reported
+threads.md
+    Workers on threads: workers
+    Asking a history: workers/beginning workers/fitting workers/lending workers/quiet workers/verdict workers/laws
+script.md
+    Scripts: script_text
+    Programs and objects: program
+    The machine: machine
+    The debugger: debugger
+tools.md
+    What the program writes: bench_commands
+    The words of the command line: command_line
+    `nicbench threads`: threads_bench
+c.md
+    The calls of C: nic82599_c
+    A card in Rattle: card
+""".replace("\\\n", "")
+
+
+class Section:
+    """A part of a page: its heading, and what selects its contracts."""
+
+    def __init__(self, line: str) -> None:
+        self.heading, _, words = line.strip().rpartition(": ")
+        self.selectors = words.split()
+        self.contracts: list[tuple[Crate, Contract]] = []
+
+    def rank(self, crate: str, module: str, laws: list[str]) -> int:
+        """How closely the section asks for a contract of this module, before or at which these laws stand: 0, not."""
+        ranks = [0]
+        for it in self.selectors:
+            name, _, law = it.partition("@")
+            if it == f"{crate}/{module}":
+                ranks.append(1000)
+            elif law and name == crate and law in laws:
+                ranks.append(2 + laws.index(law))
+            elif it == crate:
+                ranks.append(1)
+        return max(ranks)
+
+    def order(self, crate: str, module: str) -> int:
+        """Where the section has the contracts of a module."""
+        whole = [it.partition("@")[0] for it in self.selectors]
+        return whole.index(f"{crate}/{module}") if f"{crate}/{module}" in whole else whole.index(crate)
+
+
+def selects(crates: dict[str, Crate], selector: str) -> bool:
+    """Whether there is what a selector names."""
+    name, kind, it = re.split(r"([/@]|$)", selector, maxsplit=1)
+    there = crates[name].public() if name in crates else []
+    return any(not kind or it == (one.module if kind == "/" else one.path) for one in there)
+
+
+def pages() -> dict[str, list[Section]]:
+    """The list PAGES, read."""
+    found: dict[str, list[Section]] = {}
+    for line in PAGES.strip().split("\n"):
+        if line.startswith(" "):
+            found[list(found)[-1]].append(Section(line))
+        else:
+            found[line] = []
+    return found
+
+
+def distributed(crates: dict[str, Crate], sections: list[Section]) -> Iterator[str]:
+    """Gives each public contract to its section, and says of which there is none."""
+    for crate in crates.values():
+        laws: list[str] = []
+        for it in crate.public():
+            laws.append(it.name)
+            best = max(sections, key=lambda section, it=it: section.rank(crate.name, it.module, laws))
+            if best.rank(crate.name, it.module, laws):
+                best.contracts.append((crate, it))
+            else:
+                yield f"{it.place}: on no page of docs/promises"
+    for section in sections:
+        yield from (f"{section.heading}: `{it}` selects nothing" for it in section.selectors if not selects(crates, it))
+        section.contracts.sort(key=lambda pair: section.order(pair[0].name, pair[1].module))
+
+
+def cell(text: str) -> str:
+    """A comment as a cell of a table, without links of the sources, which lead nowhere there, and citations."""
+    text = CITED.sub("", text)
+    text = re.sub(r"\[(`[^`]+`)\](?:\([^)]*\))?", r"\1", text)
+    parts = re.split(r"(`[^`]*`)", text)
+    parts[::2] = [re.sub(r"([*<])", r"\\\1", part) for part in parts[::2]]
+    return "".join(parts).replace("|", "\\|")
+
+
+def own_sentences(crate: Crate, it: Contract, shared: set[str]) -> Iterator[str]:
+    """The sentences that the clauses of a contract have by themselves, each with the clauses that have it."""
+    found: dict[str, list[str]] = {}
+    for clause in it.clauses:
+        by = crate.definition(it, clause)
+        if clause.comment:
+            found.setdefault(sentence(clause.comment), []).append(clause.name)
+        elif by and by[0] not in shared and is_more(by[1], it):
+            found.setdefault(by[1], []).append(clause.name)
+    for said, names in found.items():
+        label = ", ".join(f"`{name}`" for name in names if name)
+        yield (f"{label}: " if label else "") + cell(said)
+
+
+def is_more(said: str, it: Contract) -> bool:
+    """Whether a definition's comment says more than the doc comment of the contract that names it."""
+    there, words = set(re.findall(r"\w+", it.sentences.lower())), re.findall(r"\w+", said.lower())
+    return sum(word in there for word in words) < SAME * len(words)
+
+
+def common(sections: list[Section]) -> dict[str, tuple[str, dict[str, list[str]]]]:
+    """The definitions by which several contracts of a page have a clause: each comment, and the contracts by clause."""
+    found: dict[str, tuple[str, dict[str, list[str]]]] = {}
+    for crate, it in (pair for section in sections for pair in section.contracts):
+        for clause in it.clauses:
+            if not clause.comment and (by := crate.definition(it, clause)):
+                named = found.setdefault(by[0], (by[1], {}))[1].setdefault(clause.name, [])
+                named += [] if it.path in named else [it.path]
+    return {name: by for name, by in found.items() if len({path for paths in by[1].values() for path in paths}) > 1}
+
+
+def row(crate: Crate, it: Contract, shared: set[str]) -> list[str]:
+    """A contract that leads to its file, with its clauses, and its sentences."""
+    names = [f"`{clause.name}`" for clause in it.clauses if clause.name]
+    contract = f"[`{it.path}`]({Path('../..') / it.file.relative_to(ROOT)})"
+    sentences = [cell(it.sentences), *own_sentences(crate, it, shared)]
+    return [contract + (": " if names else "") + ", ".join(names), " ".join(sentences)]
+
+
+def section_text(section: Section, shared: set[str]) -> str:
+    rows = [row(crate, it, shared) for crate, it in section.contracts]
+    crates = ", ".join(f"`{name}`" for name in dict.fromkeys(crate.name for crate, _ in section.contracts))
+    return f"\n## {section.heading}\n\n{crates}.\n\n" + table(["Contract", "Promise"], rows)
+
+
+def shared_text(shared: dict[str, tuple[str, dict[str, list[str]]]]) -> str:
+    """The clauses that several contracts have by one definition."""
+    rows = []
+    for said, clauses in shared.values():
+        places = [
+            (f"`{name}` of " if name else "") + ", ".join(f"`{path}`" for path in paths)
+            for name, paths in clauses.items()
+        ]
+        rows.append(["; ".join(places), cell(said)])
+    return "\n## Clauses of several contracts\n\n" + table(["Clauses", "Promise"], rows) if rows else ""
+
+
+def page_text(name: str, sections: list[Section]) -> str:
+    """A page: its part by hand, its sections, and the clauses that several contracts have."""
+    by_hand = (FOLDER / name).read_text(encoding="utf-8").partition(MARK)[0]
+    shared = common(sections)
+    written = "".join(section_text(section, set(shared)) for section in sections)
+    return by_hand + MARK + written + shared_text(shared)
+
+
+def statements(text: str) -> int:
+    return len(re.findall(r"[.;:](?=\s|$)|, (?:and|but|nor) ", text))
+
+
+def faults_of(crate: Crate, it: Contract) -> Iterator[str]:
+    """What a contract's comments leave out."""
+    if not it.sentences:
+        yield f"{it.place}: no doc comment"
+    said = statements(it.sentences)
+    unsaid = [c for c in it.clauses if not c.comment and not crate.definition(it, c) and c.body]
+    if len(unsaid) > max(said, 1):
+        names = ", ".join(c.name for c in unsaid)
+        yield f"{it.place}: {said} statements for the clauses {names}"
+
+
+def named(text: str) -> Iterator[tuple[str, list[str]]]:
+    """The contracts that a text by hand names with their crates, each with the clauses named after it."""
+    for found in re.finditer(r"`(\w+(?:::\w+)+)`((?:, `\w+`)*): ((?:`\w+`(?:, )?)+)|`(\w+(?:::\w+)+)`", text):
+        yield found[1] or found[4], re.findall(r"\w+", found[3] or "")
+
+
+def faults_by_hand(crates: dict[str, Crate]) -> Iterator[str]:
+    """Contracts and clauses that the parts by hand name and that aren't there."""
+    for page in sorted(FOLDER.glob("*.md")):
+        text = re.sub(r"\s+", " ", page.read_text(encoding="utf-8").partition(MARK)[0])
+        for path, clauses in named(text):
+            name, _, rest = path.partition("::")
+            if name in crates:
+                yield from (f"{page.relative_to(ROOT)}: {it}" for it in missing(crates[name], path, rest, clauses))
+
+
+def missing(crate: Crate, path: str, rest: str, clauses: list[str]) -> Iterator[str]:
+    """What of a path with clauses a crate doesn't have."""
+    found = [it for it in crate.all if rest == it.path or rest.endswith(f"::{it.path}")]
+    if not found and rest not in crate.types | {it.module for it in crate.all}:
+        yield f"no `{path}`"
+    there = {clause.name for it in found for clause in it.clauses}
+    yield from (f"`{path}` has no clause `{it}`" for it in clauses if found and it not in there)
+
+
+def main() -> int:
+    parser = argparse.ArgumentParser(description=__doc__, formatter_class=argparse.RawDescriptionHelpFormatter)
+    parser.add_argument("--check", action="store_true")
+    only_check = parser.parse_args().check
+    crates = {it.name: Crate(it.name) for it in sorted((ROOT / "crates").iterdir()) if (it / "src").is_dir()}
+    known = pages()
+    faults = list(distributed(crates, [section for sections in known.values() for section in sections]))
+    faults += [fault for crate in crates.values() for it in crate.public() for fault in faults_of(crate, it)]
+    faults += faults_by_hand(crates)
+    stale = renewed({FOLDER / name: page_text(name, sections) for name, sections in known.items()}, only_check)
+    return told(faults) or int(stale and only_check)
+
+
+if __name__ == "__main__":
+    sys.exit(main())

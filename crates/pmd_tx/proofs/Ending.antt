@@ -1,9 +1,8 @@
 -- What a call tells of its end it tells of what was made before it too.
-use Rattle.std.proofs.Common.{◌≡◌, ℕ, false, List, Result, Ok, Err, IfErr, IfOk, ◌∙◌}
+use Rattle.std.proofs.Common.{◌≡◌, ℕ, List, Result, Ok, Err, IfErr, ◌∙◌}
 use Rattle.pmd_access.specs.DeviceLock.declared.entry.Call.{Call}
 use Rattle.pmd_access.specs.declared.fault.PmdFault.{PmdFault}
 use Rattle.pmd_access.specs.declared.fault.PmdFault.TheVariants as fault
-use Rattle.pmd_tx.specs.declared.answer.Reaped.{Reaped}
 use Rattle.pmd_tx.specs.Plays.{Plays, PlaysWith, FaultsBy, LooksLast}
 use Rattle.pmd_tx.specs.Sending.{Sender}
 use Rattle.pmd_tx.proofs.Playing.{all_both, faults_after, asks_after}
@@ -34,9 +33,3 @@ pub after_all : {R E : Type 0} → (which : E → PmdFault) (r : Result R E) (bl
     → IfErr r (λ e. FaultsBy (which e) blocks a v d)
 after_all which (Ok x) blocks a b d v w plays f = tt
 after_all which (Err e) blocks a b d v w plays f = by_after (which e) blocks a b d v w plays f
-
-pub waits_after : {E : Type 0} → (r : Result Reaped E) (a b d : List Call) (v w x : Sender) → Plays a v b w
-    → w.accepted ≡ v.accepted → IfOk r (λ done. done.idle ≡ false → LooksLast b w d x)
-    → IfOk r (λ done. done.idle ≡ false → LooksLast a v d x)
-waits_after (Ok done) a b d v w x plays same l = λ is. looks_after a b d v w x plays same (l is)
-waits_after (Err e) a b d v w x plays same l = tt

@@ -1,14 +1,13 @@
 -- Blocks that come home to the driver's arena.
-use Rattle.std.proofs.Common.{◌≡◌, ℕ, ◌+◌, ◌<◌, ◌≤◌, true, false, if◌then◌else◌, List, [], ◌∷◌, ◌++◌, length, take, drop, get_or, Result, Ok, Err, IfOk, OnErr, refl, sym, ap, ◌∙◌, subst, arith}
+use Rattle.std.proofs.Common.{◌≡◌, ℕ, ◌+◌, ◌<◌, ◌≤◌, true, false, if◌then◌else◌, List, [], ◌∷◌, ◌++◌, length, take, drop, get_or, refl, sym, ap, ◌∙◌, subst, arith}
 use Rattle.std.proofs.lemmas.List.{length-drop, drop-drop, drop-take, take-take, drop-map, take-append-drop}
 use Rattle.std.proofs.Math.Seq.{take-add}
 use Rattle.pmd_access.specs.NicDevice.DmaArena.Numbers.{Numbers, is_own, is_free, with_free}
 use Rattle.pmd_access.specs.Bufs.{with_all_free}
 use Rattle.pmd_access.proofs.Outside.{out_first, out_given}
 use Rattle.pmd_access.specs.Home.{AreOut}
-use Rattle.pmd_tx.specs.declared.answer.Reaped.{Reaped}
 use Rattle.pmd_tx.specs.Sending.{Sender, Segment, no_segment, blocks_of, segment_at, reaped}
-use Rattle.pmd_tx.specs.Sends.{Frees, FreesSome, ends_in}
+use Rattle.pmd_tx.specs.Sends.{Frees, ends_in}
 
 -- one after the other
 
@@ -106,13 +105,3 @@ frees_from v w x a b n i same f = record {
   home = f.home ∙ ap (λ (l : List Segment). with_all_free a (take n (blocks_of l))) same;
   packets_are = f.packets_are ∙ ap (λ (l : List Segment). ends_in (take n l)) same;
 }
-
-pub freed_after : {E : Type 0} → (r : Result Reaped E) (v w x : Sender) (a b : Numbers) → w.outstanding ≡ v.outstanding
-    → IfOk r (λ d. FreesSome w x a b d.freed) → IfOk r (λ d. FreesSome v x a b d.freed)
-freed_after (Ok d) v w x a b same (n, f) = (n, frees_from v w x a b n d.freed same f)
-freed_after (Err e) v w x a b same f = tt
-
-pub some_after : {R E : Type 0} → (r : Result R E) (v w x : Sender) (a b : Numbers) → w.outstanding ≡ v.outstanding
-    → OnErr r ((i : ℕ) × FreesSome w x a b i) → OnErr r ((i : ℕ) × FreesSome v x a b i)
-some_after (Ok d) v w x a b same f = tt
-some_after (Err e) v w x a b same (i, (n, f)) = (i, (n, frees_from v w x a b n i same f))

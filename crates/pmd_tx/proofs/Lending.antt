@@ -10,6 +10,7 @@ use Rattle.pmd_access.specs.declared.fault.PmdFault.{PmdFault}
 use Rattle.pmd_access.specs.declared.fault.PmdFault.TheVariants as fault
 use Rattle.pmd_access.specs.declared.packet.Packet.{Packet}
 use Rattle.pmd_access.specs.Made.{AddsSome}
+use Rattle.pmd_tx.specs.Acts.{Acts, refused_in}
 use Rattle.pmd_tx.specs.Plays.{AsksNext, PlaysWith, FaultsBy}
 use Rattle.pmd_tx.specs.Sends.{IsBack, IsLate}
 use Rattle.pmd_tx.specs.Sending.{Sender, Segment, Accepts, MayAccept, accepted_by, has_lent, is_among, keeps, no_segment, paired, parts_for, parts_in, segments_of}
@@ -116,14 +117,6 @@ module _ (old new : List Call) (v : Sender) (p : Packet) (may : MayStart v p) wh
   unlent (fault.Call f) back (adds, same) = plays_some blocks old new v adds
   unlent other back failed = absurd failed
 
-  pub lend_plays : {R : Type 0} → (r : Result R (PmdFault × Packet)) (w : Sender)
-      → OnOk r (LendsFirst old new p.bufs None) → OnOk r (w ≡ accepted_by v (sent_as p)) → OnErr r (w ≡ v)
-      → IfErr r (λ x. IsUnlent x.0 old new p x.1) → PlaysWith blocks old v new w
-  lend_plays (Ok x) w made is same failed =
-      subst (PlaysWith blocks old v new) (sym is) (lent_plays p.bufs refl made)
-  lend_plays (Err (f, back)) w made is same failed =
-      subst (PlaysWith blocks old v new) (sym same) (unlent f back failed)
-
   asks_refused : (bs : List Block) → p.bufs ≡ bs → 0 < length bs → AddsSome old new → AsksNext blocks old v new
   asks_refused [] is some adds = absurd (omega arith)
   asks_refused (b ∷ bs) is some adds =
@@ -135,10 +128,24 @@ module _ (old new : List Call) (v : Sender) (p : Packet) (may : MayStart v p) wh
       asks_refused p.bufs refl (omega (arith, may.long, may.held)) adds
   lend_faults other back failed = absurd failed
 
-  pub faults_of : {R : Type 0} → (r : Result R (PmdFault × Packet)) → IfErr r (λ x. IsUnlent x.0 old new p x.1)
-      → IfErr r (λ x. FaultsBy x.0 blocks old v new)
-  faults_of (Ok x) failed = tt
-  faults_of (Err (f, back)) failed = lend_faults f back failed
+  lend_late : (f : PmdFault) (back : Packet) → IsUnlent f old new p back → IsLate f
+  lend_late fault.DeviceFault back failed = tt
+  lend_late (fault.Call f) back failed = tt
+  lend_late other back failed = absurd failed
+
+  pub lend_acts : {R : Type 0} → (r : Result R (PmdFault × Packet)) (w : Sender)
+      → OnOk r (LendsFirst old new p.bufs None) → OnOk r (w ≡ accepted_by v (sent_as p)) → OnErr r (w ≡ v)
+      → IfErr r (λ x. IsUnlent x.0 old new p x.1) → Acts blocks (refused_in r) old v new w
+  lend_acts (Ok x) w made is same failed = record {
+    plays = subst (PlaysWith blocks old v new) (sym is) (lent_plays p.bufs refl made);
+    late = tt;
+    faults = tt;
+  }
+  lend_acts (Err (f, back)) w made is same failed = record {
+    plays = subst (PlaysWith blocks old v new) (sym same) (unlent f back failed);
+    late = lend_late f back failed;
+    faults = lend_faults f back failed;
+  }
 
   pub back_of : {R : Type 0} → (r : Result R (PmdFault × Packet)) → IfErr r (λ x. IsUnlent x.0 old new p x.1)
       → IfErr r (λ x. IsBack x.0 p x.1)
@@ -146,10 +153,3 @@ module _ (old new : List Call) (v : Sender) (p : Packet) (may : MayStart v p) wh
   back_of (Err (fault.DeviceFault, back)) (twice, made, numbers) = numbers
   back_of (Err (fault.Call f, back)) (adds, same) = same
   back_of (Err (other, back)) failed = absurd failed
-
-  pub late_of : {R : Type 0} → (r : Result R (PmdFault × Packet)) → IfErr r (λ x. IsUnlent x.0 old new p x.1)
-      → IfErr r (λ x. IsLate x.0)
-  late_of (Ok x) failed = tt
-  late_of (Err (fault.DeviceFault, back)) failed = tt
-  late_of (Err (fault.Call f, back)) failed = tt
-  late_of (Err (other, back)) failed = absurd failed

@@ -1,11 +1,11 @@
 pub use Rattle.pmd_access.proofs as PmdAccess
+pub mod Acting
 pub mod Counting
 pub mod Distinct
 pub mod Ending
 pub mod Fields
 pub mod Freeing
 pub mod Lending
-pub mod Loop
 pub mod Newest
 pub mod Numbering
 pub mod Outstanding

@@ -1,5 +1,5 @@
 -- What padding a packet does to its bytes.
-use Rattle.std.proofs.Common.{◌≡◌, ℕ, zero, suc, ◌+◌, ◌-◌, ◌*◌, ◌<◌, ◌≤◌, nat_lt, All, List, [], ◌∷◌, ◌++◌, length, take, drop, replicate, refl, sym, ap, ◌∙◌, subst, arith, inl, inr}
+use Rattle.std.proofs.Common.{◌≡◌, ℕ, zero, suc, ◌+◌, ◌-◌, ◌*◌, ◌<◌, ◌≤◌, nat_lt, All, List, [], ◌∷◌, ◌++◌, length, take, drop, replicate, Option, refl, sym, ap, ◌∙◌, subst, arith, inl, inr}
 use Rattle.std.proofs.lemmas.Bool.{cases_Bool}
 use Rattle.std.proofs.lemmas.Bool.Decides.{nat_tests}
 use Rattle.std.proofs.lemmas.List.{append-nil, length-append, length-take-le, length-replicate, take_at, take-append-le, drop_at, take-append-drop}
@@ -7,12 +7,14 @@ use Rattle.pmd_access.proofs.NicDevice.DmaArena.Bytes.{length-put_bytes}
 use Rattle.pmd_access.specs.NicDevice.DmaArena.Block.{Block, IsBlock}
 use Rattle.pmd_access.specs.NicDevice.DmaArena.Memory.{put_bytes}
 use Rattle.pmd_access.specs.Bufs.{bytes_of, numbers_of}
+use Rattle.pmd_access.specs.DeviceLock.declared.entry.Call.{Call}
 use Rattle.pmd_access.specs.Packet.{kept_of}
 use Rattle.pmd_access.specs.declared.packet.Packet.{Packet}
 use Rattle.pmd_access.specs.declared.fault.PmdFault.{PmdFault}
 use Rattle.pmd_access.specs.declared.fault.PmdFault.TheVariants.{DeviceFault}
 use Rattle.pmd_tx.specs.Padding.{first_bytes, padded_packet, unpadded, with_first}
-use Rattle.pmd_tx.specs.Sending.{Sender, parts_for}
+use Rattle.pmd_tx.specs.Acts.{Acts}
+use Rattle.pmd_tx.specs.Sending.{Outgoing, Sender, parts_for}
 use Rattle.pmd_tx.specs.Sends.{accepted_of, outgoing_of, padded, IsBack}
 use Rattle.pmd_tx.specs.Shown.{sent_as, MaySend, MayStart}
 use Rattle.pmd_tx.proofs.Starting.{length-blocks}
@@ -138,6 +140,11 @@ module _ (p : Packet) (whole : All (λ (b : Block). IsBlock b) p.bufs) (some : 0
     whole-first (b ∷ bs) short are (suc k) d below = are (suc k) d (omega arith)
 
     -- it may be accepted then
+    pub padded_acts : {f : Option PmdFault} {old new : List Call} {v w : Sender} (q : Packet) → q ≡ padded_packet p
+        → Acts (sent_as q).blocks f old v new w → Acts (outgoing_of p).blocks f old v new w
+    padded_acts {f} {old} {new} {v} {w} q is acts =
+        subst (λ (o : Outgoing). Acts o.blocks f old v new w) (ap sent_as is ∙ sent_padded) acts
+
     pub padded_may : (v : Sender) → MaySend v p → 60 ≤ v.layout.limit → v.lent ≡ length v.outstanding
         → v.poked ≡ length v.outstanding → MayStart v (padded_packet p)
     padded_may v may least lent asked = elim (cases_Bool (nat_lt p.len 60)) [

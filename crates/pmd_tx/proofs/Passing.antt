@@ -198,7 +198,7 @@ kept_after None v w x none is = tt
 kept_after (Some q) v w x none is = none_both v w x none is
 
 -- what isn't given back needs no word
-pub none_back : (r : Result TxAnswer TxFault) (p : Packet) → IfErr r (λ f. f.packet ≡ None)
+pub none_back : (r : Result TxAnswer TxFault) (p : Packet) → returned r ≡ None
     → IfErr r (λ f. IfSome f.packet (λ back. IsBack f.fault p back))
 none_back (Ok a) p none = tt
 none_back (Err f) p none = rw none tt

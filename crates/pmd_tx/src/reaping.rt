@@ -1,11 +1,12 @@
 //! How the blocks of packets that were sent come home.
 
-ghost use Rattle.std.specs.Prelude.{[], ◌≡◌, ◌<◌, ◌+◌, ◌↔◌, ℕ, List, Some, None, IfSome, IfNone, length, true, false, Ok, IsTrue, IfOk, IfErr, OnOk, OnErr, if◌then◌else◌};
+ghost use Rattle.std.specs.Prelude.{[], ◌≡◌, ◌≢◌, ◌<◌, ◌↔◌, ℕ, List, None, length, true, false, Ok, IsTrue, IfOk, IfErr, OnErr};
 ghost use Rattle.pmd_access.specs.Begun.{BeganAs};
 ghost use Rattle.pmd_access.specs.Home.{AreOut};
+ghost use Rattle.pmd_tx.specs.Acts.{Asks, Continues, HasReaped, fault_in, packets_reaped, parts_reaped};
 ghost use Rattle.pmd_tx.specs.Plays.{PlaysWith, LooksLast, FaultsBy};
-ghost use Rattle.pmd_tx.specs.Sending.{segment_at, blocks_of, reaped};
-ghost use Rattle.pmd_tx.specs.Sends.{Frees, FreesSome, IsLate};
+ghost use Rattle.pmd_tx.specs.Sending.{blocks_of};
+ghost use Rattle.pmd_tx.specs.Sends.{FreesSome, IsLate};
 ghost use Rattle.pmd_access.specs.Refusals.{CanFail};
 
 use crate::answer::Reaped;
@@ -49,36 +50,9 @@ impl TransmitRing {
         ensures refusal { IfErr result (λ f. CanFail (N.refuses nic.new) f) }
     {
         match self.flush(alloc, nic) {
-            Ok(()) => self.reap_sent(alloc, nic, arena),
-            Err(fault) => Err(fault),
+            Ok(()) => {}
+            Err(fault) => return Err(fault),
         }
-    }
-
-    /// The same, where no packet waits for the tail.
-    fn reap_sent<N: Nic>(
-        &mut self,
-        alloc: Global,
-        nic: &mut N,
-        arena: &mut Arena,
-    ) -> Result<Reaped, PmdFault>
-        requires settled { self.old.posted ≡ length self.old.outstanding }
-        requires home { AreOut arena.old (blocks_of self.old.outstanding) }
-        ensures plays { (blocks : List ℕ) → PlaysWith blocks (N.made nic.old) self.old (N.made nic.new) self.new }
-        ensures idle { IfOk result (λ done. IsTrue done.idle ↔ (self.new.outstanding ≡ [])) }
-        ensures waits { IfOk result (λ done.
-            done.idle ≡ false → LooksLast (N.made nic.old) self.old (N.made nic.new) self.new) }
-        ensures freed { IfOk result (λ done. FreesSome self.old self.new arena.old arena.new done.freed) }
-        ensures some { OnErr result ((packets : ℕ) × FreesSome self.old self.new arena.old arena.new packets) }
-        ensures out { AreOut arena.new (blocks_of self.new.outstanding) }
-        ensures accepted { self.new.accepted ≡ self.old.accepted }
-        ensures layout { self.new.layout ≡ record self.old.layout { next = self.new.layout.next } }
-        ensures late { IfErr result (λ fault. IsLate fault) }
-        ensures faults { (blocks : List ℕ) → IfErr result (λ fault.
-            FaultsBy fault blocks (N.made nic.old) self.old (N.made nic.new)) }
-        ensures began { BeganAs N.began nic.old nic.new }
-        ensures refuses { N.refuses nic.new ≡ N.refuses nic.old }
-        ensures refusal { IfErr result (λ f. CanFail (N.refuses nic.new) f) }
-    {
         let mut freed = 0;
         for _reaped in 0..self.count() {
             match self.reap_oldest(alloc, nic, arena) {
@@ -101,32 +75,14 @@ impl TransmitRing {
     ) -> Result<Option<bool>, PmdFault>
         requires some { 0 < length self.old.outstanding }
         requires settled { self.old.posted ≡ length self.old.outstanding }
-        requires home { AreOut arena.old (blocks_of self.old.outstanding) }
-        ensures plays { (blocks : List ℕ) → PlaysWith blocks (N.made nic.old) self.old (N.made nic.new) self.new }
+        requires out { AreOut arena.old (blocks_of self.old.outstanding) }
+        ensures asks { Asks N.began N.refuses (fault_in result) nic.old nic.new }
+        ensures reaped { HasReaped (fault_in result) (N.made nic.old) self.old arena.old (N.made nic.new) self.new
+            arena.new (parts_reaped result) (packets_reaped result) }
         ensures waits { result ≡ Ok None → LooksLast (N.made nic.old) self.old (N.made nic.new) self.new }
-        ensures freed { IfOk result (λ reaped. IfSome reaped (λ end.
-            Frees self.old self.new arena.old arena.new 1 (if end then 1 else 0))) }
-        ensures posted { IfOk result (λ reaped. IfSome reaped (λ end. self.new.posted + 1 ≡ self.old.posted)) }
-        ensures none { OnErr result (Frees self.old self.new arena.old arena.new 0 0) }
-        ensures still { IfOk result (λ reaped. IfNone reaped (Frees self.old self.new arena.old arena.new 0 0)) }
-        ensures out { AreOut arena.new (blocks_of self.new.outstanding) }
-        ensures accepted { self.new.accepted ≡ self.old.accepted }
-        ensures layout { self.new.layout ≡ record self.old.layout { next = self.new.layout.next } }
-        ensures late { IfErr result (λ fault. IsLate fault) }
-        ensures faults { (blocks : List ℕ) → IfErr result (λ fault.
-            FaultsBy fault blocks (N.made nic.old) self.old (N.made nic.new)) }
-        ensures began { BeganAs N.began nic.old nic.new }
-        ensures refuses { N.refuses nic.new ≡ N.refuses nic.old }
-        ensures refusal { IfErr result (λ f. CanFail (N.refuses nic.new) f) }
     {
         match self.see_oldest(alloc, nic) {
-            Ok(true) => {
-                let end = self.oldest_ends();
-                match self.free_oldest(alloc, nic, arena) {
-                    Ok(()) => Ok(Some(end)),
-                    Err(fault) => Err(fault),
-                }
-            }
+            Ok(true) => self.free_oldest(alloc, nic, arena),
             Ok(false) => Ok(None),
             Err(fault) => Err(fault),
         }
@@ -136,16 +92,11 @@ impl TransmitRing {
     fn see_oldest<N: Nic>(&mut self, alloc: Global, nic: &mut N) -> Result<bool, PmdFault>
         requires some { 0 < length self.old.outstanding }
         requires settled { self.old.posted ≡ length self.old.outstanding }
-        ensures plays { (blocks : List ℕ) → PlaysWith blocks (N.made nic.old) self.old (N.made nic.new) self.new }
+        ensures asks { Asks N.began N.refuses (fault_in result) nic.old nic.new }
+        ensures continues { Continues (fault_in result) (N.made nic.old) self.old (N.made nic.new) self.new }
         ensures done { result ≡ Ok true → 0 < self.new.done }
         ensures waits { result ≡ Ok false → LooksLast (N.made nic.old) self.old (N.made nic.new) self.new }
         ensures kept { self.new ≡ record self.old { done = self.new.done } }
-        ensures late { IfErr result (λ fault. IsLate fault) }
-        ensures faults { (blocks : List ℕ) → IfErr result (λ fault.
-            FaultsBy fault blocks (N.made nic.old) self.old (N.made nic.new)) }
-        ensures began { BeganAs N.began nic.old nic.new }
-        ensures refuses { N.refuses nic.new ≡ N.refuses nic.old }
-        ensures refusal { IfErr result (λ f. CanFail (N.refuses nic.new) f) }
     {
         if self.has_done() {
             return Ok(true);
@@ -153,33 +104,28 @@ impl TransmitRing {
         self.look(alloc, nic)
     }
 
-    /// Takes the block of the oldest segment, which was seen to be done, and frees it.
+    /// Takes the block of the oldest segment, which was seen to be done, and frees it. Answers whether the segment is
+    /// the last of its packet.
     fn free_oldest<N: Nic>(
         &mut self,
         alloc: Global,
         nic: &mut N,
         arena: &mut Arena,
-    ) -> Result<(), PmdFault>
+    ) -> Result<Option<bool>, PmdFault>
         requires done { 0 < self.old.done }
-        requires home { AreOut arena.old (blocks_of self.old.outstanding) }
-        ensures plays { (blocks : List ℕ) → PlaysWith blocks (N.made nic.old) self.old (N.made nic.new) self.new }
-        ensures reaped { OnOk result (self.new ≡ reaped self.old) }
-        ensures kept { OnErr result (self.new ≡ self.old) }
-        ensures freed { OnOk result (Frees self.old self.new arena.old arena.new 1
-            (if (segment_at self.old 0).part.last then 1 else 0)) }
-        ensures same { OnErr result (arena.new ≡ arena.old) }
-        ensures out { AreOut arena.new (blocks_of self.new.outstanding) }
-        ensures late { IfErr result (λ fault. IsLate fault) }
-        ensures faults { (blocks : List ℕ) → IfErr result (λ fault.
-            FaultsBy fault blocks (N.made nic.old) self.old (N.made nic.new)) }
-        ensures began { BeganAs N.began nic.old nic.new }
-        ensures refuses { N.refuses nic.new ≡ N.refuses nic.old }
-        ensures refusal { IfErr result (λ f. CanFail (N.refuses nic.new) f) }
+        requires some { 0 < length self.old.outstanding }
+        requires settled { self.old.posted ≡ length self.old.outstanding }
+        requires out { AreOut arena.old (blocks_of self.old.outstanding) }
+        ensures asks { Asks N.began N.refuses (fault_in result) nic.old nic.new }
+        ensures reaped { HasReaped (fault_in result) (N.made nic.old) self.old arena.old (N.made nic.new) self.new
+            arena.new (parts_reaped result) (packets_reaped result) }
+        ensures some { result ≢ Ok None }
     {
+        let end = self.oldest_ends();
         match self.take_oldest(alloc, nic) {
             Ok(buf) => {
                 arena.give_back(buf);
-                Ok(())
+                Ok(Some(end))
             }
             Err(fault) => Err(fault),
         }

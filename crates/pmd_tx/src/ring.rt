@@ -1,24 +1,25 @@
 //! The transmit ring of the driver: one step for each of its moves.
 
-ghost use Rattle.std.specs.Prelude.{[], ◌≡◌, ◌==◌, ◌≢◌, ◌↔◌, ◌<◌, ◌≤◌, ◌+◌, ◌-◌, ◌++◌, ℕ, None, All, length, take, drop, slice_index_or, true, false, Ok, IfOk, IfErr, OnOk, OnErr, OnSome, IfSome, IsNone, vec_len, if◌then◌else◌, List, not, nat_lt};
-ghost use Rattle.pmd_access.specs.Accesses.{IsLent, IsWritten};
+ghost use Rattle.std.specs.Prelude.{[], ◌≡◌, ◌==◌, ◌↔◌, ◌<◌, ◌≤◌, ◌+◌, ◌-◌, ◌++◌, ℕ, None, All, length, take, drop, true, false, Ok, IfOk, IfErr, OnOk, OnErr, OnSome, IfSome, vec_len, if◌then◌else◌, List, not, nat_lt};
+ghost use Rattle.pmd_access.specs.Accesses.{IsWritten};
 ghost use Rattle.pmd_access.specs.Begun.{BeganAs};
 ghost use Rattle.pmd_access.specs.Bufs.{numbers_of};
 ghost use Rattle.pmd_access.specs.Made.{AddsSome};
+ghost use Rattle.pmd_tx.specs.Acts.{Acts, Asks, Continues, fault_in, refused_in};
 ghost use Rattle.pmd_tx.specs.Counted.{packets_in};
-ghost use Rattle.pmd_tx.specs.Plays.{PlaysWith, LooksLast, FaultsBy};
+ghost use Rattle.pmd_tx.specs.Plays.{LooksLast};
 ghost use Rattle.pmd_tx.specs.Leaving.{lent_of, waiting_of};
 ghost use Rattle.pmd_tx.specs.Pieces.{first_last, places_of};
-ghost use Rattle.pmd_tx.specs.Sending.{at_start, blocks_of, no_segment, segment_at, slot_at, descriptor_at, first_end, keeps, asking, asked, is_sent, looked, lent_more, advanced, reaped, accepted_by, parts_for};
+ghost use Rattle.pmd_tx.specs.Sending.{at_start, segment_at, slot_at, descriptor_at, first_end, keeps, asking, asked, is_sent, looked, lent_more, advanced, reaped, accepted_by, parts_for};
 ghost use Rattle.std.specs.List.{list_any};
 ghost use Rattle.pmd_access.specs.NicDevice.DmaRing.Ring.{next_of};
 ghost use Rattle.pmd_access.specs.Packet.{Kept};
 ghost use Rattle.pmd_access.specs.Slots.{blocks_for, ring_blocks};
 ghost use Rattle.std.specs.Vec.{vec_capacity};
 ghost use Rattle.std.specs.VecDeque.{deque_len, deque_capacity};
-ghost use Rattle.pmd_tx.specs.Sends.{IsLate, IsBack};
+ghost use Rattle.pmd_tx.specs.Sends.{IsBack};
 ghost use Rattle.pmd_tx.specs.Shown.{MayStart, sent_as, IsUnlent, LendsFirst, newest_part, newest_parts};
-ghost use Rattle.pmd_access.specs.Refusals.{CanFail, CanRefuse};
+ghost use Rattle.pmd_access.specs.Refusals.{CanRefuse};
 
 use crate::padding::{put_back, repacked, split};
 use crate::piece::{Piece, add_pieces, count_ends, first_last, parts_for};
@@ -304,17 +305,13 @@ impl TransmitRing {
         packet: Packet,
     ) -> Result<Bufs, (PmdFault, Packet)>
         requires { MayStart self.old packet }
-        ensures plays { PlaysWith (sent_as packet).blocks (N.made nic.old) self.old (N.made nic.new) self.new }
+        ensures asks { Asks N.began N.refuses (refused_in result) nic.old nic.new }
+        ensures acts { Acts (sent_as packet).blocks (refused_in result) (N.made nic.old) self.old (N.made nic.new)
+            self.new }
         ensures accepted { OnOk result (self.new ≡ accepted_by self.old (sent_as packet)) }
         ensures rest { IfOk result (λ rest. rest ≡ drop (parts_for packet.len) packet.bufs) }
         ensures kept { OnErr result (self.new ≡ self.old) }
         ensures back { IfErr result (λ refused. IsBack refused.0 packet refused.1) }
-        ensures late { IfErr result (λ refused. IsLate refused.0) }
-        ensures faults { IfErr result (λ refused.
-            FaultsBy refused.0 (sent_as packet).blocks (N.made nic.old) self.old (N.made nic.new)) }
-        ensures began { BeganAs N.began nic.old nic.new }
-        ensures refuses { N.refuses nic.new ≡ N.refuses nic.old }
-        ensures refusal { IfErr result (λ refused. CanFail (N.refuses nic.new) refused.0) }
     {
         self.lend_first(alloc, nic, packet)
     }
@@ -328,15 +325,13 @@ impl TransmitRing {
         packet: Packet,
     ) -> Result<Bufs, (PmdFault, Packet)>
         requires { MayStart self.old packet }
+        ensures asks { Asks N.began N.refuses (refused_in result) nic.old nic.new }
         ensures made { OnOk result (LendsFirst (N.made nic.old) (N.made nic.new) packet.bufs None) }
         ensures accepted { OnOk result (self.new ≡ accepted_by self.old (sent_as packet)) }
         ensures rest { IfOk result (λ rest. rest ≡ drop (parts_for packet.len) packet.bufs) }
         ensures kept { OnErr result (self.new ≡ self.old) }
         ensures failed { IfErr result (λ refused.
             IsUnlent refused.0 (N.made nic.old) (N.made nic.new) packet refused.1) }
-        ensures began { BeganAs N.began nic.old nic.new }
-        ensures refuses { N.refuses nic.new ≡ N.refuses nic.old }
-        ensures refusal { IfErr result (λ refused. CanFail (N.refuses nic.new) refused.0) }
     {
         let no_memory = PmdFault::Call(CallFault::OutOfMemory(()));
         let parts = parts_for(packet.len);
@@ -386,15 +381,10 @@ impl TransmitRing {
     /// `DeviceFault` where one of its number is lent already.
     pub(crate) fn lend_next<N: Nic>(&mut self, alloc: Global, nic: &mut N) -> Result<(), PmdFault>
         requires { self.old.lent < length self.old.outstanding }
-        ensures plays { (blocks : List ℕ) → PlaysWith blocks (N.made nic.old) self.old (N.made nic.new) self.new }
+        ensures asks { Asks N.began N.refuses (fault_in result) nic.old nic.new }
+        ensures continues { Continues (fault_in result) (N.made nic.old) self.old (N.made nic.new) self.new }
         ensures lent { OnOk result (self.new ≡ lent_more self.old) }
         ensures kept { OnErr result (self.new ≡ self.old) }
-        ensures late { IfErr result (λ fault. IsLate fault) }
-        ensures faults { (blocks : List ℕ) → IfErr result (λ fault.
-            FaultsBy fault blocks (N.made nic.old) self.old (N.made nic.new)) }
-        ensures began { BeganAs N.began nic.old nic.new }
-        ensures refuses { N.refuses nic.new ≡ N.refuses nic.old }
-        ensures refusal { IfErr result (λ f. CanFail (N.refuses nic.new) f) }
     {
         let _few = self.waiting.count();
         let buf = match self.waiting.take_first() {
@@ -427,15 +417,10 @@ impl TransmitRing {
     /// `DeviceFault` where the ring isn't lent any more.
     pub(crate) fn ask<N: Nic>(&mut self, alloc: Global, nic: &mut N) -> Result<(), PmdFault>
         requires { self.old.poked < self.old.lent }
-        ensures plays { (blocks : List ℕ) → PlaysWith blocks (N.made nic.old) self.old (N.made nic.new) self.new }
+        ensures asks { Asks N.began N.refuses (fault_in result) nic.old nic.new }
+        ensures continues { Continues (fault_in result) (N.made nic.old) self.old (N.made nic.new) self.new }
         ensures asked { OnOk result (self.new ≡ asked self.old) }
         ensures kept { OnErr result (self.new ≡ self.old) }
-        ensures late { IfErr result (λ fault. IsLate fault) }
-        ensures faults { (blocks : List ℕ) → IfErr result (λ fault.
-            FaultsBy fault blocks (N.made nic.old) self.old (N.made nic.new)) }
-        ensures began { BeganAs N.began nic.old nic.new }
-        ensures refuses { N.refuses nic.new ≡ N.refuses nic.old }
-        ensures refusal { IfErr result (λ f. CanFail (N.refuses nic.new) f) }
     {
         let address = self.next_descriptor();
         let bytes = self.asking();
@@ -489,15 +474,10 @@ impl TransmitRing {
     pub(crate) fn advance<N: Nic>(&mut self, alloc: Global, nic: &mut N) -> Result<(), PmdFault>
         requires all { self.old.poked ≡ length self.old.outstanding }
         requires some { self.old.posted < self.old.poked }
-        ensures plays { (blocks : List ℕ) → PlaysWith blocks (N.made nic.old) self.old (N.made nic.new) self.new }
+        ensures asks { Asks N.began N.refuses (fault_in result) nic.old nic.new }
+        ensures continues { Continues (fault_in result) (N.made nic.old) self.old (N.made nic.new) self.new }
         ensures advanced { OnOk result (self.new ≡ advanced self.old) }
         ensures kept { OnErr result (self.new ≡ self.old) }
-        ensures late { IfErr result (λ fault. IsLate fault) }
-        ensures faults { (blocks : List ℕ) → IfErr result (λ fault.
-            FaultsBy fault blocks (N.made nic.old) self.old (N.made nic.new)) }
-        ensures began { BeganAs N.began nic.old nic.new }
-        ensures refuses { N.refuses nic.new ≡ N.refuses nic.old }
-        ensures refusal { IfErr result (λ f. CanFail (N.refuses nic.new) f) }
     {
         let word = self.next_tail();
         match self.write_tail(alloc, nic, word) {
@@ -550,17 +530,12 @@ impl TransmitRing {
     pub(crate) fn look<N: Nic>(&mut self, alloc: Global, nic: &mut N) -> Result<bool, PmdFault>
         requires some { 0 < length self.old.outstanding }
         requires settled { self.old.posted ≡ length self.old.outstanding }
-        ensures plays { (blocks : List ℕ) → PlaysWith blocks (N.made nic.old) self.old (N.made nic.new) self.new }
+        ensures asks { Asks N.began N.refuses (fault_in result) nic.old nic.new }
+        ensures continues { Continues (fault_in result) (N.made nic.old) self.old (N.made nic.new) self.new }
         ensures seen { IfOk result (λ sent.
             self.new ≡ record self.old { done = if sent then first_end self.old.outstanding + 1 else 0 }) }
         ensures waits { result ≡ Ok false → LooksLast (N.made nic.old) self.old (N.made nic.new) self.new }
         ensures kept { OnErr result (self.new ≡ self.old) }
-        ensures late { IfErr result (λ fault. IsLate fault) }
-        ensures faults { (blocks : List ℕ) → IfErr result (λ fault.
-            FaultsBy fault blocks (N.made nic.old) self.old (N.made nic.new)) }
-        ensures began { BeganAs N.began nic.old nic.new }
-        ensures refuses { N.refuses nic.new ≡ N.refuses nic.old }
-        ensures refusal { IfErr result (λ f. CanFail (N.refuses nic.new) f) }
     {
         let end = self.oldest_end();
         let address = self.descriptor(end);
@@ -605,17 +580,13 @@ impl TransmitRing {
         nic: &mut N,
     ) -> Result<Buf, PmdFault>
         requires { 0 < self.old.done }
-        ensures plays { (blocks : List ℕ) → PlaysWith blocks (N.made nic.old) self.old (N.made nic.new) self.new }
+        ensures asks { Asks N.began N.refuses (fault_in result) nic.old nic.new }
+        ensures acts { (blocks : List ℕ)
+            → Acts blocks (fault_in result) (N.made nic.old) self.old (N.made nic.new) self.new }
         ensures reaped { OnOk result (self.new ≡ reaped self.old) }
         ensures block { IfOk result (λ buf. buf.number ≡ (segment_at self.old 0).block) }
         ensures some { 0 < length self.old.outstanding }
         ensures kept { OnErr result (self.new ≡ self.old) }
-        ensures late { IfErr result (λ fault. IsLate fault) }
-        ensures faults { (blocks : List ℕ) → IfErr result (λ fault.
-            FaultsBy fault blocks (N.made nic.old) self.old (N.made nic.new)) }
-        ensures began { BeganAs N.began nic.old nic.new }
-        ensures refuses { N.refuses nic.new ≡ N.refuses nic.old }
-        ensures refusal { IfErr result (λ f. CanFail (N.refuses nic.new) f) }
     {
         let block = self.oldest_block();
         match take(alloc, nic, block) {

@@ -9,6 +9,7 @@ ghost use Rattle.pmd_access.specs.Begun.{BeganAs};
 ghost use Rattle.pmd_access.specs.Bufs.{numbers_of};
 ghost use Rattle.pmd_access.specs.Home.{AreOut};
 ghost use Rattle.pmd_access.specs.Refusals.{CanFail};
+ghost use Rattle.pmd_tx.specs.Acts.{Acts, Asks, Continues, Queues, failed_in, fault_in, refused_in};
 ghost use Rattle.pmd_tx.specs.Plays.{PlaysWith, FaultsBy};
 ghost use Rattle.pmd_tx.specs.Sending.{accepted_by, keeps, parts_for};
 ghost use Rattle.pmd_tx.specs.Sends.{are_out, gate_of, goes_home, outgoing_of, returned, IsAnswer, IsFullWhereReported, IsShut, IsTried, IsAccepted, IsNoneAccepted, IsBack, IsLate, SendsHome};
@@ -191,21 +192,9 @@ impl TransmitRing {
         packet: Packet,
     ) -> Result<TxAnswer, TxFault>
         requires may { MaySend self.old packet }
-        requires home { AreOut arena.old (numbers_of packet.bufs) }
-        ensures plays { PlaysWith (outgoing_of packet).blocks (N.made nic.old) self.old (N.made nic.new) self.new }
-        ensures tried { IsTried result }
-        ensures accepted { IfNone (returned result) (IsAccepted self.old packet self.new) }
-        ensures kept { IfSome (returned result) (λ back. IsNoneAccepted self.old self.new) }
-        ensures home { SendsHome (returned result) packet arena.old arena.new }
-        ensures back { IfErr result (λ failed. IfSome failed.packet (λ back. IsBack failed.fault packet back)) }
-        ensures asked { result ≡ Ok TxAnswer.Taken → self.new.poked ≡ length self.new.outstanding }
-        ensures tail { self.new.posted ≡ self.old.posted }
-        ensures faults { IfErr result (λ failed.
-            FaultsBy failed.fault (outgoing_of packet).blocks (N.made nic.old) self.old (N.made nic.new)) }
-        ensures layout { self.new.layout ≡ self.old.layout }
-        ensures began { BeganAs N.began nic.old nic.new }
-        ensures refuses { N.refuses nic.new ≡ N.refuses nic.old }
-        ensures refusal { IfErr result (λ failed. CanFail (N.refuses nic.new) failed.fault) }
+        requires out { AreOut arena.old (numbers_of packet.bufs) }
+        ensures asks { Asks N.began N.refuses (failed_in result) nic.old nic.new }
+        ensures queued { Queues result packet (N.made nic.old) self.old arena.old (N.made nic.new) self.new arena.new }
     {
         match self.ask_waiting(alloc, nic) {
             Ok(()) => self.accept_and_ask(alloc, nic, arena, packet),
@@ -227,26 +216,20 @@ impl TransmitRing {
         requires may { MaySend self.old packet }
         requires lent { self.old.lent ≡ length self.old.outstanding }
         requires asked { self.old.poked ≡ length self.old.outstanding }
-        requires home { AreOut arena.old (numbers_of packet.bufs) }
-        ensures plays { PlaysWith (outgoing_of packet).blocks (N.made nic.old) self.old (N.made nic.new) self.new }
-        ensures tried { IsTried result }
-        ensures accepted { IfNone (returned result) (IsAccepted self.old packet self.new) }
-        ensures kept { IfSome (returned result) (λ back. IsNoneAccepted self.old self.new) }
-        ensures home { SendsHome (returned result) packet arena.old arena.new }
-        ensures back { IfErr result (λ failed. IfSome failed.packet (λ back. IsBack failed.fault packet back)) }
-        ensures asked { result ≡ Ok TxAnswer.Taken → self.new.poked ≡ length self.new.outstanding }
-        ensures tail { self.new.posted ≡ self.old.posted }
-        ensures faults { IfErr result (λ failed.
-            FaultsBy failed.fault (outgoing_of packet).blocks (N.made nic.old) self.old (N.made nic.new)) }
-        ensures layout { self.new.layout ≡ self.old.layout }
-        ensures began { BeganAs N.began nic.old nic.new }
-        ensures refuses { N.refuses nic.new ≡ N.refuses nic.old }
-        ensures refusal { IfErr result (λ failed. CanFail (N.refuses nic.new) failed.fault) }
+        requires out { AreOut arena.old (numbers_of packet.bufs) }
+        ensures asks { Asks N.began N.refuses (failed_in result) nic.old nic.new }
+        ensures queued { Queues result packet (N.made nic.old) self.old arena.old (N.made nic.new) self.new arena.new }
     {
         match self.accept_padded(alloc, nic, packet) {
             Ok(rest) => {
                 give_bufs(arena, rest);
-                self.ask_accepted(alloc, nic)
+                match self.ask_waiting(alloc, nic) {
+                    Ok(()) => Ok(TxAnswer::Taken),
+                    Err(fault) => Err(TxFault {
+                        fault,
+                        packet: None,
+                    }),
+                }
             }
             Err((fault, packet)) => Err(TxFault {
                 fault,
@@ -255,45 +238,13 @@ impl TransmitRing {
         }
     }
 
-    /// Lends and describes what is left of the packet that was just accepted.
-    fn ask_accepted<N: Nic>(&mut self, alloc: Global, nic: &mut N) -> Result<TxAnswer, TxFault>
-        ensures plays { (blocks : List ℕ) → PlaysWith blocks (N.made nic.old) self.old (N.made nic.new) self.new }
-        ensures tried { IsTried result }
-        ensures kept { IsNoneAccepted self.old self.new }
-        ensures none { returned result ≡ None }
-        ensures taken { IfErr result (λ failed. failed.packet ≡ None) }
-        ensures asked { result ≡ Ok TxAnswer.Taken → self.new.poked ≡ length self.new.outstanding }
-        ensures tail { self.new.posted ≡ self.old.posted }
-        ensures faults { (blocks : List ℕ) → IfErr result (λ failed.
-            FaultsBy failed.fault blocks (N.made nic.old) self.old (N.made nic.new)) }
-        ensures layout { self.new.layout ≡ self.old.layout }
-        ensures began { BeganAs N.began nic.old nic.new }
-        ensures refuses { N.refuses nic.new ≡ N.refuses nic.old }
-        ensures refusal { IfErr result (λ failed. CanFail (N.refuses nic.new) failed.fault) }
-    {
-        match self.ask_waiting(alloc, nic) {
-            Ok(()) => Ok(TxAnswer::Taken),
-            Err(fault) => Err(TxFault {
-                fault,
-                packet: None,
-            }),
-        }
-    }
-
     /// Moves the tail on over the packet that was just accepted.
     fn post_accepted<N: Nic>(&mut self, alloc: Global, nic: &mut N) -> Result<TxAnswer, TxFault>
-        ensures plays { (blocks : List ℕ) → PlaysWith blocks (N.made nic.old) self.old (N.made nic.new) self.new }
+        ensures asks { Asks N.began N.refuses (failed_in result) nic.old nic.new }
+        ensures continues { Continues (failed_in result) (N.made nic.old) self.old (N.made nic.new) self.new }
         ensures tried { IsTried result }
-        ensures kept { IsNoneAccepted self.old self.new }
         ensures none { returned result ≡ None }
-        ensures taken { IfErr result (λ failed. failed.packet ≡ None) }
         ensures settled { result ≡ Ok TxAnswer.Taken → self.new.posted ≡ length self.new.outstanding }
-        ensures faults { (blocks : List ℕ) → IfErr result (λ failed.
-            FaultsBy failed.fault blocks (N.made nic.old) self.old (N.made nic.new)) }
-        ensures layout { self.new.layout ≡ self.old.layout }
-        ensures began { BeganAs N.began nic.old nic.new }
-        ensures refuses { N.refuses nic.new ≡ N.refuses nic.old }
-        ensures refusal { IfErr result (λ failed. CanFail (N.refuses nic.new) failed.fault) }
     {
         match self.flush(alloc, nic) {
             Ok(()) => Ok(TxAnswer::Taken),
@@ -315,17 +266,13 @@ impl TransmitRing {
         requires may { MaySend self.old packet }
         requires lent { self.old.lent ≡ length self.old.outstanding }
         requires asked { self.old.poked ≡ length self.old.outstanding }
-        ensures plays { PlaysWith (outgoing_of packet).blocks (N.made nic.old) self.old (N.made nic.new) self.new }
+        ensures asks { Asks N.began N.refuses (refused_in result) nic.old nic.new }
+        ensures acts { Acts (outgoing_of packet).blocks (refused_in result) (N.made nic.old) self.old
+            (N.made nic.new) self.new }
         ensures accepted { OnOk result (self.new ≡ accepted_by self.old (outgoing_of packet)) }
         ensures rest { IfOk result (λ rest. numbers_of rest ≡ drop (parts_for packet.len) (numbers_of packet.bufs)) }
         ensures kept { OnErr result (self.new ≡ self.old) }
         ensures back { IfErr result (λ refused. IsBack refused.0 packet refused.1) }
-        ensures late { IfErr result (λ refused. IsLate refused.0) }
-        ensures faults { IfErr result (λ refused.
-            FaultsBy refused.0 (outgoing_of packet).blocks (N.made nic.old) self.old (N.made nic.new)) }
-        ensures began { BeganAs N.began nic.old nic.new }
-        ensures refuses { N.refuses nic.new ≡ N.refuses nic.old }
-        ensures refusal { IfErr result (λ refused. CanFail (N.refuses nic.new) refused.0) }
     {
         let _least = self.limit();
         let start = start_of(&packet);
@@ -368,20 +315,13 @@ impl TransmitRing {
     /// Lends the blocks and writes the descriptors that are left of the packet that waits, where one does. It leaves
     /// the tail.
     fn ask_waiting<N: Nic>(&mut self, alloc: Global, nic: &mut N) -> Result<(), PmdFault>
-        ensures plays { (blocks : List ℕ) → PlaysWith blocks (N.made nic.old) self.old (N.made nic.new) self.new }
+        ensures asks { Asks N.began N.refuses (fault_in result) nic.old nic.new }
+        ensures continues { Continues (fault_in result) (N.made nic.old) self.old (N.made nic.new) self.new }
         ensures lent { OnOk result (self.new.lent ≡ length self.new.outstanding) }
         ensures asked { OnOk result (self.new.poked ≡ length self.new.outstanding) }
         ensures tail { self.new.posted ≡ self.old.posted }
         ensures still { self.old.posted ≡ length self.old.outstanding
             → (N.made nic.new ≡ N.made nic.old) × (self.new ≡ self.old) × (result ≡ Ok tt) }
-        ensures kept { IsNoneAccepted self.old self.new }
-        ensures layout { self.new.layout ≡ self.old.layout }
-        ensures late { IfErr result (λ fault. IsLate fault) }
-        ensures faults { (blocks : List ℕ) → IfErr result (λ fault.
-            FaultsBy fault blocks (N.made nic.old) self.old (N.made nic.new)) }
-        ensures began { BeganAs N.began nic.old nic.new }
-        ensures refuses { N.refuses nic.new ≡ N.refuses nic.old }
-        ensures refusal { IfErr result (λ f. CanFail (N.refuses nic.new) f) }
     {
         for _asked in self.asked()..self.count() {
             match self.ask_next(alloc, nic) {
@@ -396,17 +336,10 @@ impl TransmitRing {
     /// Lends the block of the next segment, where it isn't lent yet, and writes the segment's descriptor.
     fn ask_next<N: Nic>(&mut self, alloc: Global, nic: &mut N) -> Result<(), PmdFault>
         requires { self.old.poked < length self.old.outstanding }
-        ensures plays { (blocks : List ℕ) → PlaysWith blocks (N.made nic.old) self.old (N.made nic.new) self.new }
+        ensures asks { Asks N.began N.refuses (fault_in result) nic.old nic.new }
+        ensures continues { Continues (fault_in result) (N.made nic.old) self.old (N.made nic.new) self.new }
         ensures asked { OnOk result (self.new.poked ≡ self.old.poked + 1) }
         ensures tail { self.new.posted ≡ self.old.posted }
-        ensures kept { IsNoneAccepted self.old self.new }
-        ensures layout { self.new.layout ≡ self.old.layout }
-        ensures late { IfErr result (λ fault. IsLate fault) }
-        ensures faults { (blocks : List ℕ) → IfErr result (λ fault.
-            FaultsBy fault blocks (N.made nic.old) self.old (N.made nic.new)) }
-        ensures began { BeganAs N.began nic.old nic.new }
-        ensures refuses { N.refuses nic.new ≡ N.refuses nic.old }
-        ensures refusal { IfErr result (λ f. CanFail (N.refuses nic.new) f) }
     {
         match self.lend_waiting(alloc, nic) {
             Ok(()) => self.ask(alloc, nic),
@@ -417,18 +350,11 @@ impl TransmitRing {
     /// Lends the block of the next segment, where it isn't lent yet.
     fn lend_waiting<N: Nic>(&mut self, alloc: Global, nic: &mut N) -> Result<(), PmdFault>
         requires { self.old.poked < length self.old.outstanding }
-        ensures plays { (blocks : List ℕ) → PlaysWith blocks (N.made nic.old) self.old (N.made nic.new) self.new }
+        ensures asks { Asks N.began N.refuses (fault_in result) nic.old nic.new }
+        ensures continues { Continues (fault_in result) (N.made nic.old) self.old (N.made nic.new) self.new }
         ensures lent { OnOk result (self.new.poked < self.new.lent) }
         ensures poked { self.new.poked ≡ self.old.poked }
         ensures tail { self.new.posted ≡ self.old.posted }
-        ensures kept { IsNoneAccepted self.old self.new }
-        ensures layout { self.new.layout ≡ self.old.layout }
-        ensures late { IfErr result (λ fault. IsLate fault) }
-        ensures faults { (blocks : List ℕ) → IfErr result (λ fault.
-            FaultsBy fault blocks (N.made nic.old) self.old (N.made nic.new)) }
-        ensures began { BeganAs N.began nic.old nic.new }
-        ensures refuses { N.refuses nic.new ≡ N.refuses nic.old }
-        ensures refusal { IfErr result (λ f. CanFail (N.refuses nic.new) f) }
     {
         if self.is_next_lent() {
             return Ok(());
@@ -439,19 +365,12 @@ impl TransmitRing {
     /// Moves the tail on, where it hasn't passed all segments.
     fn post<N: Nic>(&mut self, alloc: Global, nic: &mut N) -> Result<(), PmdFault>
         requires { self.old.poked ≡ length self.old.outstanding }
-        ensures plays { (blocks : List ℕ) → PlaysWith blocks (N.made nic.old) self.old (N.made nic.new) self.new }
+        ensures asks { Asks N.began N.refuses (fault_in result) nic.old nic.new }
+        ensures continues { Continues (fault_in result) (N.made nic.old) self.old (N.made nic.new) self.new }
         ensures lent { OnOk result (self.new.lent ≡ length self.new.outstanding) }
         ensures settled { OnOk result (self.new.posted ≡ length self.new.outstanding) }
         ensures still { self.old.posted ≡ length self.old.outstanding
             → (N.made nic.new ≡ N.made nic.old) × (self.new ≡ self.old) × (result ≡ Ok tt) }
-        ensures kept { IsNoneAccepted self.old self.new }
-        ensures layout { self.new.layout ≡ self.old.layout }
-        ensures late { IfErr result (λ fault. IsLate fault) }
-        ensures faults { (blocks : List ℕ) → IfErr result (λ fault.
-            FaultsBy fault blocks (N.made nic.old) self.old (N.made nic.new)) }
-        ensures began { BeganAs N.began nic.old nic.new }
-        ensures refuses { N.refuses nic.new ≡ N.refuses nic.old }
-        ensures refusal { IfErr result (λ f. CanFail (N.refuses nic.new) f) }
     {
         if self.is_settled() {
             return Ok(());

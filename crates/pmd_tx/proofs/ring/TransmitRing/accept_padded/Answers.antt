@@ -1,10 +1,9 @@
-use Rattle.std.proofs.Common.{◌∙◌, ℕ, List, drop, ap, subst}
+use Rattle.std.proofs.Common.{◌∙◌, ℕ, List, drop, ap}
 use Rattle.pmd_access.specs.Bufs.{numbers_of}
 use Rattle.pmd_access.specs.declared.packet.Packet.{Packet}
 use Rattle.pmd_tx.specs.Padding.{padded_packet}
-use Rattle.pmd_tx.specs.Plays.{FaultsBy, PlaysWith}
 use Rattle.pmd_tx.specs.Sending.{Outgoing, accepted_by, parts_for}
-use Rattle.pmd_tx.proofs.Padded.{back_undone, numbers-drop, numbers_padded, padded_may, parts_padded, sent_padded}
+use Rattle.pmd_tx.proofs.Padded.{back_undone, numbers-drop, numbers_padded, padded_acts, padded_may, parts_padded, sent_padded}
 use Rattle.pmd_tx.proofs.ring.TransmitRing.accept_padded.Goals as goal
 
 pub accept-requires : goal.accept-requires
@@ -27,26 +26,15 @@ returns-in-Err-clause-back g c =
     back_undone c.args.packet may.loose.whole may.some may.held c.in-Err.fault c.pad.result c.in-Err.packet
     c.unpad.result c.start_of-start.result c.pad.ensures c.start_of-start.ensures c.in-Err.ensures.back c.unpad.ensures
 
-pub returns-in-Ok-clause-plays : goal.returns-in-Ok-clause-plays
-returns-in-Ok-clause-plays g c =
+pub returns-in-Ok-clause-acts : goal.returns-in-Ok-clause-acts
+returns-in-Ok-clause-acts g c =
     let may = c.requires.may in
-    subst (λ (o : Outgoing). PlaysWith o.blocks (g.N.Nic.made c.args.nic.now) c.args.self.now
-    (g.N.Nic.made c.accept.new.nic) c.accept.new.self)
-    (sent_padded c.args.packet may.loose.whole may.some may.held) (rw c.pad.ensures at c.accept.ensures.plays)
+    padded_acts c.args.packet may.loose.whole may.some may.held c.pad.result c.pad.ensures c.in-Ok.ensures.acts
 
-pub returns-in-Err-clause-plays : goal.returns-in-Err-clause-plays
-returns-in-Err-clause-plays g c =
+pub returns-in-Err-clause-acts : goal.returns-in-Err-clause-acts
+returns-in-Err-clause-acts g c =
     let may = c.requires.may in
-    subst (λ (o : Outgoing). PlaysWith o.blocks (g.N.Nic.made c.args.nic.now) c.args.self.now
-    (g.N.Nic.made c.accept.new.nic) c.accept.new.self)
-    (sent_padded c.args.packet may.loose.whole may.some may.held) (rw c.pad.ensures at c.accept.ensures.plays)
-
-pub returns-in-Err-clause-faults : goal.returns-in-Err-clause-faults
-returns-in-Err-clause-faults g c =
-    let may = c.requires.may in
-    subst (λ (o : Outgoing). FaultsBy c.in-Err.fault o.blocks (g.N.Nic.made c.args.nic.now) c.args.self.now
-    (g.N.Nic.made c.accept.new.nic))
-    (sent_padded c.args.packet may.loose.whole may.some may.held) (rw c.pad.ensures at c.in-Err.ensures.faults)
+    padded_acts c.args.packet may.loose.whole may.some may.held c.pad.result c.pad.ensures c.in-Err.ensures.acts
 
 pub returns-in-Ok-clause-rest : goal.returns-in-Ok-clause-rest
 returns-in-Ok-clause-rest g c =

@@ -1,5 +1,5 @@
-use Rattle.pmd_tx.proofs.Playing.{plays_none}
+use Rattle.pmd_tx.proofs.Acting.{continues_none}
 use Rattle.pmd_tx.proofs.ring.TransmitRing.lend_waiting.Goals as goal
 
-pub returns-then-is_next_lent-clause-plays : goal.returns-then-is_next_lent-clause-plays
-returns-then-is_next_lent-clause-plays g c blocks = plays_none blocks (g.N.Nic.made c.args.nic.now) c.args.self.now
+pub returns-then-is_next_lent-clause-continues : goal.returns-then-is_next_lent-clause-continues
+returns-then-is_next_lent-clause-continues g c = continues_none

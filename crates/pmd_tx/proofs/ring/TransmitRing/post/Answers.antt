@@ -1,5 +1,5 @@
-use Rattle.pmd_tx.proofs.Playing.{plays_none}
+use Rattle.pmd_tx.proofs.Acting.{continues_none}
 use Rattle.pmd_tx.proofs.ring.TransmitRing.post.Goals as goal
 
-pub returns-then-is_settled-clause-plays : goal.returns-then-is_settled-clause-plays
-returns-then-is_settled-clause-plays g c blocks = plays_none blocks (g.N.Nic.made c.args.nic.now) c.args.self.now
+pub returns-then-is_settled-clause-continues : goal.returns-then-is_settled-clause-continues
+returns-then-is_settled-clause-continues g c = continues_none

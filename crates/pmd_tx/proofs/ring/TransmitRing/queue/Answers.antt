@@ -1,4 +1,3 @@
-use Rattle.std.proofs.Common.{refl}
 use Rattle.pmd_tx.specs.Sends.{outgoing_of}
 use Rattle.pmd_tx.proofs.Passing.{open_may, open_out}
 use Rattle.pmd_tx.proofs.Playing.{plays_none}
@@ -9,8 +8,8 @@ queue_through-requires-clause-may g c =
     open_may c.args.self.now c.args.arena.now c.args.elsewhere c.args.packet c.in-Open.ensures.reported
     c.gate.ensures.whole
 
-pub queue_through-requires-clause-home : goal.queue_through-requires-clause-home
-queue_through-requires-clause-home g c =
+pub queue_through-requires-clause-out : goal.queue_through-requires-clause-out
+queue_through-requires-clause-out g c =
     open_out c.args.self.now c.args.arena.now c.args.elsewhere c.args.packet c.in-Open.ensures.reported
 
 pub returns-in-Refused-clause-plays : goal.returns-in-Refused-clause-plays
@@ -20,15 +19,3 @@ returns-in-Refused-clause-plays g c =
 pub returns-in-Full-clause-plays : goal.returns-in-Full-clause-plays
 returns-in-Full-clause-plays g c =
     plays_none (outgoing_of c.args.packet).blocks (g.N.Nic.made c.args.nic.now) c.args.self.now
-
-pub returns-in-Refused-clause-answer : goal.returns-in-Refused-clause-answer
-returns-in-Refused-clause-answer g c = rw (← c.in-Refused.ensures.reported) refl
-
-pub returns-in-Full-clause-answer : goal.returns-in-Full-clause-answer
-returns-in-Full-clause-answer g c = rw (← c.in-Full.ensures.reported) refl
-
-pub returns-in-Open-clause-answer : goal.returns-in-Open-clause-answer
-returns-in-Open-clause-answer g c = rw (← c.in-Open.ensures.reported) c.queue_through.ensures.tried
-
-pub returns-in-Open-clause-shut : goal.returns-in-Open-clause-shut
-returns-in-Open-clause-shut g c = rw (← c.in-Open.ensures.reported) (λ shut. absurd shut)

@@ -1,59 +1,58 @@
-use Rattle.std.proofs.Common.{[], refl, ap, ◌∙◌}
-use Rattle.pmd_tx.specs.Sending.{Layout}
-use Rattle.pmd_tx.proofs.Freeing.{frees_none, freed_after, some_after}
-use Rattle.pmd_tx.proofs.Ending.{after_all, waits_after}
-use Rattle.pmd_tx.proofs.Playing.{plays_both}
+use Rattle.std.proofs.Common.{◌≡◌, ◌≤◌, Bool, true, false, inl, inr, [], if◌then◌else◌, refl, arith}
+use Rattle.std.proofs.lemmas.Bool.{cases_Bool}
+use Rattle.pmd_tx.proofs.Acting.{asks_then, continues_of, reaped_none, reaped_still, reaped_then}
+use Rattle.pmd_tx.proofs.Ending.{looks_after}
 use Rattle.pmd_tx.proofs.ring.TransmitRing.reap.Goals as goal
 
-pub reap_sent-requires-clause-home : goal.reap_sent-requires-clause-home
-reap_sent-requires-clause-home g c = rw c.flush.ensures.kept.outstanding c.requires
+at_most_one : (b : Bool) → (if b then 1 else 0) ≤ 1
+at_most_one true = omega arith
+at_most_one false = omega arith
 
-pub returns-in-Ok-clause-plays : goal.returns-in-Ok-clause-plays
-returns-in-Ok-clause-plays g c blocks =
-    plays_both blocks (g.N.Nic.made c.args.nic.now) (g.N.Nic.made c.flush.new.nic)
-    (g.N.Nic.made c.reap_sent.new.nic)
-    c.args.self.now c.flush.new.self c.reap_sent.new.self (c.flush.ensures.plays blocks)
-    (c.reap_sent.ensures.plays blocks)
+pub loop-reaped-init : goal.loop-reaped-init
+loop-reaped-init g c =
+    let first = c.flush.ensures in
+    record {
+      asks = record { began = first.began; refuses = first.refuses; refusal = tt };
+      reaped = reaped_none (continues_of first.plays tt (λ blocks. tt) first.kept first.layout)
+          c.in-Ok.ensures.settled c.requires;
+      few = omega arith;
+    }
 
-pub returns-in-Ok-clause-waits : goal.returns-in-Ok-clause-waits
-returns-in-Ok-clause-waits g c =
-    waits_after c.reap_sent.result (g.N.Nic.made c.args.nic.now) (g.N.Nic.made c.flush.new.nic)
-    (g.N.Nic.made c.reap_sent.new.nic) c.args.self.now c.flush.new.self c.reap_sent.new.self
-    (c.flush.ensures.plays []).plays c.flush.ensures.kept.accepted c.reap_sent.ensures.waits
+pub loop-reaped-preserved : goal.loop-reaped-preserved
+loop-reaped-preserved g c =
+    let from : c.from-freed.result ≡ (if c.in-Ok-Some.end then 1 else 0) = elim (cases_Bool c.in-Ok-Some.end) [
+      | inl is ↦ rw is (rw is at c.from-freed.ensures)
+      | inr is ↦ rw is (rw is at c.from-freed.ensures)
+    ] in
+    let few = c.loop-reaped.invariant.few in
+    record {
+      asks = asks_then c.loop-reaped.invariant.asks c.in-Ok-Some.ensures.asks;
+      reaped = rw from (reaped_then c.loop-reaped.invariant.reaped
+          (rw c.in-Ok-Some.field-0-is at c.in-Ok-Some.ensures.reaped));
+      few = rw from (omega (arith, few, at_most_one c.in-Ok-Some.end));
+    }
 
-pub returns-in-Ok-clause-freed : goal.returns-in-Ok-clause-freed
-returns-in-Ok-clause-freed g c =
-    freed_after c.reap_sent.result c.args.self.now c.flush.new.self c.reap_sent.new.self c.args.arena.now
-    c.reap_sent.new.arena c.flush.ensures.kept.outstanding c.reap_sent.ensures.freed
+pub returns-in-Ok-None-clause-plays : goal.returns-in-Ok-None-clause-plays
+returns-in-Ok-None-clause-plays g c blocks =
+    let last = rw c.in-Ok-None.field-0-is at c.in-Ok-None.ensures.reaped in
+    ((reaped_still c.loop-reaped.invariant.reaped last).acts blocks).plays
 
-pub returns-in-Ok-clause-some : goal.returns-in-Ok-clause-some
-returns-in-Ok-clause-some g c =
-    some_after c.reap_sent.result c.args.self.now c.flush.new.self c.reap_sent.new.self c.args.arena.now
-    c.reap_sent.new.arena c.flush.ensures.kept.outstanding c.reap_sent.ensures.some
+pub returns-in-Ok-None-clause-waits : goal.returns-in-Ok-None-clause-waits
+returns-in-Ok-None-clause-waits g c = λ is.
+    let before = c.loop-reaped.invariant.reaped in
+    looks_after (g.N.Nic.made c.args.nic.now) (g.N.Nic.made c.loop-reaped.nic) (g.N.Nic.made c.reap_oldest.new.nic)
+    c.args.self.now c.loop-reaped.self c.reap_oldest.new.self (before.acts []).plays.plays before.accepted
+    (c.in-Ok-None.ensures.waits (rw c.in-Ok-None.field-0-is refl))
 
-pub returns-in-Ok-clause-accepted : goal.returns-in-Ok-clause-accepted
-returns-in-Ok-clause-accepted g c = c.reap_sent.ensures.accepted ∙ c.flush.ensures.kept.accepted
+pub returns-in-Err-reap_oldest-clause-plays : goal.returns-in-Err-reap_oldest-clause-plays
+returns-in-Err-reap_oldest-clause-plays g c blocks =
+    let last = c.in-Err-reap_oldest.ensures.reaped in
+    ((reaped_still c.loop-reaped.invariant.reaped last).acts blocks).plays
 
-pub returns-in-Ok-clause-layout : goal.returns-in-Ok-clause-layout
-returns-in-Ok-clause-layout g c =
-    c.reap_sent.ensures.layout
-    ∙ ap (λ (l : Layout). record l { next = c.reap_sent.new.self.layout.next }) c.flush.ensures.layout
+pub returns-in-Err-reap_oldest-clause-faults : goal.returns-in-Err-reap_oldest-clause-faults
+returns-in-Err-reap_oldest-clause-faults g c blocks =
+    let last = c.in-Err-reap_oldest.ensures.reaped in
+    ((reaped_still c.loop-reaped.invariant.reaped last).acts blocks).faults
 
-pub returns-in-Ok-clause-faults : goal.returns-in-Ok-clause-faults
-returns-in-Ok-clause-faults g c blocks =
-    after_all (λ fault. fault) c.reap_sent.result blocks (g.N.Nic.made c.args.nic.now)
-    (g.N.Nic.made c.flush.new.nic) (g.N.Nic.made c.reap_sent.new.nic) c.args.self.now c.flush.new.self
-    (c.flush.ensures.plays blocks) (c.reap_sent.ensures.faults blocks)
-
-pub returns-in-Err-clause-some : goal.returns-in-Err-clause-some
-returns-in-Err-clause-some g c = (
-  0,
-  (
-    0,
-    frees_none c.args.self.now c.flush.new.self c.args.arena.now c.args.arena.now
-        c.flush.ensures.kept.outstanding refl,
-  ),
-)
-
-pub returns-in-Err-clause-out : goal.returns-in-Err-clause-out
-returns-in-Err-clause-out g c = rw c.flush.ensures.kept.outstanding c.requires
+pub returns-in-Err-reap_oldest-clause-late : goal.returns-in-Err-reap_oldest-clause-late
+returns-in-Err-reap_oldest-clause-late g c = (c.in-Err-reap_oldest.ensures.reaped.acts []).late

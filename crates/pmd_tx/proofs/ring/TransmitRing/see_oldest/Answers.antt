@@ -1,5 +1,5 @@
-use Rattle.pmd_tx.proofs.Playing.{plays_none}
+use Rattle.pmd_tx.proofs.Acting.{continues_none}
 use Rattle.pmd_tx.proofs.ring.TransmitRing.see_oldest.Goals as goal
 
-pub returns-then-has_done-clause-plays : goal.returns-then-has_done-clause-plays
-returns-then-has_done-clause-plays g c blocks = plays_none blocks (g.N.Nic.made c.args.nic.now) c.args.self.now
+pub returns-then-has_done-clause-continues : goal.returns-then-has_done-clause-continues
+returns-then-has_done-clause-continues g c = continues_none

@@ -1,0 +1,88 @@
+-- What a call of the driver that sends does, in one record: the calls that were made, and the ring before and after.
+use Rattle.std.specs.Prelude.{◌≡◌, ℕ, List, length, Bool, if◌then◌else◌, Option, Some, None, Result, Ok, Err, IfSome, IfNone, IfErr}
+use Rattle.pmd_access.specs.NicDevice.DmaArena.Numbers.{Numbers}
+use Rattle.pmd_access.specs.Begun.{BeganAs, Origin}
+use Rattle.pmd_access.specs.DeviceLock.declared.entry.Call.{Call}
+use Rattle.pmd_access.specs.Home.{AreOut}
+use Rattle.pmd_access.specs.Refusals.{CanFail, Refusals}
+use Rattle.pmd_access.specs.declared.fault.PmdFault.{PmdFault}
+use Rattle.pmd_access.specs.declared.packet.Packet.{Packet}
+use Rattle.pmd_tx.specs.declared.answer.TxAnswer.{TxAnswer}
+use Rattle.pmd_tx.specs.declared.answer.TxAnswer.TheVariants.{Taken}
+use Rattle.pmd_tx.specs.declared.answer.TxFault.{TxFault}
+use Rattle.pmd_tx.specs.Plays.{FaultsBy, PlaysWith}
+use Rattle.pmd_tx.specs.Sending.{Sender, blocks_of}
+use Rattle.pmd_tx.specs.Sends.{outgoing_of, returned, Frees, IsAccepted, IsBack, IsLate, IsNoneAccepted, IsTried, SendsHome}
+
+-- the fault that a call ended with, where it did
+
+abbrev pub fault_in : {A : Type 0} → Result A PmdFault → Option PmdFault
+fault_in (Ok x) = None
+fault_in (Err f) = Some f
+
+abbrev pub failed_in : {A : Type 0} → Result A TxFault → Option PmdFault
+failed_in (Ok x) = None
+failed_in (Err f) = Some f.fault
+
+abbrev pub refused_in : {A B : Type 0} → Result A (PmdFault × B) → Option PmdFault
+refused_in (Ok x) = None
+refused_in (Err x) = Some x.0
+
+-- the way to the device is the same: what is known of where its calls began is known of it still, and it may refuse
+-- what it might. Where it refused a call, it might
+pub record Asks {N : Type 0} (known : N → Origin → Type 0) (may : N → Refusals) (f : Option PmdFault) (n m : N) : Type 0
+  where
+    pub began : BeganAs known n m
+    pub refuses : may m ≡ may n
+    pub refusal : IfSome f (λ f. CanFail (may m) f)
+
+-- calls were made of which some are the driver's own, and lead from this ring to that one: each packet that they accept
+-- is in the blocks of these numbers. A fault follows from the last of them, or from the one that was refused
+pub record Acts (blocks : List ℕ) (f : Option PmdFault) (old : List Call) (v : Sender) (new : List Call) (w : Sender)
+    : Type 0 where
+  pub plays : PlaysWith blocks old v new w
+  pub late : IfSome f (λ f. IsLate f)
+  pub faults : IfSome f (λ f. FaultsBy f blocks old v new)
+
+-- the same of calls that accept no packet and reap none, beside whichever blocks
+pub record Continues (f : Option PmdFault) (old : List Call) (v : Sender) (new : List Call) (w : Sender) : Type 0 where
+  pub acts : (blocks : List ℕ) → Acts blocks f old v new w
+  pub kept : IsNoneAccepted v w
+  pub layout : w.layout ≡ v.layout
+
+-- the oldest segments were reaped, so many, with which so many packets end, and their blocks are free in the arena. The
+-- tail has passed all that are left
+pub record HasReaped (f : Option PmdFault) (old : List Call) (v : Sender) (a : Numbers) (new : List Call) (w : Sender)
+    (b : Numbers) (parts packets : ℕ) : Type 0 where
+  pub acts : (blocks : List ℕ) → Acts blocks f old v new w
+  pub frees : Frees v w a b parts packets
+  pub settled : w.posted ≡ length w.outstanding
+  pub out : AreOut b (blocks_of w.outstanding)
+  pub accepted : w.accepted ≡ v.accepted
+  pub layout : w.layout ≡ record v.layout { next = w.layout.next }
+
+-- how many segments were reaped, and how many packets, by the answer whether one was, and whether a packet ends with it
+
+abbrev pub parts_reaped : Result (Option Bool) PmdFault → ℕ
+parts_reaped (Ok (Some end)) = 1
+parts_reaped (Ok None) = 0
+parts_reaped (Err f) = 0
+
+abbrev pub packets_reaped : Result (Option Bool) PmdFault → ℕ
+packets_reaped (Ok (Some end)) = if end then 1 else 0
+packets_reaped (Ok None) = 0
+packets_reaped (Err f) = 0
+
+-- a packet whose way is open was queued, or comes back
+pub record Queues (r : Result TxAnswer TxFault) (p : Packet) (old : List Call) (v : Sender) (a : Numbers)
+    (new : List Call) (w : Sender) (b : Numbers) : Type 0 where
+  pub plays : PlaysWith (outgoing_of p).blocks old v new w
+  pub tried : IsTried r
+  pub accepted : IfNone (returned r) (IsAccepted v p w)
+  pub kept : IfSome (returned r) (λ back. IsNoneAccepted v w)
+  pub freed : SendsHome (returned r) p a b
+  pub back : IfErr r (λ failed. IfSome failed.packet (λ back. IsBack failed.fault p back))
+  pub asked : r ≡ Ok Taken → w.poked ≡ length w.outstanding
+  pub tail : w.posted ≡ v.posted
+  pub faults : IfErr r (λ failed. FaultsBy failed.fault (outgoing_of p).blocks old v new)
+  pub layout : w.layout ≡ v.layout

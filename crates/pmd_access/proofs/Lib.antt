@@ -20,5 +20,4 @@ pub mod Sequences
 pub mod Standing
 pub mod Stepping
 pub mod Steps
-pub mod Words
 pub mod Writing

@@ -1,9 +1,18 @@
 -- Accesses that are made one after the other.
-use Rattle.std.proofs.Common.{◌≡◌, List, [], ◌∷◌, ◌++◌, refl, sym, ap, ◌∙◌, subst, append_assoc, Result, Ok, Err, IfErr, OnOk}
+use Rattle.std.proofs.Common.{◌≡◌, ℕ, ◌+◌, ◌<◌, List, [], ◌∷◌, ◌++◌, length, get_or, take, drop, refl, sym, ap, ◌∙◌, subst, append_assoc}
+use Rattle.std.proofs.lemmas.List.{take_more, take-append-drop}
 use Rattle.device_lock.specs.declared.entry.Call.{Call}
 use Rattle.pmd_access.specs.declared.fault.PmdFault.{PmdFault}
 use Rattle.pmd_access.specs.Named.{AtPort}
 use Rattle.pmd_access.specs.QueueMade.{Access, AreMade, IsMade, FailsBy, StopsBy}
+
+-- the accesses before one, that one, and those after it
+access_part : (all : List Access) (i : ℕ) (d : Access) → i < length all
+    → all ≡ take i all ++ get_or all i d ∷ drop (i + 1) all
+access_part all i d below =
+    sym (take-append-drop (i + 1) all)
+    ∙ ap (λ (l : List Access). l ++ drop (i + 1) all) (take_more all i d below)
+    ∙ append_assoc (take i all) (get_or all i d ∷ []) (drop (i + 1) all)
 
 module _ (q : AtPort) where
   pub one_made : (old new : List Call) (a : Access) → IsMade q old new a → AreMade q old new (a ∷ [])
@@ -24,49 +33,16 @@ module _ (q : AtPort) where
       → AreMade q old mid xs → FailsBy f q mid new a → all ≡ xs ++ a ∷ rest → StopsBy f q old new all
   stops_here f old mid new xs rest all a first fails is = (xs, a, rest, mid, is, first, fails)
 
-  pub stops_first : (f : PmdFault) (old new : List Call) (a : Access) (rest : List Access) → FailsBy f q old new a
-      → StopsBy f q old new (a ∷ rest)
-  stops_first f old new a rest fails = stops_here f old old new [] rest (a ∷ rest) a refl fails refl
+  -- one access of a list more, and a list that stops at one of its accesses
+  pub made_next : (old mid new : List Call) (all : List Access) (i : ℕ) (d : Access) → i < length all
+      → AreMade q old mid (take i all) → IsMade q mid new (get_or all i d) → AreMade q old new (take (i + 1) all)
+  made_next old mid new all i d below made then =
+      subst (λ (l : List Access). AreMade q old new l) (sym (take_more all i d below))
+      (next_made old mid new (take i all) (get_or all i d) made then)
 
-  pub stops_second : (f : PmdFault) (old mid new : List Call) (a b : Access) (rest : List Access) → IsMade q old mid a
-      → FailsBy f q mid new b → StopsBy f q old new (a ∷ b ∷ rest)
-  stops_second f old mid new a b rest made fails =
-      stops_here f old mid new (a ∷ []) rest (a ∷ b ∷ rest) b (one_made old mid a made) fails refl
-
-  pub stops_third : (f : PmdFault) (old i mid new : List Call) (a b d : Access) (rest : List Access) → IsMade q old i a
-      → IsMade q i mid b → FailsBy f q mid new d → StopsBy f q old new (a ∷ b ∷ d ∷ rest)
-  stops_third f old i mid new a b d rest made then fails =
-      stops_here f old mid new (a ∷ b ∷ []) rest (a ∷ b ∷ d ∷ rest) d (i, made, one_made i mid b then) fails refl
-
-  -- the accesses stop amid a first part, or amid a second
-  pub stops_before : (f : PmdFault) (old new : List Call) (xs ys : List Access) → StopsBy f q old new xs
-      → StopsBy f q old new (xs ++ ys)
-  stops_before f old new xs ys (done, a, rest, mid, is, made, fails) =
-      (done, a, rest ++ ys, mid, ap (λ (l : List Access). l ++ ys) is ∙ append_assoc done (a ∷ rest) ys, made, fails)
-
-  pub stops_after : (f : PmdFault) (old mid new : List Call) (xs ys : List Access) → AreMade q old mid xs
-      → StopsBy f q mid new ys → StopsBy f q old new (xs ++ ys)
-  stops_after f old mid new xs ys first (done, a, rest, last, is, made, fails) = (
-    xs ++ done,
-    a,
-    rest,
-    last,
-    ap (λ (l : List Access). xs ++ l) is ∙ sym (append_assoc xs done (a ∷ rest)),
-    both_made old mid last xs done first made,
-    fails,
-  )
-
--- three accesses
-pub three_made : (q : AtPort) (old i j new : List Call) (a b d : Access) → IsMade q old i a → IsMade q i j b
-    → IsMade q j new d → AreMade q old new (a ∷ b ∷ d ∷ [])
-three_made q old i j new a b d p r s = (i, p, (j, r, one_made q j new d s))
-
--- what follows of an error
-pub later : {T : Type 0} {P Q : PmdFault → Type 0} (r : Result T PmdFault) → ((f : PmdFault) → P f → Q f) → IfErr r P
-    → IfErr r Q
-later (Ok x) step p = tt
-later (Err f) step p = step f p
-
-pub later_ok : {T E P Q : Type 0} (r : Result T E) → (P → Q) → OnOk r P → OnOk r Q
-later_ok (Ok x) step p = step p
-later_ok (Err f) step p = tt
+  pub made_stops : (f : PmdFault) (old mid new : List Call) (all : List Access) (i : ℕ) (d : Access)
+      → i < length all → AreMade q old mid (take i all) → FailsBy f q mid new (get_or all i d)
+      → StopsBy f q old new all
+  made_stops f old mid new all i d below made fails =
+      stops_here f old mid new (take i all) (drop (i + 1) all) all (get_or all i d) made fails
+      (access_part all i d below)

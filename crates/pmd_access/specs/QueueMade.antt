@@ -10,12 +10,15 @@ use Rattle.pmd_access.specs.declared.fault.PmdFault.{PmdFault}
 use Rattle.pmd_access.specs.declared.fault.PmdFault.TheVariants.{BadSize, ForeignBlock, StartTimeout, NoBuffer}
 use Rattle.pmd_access.specs.declared.fault.PmdFault.TheVariants.{DeviceFault}
 use Rattle.pmd_access.specs.declared.fault.PmdFault.TheVariants as fault
-use Rattle.pmd_access.specs.Named.{AtPort, IsNumberOf}
-
+use Rattle.pmd_access.specs.Named.{AtPort, IsDriven, IsNumberOf}
 -- an access of a register of the queue: it shows bit 25, ENABLE, on or off, or is given a word
-pub data Access : Type 0 where
-  Sees : RowId → Bool → Access
-  Sets : RowId → ℕ → Access
+pub use Rattle.pmd_access.specs.declared.registers.Access.{Access}
+pub use Rattle.pmd_access.specs.declared.registers.Access.TheVariants.{Sees, Sets}
+
+-- the register of an access is one that a driver has of each queue
+abbrev pub IsKnown : Access → Type 0
+IsKnown (Sees row on) = IsDriven row
+IsKnown (Sets row word) = IsDriven row
 
 -- the word was read there, and it has ENABLE so
 abbrev pub IsSeen : AtPort → List Call → List Call → RowId → Bool → Type 0

@@ -12,7 +12,6 @@ use Rattle.pmd_access.specs.declared.fault.PmdFault.TheVariants.{DeviceFault}
 use Rattle.pmd_access.specs.declared.fault.PmdFault.TheVariants as fault
 use Rattle.pmd_access.specs.Named.{AtPort}
 use Rattle.pmd_access.specs.QueueMade.{Access, Sees, Sets, AreMade, IsStrayRead}
-use Rattle.pmd_access.specs.declared.sides.Word.{Word}
 
 -- the word of RXDCTL or TXDCTL that asks for a side to be on or off
 abbrev pub enable_word : Bool → ℕ
@@ -33,10 +32,6 @@ ring_words Rx ring size =
 ring_words Tx ring size =
     Sets Tdbal (2048 * ring) ∷ Sets Tdbah 0 ∷ Sets Tdlen (16 * size) ∷ Sets Tdwbal 0
     ∷ Sets Tdh 0 ∷ Sets Tdt 0 ∷ []
-
--- a word as the access that writes it
-abbrev pub set_of : Word → Access
-set_of w = Sets w.row w.word
 
 -- a side is asked to go on or off
 abbrev pub asked : Dir → Bool → List Access

@@ -1,15 +1,16 @@
 //! Both sides of a queue, made ready and switched.
 
-ghost use Rattle.std.specs.Prelude.{◌≡◌, IfErr, OnOk};
+ghost use Rattle.std.specs.Prelude.{◌≡◌, All, IfErr, OnOk};
 ghost use Rattle.pmd_access.specs.Begun.{BeganAs};
 ghost use Rattle.pmd_access.specs.Both.{both_quiet, both_asked, IsSwitched, SwitchFails};
-ghost use Rattle.pmd_access.specs.QueueMade.{AreMade, StopsBy};
+ghost use Rattle.pmd_access.specs.QueueMade.{IsKnown, AreMade, StopsBy};
 ghost use Rattle.pmd_access.specs.Refusals.{CanFail};
 
 use crate::fault::PmdFault;
 use crate::names::Queue;
 use crate::nic::Nic;
-use crate::sides::POLLS;
+use crate::registers::Access;
+use crate::sides::{POLLS, asked, quiet};
 use device_lock::Dir;
 use std::alloc::Global;
 
@@ -24,8 +25,7 @@ impl Queue {
         ensures refuses { N.refuses nic.new ≡ N.refuses nic.old }
         ensures refusal { IfErr result (λ f. CanFail (N.refuses nic.new) f) }
     {
-        self.disable(alloc, nic, Dir::Rx)?;
-        self.disable(alloc, nic, Dir::Tx)
+        self.make_all(alloc, nic, &both_quiet())
     }
 
     /// Asks for both sides of the queue to go on or off, and polls until they are, the receive side first: `POLLS`
@@ -39,21 +39,29 @@ impl Queue {
         ensures refuses { N.refuses nic.new ≡ N.refuses nic.old }
         ensures refusal { IfErr result (λ f. CanFail (N.refuses nic.new) f) }
     {
-        self.ask_both(alloc, nic, on)?;
+        self.make_all(alloc, nic, &both_asked(on))?;
         let left = self.poll(alloc, nic, Dir::Rx, on, POLLS)?;
         let _last = self.poll(alloc, nic, Dir::Tx, on, left)?;
         Ok(())
     }
+}
 
-    /// Asks for both sides to go on or off.
-    fn ask_both<N: Nic>(&self, alloc: Global, nic: &mut N, on: bool) -> Result<(), PmdFault>
-        ensures made { OnOk result (AreMade self.now (N.made nic.old) (N.made nic.new) (both_asked on)) }
-        ensures failed { IfErr result (λ f. StopsBy f self.now (N.made nic.old) (N.made nic.new) (both_asked on)) }
-        ensures began { BeganAs N.began nic.old nic.new }
-        ensures refuses { N.refuses nic.new ≡ N.refuses nic.old }
-        ensures refusal { IfErr result (λ f. CanFail (N.refuses nic.new) f) }
-    {
-        self.ask(alloc, nic, Dir::Rx, on)?;
-        self.ask(alloc, nic, Dir::Tx, on)
-    }
+/// Both sides are seen off, asked to be off, and seen off again.
+fn both_quiet() -> [Access; 6]
+    ensures accesses { result ≡ both_quiet }
+    ensures known { All IsKnown result }
+{
+    let [seen, off, still] = quiet(Dir::Rx);
+    let [seen_too, off_too, still_too] = quiet(Dir::Tx);
+    [seen, off, still, seen_too, off_too, still_too]
+}
+
+/// Both sides are asked to go on or off.
+fn both_asked(on: bool) -> [Access; 2]
+    ensures accesses { result ≡ both_asked on }
+    ensures known { All IsKnown result }
+{
+    let [first] = asked(Dir::Rx, on);
+    let [second] = asked(Dir::Tx, on);
+    [first, second]
 }

@@ -24,6 +24,7 @@ mod interleaved;
 mod names;
 mod nic;
 mod packet;
+mod registers;
 mod setup;
 mod sides;
 mod slots;

@@ -1,11 +1,9 @@
 use Rattle.std.proofs.Common.{sym, subst}
-use Rattle.device_lock.specs.NicDevice.RegTable.declared.rows.RowId.{RowId}
 use Rattle.device_lock.specs.NicDevice.declared.event.Event.TheVariants as event
 use Rattle.device_lock.specs.NicDevice.declared.event.Port.{Port}
 use Rattle.device_lock.specs.NicDevice.declared.event.Reply.TheVariants as reply
 use Rattle.pmd_access.specs.Made.{Adds}
-use Rattle.pmd_access.specs.Named.{IsNumberOf}
-use Rattle.pmd_access.proofs.names.Queue.is_on.Goals as goal
+use Rattle.pmd_access.proofs.names.Queue.shows.Goals as goal
 
 pub returns-in-Ok-Some-clause-seen : goal.returns-in-Ok-Some-clause-seen
 returns-in-Ok-Some-clause-seen g c =
@@ -14,7 +12,7 @@ returns-in-Ok-Some-clause-seen g c =
     let word = c.in-Ok-Some.word in (
       number,
       word,
-      subst (λ (row : RowId). IsNumberOf q.port row q.queue number) c.enable_row.ensures c.number_of-number.ensures,
+      c.number_of-number.ensures,
       sym c.is_enabled.ensures,
       subst (λ (p : Port). Adds (g.N.Nic.made c.args.nic.now) (g.N.Nic.made c.read.new.nic) (event.Read p number)
           (reply.Word word)) c.port.ensures (rw c.in-Ok-Some.field-0-is at c.in-Ok-Some.ensures.made),

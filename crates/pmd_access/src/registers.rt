@@ -1,0 +1,109 @@
+//! The registers of a queue, accessed one after the other.
+
+ghost use Rattle.std.specs.Prelude.{◌≡◌, All, IfOk, IfErr, OnOk};
+ghost use Rattle.device_lock.specs.NicDevice.RegisterFile.Bits.{has_bit};
+ghost use Rattle.pmd_access.specs.Begun.{BeganAs};
+ghost use Rattle.pmd_access.specs.Named.{IsDriven};
+ghost use Rattle.pmd_access.specs.QueueMade.{IsKnown, IsSeen, IsMade, AreMade, ReadFails, FailsBy, StopsBy};
+ghost use Rattle.pmd_access.specs.Refusals.{CanFail};
+
+use crate::accesses::{read, write};
+use crate::fault::PmdFault;
+use crate::names::Queue;
+use crate::nic::Nic;
+use device_lock::RowId;
+use register_bits::{Rxdctl, has_flag};
+use std::alloc::Global;
+
+/// An access of a register of a queue.
+#[derive(Clone, Copy)]
+pub(crate) enum Access {
+    /// Its word is read, which has ENABLE, bit 25, so.
+    Sees(RowId, bool),
+    /// It is given a word.
+    Sets(RowId, u32),
+}
+
+impl Queue {
+    /// Makes accesses of the queue's registers, in order.
+    ///
+    /// `DeviceFault` where one is answered otherwise: ENABLE is not as it is to be seen, or the port has no such
+    /// register. Those before it are made.
+    pub(crate) fn make_all<N: Nic>(
+        &self,
+        alloc: Global,
+        nic: &mut N,
+        accesses: &[Access],
+    ) -> Result<(), PmdFault>
+        requires { All IsKnown accesses.now }
+        ensures made { OnOk result (AreMade self.now (N.made nic.old) (N.made nic.new) accesses.now) }
+        ensures failed { IfErr result (λ f. StopsBy f self.now (N.made nic.old) (N.made nic.new) accesses.now) }
+        ensures began { BeganAs N.began nic.old nic.new }
+        ensures refuses { N.refuses nic.new ≡ N.refuses nic.old }
+        ensures refusal { IfErr result (λ f. CanFail (N.refuses nic.new) f) }
+    {
+        for access in accesses {
+            self.make(alloc, nic, *access)?;
+        }
+        Ok(())
+    }
+
+    /// Makes one of them.
+    fn make<N: Nic>(&self, alloc: Global, nic: &mut N, access: Access) -> Result<(), PmdFault>
+        requires { IsKnown access }
+        ensures made { OnOk result (IsMade self.now (N.made nic.old) (N.made nic.new) access) }
+        ensures failed { IfErr result (λ f. FailsBy f self.now (N.made nic.old) (N.made nic.new) access) }
+        ensures began { BeganAs N.began nic.old nic.new }
+        ensures refuses { N.refuses nic.new ≡ N.refuses nic.old }
+        ensures refusal { IfErr result (λ f. CanFail (N.refuses nic.new) f) }
+    {
+        match access {
+            Access::Sees(row, on) => {
+                if self.shows(alloc, nic, row)? == on {
+                    Ok(())
+                } else {
+                    Err(PmdFault::DeviceFault)
+                }
+            }
+            Access::Sets(row, word) => {
+                let number = self.number_of(row);
+                match write(alloc, nic, self.port(), number, word) {
+                    Ok(true) => Ok(()),
+                    Ok(false) => Err(PmdFault::DeviceFault),
+                    Err(refused) => Err(PmdFault::Call(refused)),
+                }
+            }
+        }
+    }
+
+    /// Whether a register of the queue shows ENABLE on.
+    ///
+    /// `DeviceFault` where the port has no such register.
+    pub(crate) fn shows<N: Nic>(
+        &self,
+        alloc: Global,
+        nic: &mut N,
+        row: RowId,
+    ) -> Result<bool, PmdFault>
+        requires { IsDriven row }
+        ensures seen { IfOk result (λ on. IsSeen self.now (N.made nic.old) (N.made nic.new) row on) }
+        ensures failed { IfErr result (λ f. ReadFails f self.now (N.made nic.old) (N.made nic.new) row) }
+        ensures began { BeganAs N.began nic.old nic.new }
+        ensures refuses { N.refuses nic.new ≡ N.refuses nic.old }
+        ensures refusal { IfErr result (λ f. CanFail (N.refuses nic.new) f) }
+    {
+        let number = self.number_of(row);
+        match read(alloc, nic, self.port(), number) {
+            Ok(Some(word)) => Ok(is_enabled(word)),
+            Ok(None) => Err(PmdFault::DeviceFault),
+            Err(refused) => Err(PmdFault::Call(refused)),
+        }
+    }
+}
+
+/// Whether a word of RXDCTL or TXDCTL has ENABLE, the same bit of both.
+fn is_enabled(word: u32) -> bool
+    ensures { result ≡ has_bit 25 word }
+{
+    has_flag(word, Rxdctl::ENABLE)
+}

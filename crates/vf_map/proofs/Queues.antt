@@ -90,9 +90,10 @@ transmit_stands Tdwbal e = (0x38, record { same = refl; near = omega arith; own 
 transmit_stands Tdwbah e = (0x3C, record { same = refl; near = omega arith; own = omega arith; is = refl })
 transmit_stands other e = cc
 
--- none of these offsets is one that the function has once
-own_absent : (v o : ℕ) → 0x1000 ≤ o → o % 0x40 ≢ 0x1C → place_at (own_entries v) o ≡ None
-own_absent v o high other =
+-- an offset past the words of a function's interrupts that is none of what it has once
+own_absent : (v o : ℕ) → 0x120 ≤ o → o ≢ 0x140 → o ≢ 0x2FC → o ≢ 0x300 → o ≢ 0x101C → o ≢ 0x201C
+    → place_at (own_entries v) o ≡ None
+own_absent v o past a b c d e =
     rw (
       ne_eqb 0x0000 o (omega arith),
       ne_eqb 0x0008 o (omega arith),
@@ -110,35 +111,17 @@ own_absent v o high other =
       ne_eqb 0x201C o (omega arith),
     ) refl
 
--- nor one of its vectors
-own_no_vector : (v w : ℕ) → w < 4 → place_at (own_entries v) (0x120 + 4 * w) ≡ None
-own_no_vector v w small =
-    rw (
-      ne_eqb 0x0000 (0x120 + 4 * w) (omega arith),
-      ne_eqb 0x0008 (0x120 + 4 * w) (omega arith),
-      ne_eqb 0x0010 (0x120 + 4 * w) (omega arith),
-      ne_eqb 0x0100 (0x120 + 4 * w) (omega arith),
-      ne_eqb 0x0104 (0x120 + 4 * w) (omega arith),
-      ne_eqb 0x0108 (0x120 + 4 * w) (omega arith),
-      ne_eqb 0x010C (0x120 + 4 * w) (omega arith),
-      ne_eqb 0x0110 (0x120 + 4 * w) (omega arith),
-      ne_eqb 0x0114 (0x120 + 4 * w) (omega arith),
-      ne_eqb 0x0140 (0x120 + 4 * w) (omega arith),
-      ne_eqb 0x02FC (0x120 + 4 * w) (omega arith),
-      ne_eqb 0x0300 (0x120 + 4 * w) (omega arith),
-      ne_eqb 0x101C (0x120 + 4 * w) (omega arith),
-      ne_eqb 0x201C (0x120 + 4 * w) (omega arith),
-    ) refl
-
--- nor words of its mailbox memory
+-- nor words of its mailbox memory: a register of a queue, and a vector
 function_absent : (v o : ℕ) → 0x1000 ≤ o → o % 0x40 ≢ 0x1C → place_at (function_entries v) o ≡ None
 function_absent v o high other =
-    in_second (own_entries v) (message_entries v) o (own_absent v o high other)
+    in_second (own_entries v) (message_entries v) o
+    (own_absent v o (omega arith) (omega arith) (omega arith) (omega arith) (omega arith) (omega arith))
     ∙ message_absent v o (λ w few is. omega arith)
 
 function_no_vector : (v w : ℕ) → w < 4 → place_at (function_entries v) (0x120 + 4 * w) ≡ None
 function_no_vector v w small =
-    in_second (own_entries v) (message_entries v) (0x120 + 4 * w) (own_no_vector v w small)
+    in_second (own_entries v) (message_entries v) (0x120 + 4 * w)
+    (own_absent v (0x120 + 4 * w) (omega arith) (omega arith) (omega arith) (omega arith) (omega arith) (omega arith))
     ∙ message_absent v (0x120 + 4 * w) (λ x few is. omega arith)
 
 module _ (mode : Mode) (vfs v first count x : ℕ) (there : v < vfs) (pool : queues_of mode v ≡ Some (first, count)) where

@@ -509,6 +509,9 @@ class Function:
         # Whether the arms leave no address out.
         self.whole = False
 
+    def facts(self) -> list[str]:
+        return [*self.hits.values(), *self.gaps]
+
     def ranges(self) -> list[tuple[int, int]]:
         return [(low, high) for low, high, _ in self.arms]
 
@@ -632,8 +635,9 @@ def rust_function(function: Function) -> str:
         requires += f"    requires rest_from {{ 0x{start:02X} ≤ address % {stride} }}\n"
         requires += f"    requires rest_below {{ address % {stride} < 0x{end:02X} }}\n"
     shown = "pub(crate) " if function.low is None else ""
+    tactic = f"#[tactic(auto, using(crate::proofs::Arms::{function.name}))]\n" if function.facts() else ""
     return f"""/// The access of an address {about}.
-{shown}fn {function.name}(address: u32) -> Option<Access>
+{tactic}{shown}fn {function.name}(address: u32) -> Option<Access>
 {requires}    requires whole {{ address % 4 ≡ 0 }}
     ensures {{ result ≡ access_at address }}
 {{
@@ -665,39 +669,34 @@ use crate::rows::RowId;
 {body}"""
 
 
-def proof_arms(function: Function) -> str:
-    """The answers for a function of the dispatch. The ranges that no arm takes are counted from the one below the first
-    arm, which is passed to the function only where that arm isn't the first of what it takes."""
-    goals = [f"returns-in-{low}-to-{high - 1}" for low, high in function.hits]
-    start = function.low if function.matched == "address" else 0
-    first = 2 if function.arms[0][0] == start > 0 else 1
-    numbers = range(first, first + len(function.gaps))
-    goals += [f"returns-in_default-{n}" if n > 1 else "returns-in_default" for n in numbers]
-    facts = [*function.hits.values(), *function.gaps]
+def proof_arms(telling: list[Function]) -> str:
+    """What the table says for the arms of each function of the dispatch and for the ranges between them."""
+    facts = [fact for function in telling for fact in function.facts()]
     kinds = sorted({fact.split()[0] for fact in facts})
-    lines = "".join(f"    {fact} ∷\n" for fact in facts)
-    rows = [row.variant for row in TABLE if any(f"(run {row.variant} " in fact for fact in facts)]
-    imports = f"use Rattle.reg_table.specs.declared.rows.RowId.TheVariants.{{{', '.join(rows)}}}\n" if rows else ""
-    imports += "use Rattle.reg_table.specs.Run.{run}\n" if rows else ""
-    flags = "true, false" if any(" false) " in fact for fact in facts) else "true"
-    proof = "pub {0} : goal.{0}\n{0} c = grind (arith, said_at facts {1} so)\n"
-    body = "\n".join(proof.format(goal, n) for n, goal in enumerate(goals))
+    rows = ", ".join(row.variant for row in TABLE if any(f"(run {row.variant} " in fact for fact in facts))
+    body = "\n".join(proof_arm(function) for function in telling)
     return f"""{GENERATED}
-use Rattle.std.proofs.Common.{{◌≡◌, {flags}, List, [], ◌∷◌, refl, arith}}
-use Rattle.std.specs.List.{{list_all}}
-{imports}use Rattle.reg_table.specs.Runs.{{runs}}
-use Rattle.reg_table.proofs.Facts.{{Fact, {', '.join(kinds)}, is_so, said_at}}
-use Rattle.reg_table.proofs.dispatch.{function.name}.Goals as goal
-
-abbrev facts : List Fact
-facts =
-{lines}    []
-
-so : list_all is_so facts ≡ true
-unfolding runs
-so = refl
+-- What the table says for the arms of each function of the dispatch and for the ranges between them.
+use Rattle.std.proofs.Common.{{true, false, List, [], ◌∷◌, refl}}
+use Rattle.reg_table.specs.declared.rows.RowId.TheVariants.{{{rows}}}
+use Rattle.reg_table.specs.Run.{{run}}
+use Rattle.reg_table.specs.Runs.{{runs}}
+use Rattle.reg_table.proofs.Facts.{{Fact, {', '.join(kinds)}, AllSay, all_said}}
 
 {body}"""
+
+
+def proof_arm(function: Function) -> str:
+    name = function.name
+    lines = "".join(f"    {fact} ∷\n" for fact in function.facts())
+    return f"""abbrev facts_{name} : List Fact
+facts_{name} =
+{lines}    []
+
+pub {name} : AllSay facts_{name}
+unfolding runs
+{name} = all_said facts_{name} refl
+"""
 
 
 def first_runs(row: Row) -> tuple[int, int, int, int]:
@@ -964,8 +963,6 @@ def outputs() -> dict[Path, str]:
     check_table()
     registers = ROOT / "crates/register_file"
     crate, dispatch = ROOT / "crates/reg_table", Dispatch()
-    telling = [function for function in dispatch.functions if function.hits or function.gaps]
-    answers = {arms_of(function): proof_arms(function) for function in telling}
     return {
         crate / "src/rows.rt": rust_rows(),
         crate / "specs/Rows.antt": spec_rows(),
@@ -974,23 +971,14 @@ def outputs() -> dict[Path, str]:
         crate / "src/first_addresses.rt": rust_first_addresses(),
         crate / "specs/FirstAddresses.antt": spec_first_addresses(),
         crate / "proofs/Numbers.antt": proof_rows(),
+        crate / "proofs/Arms.antt": proof_arms([function for function in dispatch.functions if function.facts()]),
         registers / "src/cells.rt": rust_cells(),
         registers / "specs/Cells.antt": spec_cells(),
         registers / "specs/Layout.antt": spec_layout(),
         registers / "proofs/CellRows.antt": proof_cells(),
         ROOT / "docs/REGISTERS.md": register_page(),
-    } | answers
-
-
-def arms_of(function: Function) -> Path:
-    """Where the answers for a function of the dispatch stand."""
-    return ROOT / f"crates/reg_table/proofs/dispatch/{function.name}/Answers.antt"
-
-
-def leftovers(written: dict[Path, str]) -> list[Path]:
-    """Answers for functions that the dispatch hasn't any more."""
-    return [path for path in (ROOT / "crates/reg_table/proofs/dispatch").glob("*/*.antt") if path not in written]
+    }
 
 
 if __name__ == "__main__":
-    keep(__doc__, outputs, leftovers)
+    keep(__doc__, outputs)

@@ -1,5 +1,5 @@
 -- What the table says of ranges of addresses, and a test of it.
-use Rattle.std.proofs.Common.{◌≡◌, ℕ, zero, suc, ◌+◌, ◌%◌, ◌<◌, ◌≤◌, Bool, true, ◌&&◌, ◌==◌, List, [], ◌∷◌, Some, None}
+use Rattle.std.proofs.Common.{◌≡◌, ℕ, ◌+◌, ◌%◌, ◌<◌, ◌≤◌, Bool, true, ◌&&◌, ◌==◌, List, [], ◌∷◌, Some, None}
 use Rattle.std.specs.List.{list_all}
 use Rattle.std.proofs.lemmas.Bool.{and_parts, eqb-true}
 use Rattle.reg_table.specs.Run.{Run}
@@ -49,13 +49,12 @@ said (Steps r low high) e =
 said (NoWords low high) e = λ a. no_words_at low high a e
 said (NoSteps m x y low high) e = λ a. no_steps_at m x y low high a e
 
--- what the fact at a position of the list says
-abbrev pub SaysAt : List Fact → ℕ → Type 0
-SaysAt [] k = Unit {0}
-SaysAt (f ∷ fs) zero = Says f
-SaysAt (f ∷ fs) (suc k) = SaysAt fs k
+-- what all facts of a list say
+abbrev pub AllSay : List Fact → Type 0
+AllSay [] = Unit {0}
+AllSay (f ∷ fs) = Says f × AllSay fs
 
-pub said_at : (fs : List Fact) (k : ℕ) → list_all is_so fs ≡ true → SaysAt fs k
-said_at [] k e = tt
-said_at (f ∷ fs) zero e = said f (and_parts (is_so f) (list_all is_so fs) e).0
-said_at (f ∷ fs) (suc k) e = said_at fs k (and_parts (is_so f) (list_all is_so fs) e).1
+pub all_said : (fs : List Fact) → list_all is_so fs ≡ true → AllSay fs
+all_said [] e = tt
+all_said (f ∷ fs) e =
+    let p = and_parts (is_so f) (list_all is_so fs) e in (said f p.0, all_said fs p.1)

@@ -6,6 +6,7 @@ pub mod Standing
 pub mod Reached
 pub mod Missed
 pub mod Facts
+pub mod Arms
 pub mod Views
 pub mod Aligned
 pub mod FirstRuns

@@ -6,6 +6,7 @@ use crate::access::{Access, low_words, pairs, queues, words};
 use crate::rows::RowId;
 
 /// The access of an address that is a multiple of 4.
+#[tactic(auto, using(crate::proofs::Arms::aligned))]
 pub(crate) fn aligned(address: u32) -> Option<Access>
     requires whole { address % 4 ≡ 0 }
     ensures { result ≡ access_at address }
@@ -38,6 +39,7 @@ fn page_00(address: u32) -> Option<Access>
 }
 
 /// The access of an address from 0x00000 to 0x00807.
+#[tactic(auto, using(crate::proofs::Arms::from_00000))]
 fn from_00000(address: u32) -> Option<Access>
     requires below { address < 0x00808 }
     requires whole { address % 4 ≡ 0 }
@@ -58,6 +60,7 @@ fn from_00000(address: u32) -> Option<Access>
 }
 
 /// The access of an address from 0x00808 to 0x00A8F.
+#[tactic(auto, using(crate::proofs::Arms::from_00808))]
 fn from_00808(address: u32) -> Option<Access>
     requires from { 0x00808 ≤ address }
     requires below { address < 0x00A90 }
@@ -79,6 +82,7 @@ fn from_00808(address: u32) -> Option<Access>
 }
 
 /// The access of an address from 0x00A90 to 0x00FFF.
+#[tactic(auto, using(crate::proofs::Arms::from_00a90))]
 fn from_00a90(address: u32) -> Option<Access>
     requires from { 0x00A90 ≤ address }
     requires below { address < 0x01000 }
@@ -100,6 +104,7 @@ fn from_00a90(address: u32) -> Option<Access>
 }
 
 /// The access of an address from 0x01000 to 0x01FFF.
+#[tactic(auto, using(crate::proofs::Arms::page_01))]
 fn page_01(address: u32) -> Option<Access>
     requires from { 0x01000 ≤ address }
     requires below { address < 0x02000 }
@@ -121,6 +126,7 @@ fn page_01(address: u32) -> Option<Access>
 }
 
 /// The access of an address from 0x01000 to 0x01FFF whose remainder by 64 is 48.
+#[tactic(auto, using(crate::proofs::Arms::page_01_30))]
 fn page_01_30(address: u32) -> Option<Access>
     requires from { 0x01000 ≤ address }
     requires below { address < 0x02000 }
@@ -137,6 +143,7 @@ fn page_01_30(address: u32) -> Option<Access>
 }
 
 /// The access of an address from 0x02000 to 0x03FFF.
+#[tactic(auto, using(crate::proofs::Arms::page_02))]
 fn page_02(address: u32) -> Option<Access>
     requires from { 0x02000 ≤ address }
     requires below { address < 0x04000 }
@@ -167,6 +174,7 @@ fn page_04(address: u32) -> Option<Access>
 }
 
 /// The access of an address from 0x04000 to 0x042A3.
+#[tactic(auto, using(crate::proofs::Arms::from_04000))]
 fn from_04000(address: u32) -> Option<Access>
     requires from { 0x04000 ≤ address }
     requires below { address < 0x042A4 }
@@ -186,6 +194,7 @@ fn from_04000(address: u32) -> Option<Access>
 }
 
 /// The access of an address from 0x042A4 to 0x04FFF.
+#[tactic(auto, using(crate::proofs::Arms::from_042a4))]
 fn from_042a4(address: u32) -> Option<Access>
     requires from { 0x042A4 ≤ address }
     requires below { address < 0x05000 }
@@ -204,6 +213,7 @@ fn from_042a4(address: u32) -> Option<Access>
 }
 
 /// The access of an address from 0x05000 to 0x05FFF.
+#[tactic(auto, using(crate::proofs::Arms::page_05))]
 fn page_05(address: u32) -> Option<Access>
     requires from { 0x05000 ≤ address }
     requires below { address < 0x06000 }
@@ -227,6 +237,7 @@ fn page_05(address: u32) -> Option<Access>
 }
 
 /// The access of an address from 0x05400 to 0x0547F.
+#[tactic(auto, using(crate::proofs::Arms::steps_05400))]
 fn steps_05400(address: u32) -> Option<Access>
     requires from { 0x05400 ≤ address }
     requires below { address < 0x05480 }
@@ -241,6 +252,7 @@ fn steps_05400(address: u32) -> Option<Access>
 }
 
 /// The access of an address from 0x06000 to 0x07FFF.
+#[tactic(auto, using(crate::proofs::Arms::page_06))]
 fn page_06(address: u32) -> Option<Access>
     requires from { 0x06000 ≤ address }
     requires below { address < 0x08000 }
@@ -262,6 +274,7 @@ fn page_06(address: u32) -> Option<Access>
 }
 
 /// The access of an address from 0x06000 to 0x07FFF whose remainder by 64 is 48.
+#[tactic(auto, using(crate::proofs::Arms::page_06_30))]
 fn page_06_30(address: u32) -> Option<Access>
     requires from { 0x06000 ≤ address }
     requires below { address < 0x08000 }
@@ -277,6 +290,7 @@ fn page_06_30(address: u32) -> Option<Access>
 }
 
 /// The access of an address from 0x08000 to 0x0AFFF.
+#[tactic(auto, using(crate::proofs::Arms::page_08))]
 fn page_08(address: u32) -> Option<Access>
     requires from { 0x08000 ≤ address }
     requires below { address < 0x0B000 }
@@ -295,6 +309,7 @@ fn page_08(address: u32) -> Option<Access>
 }
 
 /// The access of an address from 0x0A200 to 0x0A5FF.
+#[tactic(auto, using(crate::proofs::Arms::steps_0a200))]
 fn steps_0a200(address: u32) -> Option<Access>
     requires from { 0x0A200 ≤ address }
     requires below { address < 0x0A600 }
@@ -309,6 +324,7 @@ fn steps_0a200(address: u32) -> Option<Access>
 }
 
 /// The access of an address from 0x0D000 to 0x0DFFF.
+#[tactic(auto, using(crate::proofs::Arms::page_0d))]
 fn page_0d(address: u32) -> Option<Access>
     requires from { 0x0D000 ≤ address }
     requires below { address < 0x0E000 }
@@ -328,6 +344,7 @@ fn page_0d(address: u32) -> Option<Access>
 }
 
 /// The access of an address from 0x0E000 to 0x13FFF.
+#[tactic(auto, using(crate::proofs::Arms::page_0e))]
 fn page_0e(address: u32) -> Option<Access>
     requires from { 0x0E000 ≤ address }
     requires below { address < 0x14000 }

@@ -149,26 +149,21 @@ impl Trial for Calling {
     }
 }
 
+/// A pass makes a call.
+fn calls<R: Abort + Wait + Print>(rt: &R, alloc: Global, arrives: bool) {
+    let subject = Calling::new(rt, alloc, arrives);
+    let calm = Calling::new(rt, alloc, arrives);
+    tried(rt, alloc, subject, calm);
+}
+
 #[test]
 fn a_pass_lends_a_block(rt: HostRuntime) {
-    let alloc = rt.alloc();
-    tried(
-        &rt,
-        alloc,
-        Calling::new(&rt, alloc, false),
-        Calling::new(&rt, alloc, false),
-    );
+    calls(&rt, rt.alloc(), false);
 }
 
 #[test]
 fn a_frame_arrives_by_a_pass(rt: HostRuntime) {
-    let alloc = rt.alloc();
-    tried(
-        &rt,
-        alloc,
-        Calling::new(&rt, alloc, true),
-        Calling::new(&rt, alloc, true),
-    );
+    calls(&rt, rt.alloc(), true);
 }
 
 /// An event that is to be made of what lies under a lock, with no lock around it.
@@ -227,26 +222,21 @@ impl Trial for Stepping {
     }
 }
 
+/// A step is made under the lock.
+fn steps<R: Abort + Wait + Print>(rt: &R, alloc: Global, arrives: bool) {
+    let subject = Stepping::new(rt, alloc, arrives);
+    let calm = Stepping::new(rt, alloc, arrives);
+    tried(rt, alloc, subject, calm);
+}
+
 #[test]
 fn a_step_under_the_lock_lends_a_block(rt: HostRuntime) {
-    let alloc = rt.alloc();
-    tried(
-        &rt,
-        alloc,
-        Stepping::new(&rt, alloc, false),
-        Stepping::new(&rt, alloc, false),
-    );
+    steps(&rt, rt.alloc(), false);
 }
 
 #[test]
 fn a_frame_arrives_by_a_step_under_the_lock(rt: HostRuntime) {
-    let alloc = rt.alloc();
-    tried(
-        &rt,
-        alloc,
-        Stepping::new(&rt, alloc, true),
-        Stepping::new(&rt, alloc, true),
-    );
+    steps(&rt, rt.alloc(), true);
 }
 
 /// A shared device that is to be made.

@@ -13,7 +13,7 @@ use Rattle.debugger.specs.Session.{Session}
 use Rattle.debugger.specs.declared.Command.{Command}
 use Rattle.debugger.specs.declared.DebugRefusal.{DebugRefusal}
 use Rattle.debugger.specs.declared.View.{View}
-use Rattle.bench_commands.specs.Answer.{WritesBeginning, refused_at}
+use Rattle.bench_commands.specs.Answer.{refused_at}
 use Rattle.bench_commands.specs.Debug.{commands_answer, debug_config_of, end_of_script, parted_answer, session_of}
 use Rattle.bench_commands.specs.Debug.{session_text}
 use Rattle.bench_commands.specs.View.{answer_line}
@@ -32,9 +32,6 @@ module _ (old new : Option (List ℕ)) (start now : Session) (all rest : List Co
   unfolding session_text
   all-written none = subst (Appends old new) (sym (append-nil amid.done)
       ∙ ap (λ rs. amid.done ++ session_text now rs) (sym none) ∙ amid.whole) amid.written
-
-  pub begun : WritesBeginning old new (session_text start all)
-  begun = record { beginning = amid.done; rest = session_text now rest; written = amid.written; whole = amid.whole }
 
   -- one more command is done, and its line written
   pub one-more : (last : Option (List ℕ)) (later : Session) (command : Command) (more : List Command)

@@ -21,7 +21,7 @@ use Rattle.nic_device.specs.declared.Reply.{Reply}
 use Rattle.nic_device.specs.declared.Reply.TheVariants.{Done}
 use Rattle.nic_device.proofs.DmaArena.Bus.{SameLent-write_at, get-insert_same, get-insert_other}
 use Rattle.nic_device.proofs.KeptBlocks.{keeps_blocks}
-use Rattle.card.specs.Card.{Holdings, AreShared, CanReturn, arena_after, IsOfWrite, with_lent, with_taken}
+use Rattle.card.specs.Card.{Holdings, AreShared, CanReturn, arena_after, IsOfWrite, with_lent}
 use Rattle.card.proofs.Sharing.{lent_away, free_not_lent, shared-taken, shared-lent, shared-same, with_free-back}
 use Rattle.card.proofs.Returning.{taken_block}
 
@@ -147,12 +147,6 @@ taken-shared s t a rest n r h reply state left =
     subst (AreShared t.memory) (sym (left ∙ ap (arena_after a) reply))
     (subst (λ (u : State). AreShared u.memory (arena_after a (taken s n).reply)) (sym state)
     (shared_again s a n (block_at s.memory n) h refl))
-
-pub with_taken-is : (s t : State) (a rest : Numbers) (n : ℕ) (r : Reply Block) → r ≡ (step_of s (event.Take n)).reply
-    → t ≡ (step_of s (event.Take n)).state → rest ≡ arena_after a r
-    → (let now : Holdings = record { device = t; arena = rest } in now) ≡
-    with_taken (record { device = s; arena = a }) n
-with_taken-is s t a rest n r reply state left = rw (state, left, reply) refl
 
 -- what comes back is the arena's and isn't free there
 

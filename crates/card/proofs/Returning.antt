@@ -2,7 +2,6 @@
 use Rattle.std.proofs.Common.{◌≡◌, refl, sym, ◌∙◌, ap, ℕ, ◌-◌, ◌<◌, Bool, true, false, is_some, List, Option, Some, None, arith, inl, inr}
 use Rattle.std.specs.FinMap as map
 use Rattle.std.proofs.lemmas.Bool.Decides.{eqb_tells}
-use Rattle.std.proofs.lemmas.List.{length-set}
 use Rattle.nic_device.specs.DmaArena.Block.{Block}
 use Rattle.nic_device.specs.DmaArena.Memory.{Memory, has_block, block_at}
 use Rattle.nic_device.specs.DmaArena.Numbers.{Numbers, count_of, with_free}
@@ -44,7 +43,3 @@ none_lent m a n true h below is =
     let small : n < count_of a = omega (arith, within.1, h.first) in
     sym is ∙ below small
 none_lent m a n false h below is = refl
-
--- giving a block back leaves as many numbers
-pub count-given : (a given : Numbers) (n : ℕ) → given ≡ with_free a n true → count_of given ≡ count_of a
-count-given a given n back = ap count_of back ∙ length-set a.free (n - a.first) true

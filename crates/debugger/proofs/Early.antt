@@ -100,10 +100,6 @@ replayed-on object config machine later before after can all at stay =
     } in
     (on, replayed-more object config machine before after can all stay)
 
--- nothing is kept yet
-pub replayed-none : (object : List ℕ) (config : Config) → AreReplayed object config []
-replayed-none object config m program same = All-nil (IsOf m)
-
 -- a snapshot that is pushed where there is memory
 pub stay-pushed : (machine : Course) (before after : List Course) (snapshot : Course) (ok : Bool)
     → snapshot ≡ machine → after ≡ (if ok then before ++ snapshot ∷ [] else before) → StayOf machine before after

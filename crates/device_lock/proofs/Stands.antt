@@ -1,49 +1,9 @@
 -- The calls of one pass in a history, against calls as they are kept.
-use Rattle.std.proofs.Common.{suc, ◌≡◌, ◌≢◌, ◌↔◌, ℕ, ◌+◌, ◌<◌, Option, List, [], ◌∷◌, ◌++◌, length, get_or, take, drop, refl, sym, ◌∙◌, ap, arith, eq-eqb, drop-cons, append_assoc, append-nil}
-use Rattle.std.proofs.lemmas.Bool.{ne_eqb}
-use Rattle.std.proofs.lemmas.Grind.{common_steps}
+use Rattle.std.proofs.Common.{suc, ◌≡◌, ◌≢◌, ◌↔◌, ℕ, ◌+◌, ◌<◌, Option, List, [], ◌∷◌, ◌++◌, length, get_or, take, drop, refl, sym, ◌∙◌, ap, arith, drop-cons, append_assoc, append-nil}
 use Rattle.std.proofs.lemmas.List.{append_cancel_left, take_more, take-append-drop}
-use Rattle.std.proofs.Math.Seq.{drop-length}
 use Rattle.device_lock.specs.declared.calls.Made.{Made}
 use Rattle.device_lock.specs.declared.entry.Call.{Call}
-use Rattle.device_lock.specs.declared.entry.Entry.{Entry}
 use Rattle.device_lock.specs.Calls.{rested_calls, made_calls, calls_in}
-use Rattle.device_lock.specs.History.{calls_of, call_in}
-use Rattle.device_lock.proofs.Walks.{split}
-
-calls_of-cons : (tag : ℕ) (e : Entry) (h : List Entry) → e.pass ≡ tag
-    → calls_of tag (e ∷ h) ≡ call_in e ∷ calls_of tag h
-calls_of-cons tag e h is = grind (arith, common_steps, eq-eqb e.pass tag is)
-
-calls_of-past : (tag : ℕ) (e : Entry) (h : List Entry) → e.pass ≢ tag → calls_of tag (e ∷ h) ≡ calls_of tag h
-calls_of-past tag e h other = grind (arith, common_steps, ne_eqb e.pass tag other)
-
--- from an entry of the tag on, and from another's
-pub calls_of-here : (tag : ℕ) (h : List Entry) (i : ℕ) (d : Entry) → i < length h → (get_or h i d).pass ≡ tag
-    → calls_of tag (drop i h) ≡ call_in (get_or h i d) ∷ calls_of tag (drop (i + 1) h)
-calls_of-here tag h i d lt is =
-    ap (λ (z : List Entry). calls_of tag z) (split h i d lt) ∙ calls_of-cons tag (get_or h i d) (drop (i + 1) h) is
-
-pub calls_of-there : (tag : ℕ) (h : List Entry) (i : ℕ) (d : Entry) → i < length h → (get_or h i d).pass ≢ tag
-    → calls_of tag (drop i h) ≡ calls_of tag (drop (i + 1) h)
-calls_of-there tag h i d lt other =
-    ap (λ (z : List Entry). calls_of tag z) (split h i d lt) ∙ calls_of-past tag (get_or h i d) (drop (i + 1) h) other
-
--- after the last entry
-pub calls_of-end : (tag : ℕ) (h : List Entry) (i : ℕ) → i ≡ length h → calls_of tag (drop i h) ≡ []
-calls_of-end tag h i is =
-    ap (λ (z : List Entry). calls_of tag z) (ap (λ k. drop k h) is ∙ drop-length h)
-
--- calls that begin with another
-pub begins_otherwise : (c x : Call) (all more rest : List Call) → all ≡ x ∷ rest → c ≢ x → all ≢ c ∷ more
-begins_otherwise c x all more rest are other same = other (ap (λ (l : List Call). get_or l 0 c) (sym same ∙ are))
-
-pub begins_not_at_all : (c : Call) (all more : List Call) → all ≡ [] → all ≢ c ∷ more
-begins_not_at_all c all more none same = absurd cc
-
--- after the same calls the rests differ
-pub differs_behind : (front all rest more : List Call) → all ≡ front ++ rest → rest ≢ more → all ≢ front ++ more
-differs_behind front all rest more are other same = other (append_cancel_left front rest more (sym are ∙ same))
 
 -- calls as they are kept, up to one of them and from it on
 

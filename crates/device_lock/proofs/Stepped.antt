@@ -3,15 +3,12 @@ use Rattle.std.proofs.Common.{◌≡◌, ℕ, List, [], ◌∷◌, ◌++◌, tak
 use Rattle.std.proofs.lemmas.Result.{err_from_is_err_and}
 use Rattle.std.specs.Prelude.{IsErrAnd}
 use Rattle.nic_device.specs.DmaArena.Block.{Block}
-use Rattle.nic_device.specs.Outcome.{Outcome}
-use Rattle.nic_device.specs.Resting.{Rests}
 use Rattle.nic_device.specs.Run.{state_after}
 use Rattle.nic_device.specs.State.{State, new_state}
 use Rattle.nic_device.specs.Step.{step_of}
 use Rattle.nic_device.specs.declared.event.Event.{Event}
 use Rattle.nic_device.specs.declared.event.Event.TheVariants as event
 use Rattle.nic_device.specs.declared.event.Reply.{Reply}
-use Rattle.nic_device.specs.declared.event.Reply.TheVariants.{Idle}
 use Rattle.nic_device.specs.DmaRing.declared.dir.Dir.TheVariants as dir
 use Rattle.device_lock.specs.declared.entry.Call.{Call}
 use Rattle.device_lock.specs.declared.fault.CallFault.{CallFault}
@@ -21,9 +18,8 @@ use Rattle.device_lock.specs.Fault.{event_of, fault_with}
 use Rattle.device_lock.specs.History.{leads_to, IsLegal, entry_of}
 use Rattle.device_lock.specs.Kept.{Held, after_call, opened}
 use Rattle.device_lock.specs.Pass.{PassValue, call_of, with_call}
-use Rattle.device_lock.specs.Resting.{AreIdle, after_calls, idle_calls}
+use Rattle.device_lock.specs.Resting.{after_calls}
 use Rattle.device_lock.specs.Stepping.{AreMade, StepsAndMakes, StopsMaking, StopsStepping, calls_made, events_in, steps_of_queue, with_calls}
-use Rattle.device_lock.proofs.AtRest.{rest_idle}
 use Rattle.device_lock.proofs.Histories.{leads_to-snoc, legal_more}
 
 -- calls after calls
@@ -108,22 +104,6 @@ all_made h i j k l p q r s t queue a b c d =
     both_made h k l p s t _ (event.RxStep ∷ []) (three_made h i j k p q r s _ _ _ a b c) d
 
 -- the steps of a queue at rest
-
-idle_made : (s : State) (es : List (Event Block)) → AreIdle s es → idle_calls es ≡ calls_made s es
-idle_made s [] idle = refl
-idle_made s (e ∷ es) idle =
-    ap (λ (l : List Call). call_of e Idle ∷ l) (idle_made s es idle.1)
-    ∙ sym (ap (λ (o : Outcome). call_of e o.reply ∷ calls_made o.state es) idle.0)
-
-pub rest_made : (h then : Held) (old new : PassValue) (queue : ℕ) → Rests h.device queue
-    → then ≡ after_calls h old.tag (steps_of_queue queue) → new ≡ with_calls old (idle_calls (steps_of_queue queue))
-    → AreMade h old (steps_of_queue queue) then new
-rest_made h then old new queue rests under noted = record {
-  under = under;
-  noted =
-      noted ∙ ap (λ (l : List Call). with_calls old l)
-      (idle_made h.device (steps_of_queue queue) (rest_idle h.device queue rests));
-}
 
 -- steps that stop
 
@@ -218,10 +198,6 @@ module _ (queue : ℕ) (e : Event Block) (h then : Held) (old new : PassValue) w
         → OnErr r (StopsMaking queue h old then new) → OnErr r (StopsAnswered vfs fifo queue old new)
     stops_answered (Ok x) made = tt
     stops_answered (Err f) (count, made) = (count, all_answered (take count (steps_of_queue queue)) made)
-
--- nothing was made, and no lock was taken
-pub foreign_stops : (old : PassValue) (queue : ℕ) → StopsStepping queue old old
-foreign_stops old queue = (0, ([], refl, sym (with_none old)))
 
 pub foreign_answered : (vfs fifo : ℕ) (old : PassValue) (queue : ℕ) → StopsAnswered vfs fifo queue old old
 foreign_answered vfs fifo old queue = (

@@ -1,5 +1,5 @@
 -- Entries as they are kept, one more of them, and the first of them by itself.
-use Rattle.std.proofs.Common.{◌≡◌, ℕ, ◌+◌, ◌<◌, ◌≤◌, Option, None, Some, List, [], ◌∷◌, ◌++◌, length, refl, sym, ap, ◌∙◌, append_assoc, append-nil, arith, length-append}
+use Rattle.std.proofs.Common.{◌≡◌, ℕ, ◌+◌, ◌≤◌, Option, None, Some, List, [], ◌∷◌, ◌++◌, length, refl, sym, ap, ◌∙◌, append_assoc, append-nil, length-append}
 use Rattle.nic_device.specs.DmaArena.Block.{Block}
 use Rattle.nic_device.specs.declared.event.Event.{Event}
 use Rattle.nic_device.specs.declared.event.Reply.{Reply}
@@ -51,26 +51,3 @@ room_more old new more count room counted is fits = record {
   counted = rw (is, length-append old more, counted) refl;
   fits = fits;
 }
-
--- the first of those that aren't kept one by one, by itself
-pub first-unpacked : (whole : List Entry) (packed : List Packed) (p : Packed) (rested : Option Rested)
-    → entries_in ((whole ++ rested_entries p.rested) ++ own p ∷ []) packed rested
-    ≡ entries_in whole (p ∷ packed) rested
-first-unpacked whole packed p rested =
-    let before = rested_entries p.rested in
-    let behind = packed_entries packed ++ rested_entries rested in
-    append_assoc (whole ++ before) (own p ∷ []) behind
-    ∙ append_assoc whole before (own p ∷ behind)
-    ∙ ap (λ (l : List Entry). whole ++ l)
-    (sym (append_assoc before (own p ∷ packed_entries packed) (rested_entries rested)))
-
--- there is room for it where there is room for all
-pub first-fits : (whole : List Entry) (packed : List Packed) (p : Packed) (rested : Option Rested) (room : ℕ)
-    → length (entries_in whole (p ∷ packed) rested) ≤ room → length whole + length (rested_entries p.rested) < room
-first-fits whole packed p rested room fits =
-    let before = rested_entries p.rested in
-    let behind = packed_entries packed ++ rested_entries rested in
-    let all = length-append whole ((before ++ (own p ∷ packed_entries packed)) ++ rested_entries rested) in
-    let some = length-append (before ++ (own p ∷ packed_entries packed)) (rested_entries rested) in
-    let few = length-append before (own p ∷ packed_entries packed) in
-    omega (arith, fits, all, some, few)

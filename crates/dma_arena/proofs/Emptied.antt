@@ -63,14 +63,6 @@ first_free e s linked ne =
     let m = linked.ring.next list_end e (nodes-end e s list_end refl) in
     marked s e.next ∙ ap is_some (sym (nodes-block e s e.next ne) ∙ m.1)
 
-reported : (o : Option Links) → is_some o ≡ false → o ≡ None
-reported None h = refl
-reported (Some l) h = cc
-
--- a place whose block is in use
-pub in_use : (s : List (Option Links)) (p : ℕ) → get_or (map is_some s) p false ≡ false → get_or s p None ≡ None
-in_use s p h = reported (get_or s p None) (sym (marked s p) ∙ h)
-
 -- marks that are set from the last place down
 
 unfoldable pub filled : ℕ → ℕ → List Bool
@@ -90,10 +82,6 @@ pub filled_length : (k m : ℕ) → length (filled k m) ≡ k + m
 unfolding filled
 filled_length zero m = omega (arith, length-replicate m true)
 filled_length (suc k) m = omega (arith, filled_length k m)
-
-pub marks_empty : (n : ℕ) → map is_some (replicate n no_links) ≡ replicate n false
-marks_empty zero = refl
-marks_empty (suc n) = ap (λ xs. false ∷ xs) (marks_empty n)
 
 filled_none : (n : ℕ) → filled n 0 ≡ replicate n false
 unfolding filled

@@ -1,13 +1,9 @@
-use Rattle.std.proofs.Common.{◌≡◌, ℕ, zero, suc, ◌+◌, ◌-◌, ◌<◌, ◌≤◌, ◌&&◌, Bool, true, false, cond, Option, Some, None, List, [], ◌∷◌, map, length, take, drop, set, get_or, replicate, refl, sym, ap, ◌∙◌, arith}
-use Rattle.std.specs.Prelude.{count_by, position, is_some}
-use Rattle.std.specs.List.{list_all, position_from}
-use Rattle.std.proofs.lemmas.Iterator.Adapters.{position_from-zero}
-use Rattle.std.proofs.lemmas.Grind.{common_steps}
-use Rattle.std.proofs.lemmas.List.{map-set, take-map, drop-map, take-replicate, drop-replicate, length-map, get_or-map}
+use Rattle.std.proofs.Common.{◌≡◌, ℕ, zero, suc, ◌-◌, ◌&&◌, Bool, true, false, cond, Option, List, [], ◌∷◌, map, length, get_or, replicate, refl, sym, ap, arith}
+use Rattle.std.specs.Prelude.{count_by, is_some}
+use Rattle.std.specs.List.{list_all}
 use Rattle.std.proofs.lemmas.List.Folds.{list_all-map}
-use Rattle.std.proofs.lemmas.List.Quantifiers.{position-Some}
 use Rattle.std.proofs.lemmas.List.Sums.{sum_by-cons}
-use Rattle.dma_arena.specs.Numbers.{Numbers, free_count, is_free, are_all_free, all_free, with_free}
+use Rattle.dma_arena.specs.Numbers.{Numbers, free_count, is_free}
 
 -- lists of marks
 
@@ -36,68 +32,11 @@ module _ {A : Type 0} where
   abbrev pub marks : ℕ → List (Option A) → Numbers
   marks first slots = record { first = first; free = map is_some slots }
 
-  -- a slot that changes is a number that changes
-  pub marks-set : (first : ℕ) (slots : List (Option A)) (block at : ℕ) (o : Option A) (free : Bool) → first + at ≡ block
-      → is_some o ≡ free
-      → marks first (set slots at o) ≡ with_free (marks first slots) block free
-  marks-set first slots block at o free place is =
-      let e : block - first ≡ at = omega arith in
-      rw (map-set, is, e) refl
-
-  pub marks-take : (first : ℕ) (slots : List (Option A)) (n : ℕ) → are_all_free (marks first slots) ≡ true
-      → n ≤ length slots → marks first (take n slots) ≡ all_free first n
-  marks-take first slots n all h =
-      let set_marks : map is_some slots ≡ replicate (length slots) true =
-      all_set-is (map is_some slots) all ∙ ap (λ n. replicate n true) (length-map slots is_some) in
-      ap (λ (free : List Bool). let a : Numbers = record { first = first; free = free } in a)
-      (sym (take-map is_some n slots) ∙ ap (take n) set_marks ∙ take-replicate n (length slots) true h)
-
-  pub marks-drop : (first : ℕ) (slots : List (Option A)) (n : ℕ) → are_all_free (marks first slots) ≡ true
-      → marks (first + n) (drop n slots) ≡ all_free (first + n) (length slots - n)
-  marks-drop first slots n all =
-      let set_marks : map is_some slots ≡ replicate (length slots) true =
-      all_set-is (map is_some slots) all ∙ ap (λ n. replicate n true) (length-map slots is_some) in
-      ap (λ (free : List Bool). let a : Numbers = record { first = first + n; free = free } in a)
-      (sym (drop-map is_some n slots) ∙ ap (drop n) set_marks ∙ drop-replicate n (length slots) true)
-
-  no_position : (slots : List (Option A)) (i : ℕ) → position_from (λ slot. is_some slot) i slots ≡ None
-      → count_by (λ x. x) (map is_some slots) ≡ 0
-  no_position [] i h = refl
-  no_position (None ∷ slots) i h = no_position slots (i + 1) h
-  no_position (Some x ∷ slots) i h = cc
-
-  -- no slot is found where none is free
-  pub free_count-of_no_position : (slots : List (Option A)) → position (λ slot. is_some slot) slots ≡ None
-      → count_by (λ x. x) (map is_some slots) ≡ 0
-  free_count-of_no_position slots h = no_position slots 0 (sym (position_from-zero (λ slot. is_some slot) slots) ∙ h)
-
-  -- the slot that is found is free
-  pub free-of_position : (slots : List (Option A)) (k : ℕ) → position (λ slot. is_some slot) slots ≡ Some k
-      → (k < length slots) × (get_or (map is_some slots) k false ≡ true)
-  free-of_position slots k h =
-      let at = position-Some (λ slot. is_some slot) slots k None h in
-      (at.0, get_or-map is_some slots k None false at.0 ∙ at.1)
-
   pub list_all-marks : (slots : List (Option A))
       → list_all (λ slot. is_some slot) slots ≡ list_all (λ x. x) (map is_some slots)
   list_all-marks slots = sym (list_all-map (λ x. x) is_some slots)
 
-  pub is_free-marks : (first : ℕ) (slots : List (Option A)) (k : ℕ) → get_or (map is_some slots) k false ≡ true
-      → is_free (marks first slots) (first + k) ≡ true
-  is_free-marks first slots k h =
-      let e : (first + k) - first ≡ k = omega arith in
-      rw (e, h) (grind (arith, common_steps))
-
 -- a place of an arena is a number of it
-
-pub is_free-at : (a : Numbers) (k : ℕ) → get_or a.free k false ≡ true → is_free a (a.first + k) ≡ true
-is_free-at a k h =
-    let e : (a.first + k) - a.first ≡ k = omega arith in
-    rw (e, h) (grind (arith, common_steps))
-
-pub with_free-at : (a : Numbers) (block at : ℕ) (free : Bool) → a.first + at ≡ block
-    → (record { first = a.first; free = set a.free at free }) ≡ with_free a block free
-with_free-at a block at free place = let e : block - a.first ≡ at = omega arith in rw e refl
 
 -- laws of the numbers of an arena
 

@@ -5,7 +5,7 @@ use Rattle.device_laws.proofs.{Standing.leaves_missed, Standing.memory_rest, Sta
 use Rattle.device_laws.proofs.{StandingAccesses.write_rest, StandingQueues.receiving_rest}
 use Rattle.device_lock.specs.Alone.{Spares, is_setting}
 use Rattle.history_laws.specs.Prelude.{LeavesReceive, LeavesRegisters, LeavesTransmit, Mode, Place, Port, ReceiveQueue}
-use Rattle.history_laws.specs.Prelude.{Register, Rx, State, TransmitQueue, Tx, Watched, WritesNoSetting, after}
+use Rattle.history_laws.specs.Prelude.{Register, Rx, State, Tx, Watched, WritesNoSetting, after}
 use Rattle.history_laws.specs.Prelude.{asks_pool_reset, asks_reset, has_queue, mode_in, named, row_of, step_of}
 use Rattle.history_laws.specs.Sides.{LeavesSide, Side, receive_side, transmit_side}
 use Rattle.history_laws.specs.{Left.is_switch_of, Prelude.Block, Prelude.Dir, Prelude.Event, Prelude.LeavesQueues}
@@ -24,9 +24,6 @@ use Rattle.device_lock.specs.NicDevice.declared.event.Event.TheVariants as event
 -- what a side is among those of its direction
 abbrev pub receive_of : Side → ReceiveQueue
 receive_of x = record { ring = x.ring; control = x.control; on = x.on; wanted = x.wanted }
-
-abbrev pub transmit_of : Side → TransmitQueue
-transmit_of x = record { ring = x.ring; writeback = x.writeback; on = x.on; wanted = x.wanted }
 
 module _ (queue : ℕ) (s t : State) where
   pub receive_left : LeavesReceive queue s t → LeavesSide Rx queue s t

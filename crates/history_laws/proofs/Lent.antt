@@ -46,9 +46,6 @@ only_lent_stays = record {
   anew = λ own known s block only. grind arith;
 }
 
-pub or_swap : (a b c : Bool) → (a || (b || c)) ≡ (b || (a || c))
-or_swap a b c = grind arith
-
 pub not_so : (b c : Bool) → (b ≡ true → c ≡ true) → c ≡ false → b ≡ false
 not_so b c so none = grind arith
 

@@ -6,7 +6,7 @@ use Rattle.history_laws.specs.{Left.IsSilent, Left.Shuts, Prelude.Block, Prelude
 use Rattle.history_laws.{proofs.Leaving.queues_left, specs.Left.Deed, specs.Left.Rests, specs.Sides.taken}
 use Rattle.device_lock.proofs.NicDevice.RegisterLaws.Switches.{receive-asked, transmit-asked}
 use Rattle.device_lock.specs.NicDevice.{RegisterFile.Queue.enable_row, declared.event.Reply.TheVariants.Word}
-use Rattle.std.proofs.Common.{Bool, List, [], arith, cond, false, not, true, ℕ, ◌&&◌, ◌<◌, ◌≡◌, ◌⊎◌}
+use Rattle.std.proofs.Common.{Bool, List, [], arith, false, not, true, ℕ, ◌&&◌, ◌<◌, ◌≡◌, ◌⊎◌}
 use Rattle.std.{proofs.lemmas.Grind.common_steps, specs.Prelude.IsFalse, specs.Prelude.IsTrue}
 use Rattle.device_lock.specs.NicDevice.declared.event.Event.TheVariants as event
 
@@ -33,9 +33,6 @@ pub record HaveSameRing (x y : Side) : Type 0 where
   pub control : y.control ≡ x.control
   pub writeback : y.writeback ≡ x.writeback
   pub staged : x.staged ≡ [] → y.staged ≡ []
-
-pub none_staged : (wanted : Bool) (staged : List ℕ) → staged ≡ [] → cond wanted staged [] ≡ []
-none_staged wanted staged none = grind arith
 
 module _ (dir : Dir) (queue : ℕ) (s : State) (e : Event Block) where
   module _ (P : Side → Type 0) (p : P (side_of dir queue s)) where

@@ -192,12 +192,6 @@ put-back a taken given n b p q bytes free zero put same away back =
 
 -- a device without its memory, and memory of the same value
 
-pub whole-again : (s rest : State) (m : Memory) → rest ≡ record s { memory = map.empty } → m ≡ s.memory
-    → (let t : State = record rest { memory = m } in t) ≡ s
-whole-again s rest m is same =
-    ap (λ (r : State). let t : State = record r { memory = m } in t) is
-    ∙ ap (λ (x : Memory). let t : State = record s { memory = x } in t) same
-
 pub lent-again : (rest copy : State) (m lent : Memory) (engine : State) → engine ≡ record copy { memory = lent }
     → copy ≡ rest → lent ≡ m → engine ≡ record rest { memory = m }
 lent-again rest copy m lent engine is same all =

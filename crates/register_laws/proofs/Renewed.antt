@@ -18,9 +18,8 @@ use Rattle.register_file.specs.DmaRing.declared.dir.Dir.{Dir}
 use Rattle.register_file.specs.DmaRing.declared.dir.Dir.TheVariants.{Rx, Tx}
 use Rattle.register_file.specs.declared.owner.Owner.TheVariants as owner
 use Rattle.register_laws.specs.Footprint.{Footprint, ChangesWithin, nothing, either, is_place, the_bits, renewed_of}
-use Rattle.register_laws.proofs.HasWord.{HasWord}
 use Rattle.register_laws.specs.Sound.{HasShape}
-use Rattle.register_laws.proofs.Bits.{same_word, has_bit-mixed}
+use Rattle.register_laws.proofs.Bits.{has_bit-mixed}
 use Rattle.register_laws.proofs.Footprints.{within-refl, within-either}
 use Rattle.register_laws.proofs.Owners.{is_dir-same, is_group-itself, is_group-same, is_owner-itself, is_place-same}
 use Rattle.register_laws.proofs.Shape.{put_stands, HasShape-put, HasShape-with_wanted, HasShape-with_reported}
@@ -36,11 +35,6 @@ pub record IsRenewed (f : Footprint) (old new : Registers) : Type 0 where
   pub wanted : HasShape old → (dir : Dir) (queue : ℕ) → f.wanted dir queue ≡ true → queue < 128
       → is_wanted new dir queue ≡ false
   pub reported : HasShape old → (g : Group) → f.reported g ≡ true → index_of g < 64 → reported_by new g ≡ 0
-
--- a word with all its bits
-pub word_renewed : {f : Footprint} {old new : Registers} → IsRenewed f old new → HasShape old → (p : Place)
-    → HasWord f p → p.index < (row_of p.row).count → word_at new.words p ≡ (row_of p.row).reset
-word_renewed new h p has inside = same_word (λ bit. new.bits h p bit (has bit) inside)
 
 pub renewed-refl : (r : Registers) → IsRenewed nothing r r
 renewed-refl r = record {

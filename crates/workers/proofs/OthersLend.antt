@@ -1,13 +1,11 @@
 -- The test of a history says whether others lend none of a driver's blocks.
-use Rattle.std.proofs.Common.{◌≡◌, ◌≢◌, ℕ, zero, suc, ◌+◌, ◌<◌, ◌≤◌, inl, inr, Bool, true, false, not, ◌&&◌, ◌||◌, List, [], ◌∷◌, length, get_or, drop, refl, sym, ap, ◌∙◌, subst, arith}
-use Rattle.std.proofs.Math.Seq.{drop-length}
+use Rattle.std.proofs.Common.{◌≡◌, ◌≢◌, ℕ, zero, suc, ◌+◌, ◌<◌, ◌≤◌, inl, inr, Bool, true, false, not, ◌&&◌, ◌||◌, List, [], ◌∷◌, refl, sym, ap, ◌∙◌, subst, arith}
 use Rattle.std.specs.Prelude.{◌==◌, ◌↔◌, IsTrue}
 use Rattle.std.proofs.lemmas.Bool.{and_from, and_parts, cases_eq, eq-eqb, le-leb, leb-true, lt-ltb, ltb-true, ne_eqb, not-true}
 use Rattle.pmd_driver.specs.DeviceLock.Alone.{Blocks}
 use Rattle.pmd_driver.specs.DeviceLock.Watching.{none_of}
 use Rattle.pmd_driver.specs.DeviceLock.declared.alone.Watched.{Watched}
 use Rattle.pmd_driver.specs.DeviceLock.declared.entry.Entry.{Entry}
-use Rattle.pmd_driver.proofs.DeviceLock.Walks.{split}
 use Rattle.workers.specs.Before.{holds_of, known_before}
 use Rattle.workers.specs.Lending.{NoneLentBefore, OnlyPassLends, OthersLendNone, are_from, lends_none, lent_after, lent_through, no_block, only_pass_lends}
 use Rattle.workers.proofs.FirstOwn.{test_decides}
@@ -33,23 +31,6 @@ module _ (pass : ℕ) (own : Blocks) where
         λ is. let parts = and_parts _ _ is in (or_other e parts.0, more.0 parts.1),
         λ none. and_from _ _ (own_or e none.0) (more.1 none.1),
       )
-
-  module _ (h : List Entry) (i : ℕ) (e : Entry) (lt : i < length h) (there : get_or h i e ≡ e) where
-    begins : drop i h ≡ e ∷ drop (i + 1) h
-    begins = split h i e lt ∙ ap (λ (d : Entry). d ∷ drop (i + 1) h) there
-
-    -- an entry of another pass lends one
-    pub lends_here : (e.pass == pass) ≡ false → lends_none own e.event ≡ false
-        → only_pass_lends pass own (drop i h) ≡ false
-    lends_here other is = ap (only_pass_lends pass own) begins ∙ rw (other, is) refl
-
-    -- an entry is the pass's, or lends none
-    pub lends_there : ((e.pass == pass) || lends_none own e.event) ≡ true
-        → only_pass_lends pass own (drop i h) ≡ only_pass_lends pass own (drop (i + 1) h)
-    lends_there is = ap (only_pass_lends pass own) begins ∙ rw is refl
-
-  pub lends_last : (h : List Entry) (i : ℕ) → i ≡ length h → only_pass_lends pass own (drop i h) ≡ true
-  lends_last h i is = ap (only_pass_lends pass own) (ap (λ k. drop k h) is ∙ drop-length h)
 
 -- none of so many blocks is among some
 

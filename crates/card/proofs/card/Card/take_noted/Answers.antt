@@ -1,4 +1,4 @@
-use Rattle.card.proofs.Moves.{taken-returned, taken-shared, with_taken-is}
+use Rattle.card.proofs.Moves.{taken-returned, taken-shared}
 use Rattle.card.proofs.card.Card.take_noted.Goals as goal
 
 pub note_returned-requires-clause-own : goal.note_returned-requires-clause-own

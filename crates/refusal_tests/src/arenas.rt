@@ -60,12 +60,9 @@ impl Trial for Splitting {
 #[test]
 fn an_arena_is_split(rt: HostRuntime) {
     let alloc = rt.alloc();
-    tried(
-        &rt,
-        alloc,
-        Splitting::new(&rt, alloc),
-        Splitting::new(&rt, alloc),
-    );
+    let subject = Splitting::new(&rt, alloc);
+    let calm = Splitting::new(&rt, alloc);
+    tried(&rt, alloc, subject, calm);
 }
 
 /// A block that is to be lent.
@@ -121,12 +118,9 @@ impl Trial for Lending {
 #[test]
 fn a_block_is_lent(rt: HostRuntime) {
     let alloc = rt.alloc();
-    tried(
-        &rt,
-        alloc,
-        Lending::new(&rt, alloc),
-        Lending::new(&rt, alloc),
-    );
+    let subject = Lending::new(&rt, alloc);
+    let calm = Lending::new(&rt, alloc);
+    tried(&rt, alloc, subject, calm);
 }
 
 /// A descriptor that is to be fetched.
@@ -206,10 +200,7 @@ impl Trial for Fetching {
 #[test]
 fn a_descriptor_is_fetched(rt: HostRuntime) {
     let alloc = rt.alloc();
-    tried(
-        &rt,
-        alloc,
-        Fetching::new(&rt, alloc),
-        Fetching::new(&rt, alloc),
-    );
+    let subject = Fetching::new(&rt, alloc);
+    let calm = Fetching::new(&rt, alloc);
+    tried(&rt, alloc, subject, calm);
 }

@@ -38,12 +38,9 @@ impl OfProgram for Debugger {
 #[test]
 fn a_debugger_is_made(rt: HostRuntime) {
     let alloc = rt.alloc();
-    tried(
-        &rt,
-        alloc,
-        Building::<Debugger>::new(&rt, alloc),
-        Building::<Debugger>::new(&rt, alloc),
-    );
+    let subject = Building::<Debugger>::new(&rt, alloc);
+    let calm = Building::<Debugger>::new(&rt, alloc);
+    tried(&rt, alloc, subject, calm);
 }
 
 /// A debugger that is to be where a number of steps leads. Steps that were made stay made.

@@ -151,12 +151,9 @@ impl Trial for Stepping {
 #[test]
 fn a_block_is_lent_to_a_device(rt: HostRuntime) {
     let alloc = rt.alloc();
-    tried(
-        &rt,
-        alloc,
-        Stepping::new(&rt, alloc, None),
-        Stepping::new(&rt, alloc, None),
-    );
+    let subject = Stepping::new(&rt, alloc, None);
+    let calm = Stepping::new(&rt, alloc, None);
+    tried(&rt, alloc, subject, calm);
 }
 
 #[test]
@@ -253,10 +250,7 @@ impl Trial for Running {
 #[test]
 fn a_list_of_events_is_run(rt: HostRuntime) {
     let alloc = rt.alloc();
-    tried(
-        &rt,
-        alloc,
-        Running::new(&rt, alloc),
-        Running::new(&rt, alloc),
-    );
+    let subject = Running::new(&rt, alloc);
+    let calm = Running::new(&rt, alloc);
+    tried(&rt, alloc, subject, calm);
 }

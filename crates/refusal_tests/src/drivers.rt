@@ -70,12 +70,9 @@ impl Trial for Setting {
 #[test]
 fn a_device_is_set_up(rt: HostRuntime) {
     let alloc = rt.alloc();
-    tried(
-        &rt,
-        alloc,
-        Setting::new(&rt, alloc),
-        Setting::new(&rt, alloc),
-    );
+    let subject = Setting::new(&rt, alloc);
+    let calm = Setting::new(&rt, alloc);
+    tried(&rt, alloc, subject, calm);
 }
 
 /// Checks that a driver's call was refused for lack of memory.
@@ -335,12 +332,9 @@ impl Trial for Driving {
 
 /// A driver makes a call.
 fn drives<R: Abort + Wait + Print>(rt: &R, alloc: Global, kind: Kind) {
-    tried(
-        rt,
-        alloc,
-        Driving::new(rt, alloc, kind),
-        Driving::new(rt, alloc, kind),
-    );
+    let subject = Driving::new(rt, alloc, kind);
+    let calm = Driving::new(rt, alloc, kind);
+    tried(rt, alloc, subject, calm);
 }
 
 #[test]

@@ -126,12 +126,9 @@ impl Maker for Fresh {
 
 /// Makes something of a kind.
 fn made<R: Abort + Wait + Print>(rt: &R, alloc: Global, kind: Kind) {
-    makes(
-        rt,
-        alloc,
-        Fresh::new(rt, alloc, kind),
-        Fresh::new(rt, alloc, kind),
-    );
+    let subject = Fresh::new(rt, alloc, kind);
+    let calm = Fresh::new(rt, alloc, kind);
+    makes(rt, alloc, subject, calm);
 }
 
 #[test]

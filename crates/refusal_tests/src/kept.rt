@@ -66,12 +66,9 @@ impl Trial for Keeping {
 #[test]
 fn a_device_is_kept(rt: HostRuntime) {
     let alloc = rt.alloc();
-    tried(
-        &rt,
-        alloc,
-        Keeping::new(&rt, alloc),
-        Keeping::new(&rt, alloc),
-    );
+    let subject = Keeping::new(&rt, alloc);
+    let calm = Keeping::new(&rt, alloc);
+    tried(&rt, alloc, subject, calm);
 }
 
 /// A device that is to be restored with the blocks of an arena.
@@ -128,12 +125,9 @@ impl Trial for Restoring {
 #[test]
 fn a_device_is_restored(rt: HostRuntime) {
     let alloc = rt.alloc();
-    tried(
-        &rt,
-        alloc,
-        Restoring::new(&rt, alloc),
-        Restoring::new(&rt, alloc),
-    );
+    let subject = Restoring::new(&rt, alloc);
+    let calm = Restoring::new(&rt, alloc);
+    tried(&rt, alloc, subject, calm);
 }
 
 /// A machine that a snapshot is to be made of.
@@ -179,12 +173,9 @@ impl Trial for KeepingMachine {
 #[test]
 fn a_machine_is_kept(rt: HostRuntime) {
     let alloc = rt.alloc();
-    tried(
-        &rt,
-        alloc,
-        KeepingMachine::new(&rt, alloc),
-        KeepingMachine::new(&rt, alloc),
-    );
+    let subject = KeepingMachine::new(&rt, alloc);
+    let calm = KeepingMachine::new(&rt, alloc);
+    tried(&rt, alloc, subject, calm);
 }
 
 /// A machine that is to be restored.
@@ -232,10 +223,7 @@ impl Trial for RestoringMachine {
 #[test]
 fn a_machine_is_restored(rt: HostRuntime) {
     let alloc = rt.alloc();
-    tried(
-        &rt,
-        alloc,
-        RestoringMachine::new(&rt, alloc),
-        RestoringMachine::new(&rt, alloc),
-    );
+    let subject = RestoringMachine::new(&rt, alloc);
+    let calm = RestoringMachine::new(&rt, alloc);
+    tried(&rt, alloc, subject, calm);
 }

@@ -112,12 +112,9 @@ impl Trial for Listing {
 #[test]
 fn the_calls_are_listed(rt: HostRuntime) {
     let alloc = rt.alloc();
-    tried(
-        &rt,
-        alloc,
-        Listing::new(&rt, alloc),
-        Listing::new(&rt, alloc),
-    );
+    let subject = Listing::new(&rt, alloc);
+    let calm = Listing::new(&rt, alloc);
+    tried(&rt, alloc, subject, calm);
 }
 
 /// Calls that are to be returned as a history: all of one pass, or by marks.
@@ -200,21 +197,15 @@ impl Trial for Telling {
 #[test]
 fn calls_of_a_device_in_hand_are_reported_as_a_history(rt: HostRuntime) {
     let alloc = rt.alloc();
-    tried(
-        &rt,
-        alloc,
-        Telling::new(&rt, alloc, false),
-        Telling::new(&rt, alloc, false),
-    );
+    let subject = Telling::new(&rt, alloc, false);
+    let calm = Telling::new(&rt, alloc, false);
+    tried(&rt, alloc, subject, calm);
 }
 
 #[test]
 fn marked_calls_are_reported_as_a_history(rt: HostRuntime) {
     let alloc = rt.alloc();
-    tried(
-        &rt,
-        alloc,
-        Telling::new(&rt, alloc, true),
-        Telling::new(&rt, alloc, true),
-    );
+    let subject = Telling::new(&rt, alloc, true);
+    let calm = Telling::new(&rt, alloc, true);
+    tried(&rt, alloc, subject, calm);
 }

@@ -337,10 +337,7 @@ impl Trial for Positions {
 #[test]
 fn the_calls_of_a_pass_are_found(rt: HostRuntime) {
     let alloc = rt.alloc();
-    tried(
-        &rt,
-        alloc,
-        Positions::new(&rt, alloc),
-        Positions::new(&rt, alloc),
-    );
+    let subject = Positions::new(&rt, alloc);
+    let calm = Positions::new(&rt, alloc);
+    tried(&rt, alloc, subject, calm);
 }

@@ -117,12 +117,9 @@ impl OfProgram for Machine {
 #[test]
 fn a_machine_is_made(rt: HostRuntime) {
     let alloc = rt.alloc();
-    tried(
-        &rt,
-        alloc,
-        Building::<Machine>::new(&rt, alloc),
-        Building::<Machine>::new(&rt, alloc),
-    );
+    let subject = Building::<Machine>::new(&rt, alloc);
+    let calm = Building::<Machine>::new(&rt, alloc);
+    tried(&rt, alloc, subject, calm);
 }
 
 /// A machine that has made this many steps of the script.

@@ -200,10 +200,7 @@ impl Trial for OverPass {
 #[test]
 fn a_call_by_a_pass(rt: HostRuntime) {
     let alloc = rt.alloc();
-    tried(
-        &rt,
-        alloc,
-        OverPass::new(&rt, alloc),
-        OverPass::new(&rt, alloc),
-    );
+    let subject = OverPass::new(&rt, alloc);
+    let calm = OverPass::new(&rt, alloc);
+    tried(&rt, alloc, subject, calm);
 }

@@ -203,11 +203,11 @@ module _ (queue : ℕ) (mine : Blocks) (s : State) (sound : IsSound s) (out : Li
 -- what the queue's own transmit side reports is in a block of its ring
 pub reports_spare : (s : State) (queue : ℕ) (sent : List (List ℕ)) (u : Sender) (f : ℕ) → AgreesAt s queue sent u f
     → (v : Receive) → ((n : ℕ) → IsTrue (has_lent u n) → Each v (λ b. b ≢ n)) → OwnReportsSpare queue v s
-reports_spare s queue sent u f h v apart back reported =
+reports_spare s queue sent u f h v apart back said =
     let l = u.layout in
     let low : has_bit 0 (word_of s.registers Tdwbal queue) ≡ false = grind (arith, common_steps, h.set_up.writeback) in
     let at = reported queue (reply_to s (event.TxStep queue)) s (after s (event.TxStep queue))
-    (transmitting_tells s h.based.sound queue) back reported in
+    (transmitting_tells s h.based.sound queue) back said in
     let head : report_of s.registers queue ≡ descriptor_at l f = rw low (head_is h) in
     let below = slot-below l h.based.layout f (let c = h.counted in omega arith) in
     let here : back / 2048 ≡ l.ring + slot_at l f / 128 = let is = at ∙ head in omega (arith, is) in

@@ -16,7 +16,7 @@ import sys
 
 sys.dont_write_bytecode = True
 from generated import ROOT, keep, replaced, table, text_of  # noqa: E402
-from vf_map_table import rows_of_offsets  # noqa: E402
+from vf_map_table import places, told  # noqa: E402
 
 PAGE = "docs/DESCRIPTORS.md"
 END = "<!-- end of the generated table -->\n"
@@ -126,21 +126,12 @@ def type_table() -> str:
     return table(["RSS type", "Frame", "MRQC bit", "Hashed, in network order"], rows)
 
 
-def name_in_a_function(name: str) -> str:
-    """What drivers of virtual functions call a register: VF in front, or VT of the function's interrupts."""
-    own = ("PVFCTRL", "VFCTRL"), ("PVFMAILBOX", "VFMAILBOX"), ("PFMB", "VFMB"), ("PVTE", "VTE"), ("PVTIVAR", "VTIVAR")
-    for old, new in own:
-        if name.startswith(old):
-            return new + name[len(old) :]
-    return name if name.startswith("VF") else "VF" + name
-
-
 def offset_table() -> str:
     """A function's registers: offset, the name in its drivers, the register of the device."""
     rows = []
-    for offset, register in rows_of_offsets():
-        name = name_in_a_function(register.split("[")[0])
-        rows.append([offset, name + ("(x)" if "x" in offset[2:] else ""), register])
+    for place in places():
+        offset, register = told(place)
+        rows.append([offset, place.name + ("(x)" if place.stride else ""), register])
     return table(["Offset", "Name", "Register"], rows)
 
 

@@ -6,7 +6,7 @@ tools over runs (python/nic82599/tools/reason_table.py).
     dev/reason_tables.py --check    says which files are stale, and ends with status 1 if any is
 
 They are those of c/why/reasons.txt, which says how a reason is written. Registers and their fields are those of
-dev/register_table.py and python/nic82599/tools/regs.py.
+tables.py and fields.py of python/nic82599/tools.
 """
 
 from __future__ import annotations

@@ -1,5 +1,5 @@
 #!/usr/bin/env python3
-"""Writes the register table into every file that shows it, from the one list below.
+"""Writes the register table into every file that shows it, from the one list in python/nic82599/tools/tables.py.
 
     dev/register_table.py            rewrites the files
     dev/register_table.py --check    says which files are stale, and ends with status 1 if any is
@@ -15,58 +15,14 @@ from pathlib import Path
 from typing import Any
 
 sys.dont_write_bytecode = True
+sys.path.append(str(Path(__file__).resolve().parents[1] / "python"))
 from generated import ROOT, keep, replaced, text_of  # noqa: E402
-
-ALL = 0xFFFF_FFFF
-
-
-class Run:
-    """Addresses of one row: index first_index + k at first + stride * k, for k below count."""
-
-    def __init__(self, first: int, stride: int, first_index: int, count: int, low: bool = False) -> None:
-        self.first, self.stride, self.first_index, self.count, self.low = first, stride, first_index, count, low
-
-
-class Row:
-    def __init__(
-        self, name: str, meaning: str, kind: str, bank: str, runs: list[Run], mask: int = ALL, reset: int = 0
-    ) -> None:
-        self.name, self.meaning, self.kind, self.bank = name, meaning, kind, bank
-        self.runs, self.mask, self.reset = runs, mask, reset
-        self.count = max(run.first_index + run.count for run in runs)
-        self.variant = "".join(part.capitalize() for part in name.split("_"))
-
+from nic82599.tools.tables import TABLE, Row, Run  # noqa: E402
 
 # a run with its row
 Member = tuple[Row, Run]
 # a stride, and from which remainder by it up to which
 Rest = tuple[int, int, int] | None
-
-
-def one(*addresses: int) -> list[Run]:
-    """A single register, at each of these addresses."""
-    return [Run(address, 4, 0, 1) for address in addresses]
-
-
-def low(address: int) -> list[Run]:
-    """A single register's bits 15 to 0, at a further address."""
-    return [Run(address, 4, 0, 1, low=True)]
-
-
-def array(first: int, count: int, stride: int = 4) -> list[Run]:
-    """Registers at equal steps."""
-    return [Run(first, stride, 0, count)]
-
-
-def receive(offset: int) -> list[Run]:
-    """A register of each of the 128 receive queues, whose addresses lie in two halves."""
-    return [Run(0x01000 + offset, 0x40, 0, 64), Run(0x0D000 + offset, 0x40, 64, 64)]
-
-
-def transmit(offset: int) -> list[Run]:
-    """A register of each of the 128 transmit queues."""
-    return [Run(0x06000 + offset, 0x40, 0, 128)]
-
 
 # The banks, as the page of registers calls them.
 BANKS = {
@@ -81,93 +37,6 @@ BANKS = {
     "Vectors": "vectors of queues",
     "Messages": "mailbox memory",
 }
-
-# name, meaning, kind, bank, addresses (the first run of an index is its first address), mask, reset value
-TABLE = [
-    Row("CTRL", "Device control", "Ctrl", "Device", one(0x00000, 0x00004), mask=0xFBFF_FFF7),
-    Row("STATUS", "Device status", "Calc", "Device", one(0x00008)),
-    Row("CTRL_EXT", "Extended device control", "Ctrlext", "Device", one(0x00018)),
-    Row("LEDCTL", "LED control", "Rw", "Device", one(0x00200)),
-    Row("PVFCTRL", "Control of a virtual function", "Vreset", "Pool", array(0x00300, 64)),
-    Row("PFMBICR", "Mailbox interrupt causes of 16 virtual functions", "W1c", "Device", array(0x00710, 4)),
-    Row("PFMBIMR", "Mailbox interrupt mask of 32 virtual functions", "Rw", "Device", array(0x00720, 2), reset=ALL),
-    Row("EICR", "Extended interrupt cause", "Cause", "Interrupts", one(0x00800), mask=0x7FFF_FFFF),
-    Row("EICS", "Extended interrupt cause set", "Set", "Interrupts", one(0x00808) + low(0x00A90)),
-    Row("EIAC", "Extended interrupt auto clear", "Rw", "Interrupts", one(0x00810), mask=0x7FFF_FFFF),
-    Row("EITR", "Extended interrupt throttle", "Rw", "Device", array(0x00820, 24) + [Run(0x12300, 4, 24, 104)]),
-    Row("EIMS", "Extended interrupt mask set", "Ones", "Interrupts", one(0x00880) + low(0x00AA0), mask=0x7FFF_FFFF),
-    Row("EIMC", "Extended interrupt mask clear", "Clear", "Interrupts", one(0x00888) + low(0x00AB0)),
-    Row("EIAM", "Extended interrupt auto mask", "Rw", "Interrupts", one(0x00890) + low(0x00AD0), mask=0x7FFF_FFFF),
-    Row("GPIE", "General purpose interrupt enable", "Rw", "Device", one(0x00898)),
-    Row("IVAR", "Interrupt vector allocation", "Rw", "Device", array(0x00900, 64)),
-    Row("IVAR_MISC", "Interrupt vector allocation of other causes", "Rw", "Device", one(0x00A00)),
-    Row("PVTEICR", "Interrupt cause of a virtual function", "Cause", "VfInterrupts", array(0x00B00, 64), mask=7),
-    Row("PVTEICS", "Interrupt cause set of a virtual function", "Set", "VfInterrupts", array(0x00C00, 64)),
-    Row("PVTEIMS", "Interrupt mask set of a virtual function", "Ones", "VfInterrupts", array(0x00D00, 64), mask=7),
-    Row("PVTEIMC", "Interrupt mask clear of a virtual function", "Clear", "VfInterrupts", array(0x00E00, 64)),
-    Row("PVTEIAC", "Extended interrupt auto clear of a virtual function", "Rw", "VfInterrupts", array(0x00F00, 64), mask=7),
-    Row("PFMAILBOX", "Mailbox of a virtual function, seen by the physical function", "Pfmail", "Device",
-        array(0x04B00, 64)),
-    Row("PVFMAILBOX", "Mailbox of a virtual function", "Vfmail", "Pool", array(0x04C00, 64), reset=0x0000_0040),
-    Row("PVTEIAM", "Extended interrupt auto mask of a virtual function", "Rw", "VfInterrupts", array(0x04D00, 64), mask=7),
-    Row("PVTIVAR_MISC", "Interrupt vector allocation of a virtual function's mailbox", "Rw", "Pool",
-        array(0x04E00, 64)),
-    Row("RDBAL", "Receive descriptor base address, low part", "Held", "Receive", receive(0x00), mask=0xFFFF_FF80),
-    Row("RDBAH", "Receive descriptor base address, high part", "Held", "Receive", receive(0x04)),
-    Row("RDLEN", "Receive descriptor length in bytes", "Held", "Receive", receive(0x08), mask=0x000F_FF80),
-    Row("RDH", "Receive descriptor head", "Held", "Receive", receive(0x10), mask=0x0000_FFFF),
-    Row("SRRCTL", "Split receive control of a queue", "Rw", "Receive", receive(0x14) + array(0x02100, 16), reset=0x0000_0402),
-    Row("RDT", "Receive descriptor tail", "Rw", "Receive", receive(0x18), mask=0x0000_FFFF),
-    Row("RXDCTL", "Receive descriptor control", "Enable", "Receive", receive(0x28), mask=0xFDFF_FFFF),
-    Row("VFGPRC", "Good frames received by a virtual function", "Ro", "VfCounters", array(0x0101C, 64, 0x40)),
-    Row("QPRC", "Frames received, in one of 16 counters of queues", "Rc", "Counters", array(0x01030, 16, 0x40)),
-    Row("QPRDC", "Frames dropped for want of a slot, in one of 16 counters of queues", "Rc", "Counters", array(0x01430, 16, 0x40)),
-    Row("RQSMR", "Receive queue statistics mapping", "Rw", "Device", array(0x02300, 32)),
-    Row("RDRXCTL", "Receive DMA control", "Rw", "Device", one(0x02F00), mask=0xFFFF_FFF7, reset=0x0000_0008),
-    Row("RXCTRL", "Receive control", "Rw", "Device", one(0x03000)),
-    Row("MPC", "Frames missed for want of room", "Rc", "Counters", one(0x03FA0)),
-    Row("GPRC", "Good frames received", "Rc", "Counters", one(0x04074)),
-    Row("GPTC", "Good frames transmitted", "Rc", "Counters", one(0x04080)),
-    Row("RUC", "Frames received that are too short", "Rc", "Counters", one(0x040A4)),
-    Row("ROC", "Frames received that are too long", "Rc", "Counters", one(0x040AC)),
-    Row("HLREG0", "MAC highlander control 0", "Rw", "Device", one(0x04240), reset=0x0000_0403),
-    Row("MAXFRS", "Maximum frame size", "Rw", "Device", one(0x04268), mask=0xFFFF_0000, reset=0x05EE_0000),
-    Row("AUTOC", "Auto-negotiation control", "Rw", "Device", one(0x042A0)),
-    Row("LINKS", "Link status", "Calc", "Device", one(0x042A4)),
-    Row("DMATXCTL", "DMA transmit control", "Rw", "Device", one(0x04A80), reset=0x8100_0000),
-    Row("RXCSUM", "Receive checksum control", "Rw", "Device", one(0x05000)),
-    Row("FCTRL", "Filter control", "Rw", "Device", one(0x05080)),
-    Row("MCSTCTRL", "Multicast control", "Rw", "Device", one(0x05090)),
-    Row("VT_CTL", "Virtualization control", "Rw", "Device", one(0x051B0)),
-    Row("VFRE", "Receive enable of the pools", "Rw", "Device", array(0x051E0, 2)),
-    Row("VFTE", "Transmit enable of the pools", "Rw", "Device", array(0x08110, 2)),
-    Row("MTA", "Multicast table array", "Rw", "Device", array(0x05200, 128)),
-    Row("RAL", "Receive address, low part", "Rw", "Device", array(0x0A200, 128, 8) + array(0x05400, 16, 8)),
-    Row("RAH", "Receive address, high part", "Rw", "Device", array(0x0A204, 128, 8) + array(0x05404, 16, 8)),
-    Row("MRQC", "Multiple receive queues command", "Rw", "Device", one(0x05818, 0x0EC80)),
-    Row("RETA", "Redirection table", "Rw", "Device", array(0x05C00, 32) + array(0x0EB00, 32)),
-    Row("RSSRK", "Receive side scaling random key", "Rw", "Device", array(0x05C80, 10) + array(0x0EB80, 10)),
-    Row("TDBAL", "Transmit descriptor base address, low part", "Held", "Transmit", transmit(0x00), mask=0xFFFF_FF80),
-    Row("TDBAH", "Transmit descriptor base address, high part", "Held", "Transmit", transmit(0x04)),
-    Row("TDLEN", "Transmit descriptor length in bytes", "Held", "Transmit", transmit(0x08), mask=0x000F_FF80),
-    Row("TDH", "Transmit descriptor head", "Held", "Transmit", transmit(0x10), mask=0x0000_FFFF),
-    Row("TDT", "Transmit descriptor tail", "Rw", "Transmit", transmit(0x18), mask=0x0000_FFFF),
-    Row("TXDCTL", "Transmit descriptor control", "Enable", "Transmit", transmit(0x28), mask=0xFDFF_FFFF),
-    Row("TDWBAL", "Transmit head write-back address, low part", "Rw", "Transmit", transmit(0x38), mask=0xFFFF_FFFD),
-    Row("TDWBAH", "Transmit head write-back address, high part", "Rw", "Transmit", transmit(0x3C)),
-    Row("QPTC", "Frames transmitted, in one of 16 counters of queues", "Rc", "Counters", array(0x06030, 16, 0x40)),
-    Row("MTQC", "Multiple transmit queues command", "Rw", "Device", one(0x08120)),
-    Row("VFGPTC", "Good frames transmitted by a virtual function", "Ro", "VfCounters", array(0x08300, 64)),
-    Row("TQSM", "Transmit queue statistics mapping", "Rw", "Device", array(0x08600, 32)),
-    Row("MPSAR", "Pool select of the receive addresses", "Rw", "Device", array(0x0A600, 256)),
-    Row("PSRTYPE", "Packet split receive type of a pool", "Rw", "Pool", array(0x0EA00, 64) + array(0x05480, 16)),
-    Row("EEC", "EEPROM control and size", "Calc", "Device", one(0x10010)),
-    Row("EERD", "EEPROM read", "Eerd", "Device", one(0x10014)),
-    Row("GCR_EXT", "Extended PCIe control", "Rw", "Device", one(0x11050)),
-    Row("PVTIVAR", "Interrupt vector allocation of a virtual function", "Rw", "Vectors", array(0x12500, 64)),
-    Row("PFMBMEM", "Mailbox memory, 16 words for each virtual function", "Rw", "Messages", array(0x13000, 1024)),
-]
-
 
 # The rows that register_file keeps in other structs than its cells, with where `a`, the registers, has their words:
 # groups of interrupts, sides of queues, the hash key and its table, and what the reset of a pool or of all registers
@@ -700,15 +569,9 @@ unfolding runs
 
 
 def first_runs(row: Row) -> tuple[int, int, int, int]:
-    """Where a row's first addresses lie: in its first run, and, where that leaves indices out, in its next one."""
-    first, more = row.runs[0], row.runs[1:]
-    assert first.first_index == 0, row.name
-    if first.count == row.count:
-        return first.first, first.stride, first.count, 0
-    further = more[0]
-    assert further.first_index == first.count and further.first_index + further.count == row.count, row.name
-    assert further.stride == first.stride, row.name
-    return first.first, first.stride, first.count, further.first
+    """Where a row's first addresses lie: first address, stride, how many, and the further run's address, or 0."""
+    first, *more = row.first_runs
+    return first.first, first.stride, first.count, more[0].first if more else 0
 
 
 FIRST_ADDRESSES_HEAD = """// generated by dev/register_table.py

@@ -10,9 +10,9 @@ from dataclasses import dataclass
 
 from . import reason_table as table
 from . import regs
+from .known import ABSENT
 from .regs import ENABLE, Register
 from .script import Instruction, Op, Script
-from .tables import ABSENT
 
 
 @dataclass(frozen=True, order=True)

@@ -1,14 +1,11 @@
-"""Registers by name and address, and the fields of their words.
-
-Names, addresses and kinds, and the map of a virtual function, are those of the generated tables.py; the fields are
-listed here, by the names of the datasheet.
-"""
+"""Registers by name and address, by the map of a virtual function, and the fields of their words."""
 
 from __future__ import annotations
 
 from dataclasses import dataclass
 
-from .tables import OWN, SIDES, TABLE, Row
+from .fields import FIELDS, OPEN
+from .tables import FUNCTION, TABLE, Row
 
 ENABLE = 1 << 25
 
@@ -24,162 +21,6 @@ class Register:
     @property
     def name(self) -> str:
         return self.row.name if self.row.count == 1 else f"{self.row.name}[{self.index}]"
-
-
-@dataclass(frozen=True)
-class Field:
-    """Bits of a word, from `low` to `high`. `acts` says whether the bench does anything by them, and `form` how a value
-    is told: `number`, `bits` (which of them are 1), `flag`, or words by value, parted by `|`."""
-
-    name: str
-    high: int
-    low: int
-    acts: bool
-    form: str
-
-    @property
-    def mask(self) -> int:
-        return ((1 << (self.high - self.low + 1)) - 1) << self.low
-
-    def of(self, word: int) -> int:
-        """The field's value in a word."""
-        return (word & self.mask) >> self.low
-
-    def told(self, word: int) -> str:
-        """The field's value in words."""
-        value = self.of(word)
-        if self.form == "bits":
-            return " ".join(str(bit) for bit in range(self.high - self.low + 1) if value >> bit & 1) or "none"
-        if self.form in ("number", "flag"):
-            return str(value)
-        if self.form == "hex":
-            return f"0x{value:x}"
-        words = self.form.split("|")
-        return f"{value} ({words[value]})" if value < len(words) and words[value] else str(value)
-
-
-def _field(text: str) -> Field:
-    """A field from its line: `NAME HIGH[:LOW] [form]`, with `*` in front where the bench acts by it."""
-    acts, parts = text.startswith("*"), text.lstrip("*").split(maxsplit=2)
-    high, _, low = parts[1].partition(":")
-    form = parts[2] if len(parts) > 2 else "number" if low else "flag"
-    return Field(parts[0], int(high), int(low or high), acts, form)
-
-
-_VECTORS = "*INT_Alloc[0] 5:0, *INT_Alloc_val[0] 7, *INT_Alloc[1] 13:8, *INT_Alloc_val[1] 15, *INT_Alloc[2] 21:16, \
-*INT_Alloc_val[2] 23, *INT_Alloc[3] 29:24, *INT_Alloc_val[3] 31"
-_CAUSES = "*RTxQ 15:0 bits, Flow_Director 16, *Rx_Miss 17, *PCI_Exception 18, *MailBox 19, *LSC 20, LinkSec 21, \
-MNG 22, GPI_SDP0 24, GPI_SDP1 25, GPI_SDP2 26, GPI_SDP3 27, ECC 28, TCP_Timer 30"
-_FUNCTION = "*MSIX[0] 0, *MSIX[1] 1, *MSIX[2] 2"
-_MAP = "*Q_MAP[0] 3:0, *Q_MAP[1] 11:8, *Q_MAP[2] 19:16, *Q_MAP[3] 27:24"
-_POOLS = "*pools 31:0 bits"
-_COUNT = "*count 31:0"
-
-# The fields of each row; a row that isn't here has one of 32 bits. `..` at the end: further bits of the card's register
-# aren't listed, so none is taken for reserved.
-_LINES = {
-    "CTRL": "*Master_Disable 2, *LRST 3, *RST 26",
-    "STATUS": "LAN_ID 3:2, LinkUp 7, Num_VFs 17:10, IOV_Active 18, *Master_Enable_Status 19",
-    "CTRL_EXT": "*PFRSTD 14, NS_DIS 16, RO_DIS 17, Extended_VLAN 26, DRV_LOAD 28",
-    "LEDCTL": "..",
-    "PVFCTRL": "*RST 26",
-    "PFMBICR": "*VFREQ 15:0 bits, *VFACK 31:16 bits",
-    "PFMBIMR": "*VFIM 31:0 bits",
-    "PFMAILBOX": "*Sts 0, *Ack 1, *VFU 2, *PFU 3, *RVFU 4",
-    "PVFMAILBOX": "*Req 0, *Ack 1, *VFU 2, *PFU 3, *PFSTS 4, *PFACK 5, *RSTI 6, *RSTD 7",
-    "PFMBMEM": "*word 31:0 hex",
-    "EICR": _CAUSES,
-    "EICS": _CAUSES,
-    "EIAC": _CAUSES,
-    "EIMS": _CAUSES,
-    "EIMC": _CAUSES,
-    "EIAM": _CAUSES,
-    "EITR": "ITR_Interval 11:3, LLI_EN 15, LLI_Credit 20:16, ITR_Counter 27:21, CNT_WDIS 31",
-    "GPIE": "SDP_GPIEN 3:0 bits, Multiple_MSIX 4, *OCD 5, EIMEN 6, LL_Interval 10:7, RSC_Delay 13:11, VT_Mode 15:14, "
-    "*EIAME 30, PBA_support 31",
-    "IVAR": _VECTORS,
-    "IVAR_MISC": "*INT_Alloc[0] 5:0, *INT_Alloc_val[0] 7, *INT_Alloc[1] 13:8, *INT_Alloc_val[1] 15",
-    "PVTEICR": _FUNCTION,
-    "PVTEICS": _FUNCTION,
-    "PVTEIMS": _FUNCTION,
-    "PVTEIMC": _FUNCTION,
-    "PVTEIAC": _FUNCTION,
-    "PVTEIAM": _FUNCTION,
-    "PVTIVAR": _VECTORS,
-    "PVTIVAR_MISC": "*INT_Alloc[0] 5:0, *INT_Alloc_val[0] 7",
-    "RDBAL": "*RDBAL 31:0 hex",
-    "RDBAH": "*RDBAH 31:0 hex",
-    "RDLEN": "*LEN 19:0",
-    "RDH": "*RDH 15:0",
-    "RDT": "*RDT 15:0",
-    "TDBAL": "*TDBAL 31:0 hex",
-    "TDBAH": "*TDBAH 31:0 hex",
-    "TDLEN": "*LEN 19:0",
-    "TDH": "*TDH 15:0",
-    "TDT": "*TDT 15:0",
-    "SRRCTL": "*BSIZEPACKET 4:0, BSIZEHEADER 13:8, RDMTS 24:22, *DESCTYPE 27:25 legacy|advanced, one buffer, "
-    "*Drop_En 28",
-    "RXDCTL": "*ENABLE 25, VME 30",
-    "TXDCTL": "PTHRESH 6:0, HTHRESH 14:8, WTHRESH 22:16, *ENABLE 25, SWFLSH 26",
-    "TDWBAL": "*Head_WB_En 0, *HeadWB_Low 31:2 hex",
-    "TDWBAH": "*HeadWB_High 31:0 hex",
-    "RQSMR": _MAP,
-    "TQSM": _MAP,
-    "RDRXCTL": "CRCStrip 1, DMAIDONE 3, RSCFRSTSIZE 21:17, RSCACKC 25, FCOE_WRFIX 26, ..",
-    "RXCTRL": "*RXEN 0",
-    "HLREG0": "TXCRCEN 0, RXCRCSTRP 1, *JUMBOEN 2, *TXPADEN 10, LPBK 15, MDCSPD 16, CONTMDC 17, PREPEND 23:20, "
-    "RXLNGTHERREN 27, RXPADSTRIPEN 28, ..",
-    "MAXFRS": "*MFS 31:16",
-    "AUTOC": "FLU 0, Restart_AN 12, LMS 15:13, ..",
-    "LINKS": "Link_Status 7, *LINK_SPEED 29:28 |100 Mb/s|1 Gb/s|10 Gb/s, *Link_Up 30, ..",
-    "DMATXCTL": "*TE 0, GDV 3, VT 31:16 hex",
-    "RXCSUM": "IPPCSE 12, *PCSD 13",
-    "FCTRL": "SBP 1, *MPE 8, *UPE 9, *BAM 10",
-    "MCSTCTRL": "*MO 1:0, *MFE 2",
-    "VT_CTL": "*VT_Ena 0, *DEF_PL 12:7, *Dis_Def_Pool 29, Rpl_En 30",
-    "VFRE": _POOLS,
-    "VFTE": _POOLS,
-    "MPSAR": _POOLS,
-    "MTA": "*bits 31:0 bits",
-    "RAL": "*RAL 31:0 hex",
-    "RAH": "*RAH 15:0 hex, *AV 31",
-    "MRQC": "*MRQE 3:0 one queue|RSS|||||||64 pools||32 pools and RSS|64 pools and RSS, *TcpIPv4 16, *IPv4 17, "
-    "*IPv6 20, *TcpIPv6 21, *UdpIPv4 22, *UdpIPv6 23",
-    "RETA": "*Entry[0] 3:0, *Entry[1] 11:8, *Entry[2] 19:16, *Entry[3] 27:24",
-    "RSSRK": "*K[0] 7:0 hex, *K[1] 15:8 hex, *K[2] 23:16 hex, *K[3] 31:24 hex",
-    "MTQC": "RT_Ena 0, VT_Ena 1, NUM_TC_OR_Q 3:2",
-    "PSRTYPE": "PSR_type 15:0 bits, RQPL 31:29",
-    "EEC": "EE_PRES 8, AUTO_RD 9, *EE_Size 14:11, ..",
-    "EERD": "*START 0, *DONE 1, *ADDR 15:2, *DATA 31:16 hex",
-    "GCR_EXT": "*VT_Mode 1:0 no pools|16 pools|32 pools|64 pools, ..",
-    "QPRC": _COUNT,
-    "QPRDC": _COUNT,
-    "QPTC": _COUNT,
-    "MPC": _COUNT,
-    "GPRC": _COUNT,
-    "GPTC": _COUNT,
-    "RUC": _COUNT,
-    "ROC": _COUNT,
-    "VFGPRC": _COUNT,
-    "VFGPTC": _COUNT,
-}
-
-
-def _split(line: str) -> list[str]:
-    """The parts of a line of fields. A comma inside the words of a value isn't one between two fields."""
-    parts: list[str] = []
-    for part in line.split(", "):
-        if part == ".." or len(words := part.split()) > 1 and words[1].replace(":", "").isdigit():
-            parts.append(part)
-        else:
-            parts[-1] += ", " + part
-    return parts
-
-
-FIELDS: dict[str, list[Field]] = {
-    name: [_field(part) for part in _split(line) if part != ".."] for name, line in _LINES.items()
-}
-_OPEN = {name for name, line in _LINES.items() if line.endswith("..")}
 
 ROWS: dict[str, Row] = {row.name: row for row in TABLE}
 _FIRST: dict[tuple[str, int], int] = {}
@@ -214,7 +55,7 @@ def name_at(address: int) -> str:
 def reserved(row: Row, word: int) -> int:
     """Bits that are 1 in a word that is written, and that the datasheet leaves to no field."""
     fields = FIELDS.get(row.name, [])
-    if row.name in _OPEN or not fields:
+    if row.name in OPEN or not fields:
         return 0
     known = 0
     for field in fields:
@@ -255,25 +96,15 @@ def queues_of_pool(gcr_ext: int) -> int:
     return {1: 8, 2: 4, 3: 2}.get(gcr_ext & 3, 0)
 
 
-def _function_map() -> dict[int, dict[int, tuple[str, int, int]]]:
-    """For pools of k queues: offset to row, and how its index follows from v: index = scale * v + rest."""
-    maps: dict[int, dict[int, tuple[str, int, int]]] = {}
-    for k in POOL_SIZES:
-        offsets: dict[int, tuple[str, int, int]] = {}
-        for offset, name, is_by_function in OWN:
-            offsets[offset] = (name, int(is_by_function), 0)
-        for x in range(k // 2):
-            offsets[0x120 + 4 * x] = ("PVTIVAR", k // 2, x)
-        for x in range(16):
-            offsets[0x200 + 4 * x] = ("PFMBMEM", 16, x)
-        for offset, name in SIDES:
-            for x in range(k):
-                offsets[offset + 0x40 * x] = (name, k, x)
-        maps[k] = offsets
-    return maps
-
-
-_FUNCTION_MAP = _function_map()
+# For pools of k queues: offset to row, and how its index follows from v: index = scale * v + rest.
+_FUNCTION_MAP = {
+    k: {
+        place.offset + place.stride * x: (place.row, place.scale(k), x)
+        for place in FUNCTION
+        for x in range(place.count(k))
+    }
+    for k in POOL_SIZES
+}
 
 
 def function_register(k: int, v: int, offset: int) -> Register | None:

@@ -34,17 +34,4 @@ static const char *end(void)
     return went_out(FRAMES);
 }
 
-static const nicx_scenario scenario = {
-    .name = "buffer_again_before_dd",
-    .fifo = 64,
-    .blocks = 16,
-    .queues = 1,
-    .bring_up = bring_up,
-    .begin = begin,
-    .end = end,
-};
-
-int main(int argc, char **argv)
-{
-    return nicx_main(argc, argv, &scenario);
-}
+DRIVER(.name = "buffer_again_before_dd")

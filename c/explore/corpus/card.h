@@ -68,6 +68,15 @@ static inline void bring_up_transmit(void)
     nicx_write32(NIC_DMATXCTL, NIC_DMATXCTL_TE);
 }
 
+/* Its interrupt: cause 5, cleared as it is told. */
+static inline void bring_up_transmit_interrupt(void)
+{
+    nicx_write32(NIC_GPIE, NIC_GPIE_MULTIPLE_MSIX);
+    nicx_write32(NIC_IVAR(0), NIC_IVAR_INT_ALLOC_1_IS(5) | NIC_IVAR_INT_ALLOC_VAL_1);
+    nicx_write32(NIC_EIAC, CAUSE);
+    nicx_write32(NIC_EIMS, CAUSE);
+}
+
 /* Frames whose last byte tells which they are. */
 static inline void make_frame(uint8_t frame[FRAME], unsigned number)
 {
@@ -120,5 +129,29 @@ static inline const char *went_out(unsigned count)
     }
     return nic_next_out(nicx_device()) ? "a frame went out twice" : NULL;
 }
+
+/* What DRIVER is given overrides what it has of its own. */
+#ifdef __clang__
+#pragma clang diagnostic ignored "-Winitializer-overrides"
+#else
+#pragma GCC diagnostic ignored "-Woverride-init"
+#endif
+
+/* The end of each file: its bring_up, begin and end as a program, with what else the scenario says. */
+#define DRIVER(...)                                                                                                    \
+    static const nicx_scenario scenario = {                                                                            \
+        .fifo = 64,                                                                                                    \
+        .blocks = 16,                                                                                                  \
+        .queues = 1,                                                                                                   \
+        .bring_up = bring_up,                                                                                          \
+        .begin = begin,                                                                                                \
+        .end = end,                                                                                                    \
+        __VA_ARGS__,                                                                                                   \
+    };                                                                                                                 \
+                                                                                                                       \
+    int main(int argc, char **argv)                                                                                    \
+    {                                                                                                                  \
+        return nicx_main(argc, argv, &scenario);                                                                       \
+    }
 
 #endif

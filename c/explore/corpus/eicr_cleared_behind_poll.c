@@ -24,17 +24,11 @@ static void isr(void *unused)
     driver.scheduled = true;
 }
 
-static bool is_scheduled(void *unused)
-{
-    (void)unused;
-    return driver.scheduled;
-}
-
 static void poll(void *unused)
 {
     (void)unused;
     while (driver.got < FRAMES) {
-        nicx_wait_until(is_scheduled, NULL);
+        nicx_wait_until(nicx_is_set, &driver.scheduled);
         driver.scheduled = false;
         nicx_read32(NIC_EICR);
         while (driver.next < 7 && is_done(RX_RING, driver.next, RX_DONE)) {
@@ -61,17 +55,4 @@ static const char *end(void)
     return driver.got == FRAMES ? NULL : "a frame lies in the ring, and nobody comes for it";
 }
 
-static const nicx_scenario scenario = {
-    .name = "eicr_cleared_behind_poll",
-    .fifo = 64,
-    .blocks = 16,
-    .queues = 1,
-    .bring_up = bring_up,
-    .begin = begin,
-    .end = end,
-};
-
-int main(int argc, char **argv)
-{
-    return nicx_main(argc, argv, &scenario);
-}
+DRIVER(.name = "eicr_cleared_behind_poll")

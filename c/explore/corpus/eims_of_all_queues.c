@@ -93,17 +93,4 @@ static const char *end(void)
     return driver.got == FRAMES ? NULL : "a frame lies in the ring, and nobody comes for it";
 }
 
-static const nicx_scenario scenario = {
-    .name = "eims_of_all_queues",
-    .fifo = 64,
-    .blocks = 18,
-    .queues = 2,
-    .bring_up = bring_up,
-    .begin = begin,
-    .end = end,
-};
-
-int main(int argc, char **argv)
-{
-    return nicx_main(argc, argv, &scenario);
-}
+DRIVER(.name = "eims_of_all_queues", .blocks = 18, .queues = 2)

@@ -55,17 +55,4 @@ static const char *end(void)
     return NULL;
 }
 
-static const nicx_scenario scenario = {
-    .name = "enable_not_awaited",
-    .fifo = 64,
-    .blocks = 16,
-    .queues = 1,
-    .bring_up = bring_up,
-    .begin = begin,
-    .end = end,
-};
-
-int main(int argc, char **argv)
-{
-    return nicx_main(argc, argv, &scenario);
-}
+DRIVER(.name = "enable_not_awaited")

@@ -39,17 +39,4 @@ static const char *end(void)
     return base == NEW_RING ? NULL : "the ring is still the old one";
 }
 
-static const nicx_scenario scenario = {
-    .name = "enable_not_polled",
-    .fifo = 64,
-    .blocks = 16,
-    .queues = 1,
-    .bring_up = bring_up,
-    .begin = begin,
-    .end = end,
-};
-
-int main(int argc, char **argv)
-{
-    return nicx_main(argc, argv, &scenario);
-}
+DRIVER(.name = "enable_not_polled")

@@ -43,17 +43,4 @@ static const char *end(void)
     return word == 0x00820081 ? NULL : "a queue has no vector";
 }
 
-static const nicx_scenario scenario = {
-    .name = "ivar_byte_lost",
-    .fifo = 64,
-    .blocks = 16,
-    .queues = 2,
-    .bring_up = bring_up,
-    .begin = begin,
-    .end = end,
-};
-
-int main(int argc, char **argv)
-{
-    return nicx_main(argc, argv, &scenario);
-}
+DRIVER(.name = "ivar_byte_lost", .queues = 2)

@@ -62,17 +62,4 @@ static const char *end(void)
     return driver.torn ? "a part of a frame has other bytes than came" : NULL;
 }
 
-static const nicx_scenario scenario = {
-    .name = "jumbo_first_dd",
-    .fifo = 64,
-    .blocks = 16,
-    .queues = 1,
-    .bring_up = bring_up,
-    .begin = begin,
-    .end = end,
-};
-
-int main(int argc, char **argv)
-{
-    return nicx_main(argc, argv, &scenario);
-}
+DRIVER(.name = "jumbo_first_dd")

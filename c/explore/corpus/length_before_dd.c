@@ -59,17 +59,4 @@ static const char *end(void)
     return driver.bytes == FRAMES * FRAME ? NULL : "a frame has another length than came";
 }
 
-static const nicx_scenario scenario = {
-    .name = "length_before_dd",
-    .fifo = 64,
-    .blocks = 16,
-    .queues = 1,
-    .bring_up = bring_up,
-    .begin = begin,
-    .end = end,
-};
-
-int main(int argc, char **argv)
-{
-    return nicx_main(argc, argv, &scenario);
-}
+DRIVER(.name = "length_before_dd")

@@ -61,17 +61,4 @@ static const char *end(void)
     return driver.up == (links != 0) ? NULL : "the link is down, and the driver has it up";
 }
 
-static const nicx_scenario scenario = {
-    .name = "link_change_lost",
-    .fifo = 64,
-    .blocks = 16,
-    .queues = 1,
-    .bring_up = bring_up,
-    .begin = begin,
-    .end = end,
-};
-
-int main(int argc, char **argv)
-{
-    return nicx_main(argc, argv, &scenario);
-}
+DRIVER(.name = "link_change_lost")

@@ -58,17 +58,4 @@ static const char *end(void)
     return driver.next == FRAMES ? NULL : "a frame is lost";
 }
 
-static const nicx_scenario scenario = {
-    .name = "lock_in_handler_and_poll",
-    .fifo = 64,
-    .blocks = 16,
-    .queues = 1,
-    .bring_up = bring_up,
-    .begin = begin,
-    .end = end,
-};
-
-int main(int argc, char **argv)
-{
-    return nicx_main(argc, argv, &scenario);
-}
+DRIVER(.name = "lock_in_handler_and_poll")

@@ -57,17 +57,4 @@ static const char *end(void)
     return went_out(1);
 }
 
-static const nicx_scenario scenario = {
-    .name = "lock_order",
-    .fifo = 8,
-    .blocks = 16,
-    .queues = 1,
-    .bring_up = bring_up,
-    .begin = begin,
-    .end = end,
-};
-
-int main(int argc, char **argv)
-{
-    return nicx_main(argc, argv, &scenario);
-}
+DRIVER(.name = "lock_order", .fifo = 8)

@@ -81,18 +81,4 @@ static const char *end(void)
                           : NULL;
 }
 
-static const nicx_scenario scenario = {
-    .name = "mailbox_not_taken",
-    .vfs = 1,
-    .fifo = 64,
-    .blocks = 16,
-    .queues = 1,
-    .bring_up = bring_up,
-    .begin = begin,
-    .end = end,
-};
-
-int main(int argc, char **argv)
-{
-    return nicx_main(argc, argv, &scenario);
-}
+DRIVER(.name = "mailbox_not_taken", .vfs = 1)

@@ -63,18 +63,4 @@ static const char *end(void)
     return driver.count == MESSAGES && driver.got[0] == 1 && driver.got[1] == 2 ? NULL : "a message is lost";
 }
 
-static const nicx_scenario scenario = {
-    .name = "message_before_ack",
-    .vfs = 1,
-    .fifo = 64,
-    .blocks = 16,
-    .queues = 1,
-    .bring_up = bring_up,
-    .begin = begin,
-    .end = end,
-};
-
-int main(int argc, char **argv)
-{
-    return nicx_main(argc, argv, &scenario);
-}
+DRIVER(.name = "message_before_ack", .vfs = 1)

@@ -49,18 +49,4 @@ static const char *end(void)
     return NULL;
 }
 
-static const nicx_scenario scenario = {
-    .name = "missing_rmb",
-    .fifo = 64,
-    .blocks = 16,
-    .queues = 1,
-    .memory = NICX_WEAK,
-    .bring_up = bring_up,
-    .begin = begin,
-    .end = end,
-};
-
-int main(int argc, char **argv)
-{
-    return nicx_main(argc, argv, &scenario);
-}
+DRIVER(.name = "missing_rmb", .memory = NICX_WEAK)

@@ -35,18 +35,4 @@ static const char *end(void)
     return went_out(FRAMES);
 }
 
-static const nicx_scenario scenario = {
-    .name = "missing_wmb",
-    .fifo = 64,
-    .blocks = 16,
-    .queues = 1,
-    .memory = NICX_WEAK,
-    .bring_up = bring_up,
-    .begin = begin,
-    .end = end,
-};
-
-int main(int argc, char **argv)
-{
-    return nicx_main(argc, argv, &scenario);
-}
+DRIVER(.name = "missing_wmb", .memory = NICX_WEAK)

@@ -88,17 +88,4 @@ static const char *end(void)
     return driver.got == FRAMES ? NULL : "a frame lies in the ring of a queue that nobody looks at any more";
 }
 
-static const nicx_scenario scenario = {
-    .name = "reta_in_flight",
-    .fifo = 64,
-    .blocks = 18,
-    .queues = 2,
-    .bring_up = bring_up,
-    .begin = begin,
-    .end = end,
-};
-
-int main(int argc, char **argv)
-{
-    return nicx_main(argc, argv, &scenario);
-}
+DRIVER(.name = "reta_in_flight", .blocks = 18, .queues = 2)

@@ -77,17 +77,4 @@ static const char *end(void)
     return driver.worked == FRAMES ? NULL : "a frame wasn't worked on";
 }
 
-static const nicx_scenario scenario = {
-    .name = "ring_index_race",
-    .fifo = 8,
-    .blocks = 16,
-    .queues = 1,
-    .bring_up = bring_up,
-    .begin = begin,
-    .end = end,
-};
-
-int main(int argc, char **argv)
-{
-    return nicx_main(argc, argv, &scenario);
-}
+DRIVER(.name = "ring_index_race", .fifo = 8)

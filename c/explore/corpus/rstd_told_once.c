@@ -60,18 +60,4 @@ static const char *end(void)
     return NULL;
 }
 
-static const nicx_scenario scenario = {
-    .name = "rstd_told_once",
-    .vfs = 1,
-    .fifo = 64,
-    .blocks = 16,
-    .queues = 1,
-    .bring_up = bring_up,
-    .begin = begin,
-    .end = end,
-};
-
-int main(int argc, char **argv)
-{
-    return nicx_main(argc, argv, &scenario);
-}
+DRIVER(.name = "rstd_told_once", .vfs = 1)

@@ -55,17 +55,4 @@ static const char *end(void)
     return driver.got == FRAMES ? NULL : "a frame is lost";
 }
 
-static const nicx_scenario scenario = {
-    .name = "tail_before_descriptor",
-    .fifo = 64,
-    .blocks = 16,
-    .queues = 1,
-    .bring_up = bring_up,
-    .begin = begin,
-    .end = end,
-};
-
-int main(int argc, char **argv)
-{
-    return nicx_main(argc, argv, &scenario);
-}
+DRIVER(.name = "tail_before_descriptor")

@@ -57,17 +57,4 @@ static const char *end(void)
     return driver.got == FRAMES ? NULL : "a frame waits, and the device has no slot";
 }
 
-static const nicx_scenario scenario = {
-    .name = "tail_meets_head",
-    .fifo = 64,
-    .blocks = 16,
-    .queues = 1,
-    .bring_up = bring_up,
-    .begin = begin,
-    .end = end,
-};
-
-int main(int argc, char **argv)
-{
-    return nicx_main(argc, argv, &scenario);
-}
+DRIVER(.name = "tail_meets_head")

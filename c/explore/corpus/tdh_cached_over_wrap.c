@@ -14,10 +14,7 @@ static const char *bring_up(void)
 {
     lend_blocks(POOL);
     bring_up_transmit();
-    nicx_write32(NIC_GPIE, NIC_GPIE_MULTIPLE_MSIX);
-    nicx_write32(NIC_IVAR(0), NIC_IVAR_INT_ALLOC_1_IS(5) | NIC_IVAR_INT_ALLOC_VAL_1);
-    nicx_write32(NIC_EIAC, CAUSE);
-    nicx_write32(NIC_EIMS, CAUSE);
+    bring_up_transmit_interrupt();
     return NULL;
 }
 
@@ -95,17 +92,4 @@ static const char *end(void)
     return driver.free > POOL ? "a slot was cleaned that is outstanding" : went_out(FRAMES);
 }
 
-static const nicx_scenario scenario = {
-    .name = "tdh_cached_over_wrap",
-    .fifo = 64,
-    .blocks = 16,
-    .queues = 1,
-    .bring_up = bring_up,
-    .begin = begin,
-    .end = end,
-};
-
-int main(int argc, char **argv)
-{
-    return nicx_main(argc, argv, &scenario);
-}
+DRIVER(.name = "tdh_cached_over_wrap")

@@ -51,17 +51,4 @@ static const char *end(void)
     return out == (1u << FRAMES) - 1 ? NULL : "a frame didn't go out";
 }
 
-static const nicx_scenario scenario = {
-    .name = "two_threads_one_ring",
-    .fifo = 64,
-    .blocks = 16,
-    .queues = 1,
-    .bring_up = bring_up,
-    .begin = begin,
-    .end = end,
-};
-
-int main(int argc, char **argv)
-{
-    return nicx_main(argc, argv, &scenario);
-}
+DRIVER(.name = "two_threads_one_ring")

@@ -25,12 +25,6 @@ static void isr(void *unused)
     driver.scheduled = true;
 }
 
-static bool is_scheduled(void *unused)
-{
-    (void)unused;
-    return driver.scheduled;
-}
-
 static void take_all(void)
 {
     while (driver.next < 7 && is_done(RX_RING, driver.next, RX_DONE)) {
@@ -43,7 +37,7 @@ static void poll(void *unused)
 {
     (void)unused;
     for (;;) {
-        nicx_wait_until(is_scheduled, NULL);
+        nicx_wait_until(nicx_is_set, &driver.scheduled);
         driver.scheduled = false;
 #ifndef FIXED
         nicx_write32(NIC_EIMS, CAUSE);
@@ -69,17 +63,4 @@ static const char *end(void)
     return driver.got == FRAMES ? NULL : driver.got > FRAMES ? "a frame was taken twice" : "a frame is lost";
 }
 
-static const nicx_scenario scenario = {
-    .name = "unmasked_before_last_look",
-    .fifo = 64,
-    .blocks = 16,
-    .queues = 1,
-    .bring_up = bring_up,
-    .begin = begin,
-    .end = end,
-};
-
-int main(int argc, char **argv)
-{
-    return nicx_main(argc, argv, &scenario);
-}
+DRIVER(.name = "unmasked_before_last_look")

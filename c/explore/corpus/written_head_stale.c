@@ -43,17 +43,4 @@ static const char *end(void)
     return went_out(FRAMES);
 }
 
-static const nicx_scenario scenario = {
-    .name = "written_head_stale",
-    .fifo = 64,
-    .blocks = 16,
-    .queues = 1,
-    .bring_up = bring_up,
-    .begin = begin,
-    .end = end,
-};
-
-int main(int argc, char **argv)
-{
-    return nicx_main(argc, argv, &scenario);
-}
+DRIVER(.name = "written_head_stale")

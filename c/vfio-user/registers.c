@@ -6,33 +6,9 @@
 #include "bus.h"
 
 #define NAME_BYTES 32
-#define QUEUES_OF_FUNCTION 8u
-#define WORDS_OF_MAILBOX 16u
-#define MAILBOX 0x0200u
 #define COUNT(list) (sizeof(list) / sizeof *(list))
 
-/* Registers of one name: index i, from `index` on, is at first + stride * (i - index). */
-static const struct run {
-    const char *name;
-    uint32_t first, stride, count, index;
-} registers[] = {
-#define REGISTER(name, first, stride, count, index, many) {name, first, stride, count, index},
-#define OFFSET(name, offset, stride)
 #include "../explore/engine/names.inc"
-#undef REGISTER
-#undef OFFSET
-};
-
-static const struct place {
-    const char *name;
-    uint32_t offset, stride;
-} places[] = {
-#define REGISTER(name, first, stride, count, index, many)
-#define OFFSET(name, offset, stride) {name, offset, stride},
-#include "../explore/engine/names.inc"
-#undef REGISTER
-#undef OFFSET
-};
 
 /* "0x00800": a word's place below `bytes`. */
 static bool is_address(const char *text, uint32_t bytes, uint32_t *address)
@@ -76,11 +52,6 @@ bool register_named(const char *text, uint32_t *address)
     return false;
 }
 
-static uint32_t count_of(const struct place *it)
-{
-    return !it->stride ? 1 : it->offset == MAILBOX ? WORDS_OF_MAILBOX : QUEUES_OF_FUNCTION;
-}
-
 bool function_register_named(const char *text, uint32_t *offset)
 {
     char name[NAME_BYTES];
@@ -90,7 +61,7 @@ bool function_register_named(const char *text, uint32_t *offset)
     if (!split(text, name, &index))
         return false;
     for (size_t i = 0; i < COUNT(places); i++)
-        if (strcmp(places[i].name, name) == 0 && index < count_of(&places[i])) {
+        if (strcmp(places[i].name, name) == 0 && index < places[i].count) {
             *offset = places[i].offset + places[i].stride * index;
             return true;
         }

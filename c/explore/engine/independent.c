@@ -46,18 +46,14 @@ int nicxi_side_of_register(uint32_t address)
 
 /* --- where a function's access goes --- */
 
-enum { MAILBOX_MEMORY = 0x13000, MAILBOX = 0x04C00, FUNCTIONS = 63, WORDS = 16 };
+enum { MAILBOX_MEMORY = NIC_PFMBMEM(0), MAILBOX = NIC_PVFMAILBOX(0), FUNCTIONS = 63, WORDS = 16 };
 
 static const struct owned {
     uint32_t offset, first;
 } of_group[] = {
-    {0x100, 0x00B00}, /* VTEICR */
-    {0x104, 0x00C00}, /* VTEICS */
-    {0x108, 0x00D00}, /* VTEIMS */
-    {0x10C, 0x00E00}, /* VTEIMC */
-    {0x110, 0x00F00}, /* VTEIAC */
-    {0x114, 0x04D00}, /* VTEIAM */
-    {0x140, 0x04E00}, /* VTIVAR_MISC */
+    {NIC_VTEICR, NIC_PVTEICR(0)},           {NIC_VTEICS, NIC_PVTEICS(0)}, {NIC_VTEIMS, NIC_PVTEIMS(0)},
+    {NIC_VTEIMC, NIC_PVTEIMC(0)},           {NIC_VTEIAC, NIC_PVTEIAC(0)}, {NIC_VTEIAM, NIC_PVTEIAM(0)},
+    {NIC_VTIVAR_MISC, NIC_PVTIVAR_MISC(0)},
 };
 
 enum { OF_GROUP = sizeof of_group / sizeof *of_group };
@@ -67,9 +63,7 @@ static uint32_t physical_of_queue(uint32_t queues, uint8_t vf, uint32_t offset)
     uint32_t own = (offset & 0xFFF) / 0x40, queue = vf * queues + own, at = offset % 0x40;
     if (own >= queues)
         return NO_ADDRESS;
-    if (offset >= 0x2000)
-        return 0x06000 + 0x40 * queue + at;
-    return (queue < 64 ? 0x01000 + 0x40 * queue : 0x0D000 + 0x40 * (queue - 64)) + at;
+    return (offset < NIC_VFTDBAL(0) ? NIC_RDBAL(queue) : NIC_TDBAL(queue)) + at;
 }
 
 uint32_t nicxi_physical(uint32_t gcr_ext, uint8_t vf, uint32_t offset)
@@ -78,12 +72,12 @@ uint32_t nicxi_physical(uint32_t gcr_ext, uint8_t vf, uint32_t offset)
     uint32_t queues = queues_of_mode[gcr_ext & 3];
     if (!queues || vf >= FUNCTIONS || offset % 4)
         return NO_ADDRESS;
-    if (offset >= 0x1000 && offset < 0x3000)
+    if (offset >= NIC_VFRDBAL(0) && offset < NIC_VFTDBAL(64))
         return physical_of_queue(queues, vf, offset);
-    if (offset >= 0x200 && offset < 0x200 + 4 * WORDS)
-        return MAILBOX_MEMORY + 4u * WORDS * vf + offset - 0x200;
-    if (offset == 0x2FC)
-        return MAILBOX + 4u * vf;
+    if (offset >= NIC_VFMBMEM(0) && offset < NIC_VFMBMEM(WORDS))
+        return NIC_PFMBMEM(WORDS * vf) + offset - NIC_VFMBMEM(0);
+    if (offset == NIC_VFMAILBOX)
+        return NIC_PVFMAILBOX(vf);
     for (int k = 0; k < OF_GROUP; k++)
         if (of_group[k].offset == offset)
             return of_group[k].first + 4u * vf;

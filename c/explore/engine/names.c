@@ -6,30 +6,7 @@
 
 #define COUNT(list) (sizeof(list) / sizeof *(list))
 
-enum { QUEUES_OF_FUNCTION = 8, WORDS_OF_MAILBOX = 16 };
-
-static const struct run {
-    const char *name;
-    uint32_t first, stride, count, index;
-    bool many;
-} registers[] = {
-#define REGISTER(name, first, stride, count, index, many) {name, first, stride, count, index, many},
-#define OFFSET(name, offset, stride)
 #include "names.inc"
-#undef REGISTER
-#undef OFFSET
-};
-
-static const struct place {
-    const char *name;
-    uint32_t offset, stride;
-} offsets[] = {
-#define REGISTER(name, first, stride, count, index, many)
-#define OFFSET(name, offset, stride) {name, offset, stride},
-#include "names.inc"
-#undef REGISTER
-#undef OFFSET
-};
 
 static const char *named(char *room, const char *name, bool many, uint32_t index)
 {
@@ -54,13 +31,12 @@ const char *nicxi_register(uint32_t address, char room[MOST_NAME])
 
 const char *nicxi_offset(uint32_t offset, char room[MOST_NAME])
 {
-    for (size_t k = 0; k < COUNT(offsets); k++) {
-        const struct place *place = &offsets[k];
+    for (size_t k = 0; k < COUNT(places); k++) {
+        const struct place *place = &places[k];
         uint32_t from = offset - place->offset;
-        uint32_t count = !place->stride ? 1 : place->offset == 0x0200 ? WORDS_OF_MAILBOX : QUEUES_OF_FUNCTION;
         if (!from)
             return named(room, place->name, place->stride != 0, 0);
-        if (place->stride && from % place->stride == 0 && from / place->stride < count)
+        if (place->stride && from % place->stride == 0 && from / place->stride < place->count)
             return named(room, place->name, true, from / place->stride);
     }
     snprintf(room, MOST_NAME, "0x%04" PRIx32, offset);

@@ -183,17 +183,20 @@ struct pick {
     size_t length;
 };
 
+/* Of a side of a queue, behind its first register. */
+static const uint32_t of_side[] = {0, 4, 8, 0x10, 0x14, 0x18, 0x28, 0x38, 0x3C};
+
 /* Of a virtual function: of a queue's side, its mailbox, its interrupts. */
 static uint32_t some_offset(void)
 {
-    static const uint32_t of_side[] = {0, 4, 8, 0x10, 0x14, 0x18, 0x28, 0x38, 0x3C};
-    static const uint32_t of_group[] = {0x100, 0x104, 0x108, 0x10C, 0x110, 0x114, 0x140};
+    static const uint32_t of_group[] = {NIC_VTEICR, NIC_VTEICS, NIC_VTEIMS,     NIC_VTEIMC,
+                                        NIC_VTEIAC, NIC_VTEIAM, NIC_VTIVAR_MISC};
     switch (below(6)) {
     case 0:
     case 1:
-    case 2: return (below(2) ? 0x1000u : 0x2000u) + 0x40 * below(QUEUES) + of_side[below(9)];
-    case 3: return 0x200 + 4 * below(16);
-    case 4: return 0x2FC;
+    case 2: return (below(2) ? NIC_VFRDBAL(0) : NIC_VFTDBAL(0)) + 0x40 * below(QUEUES) + of_side[below(9)];
+    case 3: return NIC_VFMBMEM(below(16));
+    case 4: return NIC_VFMAILBOX;
     default: return of_group[below(7)];
     }
 }
@@ -213,7 +216,6 @@ static void pick(struct pick *it, uint8_t kind)
     memset(it, 0, sizeof *it);
     step->kind = kind;
     some_frame(it->bytes, &it->length);
-    static const uint32_t offsets[] = {0, 4, 8, 0x10, 0x14, 0x18, 0x28, 0x38, 0x3C};
     switch (kind) {
     case STEP_VF_READ:
     case STEP_VF_WRITE:
@@ -223,7 +225,7 @@ static void pick(struct pick *it, uint8_t kind)
         break;
     case STEP_READ:
     case STEP_WRITE:
-        step->address = below(4) ? (below(2) ? NIC_RDBAL(queue) : NIC_TDBAL(queue)) + offsets[below(9)] : some_part();
+        step->address = below(4) ? (below(2) ? NIC_RDBAL(queue) : NIC_TDBAL(queue)) + of_side[below(9)] : some_part();
         step->word = below(2) ? below(9) : (uint32_t)chance_next(&chance);
         break;
     case STEP_PEEK:

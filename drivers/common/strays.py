@@ -16,6 +16,10 @@ import sys
 from pathlib import Path
 from typing import NamedTuple
 
+sys.dont_write_bytecode = True
+sys.path.append(str(Path(__file__).resolve().parents[2] / "python"))
+from nic82599.tools.tables import FUNCTION  # noqa: E402
+
 # name, first address and step in hex, count
 FAMILIES = """
 VFLRE               00600 4 2
@@ -168,21 +172,6 @@ VFGORC, high        01024
 VFMPRC              01034
 DCA_TXCTRL          0200C 40 8
 RSCCTL              0102C 40 8
-RDBAL, not its own  01000 40 8
-RDBAH, not its own  01004 40 8
-RDLEN, not its own  01008 40 8
-RDH, not its own    01010 40 8
-SRRCTL, not its own 01014 40 8
-RDT, not its own    01018 40 8
-RXDCTL, not its own 01028 40 8
-TDBAL, not its own  02000 40 8
-TDBAH, not its own  02004 40 8
-TDLEN, not its own  02008 40 8
-TDH, not its own    02010 40 8
-TDT, not its own    02018 40 8
-TXDCTL, not its own 02028 40 8
-TDWBAL, not its own 02038 40 8
-TDWBAH, not its own 0203C 40 8
 VFGOTC              02020
 VFGOTC, high        02024
 """
@@ -225,6 +214,13 @@ def families(text: str) -> list[Family]:
     return found
 
 
+def of_functions() -> list[Family]:
+    """Those of virtual functions, with the registers of more queues than a function has, in front of its counters."""
+    found = families(VIRTUAL_FAMILIES)
+    rest = [Family(f"{it.row}, not its own", it.offset, it.stride, it.count(8)) for it in FUNCTION if it.of == "k"]
+    return found[:-2] + rest + found[-2:]
+
+
 def touched(path: Path) -> tuple[dict[int, Touched], dict[int, Touched]]:
     """What was touched of the physical function, and of virtual ones."""
     sides: tuple[dict[int, Touched], dict[int, Touched]] = ({}, {})
@@ -240,11 +236,11 @@ def span(numbers: list[int]) -> str:
     return str(low) if low == high else f"{low} to {high}"
 
 
-def tell(left: dict[int, Touched], table: str) -> int:
+def tell(left: dict[int, Touched], table: list[Family]) -> int:
     """Prints the families that hold what was touched, and what is in none; how much that is."""
     total, rows = len(left), 0
     print(f"{'register':20} {'addresses':34} {'many':>4}  {'reads':7} {'writes':7} in")
-    for family in families(table):
+    for family in table:
         found = [left.pop(address) for address in family.addresses() if address in left]
         if not found:
             continue
@@ -269,10 +265,10 @@ def main(words: list[str]) -> int:
         print(f"drivers/common/strays.py: {words[0]}: {error}", file=sys.stderr)
         return 3
     print("of each address how often it was read and written, and in which phases")
-    unknown = tell(physical, FAMILIES)
+    unknown = tell(physical, families(FAMILIES))
     if virtual:
         print("and of virtual functions, all together")
-        unknown += tell(virtual, VIRTUAL_FAMILIES)
+        unknown += tell(virtual, of_functions())
     return 1 if unknown else 0
 
 

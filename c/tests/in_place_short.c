@@ -1,44 +1,11 @@
 /* Memory that the caller lends, where memory is short: each allocation of nic_lend_memory and of nic_restore fails in
-   turn. A refused call has changed nothing, and leaves nothing behind. Linked with -Wl,--wrap=malloc and so on. */
+   turn. A refused call has changed nothing, and leaves nothing behind. */
 #include <string.h>
 
 #include "check.h"
+#include "short.h"
 
 enum { BLOCK = NIC_BLOCK_BYTES, BLOCKS = 8, AT = 2, OWN = 4, MOST = 80 };
-
-/* How many allocations succeed until one fails; below 0: all do. */
-static long left = -1;
-
-void *__real_malloc(size_t size);
-void *__real_calloc(size_t count, size_t size);
-void *__real_realloc(void *piece, size_t size);
-void *__wrap_malloc(size_t size);
-void *__wrap_calloc(size_t count, size_t size);
-void *__wrap_realloc(void *piece, size_t size);
-
-static bool fails(void)
-{
-    if (left > 0)
-        left--;
-    else if (left == 0)
-        return true;
-    return false;
-}
-
-void *__wrap_malloc(size_t size)
-{
-    return fails() ? NULL : __real_malloc(size);
-}
-
-void *__wrap_calloc(size_t count, size_t size)
-{
-    return fails() ? NULL : __real_calloc(count, size);
-}
-
-void *__wrap_realloc(void *piece, size_t size)
-{
-    return fails() ? NULL : __real_realloc(piece, size);
-}
 
 static bool all_are(const uint8_t *bytes, uint8_t value)
 {

@@ -1,44 +1,11 @@
 /* nic_why where memory is short: each allocation fails in turn. What registers show is told all the same, the last line
-   says what is missing, and nothing has changed. Linked with -Wl,--wrap=malloc and so on. */
+   says what is missing, and nothing has changed. */
 #include <string.h>
 
 #include "check.h"
+#include "short.h"
 
 enum { ROOM = 4096, MOST = 2000 };
-
-/* How many allocations succeed until one fails; below 0: all do. */
-static long left = -1;
-
-void *__real_malloc(size_t size);
-void *__real_calloc(size_t count, size_t size);
-void *__real_realloc(void *piece, size_t size);
-void *__wrap_malloc(size_t size);
-void *__wrap_calloc(size_t count, size_t size);
-void *__wrap_realloc(void *piece, size_t size);
-
-static bool fails(void)
-{
-    if (left > 0)
-        left--;
-    else if (left == 0)
-        return true;
-    return false;
-}
-
-void *__wrap_malloc(size_t size)
-{
-    return fails() ? NULL : __real_malloc(size);
-}
-
-void *__wrap_calloc(size_t count, size_t size)
-{
-    return fails() ? NULL : __real_calloc(count, size);
-}
-
-void *__wrap_realloc(void *piece, size_t size)
-{
-    return fails() ? NULL : __real_realloc(piece, size);
-}
 
 static const char whole[] = "rx: 1 frame waits, the one in front for queue 0\n"
                             "rx 0: RXDCTL[0].ENABLE 1: it was asked to go off, but no `qstep rx 0` followed\n"

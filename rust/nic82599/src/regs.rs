@@ -7,1232 +7,258 @@
 
 use crate::register::{Field, Register, Registers};
 
-/// Device control.
-pub const CTRL: Register = Register::new(0x00000);
-
-/// Device status.
-pub const STATUS: Register = Register::new(0x00008);
-
-/// Extended device control.
-pub const CTRL_EXT: Register = Register::new(0x00018);
-
-/// LED control.
-pub const LEDCTL: Register = Register::new(0x00200);
-
-/// Control of a virtual function, 64 of them.
-pub const PVFCTRL: Registers = Registers::array(0x00300, 0x04, 64);
-
-/// Mailbox interrupt causes of 16 virtual functions, 4 of them.
-pub const PFMBICR: Registers = Registers::array(0x00710, 0x04, 4);
-
-/// Mailbox interrupt mask of 32 virtual functions, 2 of them.
-pub const PFMBIMR: Registers = Registers::array(0x00720, 0x04, 2);
-
-/// Extended interrupt cause.
-pub const EICR: Register = Register::new(0x00800);
-
-/// Extended interrupt cause set.
-pub const EICS: Register = Register::new(0x00808);
-
-/// Extended interrupt auto clear.
-pub const EIAC: Register = Register::new(0x00810);
-
-/// Extended interrupt throttle, 128 of them.
-pub const EITR: Registers = Registers::parted(0x00820, 0x04, 24, 0x12300, 128);
-
-/// Extended interrupt mask set.
-pub const EIMS: Register = Register::new(0x00880);
-
-/// Extended interrupt mask clear.
-pub const EIMC: Register = Register::new(0x00888);
-
-/// Extended interrupt auto mask.
-pub const EIAM: Register = Register::new(0x00890);
-
-/// General purpose interrupt enable.
-pub const GPIE: Register = Register::new(0x00898);
-
-/// Interrupt vector allocation, 64 of them.
-pub const IVAR: Registers = Registers::array(0x00900, 0x04, 64);
-
-/// Interrupt vector allocation of other causes.
-pub const IVAR_MISC: Register = Register::new(0x00A00);
-
-/// Interrupt cause of a virtual function, 64 of them.
-pub const PVTEICR: Registers = Registers::array(0x00B00, 0x04, 64);
-
-/// Interrupt cause set of a virtual function, 64 of them.
-pub const PVTEICS: Registers = Registers::array(0x00C00, 0x04, 64);
-
-/// Interrupt mask set of a virtual function, 64 of them.
-pub const PVTEIMS: Registers = Registers::array(0x00D00, 0x04, 64);
-
-/// Interrupt mask clear of a virtual function, 64 of them.
-pub const PVTEIMC: Registers = Registers::array(0x00E00, 0x04, 64);
-
-/// Extended interrupt auto clear of a virtual function, 64 of them.
-pub const PVTEIAC: Registers = Registers::array(0x00F00, 0x04, 64);
-
-/// Mailbox of a virtual function, seen by the physical function, 64 of them.
-pub const PFMAILBOX: Registers = Registers::array(0x04B00, 0x04, 64);
-
-/// Mailbox of a virtual function, 64 of them.
-pub const PVFMAILBOX: Registers = Registers::array(0x04C00, 0x04, 64);
-
-/// Extended interrupt auto mask of a virtual function, 64 of them.
-pub const PVTEIAM: Registers = Registers::array(0x04D00, 0x04, 64);
-
-/// Interrupt vector allocation of a virtual function's mailbox, 64 of them.
-pub const PVTIVAR_MISC: Registers = Registers::array(0x04E00, 0x04, 64);
-
-/// Receive descriptor base address, low part, 128 of them.
-pub const RDBAL: Registers = Registers::parted(0x01000, 0x40, 64, 0x0D000, 128);
-
-/// Receive descriptor base address, high part, 128 of them.
-pub const RDBAH: Registers = Registers::parted(0x01004, 0x40, 64, 0x0D004, 128);
-
-/// Receive descriptor length in bytes, 128 of them.
-pub const RDLEN: Registers = Registers::parted(0x01008, 0x40, 64, 0x0D008, 128);
-
-/// Receive descriptor head, 128 of them.
-pub const RDH: Registers = Registers::parted(0x01010, 0x40, 64, 0x0D010, 128);
-
-/// Split receive control of a queue, 128 of them.
-pub const SRRCTL: Registers = Registers::parted(0x01014, 0x40, 64, 0x0D014, 128);
-
-/// Receive descriptor tail, 128 of them.
-pub const RDT: Registers = Registers::parted(0x01018, 0x40, 64, 0x0D018, 128);
-
-/// Receive descriptor control, 128 of them.
-pub const RXDCTL: Registers = Registers::parted(0x01028, 0x40, 64, 0x0D028, 128);
-
-/// Good frames received by a virtual function, 64 of them.
-pub const VFGPRC: Registers = Registers::array(0x0101C, 0x40, 64);
-
-/// Frames received, in one of 16 counters of queues, 16 of them.
-pub const QPRC: Registers = Registers::array(0x01030, 0x40, 16);
-
-/// Frames dropped for want of a slot, in one of 16 counters of queues, 16 of them.
-pub const QPRDC: Registers = Registers::array(0x01430, 0x40, 16);
-
-/// Receive queue statistics mapping, 32 of them.
-pub const RQSMR: Registers = Registers::array(0x02300, 0x04, 32);
-
-/// Receive DMA control.
-pub const RDRXCTL: Register = Register::new(0x02F00);
-
-/// Receive control.
-pub const RXCTRL: Register = Register::new(0x03000);
-
-/// Frames missed for want of room.
-pub const MPC: Register = Register::new(0x03FA0);
-
-/// Good frames received.
-pub const GPRC: Register = Register::new(0x04074);
-
-/// Good frames transmitted.
-pub const GPTC: Register = Register::new(0x04080);
-
-/// Frames received that are too short.
-pub const RUC: Register = Register::new(0x040A4);
-
-/// Frames received that are too long.
-pub const ROC: Register = Register::new(0x040AC);
-
-/// MAC highlander control 0.
-pub const HLREG0: Register = Register::new(0x04240);
-
-/// Maximum frame size.
-pub const MAXFRS: Register = Register::new(0x04268);
-
-/// Auto-negotiation control.
-pub const AUTOC: Register = Register::new(0x042A0);
-
-/// Link status.
-pub const LINKS: Register = Register::new(0x042A4);
-
-/// DMA transmit control.
-pub const DMATXCTL: Register = Register::new(0x04A80);
-
-/// Receive checksum control.
-pub const RXCSUM: Register = Register::new(0x05000);
-
-/// Filter control.
-pub const FCTRL: Register = Register::new(0x05080);
-
-/// Multicast control.
-pub const MCSTCTRL: Register = Register::new(0x05090);
-
-/// Virtualization control.
-pub const VT_CTL: Register = Register::new(0x051B0);
-
-/// Receive enable of the pools, 2 of them.
-pub const VFRE: Registers = Registers::array(0x051E0, 0x04, 2);
-
-/// Transmit enable of the pools, 2 of them.
-pub const VFTE: Registers = Registers::array(0x08110, 0x04, 2);
-
-/// Multicast table array, 128 of them.
-pub const MTA: Registers = Registers::array(0x05200, 0x04, 128);
-
-/// Receive address, low part, 128 of them.
-pub const RAL: Registers = Registers::array(0x0A200, 0x08, 128);
-
-/// Receive address, high part, 128 of them.
-pub const RAH: Registers = Registers::array(0x0A204, 0x08, 128);
-
-/// Multiple receive queues command.
-pub const MRQC: Register = Register::new(0x05818);
-
-/// Redirection table, 32 of them.
-pub const RETA: Registers = Registers::array(0x05C00, 0x04, 32);
-
-/// Receive side scaling random key, 10 of them.
-pub const RSSRK: Registers = Registers::array(0x05C80, 0x04, 10);
-
-/// Transmit descriptor base address, low part, 128 of them.
-pub const TDBAL: Registers = Registers::array(0x06000, 0x40, 128);
-
-/// Transmit descriptor base address, high part, 128 of them.
-pub const TDBAH: Registers = Registers::array(0x06004, 0x40, 128);
-
-/// Transmit descriptor length in bytes, 128 of them.
-pub const TDLEN: Registers = Registers::array(0x06008, 0x40, 128);
-
-/// Transmit descriptor head, 128 of them.
-pub const TDH: Registers = Registers::array(0x06010, 0x40, 128);
-
-/// Transmit descriptor tail, 128 of them.
-pub const TDT: Registers = Registers::array(0x06018, 0x40, 128);
-
-/// Transmit descriptor control, 128 of them.
-pub const TXDCTL: Registers = Registers::array(0x06028, 0x40, 128);
-
-/// Transmit head write-back address, low part, 128 of them.
-pub const TDWBAL: Registers = Registers::array(0x06038, 0x40, 128);
-
-/// Transmit head write-back address, high part, 128 of them.
-pub const TDWBAH: Registers = Registers::array(0x0603C, 0x40, 128);
-
-/// Frames transmitted, in one of 16 counters of queues, 16 of them.
-pub const QPTC: Registers = Registers::array(0x06030, 0x40, 16);
-
-/// Multiple transmit queues command.
-pub const MTQC: Register = Register::new(0x08120);
-
-/// Good frames transmitted by a virtual function, 64 of them.
-pub const VFGPTC: Registers = Registers::array(0x08300, 0x04, 64);
-
-/// Transmit queue statistics mapping, 32 of them.
-pub const TQSM: Registers = Registers::array(0x08600, 0x04, 32);
-
-/// Pool select of the receive addresses, 256 of them.
-pub const MPSAR: Registers = Registers::array(0x0A600, 0x04, 256);
-
-/// Packet split receive type of a pool, 64 of them.
-pub const PSRTYPE: Registers = Registers::array(0x0EA00, 0x04, 64);
-
-/// EEPROM control and size.
-pub const EEC: Register = Register::new(0x10010);
-
-/// EEPROM read.
-pub const EERD: Register = Register::new(0x10014);
-
-/// Extended PCIe control.
-pub const GCR_EXT: Register = Register::new(0x11050);
-
-/// Interrupt vector allocation of a virtual function, 64 of them.
-pub const PVTIVAR: Registers = Registers::array(0x12500, 0x04, 64);
-
-/// Mailbox memory, 16 words for each virtual function, 1024 of them.
-pub const PFMBMEM: Registers = Registers::array(0x13000, 0x04, 1024);
-
-/// The fields of CTRL.
-pub mod ctrl {
-    /// Bit 2.
-    pub const MASTER_DISABLE: u32 = 0x00000004;
-    /// Bit 3.
-    pub const LRST: u32 = 0x00000008;
-    /// Bit 26.
-    pub const RST: u32 = 0x04000000;
+macro_rules! register {
+    ($name:ident $meaning:literal $address:literal) => {
+        #[doc = concat!($meaning, ".")]
+        pub const $name: Register = Register::new($address);
+    };
+    ($name:ident $meaning:literal $first:literal $stride:literal $count:literal) => {
+        #[doc = concat!($meaning, ", ", $count, " of them.")]
+        pub const $name: Registers = Registers::array($first, $stride, $count);
+    };
+    ($name:ident $meaning:literal $first:literal $stride:literal $near:literal $further:literal $count:literal) => {
+        #[doc = concat!($meaning, ", ", $count, " of them.")]
+        pub const $name: Registers = Registers::parted($first, $stride, $near, $further, $count);
+    };
 }
 
-/// The fields of STATUS.
-pub mod status {
-    use super::Field;
-
-    /// Bits 3 to 2.
-    pub const LAN_ID: Field = Field::new(0x0000000C, 2);
-    /// Bit 7.
-    pub const LINKUP: u32 = 0x00000080;
-    /// Bits 17 to 10.
-    pub const NUM_VFS: Field = Field::new(0x0003FC00, 10);
-    /// Bit 18.
-    pub const IOV_ACTIVE: u32 = 0x00040000;
-    /// Bit 19.
-    pub const MASTER_ENABLE_STATUS: u32 = 0x00080000;
+macro_rules! with_name {
+    ($name:ident $address:literal) => {
+        (stringify!($name), Registers::one($name))
+    };
+    ($name:ident $($number:literal)+) => {
+        (stringify!($name), $name)
+    };
 }
 
-/// The fields of CTRL_EXT.
-pub mod ctrl_ext {
-    /// Bit 14.
-    pub const PFRSTD: u32 = 0x00004000;
-    /// Bit 16.
-    pub const NS_DIS: u32 = 0x00010000;
-    /// Bit 17.
-    pub const RO_DIS: u32 = 0x00020000;
-    /// Bit 26.
-    pub const EXTENDED_VLAN: u32 = 0x04000000;
-    /// Bit 28.
-    pub const DRV_LOAD: u32 = 0x10000000;
+macro_rules! registers {
+    ($($name:ident $meaning:literal $($number:literal)+;)+) => {
+        $(register! { $name $meaning $($number)+ })+
+
+        /// Each name of the physical function with its registers, in the order of the table.
+        pub const ALL: &[(&str, Registers)] = &[$(with_name!($name $($number)+)),+];
+    };
 }
 
-/// The fields of PVFCTRL.
-pub mod pvfctrl {
-    /// Bit 26.
-    pub const RST: u32 = 0x04000000;
+macro_rules! field {
+    ($name:ident $bit:literal) => {
+        #[doc = concat!("Bit ", $bit, ".")]
+        pub const $name: u32 = 1 << $bit;
+    };
+    ($name:ident $high:literal $low:literal) => {
+        #[doc = concat!("Bits ", $high, " to ", $low, ".")]
+        pub const $name: super::Field = super::Field::new(((1 << ($high - $low + 1)) - 1) << $low, $low);
+    };
 }
 
-/// The fields of PFMBICR.
-pub mod pfmbicr {
-    use super::Field;
-
-    /// Bits 15 to 0.
-    pub const VFREQ: Field = Field::new(0x0000FFFF, 0);
-    /// Bits 31 to 16.
-    pub const VFACK: Field = Field::new(0xFFFF0000, 16);
+macro_rules! fields {
+    ($($module:ident $register:literal: $($name:ident $($bit:literal)+),+;)+) => {
+        $(
+            #[doc = concat!("The fields of ", $register, ".")]
+            pub mod $module {
+                $(field! { $name $($bit)+ })+
+            }
+        )+
+    };
 }
 
-/// The fields of EICR.
-pub mod eicr {
-    use super::Field;
-
-    /// Bits 15 to 0.
-    pub const RTXQ: Field = Field::new(0x0000FFFF, 0);
-    /// Bit 16.
-    pub const FLOW_DIRECTOR: u32 = 0x00010000;
-    /// Bit 17.
-    pub const RX_MISS: u32 = 0x00020000;
-    /// Bit 18.
-    pub const PCI_EXCEPTION: u32 = 0x00040000;
-    /// Bit 19.
-    pub const MAILBOX: u32 = 0x00080000;
-    /// Bit 20.
-    pub const LSC: u32 = 0x00100000;
-    /// Bit 21.
-    pub const LINKSEC: u32 = 0x00200000;
-    /// Bit 22.
-    pub const MNG: u32 = 0x00400000;
-    /// Bit 24.
-    pub const GPI_SDP0: u32 = 0x01000000;
-    /// Bit 25.
-    pub const GPI_SDP1: u32 = 0x02000000;
-    /// Bit 26.
-    pub const GPI_SDP2: u32 = 0x04000000;
-    /// Bit 27.
-    pub const GPI_SDP3: u32 = 0x08000000;
-    /// Bit 28.
-    pub const ECC: u32 = 0x10000000;
-    /// Bit 30.
-    pub const TCP_TIMER: u32 = 0x40000000;
+macro_rules! of_function {
+    ($name:ident $row:literal $offset:literal) => {
+        #[doc = concat!($row, " of the function, at ", stringify!($offset), ".")]
+        pub const $name: VfRegister = VfRegister::new($offset);
+    };
+    ($name:ident $row:literal $offset:literal $stride:literal $count:literal) => {
+        #[doc = concat!($row, " of the function, at ", stringify!($offset), " + ", stringify!($stride), " i.")]
+        pub const $name: VfRegisters = VfRegisters::array($offset, $stride, $count);
+    };
 }
 
-/// The fields of EICS.
-pub mod eics {
-    use super::Field;
-
-    /// Bits 15 to 0.
-    pub const RTXQ: Field = Field::new(0x0000FFFF, 0);
-    /// Bit 16.
-    pub const FLOW_DIRECTOR: u32 = 0x00010000;
-    /// Bit 17.
-    pub const RX_MISS: u32 = 0x00020000;
-    /// Bit 18.
-    pub const PCI_EXCEPTION: u32 = 0x00040000;
-    /// Bit 19.
-    pub const MAILBOX: u32 = 0x00080000;
-    /// Bit 20.
-    pub const LSC: u32 = 0x00100000;
-    /// Bit 21.
-    pub const LINKSEC: u32 = 0x00200000;
-    /// Bit 22.
-    pub const MNG: u32 = 0x00400000;
-    /// Bit 24.
-    pub const GPI_SDP0: u32 = 0x01000000;
-    /// Bit 25.
-    pub const GPI_SDP1: u32 = 0x02000000;
-    /// Bit 26.
-    pub const GPI_SDP2: u32 = 0x04000000;
-    /// Bit 27.
-    pub const GPI_SDP3: u32 = 0x08000000;
-    /// Bit 28.
-    pub const ECC: u32 = 0x10000000;
-    /// Bit 30.
-    pub const TCP_TIMER: u32 = 0x40000000;
+registers! {
+    CTRL "Device control" 0x00000;
+    STATUS "Device status" 0x00008;
+    CTRL_EXT "Extended device control" 0x00018;
+    LEDCTL "LED control" 0x00200;
+    PVFCTRL "Control of a virtual function" 0x00300 0x04 64;
+    PFMBICR "Mailbox interrupt causes of 16 virtual functions" 0x00710 0x04 4;
+    PFMBIMR "Mailbox interrupt mask of 32 virtual functions" 0x00720 0x04 2;
+    EICR "Extended interrupt cause" 0x00800;
+    EICS "Extended interrupt cause set" 0x00808;
+    EIAC "Extended interrupt auto clear" 0x00810;
+    EITR "Extended interrupt throttle" 0x00820 0x04 24 0x12300 128;
+    EIMS "Extended interrupt mask set" 0x00880;
+    EIMC "Extended interrupt mask clear" 0x00888;
+    EIAM "Extended interrupt auto mask" 0x00890;
+    GPIE "General purpose interrupt enable" 0x00898;
+    IVAR "Interrupt vector allocation" 0x00900 0x04 64;
+    IVAR_MISC "Interrupt vector allocation of other causes" 0x00A00;
+    PVTEICR "Interrupt cause of a virtual function" 0x00B00 0x04 64;
+    PVTEICS "Interrupt cause set of a virtual function" 0x00C00 0x04 64;
+    PVTEIMS "Interrupt mask set of a virtual function" 0x00D00 0x04 64;
+    PVTEIMC "Interrupt mask clear of a virtual function" 0x00E00 0x04 64;
+    PVTEIAC "Extended interrupt auto clear of a virtual function" 0x00F00 0x04 64;
+    PFMAILBOX "Mailbox of a virtual function, seen by the physical function" 0x04B00 0x04 64;
+    PVFMAILBOX "Mailbox of a virtual function" 0x04C00 0x04 64;
+    PVTEIAM "Extended interrupt auto mask of a virtual function" 0x04D00 0x04 64;
+    PVTIVAR_MISC "Interrupt vector allocation of a virtual function's mailbox" 0x04E00 0x04 64;
+    RDBAL "Receive descriptor base address, low part" 0x01000 0x40 64 0x0D000 128;
+    RDBAH "Receive descriptor base address, high part" 0x01004 0x40 64 0x0D004 128;
+    RDLEN "Receive descriptor length in bytes" 0x01008 0x40 64 0x0D008 128;
+    RDH "Receive descriptor head" 0x01010 0x40 64 0x0D010 128;
+    SRRCTL "Split receive control of a queue" 0x01014 0x40 64 0x0D014 128;
+    RDT "Receive descriptor tail" 0x01018 0x40 64 0x0D018 128;
+    RXDCTL "Receive descriptor control" 0x01028 0x40 64 0x0D028 128;
+    VFGPRC "Good frames received by a virtual function" 0x0101C 0x40 64;
+    QPRC "Frames received, in one of 16 counters of queues" 0x01030 0x40 16;
+    QPRDC "Frames dropped for want of a slot, in one of 16 counters of queues" 0x01430 0x40 16;
+    RQSMR "Receive queue statistics mapping" 0x02300 0x04 32;
+    RDRXCTL "Receive DMA control" 0x02F00;
+    RXCTRL "Receive control" 0x03000;
+    MPC "Frames missed for want of room" 0x03FA0;
+    GPRC "Good frames received" 0x04074;
+    GPTC "Good frames transmitted" 0x04080;
+    RUC "Frames received that are too short" 0x040A4;
+    ROC "Frames received that are too long" 0x040AC;
+    HLREG0 "MAC highlander control 0" 0x04240;
+    MAXFRS "Maximum frame size" 0x04268;
+    AUTOC "Auto-negotiation control" 0x042A0;
+    LINKS "Link status" 0x042A4;
+    DMATXCTL "DMA transmit control" 0x04A80;
+    RXCSUM "Receive checksum control" 0x05000;
+    FCTRL "Filter control" 0x05080;
+    MCSTCTRL "Multicast control" 0x05090;
+    VT_CTL "Virtualization control" 0x051B0;
+    VFRE "Receive enable of the pools" 0x051E0 0x04 2;
+    VFTE "Transmit enable of the pools" 0x08110 0x04 2;
+    MTA "Multicast table array" 0x05200 0x04 128;
+    RAL "Receive address, low part" 0x0A200 0x08 128;
+    RAH "Receive address, high part" 0x0A204 0x08 128;
+    MRQC "Multiple receive queues command" 0x05818;
+    RETA "Redirection table" 0x05C00 0x04 32;
+    RSSRK "Receive side scaling random key" 0x05C80 0x04 10;
+    TDBAL "Transmit descriptor base address, low part" 0x06000 0x40 128;
+    TDBAH "Transmit descriptor base address, high part" 0x06004 0x40 128;
+    TDLEN "Transmit descriptor length in bytes" 0x06008 0x40 128;
+    TDH "Transmit descriptor head" 0x06010 0x40 128;
+    TDT "Transmit descriptor tail" 0x06018 0x40 128;
+    TXDCTL "Transmit descriptor control" 0x06028 0x40 128;
+    TDWBAL "Transmit head write-back address, low part" 0x06038 0x40 128;
+    TDWBAH "Transmit head write-back address, high part" 0x0603C 0x40 128;
+    QPTC "Frames transmitted, in one of 16 counters of queues" 0x06030 0x40 16;
+    MTQC "Multiple transmit queues command" 0x08120;
+    VFGPTC "Good frames transmitted by a virtual function" 0x08300 0x04 64;
+    TQSM "Transmit queue statistics mapping" 0x08600 0x04 32;
+    MPSAR "Pool select of the receive addresses" 0x0A600 0x04 256;
+    PSRTYPE "Packet split receive type of a pool" 0x0EA00 0x04 64;
+    EEC "EEPROM control and size" 0x10010;
+    EERD "EEPROM read" 0x10014;
+    GCR_EXT "Extended PCIe control" 0x11050;
+    PVTIVAR "Interrupt vector allocation of a virtual function" 0x12500 0x04 64;
+    PFMBMEM "Mailbox memory, 16 words for each virtual function" 0x13000 0x04 1024;
 }
 
-/// The fields of EIAC.
-pub mod eiac {
-    use super::Field;
-
-    /// Bits 15 to 0.
-    pub const RTXQ: Field = Field::new(0x0000FFFF, 0);
-    /// Bit 16.
-    pub const FLOW_DIRECTOR: u32 = 0x00010000;
-    /// Bit 17.
-    pub const RX_MISS: u32 = 0x00020000;
-    /// Bit 18.
-    pub const PCI_EXCEPTION: u32 = 0x00040000;
-    /// Bit 19.
-    pub const MAILBOX: u32 = 0x00080000;
-    /// Bit 20.
-    pub const LSC: u32 = 0x00100000;
-    /// Bit 21.
-    pub const LINKSEC: u32 = 0x00200000;
-    /// Bit 22.
-    pub const MNG: u32 = 0x00400000;
-    /// Bit 24.
-    pub const GPI_SDP0: u32 = 0x01000000;
-    /// Bit 25.
-    pub const GPI_SDP1: u32 = 0x02000000;
-    /// Bit 26.
-    pub const GPI_SDP2: u32 = 0x04000000;
-    /// Bit 27.
-    pub const GPI_SDP3: u32 = 0x08000000;
-    /// Bit 28.
-    pub const ECC: u32 = 0x10000000;
-    /// Bit 30.
-    pub const TCP_TIMER: u32 = 0x40000000;
-}
-
-/// The fields of EITR.
-pub mod eitr {
-    use super::Field;
-
-    /// Bits 11 to 3.
-    pub const ITR_INTERVAL: Field = Field::new(0x00000FF8, 3);
-    /// Bit 15.
-    pub const LLI_EN: u32 = 0x00008000;
-    /// Bits 20 to 16.
-    pub const LLI_CREDIT: Field = Field::new(0x001F0000, 16);
-    /// Bits 27 to 21.
-    pub const ITR_COUNTER: Field = Field::new(0x0FE00000, 21);
-    /// Bit 31.
-    pub const CNT_WDIS: u32 = 0x80000000;
-}
-
-/// The fields of EIMS.
-pub mod eims {
-    use super::Field;
-
-    /// Bits 15 to 0.
-    pub const RTXQ: Field = Field::new(0x0000FFFF, 0);
-    /// Bit 16.
-    pub const FLOW_DIRECTOR: u32 = 0x00010000;
-    /// Bit 17.
-    pub const RX_MISS: u32 = 0x00020000;
-    /// Bit 18.
-    pub const PCI_EXCEPTION: u32 = 0x00040000;
-    /// Bit 19.
-    pub const MAILBOX: u32 = 0x00080000;
-    /// Bit 20.
-    pub const LSC: u32 = 0x00100000;
-    /// Bit 21.
-    pub const LINKSEC: u32 = 0x00200000;
-    /// Bit 22.
-    pub const MNG: u32 = 0x00400000;
-    /// Bit 24.
-    pub const GPI_SDP0: u32 = 0x01000000;
-    /// Bit 25.
-    pub const GPI_SDP1: u32 = 0x02000000;
-    /// Bit 26.
-    pub const GPI_SDP2: u32 = 0x04000000;
-    /// Bit 27.
-    pub const GPI_SDP3: u32 = 0x08000000;
-    /// Bit 28.
-    pub const ECC: u32 = 0x10000000;
-    /// Bit 30.
-    pub const TCP_TIMER: u32 = 0x40000000;
-}
-
-/// The fields of EIMC.
-pub mod eimc {
-    use super::Field;
-
-    /// Bits 15 to 0.
-    pub const RTXQ: Field = Field::new(0x0000FFFF, 0);
-    /// Bit 16.
-    pub const FLOW_DIRECTOR: u32 = 0x00010000;
-    /// Bit 17.
-    pub const RX_MISS: u32 = 0x00020000;
-    /// Bit 18.
-    pub const PCI_EXCEPTION: u32 = 0x00040000;
-    /// Bit 19.
-    pub const MAILBOX: u32 = 0x00080000;
-    /// Bit 20.
-    pub const LSC: u32 = 0x00100000;
-    /// Bit 21.
-    pub const LINKSEC: u32 = 0x00200000;
-    /// Bit 22.
-    pub const MNG: u32 = 0x00400000;
-    /// Bit 24.
-    pub const GPI_SDP0: u32 = 0x01000000;
-    /// Bit 25.
-    pub const GPI_SDP1: u32 = 0x02000000;
-    /// Bit 26.
-    pub const GPI_SDP2: u32 = 0x04000000;
-    /// Bit 27.
-    pub const GPI_SDP3: u32 = 0x08000000;
-    /// Bit 28.
-    pub const ECC: u32 = 0x10000000;
-    /// Bit 30.
-    pub const TCP_TIMER: u32 = 0x40000000;
-}
-
-/// The fields of EIAM.
-pub mod eiam {
-    use super::Field;
-
-    /// Bits 15 to 0.
-    pub const RTXQ: Field = Field::new(0x0000FFFF, 0);
-    /// Bit 16.
-    pub const FLOW_DIRECTOR: u32 = 0x00010000;
-    /// Bit 17.
-    pub const RX_MISS: u32 = 0x00020000;
-    /// Bit 18.
-    pub const PCI_EXCEPTION: u32 = 0x00040000;
-    /// Bit 19.
-    pub const MAILBOX: u32 = 0x00080000;
-    /// Bit 20.
-    pub const LSC: u32 = 0x00100000;
-    /// Bit 21.
-    pub const LINKSEC: u32 = 0x00200000;
-    /// Bit 22.
-    pub const MNG: u32 = 0x00400000;
-    /// Bit 24.
-    pub const GPI_SDP0: u32 = 0x01000000;
-    /// Bit 25.
-    pub const GPI_SDP1: u32 = 0x02000000;
-    /// Bit 26.
-    pub const GPI_SDP2: u32 = 0x04000000;
-    /// Bit 27.
-    pub const GPI_SDP3: u32 = 0x08000000;
-    /// Bit 28.
-    pub const ECC: u32 = 0x10000000;
-    /// Bit 30.
-    pub const TCP_TIMER: u32 = 0x40000000;
-}
-
-/// The fields of GPIE.
-pub mod gpie {
-    use super::Field;
-
-    /// Bits 3 to 0.
-    pub const SDP_GPIEN: Field = Field::new(0x0000000F, 0);
-    /// Bit 4.
-    pub const MULTIPLE_MSIX: u32 = 0x00000010;
-    /// Bit 5.
-    pub const OCD: u32 = 0x00000020;
-    /// Bit 6.
-    pub const EIMEN: u32 = 0x00000040;
-    /// Bits 10 to 7.
-    pub const LL_INTERVAL: Field = Field::new(0x00000780, 7);
-    /// Bits 13 to 11.
-    pub const RSC_DELAY: Field = Field::new(0x00003800, 11);
-    /// Bits 15 to 14.
-    pub const VT_MODE: Field = Field::new(0x0000C000, 14);
-    /// Bit 30.
-    pub const EIAME: u32 = 0x40000000;
-    /// Bit 31.
-    pub const PBA_SUPPORT: u32 = 0x80000000;
-}
-
-/// The fields of IVAR.
-pub mod ivar {
-    use super::Field;
-
-    /// Bits 5 to 0.
-    pub const INT_ALLOC_0: Field = Field::new(0x0000003F, 0);
-    /// Bit 7.
-    pub const INT_ALLOC_VAL_0: u32 = 0x00000080;
-    /// Bits 13 to 8.
-    pub const INT_ALLOC_1: Field = Field::new(0x00003F00, 8);
-    /// Bit 15.
-    pub const INT_ALLOC_VAL_1: u32 = 0x00008000;
-    /// Bits 21 to 16.
-    pub const INT_ALLOC_2: Field = Field::new(0x003F0000, 16);
-    /// Bit 23.
-    pub const INT_ALLOC_VAL_2: u32 = 0x00800000;
-    /// Bits 29 to 24.
-    pub const INT_ALLOC_3: Field = Field::new(0x3F000000, 24);
-    /// Bit 31.
-    pub const INT_ALLOC_VAL_3: u32 = 0x80000000;
-}
-
-/// The fields of IVAR_MISC.
-pub mod ivar_misc {
-    use super::Field;
-
-    /// Bits 5 to 0.
-    pub const INT_ALLOC_0: Field = Field::new(0x0000003F, 0);
-    /// Bit 7.
-    pub const INT_ALLOC_VAL_0: u32 = 0x00000080;
-    /// Bits 13 to 8.
-    pub const INT_ALLOC_1: Field = Field::new(0x00003F00, 8);
-    /// Bit 15.
-    pub const INT_ALLOC_VAL_1: u32 = 0x00008000;
-}
-
-/// The fields of PVTEICR.
-pub mod pvteicr {
-    /// Bit 0.
-    pub const MSIX_0: u32 = 0x00000001;
-    /// Bit 1.
-    pub const MSIX_1: u32 = 0x00000002;
-    /// Bit 2.
-    pub const MSIX_2: u32 = 0x00000004;
-}
-
-/// The fields of PVTEICS.
-pub mod pvteics {
-    /// Bit 0.
-    pub const MSIX_0: u32 = 0x00000001;
-    /// Bit 1.
-    pub const MSIX_1: u32 = 0x00000002;
-    /// Bit 2.
-    pub const MSIX_2: u32 = 0x00000004;
-}
-
-/// The fields of PVTEIMS.
-pub mod pvteims {
-    /// Bit 0.
-    pub const MSIX_0: u32 = 0x00000001;
-    /// Bit 1.
-    pub const MSIX_1: u32 = 0x00000002;
-    /// Bit 2.
-    pub const MSIX_2: u32 = 0x00000004;
-}
-
-/// The fields of PVTEIMC.
-pub mod pvteimc {
-    /// Bit 0.
-    pub const MSIX_0: u32 = 0x00000001;
-    /// Bit 1.
-    pub const MSIX_1: u32 = 0x00000002;
-    /// Bit 2.
-    pub const MSIX_2: u32 = 0x00000004;
-}
-
-/// The fields of PVTEIAC.
-pub mod pvteiac {
-    /// Bit 0.
-    pub const MSIX_0: u32 = 0x00000001;
-    /// Bit 1.
-    pub const MSIX_1: u32 = 0x00000002;
-    /// Bit 2.
-    pub const MSIX_2: u32 = 0x00000004;
-}
-
-/// The fields of PFMAILBOX.
-pub mod pfmailbox {
-    /// Bit 0.
-    pub const STS: u32 = 0x00000001;
-    /// Bit 1.
-    pub const ACK: u32 = 0x00000002;
-    /// Bit 2.
-    pub const VFU: u32 = 0x00000004;
-    /// Bit 3.
-    pub const PFU: u32 = 0x00000008;
-    /// Bit 4.
-    pub const RVFU: u32 = 0x00000010;
-}
-
-/// The fields of PVFMAILBOX.
-pub mod pvfmailbox {
-    /// Bit 0.
-    pub const REQ: u32 = 0x00000001;
-    /// Bit 1.
-    pub const ACK: u32 = 0x00000002;
-    /// Bit 2.
-    pub const VFU: u32 = 0x00000004;
-    /// Bit 3.
-    pub const PFU: u32 = 0x00000008;
-    /// Bit 4.
-    pub const PFSTS: u32 = 0x00000010;
-    /// Bit 5.
-    pub const PFACK: u32 = 0x00000020;
-    /// Bit 6.
-    pub const RSTI: u32 = 0x00000040;
-    /// Bit 7.
-    pub const RSTD: u32 = 0x00000080;
-}
-
-/// The fields of PVTEIAM.
-pub mod pvteiam {
-    /// Bit 0.
-    pub const MSIX_0: u32 = 0x00000001;
-    /// Bit 1.
-    pub const MSIX_1: u32 = 0x00000002;
-    /// Bit 2.
-    pub const MSIX_2: u32 = 0x00000004;
-}
-
-/// The fields of PVTIVAR_MISC.
-pub mod pvtivar_misc {
-    use super::Field;
-
-    /// Bits 5 to 0.
-    pub const INT_ALLOC_0: Field = Field::new(0x0000003F, 0);
-    /// Bit 7.
-    pub const INT_ALLOC_VAL_0: u32 = 0x00000080;
-}
-
-/// The fields of RDLEN.
-pub mod rdlen {
-    use super::Field;
-
-    /// Bits 19 to 0.
-    pub const LEN: Field = Field::new(0x000FFFFF, 0);
-}
-
-/// The fields of RDH.
-pub mod rdh {
-    use super::Field;
-
-    /// Bits 15 to 0.
-    pub const RDH: Field = Field::new(0x0000FFFF, 0);
-}
-
-/// The fields of SRRCTL.
-pub mod srrctl {
-    use super::Field;
-
-    /// Bits 4 to 0.
-    pub const BSIZEPACKET: Field = Field::new(0x0000001F, 0);
-    /// Bits 13 to 8.
-    pub const BSIZEHEADER: Field = Field::new(0x00003F00, 8);
-    /// Bits 24 to 22.
-    pub const RDMTS: Field = Field::new(0x01C00000, 22);
-    /// Bits 27 to 25.
-    pub const DESCTYPE: Field = Field::new(0x0E000000, 25);
-    /// Bit 28.
-    pub const DROP_EN: u32 = 0x10000000;
-}
-
-/// The fields of RDT.
-pub mod rdt {
-    use super::Field;
-
-    /// Bits 15 to 0.
-    pub const RDT: Field = Field::new(0x0000FFFF, 0);
-}
-
-/// The fields of RXDCTL.
-pub mod rxdctl {
-    /// Bit 25.
-    pub const ENABLE: u32 = 0x02000000;
-    /// Bit 30.
-    pub const VME: u32 = 0x40000000;
-}
-
-/// The fields of RQSMR.
-pub mod rqsmr {
-    use super::Field;
-
-    /// Bits 3 to 0.
-    pub const Q_MAP_0: Field = Field::new(0x0000000F, 0);
-    /// Bits 11 to 8.
-    pub const Q_MAP_1: Field = Field::new(0x00000F00, 8);
-    /// Bits 19 to 16.
-    pub const Q_MAP_2: Field = Field::new(0x000F0000, 16);
-    /// Bits 27 to 24.
-    pub const Q_MAP_3: Field = Field::new(0x0F000000, 24);
-}
-
-/// The fields of RDRXCTL.
-pub mod rdrxctl {
-    use super::Field;
-
-    /// Bit 1.
-    pub const CRCSTRIP: u32 = 0x00000002;
-    /// Bit 3.
-    pub const DMAIDONE: u32 = 0x00000008;
-    /// Bits 21 to 17.
-    pub const RSCFRSTSIZE: Field = Field::new(0x003E0000, 17);
-    /// Bit 25.
-    pub const RSCACKC: u32 = 0x02000000;
-    /// Bit 26.
-    pub const FCOE_WRFIX: u32 = 0x04000000;
-}
-
-/// The fields of RXCTRL.
-pub mod rxctrl {
-    /// Bit 0.
-    pub const RXEN: u32 = 0x00000001;
-}
-
-/// The fields of HLREG0.
-pub mod hlreg0 {
-    use super::Field;
-
-    /// Bit 0.
-    pub const TXCRCEN: u32 = 0x00000001;
-    /// Bit 1.
-    pub const RXCRCSTRP: u32 = 0x00000002;
-    /// Bit 2.
-    pub const JUMBOEN: u32 = 0x00000004;
-    /// Bit 10.
-    pub const TXPADEN: u32 = 0x00000400;
-    /// Bit 15.
-    pub const LPBK: u32 = 0x00008000;
-    /// Bit 16.
-    pub const MDCSPD: u32 = 0x00010000;
-    /// Bit 17.
-    pub const CONTMDC: u32 = 0x00020000;
-    /// Bits 23 to 20.
-    pub const PREPEND: Field = Field::new(0x00F00000, 20);
-    /// Bit 27.
-    pub const RXLNGTHERREN: u32 = 0x08000000;
-    /// Bit 28.
-    pub const RXPADSTRIPEN: u32 = 0x10000000;
-}
-
-/// The fields of MAXFRS.
-pub mod maxfrs {
-    use super::Field;
-
-    /// Bits 31 to 16.
-    pub const MFS: Field = Field::new(0xFFFF0000, 16);
-}
-
-/// The fields of AUTOC.
-pub mod autoc {
-    use super::Field;
-
-    /// Bit 0.
-    pub const FLU: u32 = 0x00000001;
-    /// Bit 12.
-    pub const RESTART_AN: u32 = 0x00001000;
-    /// Bits 15 to 13.
-    pub const LMS: Field = Field::new(0x0000E000, 13);
-}
-
-/// The fields of LINKS.
-pub mod links {
-    use super::Field;
-
-    /// Bit 7.
-    pub const LINK_STATUS: u32 = 0x00000080;
-    /// Bits 29 to 28.
-    pub const LINK_SPEED: Field = Field::new(0x30000000, 28);
-    /// Bit 30.
-    pub const LINK_UP: u32 = 0x40000000;
-}
-
-/// The fields of DMATXCTL.
-pub mod dmatxctl {
-    use super::Field;
-
-    /// Bit 0.
-    pub const TE: u32 = 0x00000001;
-    /// Bit 3.
-    pub const GDV: u32 = 0x00000008;
-    /// Bits 31 to 16.
-    pub const VT: Field = Field::new(0xFFFF0000, 16);
-}
-
-/// The fields of RXCSUM.
-pub mod rxcsum {
-    /// Bit 12.
-    pub const IPPCSE: u32 = 0x00001000;
-    /// Bit 13.
-    pub const PCSD: u32 = 0x00002000;
-}
-
-/// The fields of FCTRL.
-pub mod fctrl {
-    /// Bit 1.
-    pub const SBP: u32 = 0x00000002;
-    /// Bit 8.
-    pub const MPE: u32 = 0x00000100;
-    /// Bit 9.
-    pub const UPE: u32 = 0x00000200;
-    /// Bit 10.
-    pub const BAM: u32 = 0x00000400;
-}
-
-/// The fields of MCSTCTRL.
-pub mod mcstctrl {
-    use super::Field;
-
-    /// Bits 1 to 0.
-    pub const MO: Field = Field::new(0x00000003, 0);
-    /// Bit 2.
-    pub const MFE: u32 = 0x00000004;
-}
-
-/// The fields of VT_CTL.
-pub mod vt_ctl {
-    use super::Field;
-
-    /// Bit 0.
-    pub const VT_ENA: u32 = 0x00000001;
-    /// Bits 12 to 7.
-    pub const DEF_PL: Field = Field::new(0x00001F80, 7);
-    /// Bit 29.
-    pub const DIS_DEF_POOL: u32 = 0x20000000;
-    /// Bit 30.
-    pub const RPL_EN: u32 = 0x40000000;
-}
-
-/// The fields of RAH.
-pub mod rah {
-    use super::Field;
-
-    /// Bits 15 to 0.
-    pub const RAH: Field = Field::new(0x0000FFFF, 0);
-    /// Bit 31.
-    pub const AV: u32 = 0x80000000;
-}
-
-/// The fields of MRQC.
-pub mod mrqc {
-    use super::Field;
-
-    /// Bits 3 to 0.
-    pub const MRQE: Field = Field::new(0x0000000F, 0);
-    /// Bit 16.
-    pub const TCPIPV4: u32 = 0x00010000;
-    /// Bit 17.
-    pub const IPV4: u32 = 0x00020000;
-    /// Bit 20.
-    pub const IPV6: u32 = 0x00100000;
-    /// Bit 21.
-    pub const TCPIPV6: u32 = 0x00200000;
-    /// Bit 22.
-    pub const UDPIPV4: u32 = 0x00400000;
-    /// Bit 23.
-    pub const UDPIPV6: u32 = 0x00800000;
-}
-
-/// The fields of RETA.
-pub mod reta {
-    use super::Field;
-
-    /// Bits 3 to 0.
-    pub const ENTRY_0: Field = Field::new(0x0000000F, 0);
-    /// Bits 11 to 8.
-    pub const ENTRY_1: Field = Field::new(0x00000F00, 8);
-    /// Bits 19 to 16.
-    pub const ENTRY_2: Field = Field::new(0x000F0000, 16);
-    /// Bits 27 to 24.
-    pub const ENTRY_3: Field = Field::new(0x0F000000, 24);
-}
-
-/// The fields of RSSRK.
-pub mod rssrk {
-    use super::Field;
-
-    /// Bits 7 to 0.
-    pub const K_0: Field = Field::new(0x000000FF, 0);
-    /// Bits 15 to 8.
-    pub const K_1: Field = Field::new(0x0000FF00, 8);
-    /// Bits 23 to 16.
-    pub const K_2: Field = Field::new(0x00FF0000, 16);
-    /// Bits 31 to 24.
-    pub const K_3: Field = Field::new(0xFF000000, 24);
-}
-
-/// The fields of TDLEN.
-pub mod tdlen {
-    use super::Field;
-
-    /// Bits 19 to 0.
-    pub const LEN: Field = Field::new(0x000FFFFF, 0);
-}
-
-/// The fields of TDH.
-pub mod tdh {
-    use super::Field;
-
-    /// Bits 15 to 0.
-    pub const TDH: Field = Field::new(0x0000FFFF, 0);
-}
-
-/// The fields of TDT.
-pub mod tdt {
-    use super::Field;
-
-    /// Bits 15 to 0.
-    pub const TDT: Field = Field::new(0x0000FFFF, 0);
-}
-
-/// The fields of TXDCTL.
-pub mod txdctl {
-    use super::Field;
-
-    /// Bits 6 to 0.
-    pub const PTHRESH: Field = Field::new(0x0000007F, 0);
-    /// Bits 14 to 8.
-    pub const HTHRESH: Field = Field::new(0x00007F00, 8);
-    /// Bits 22 to 16.
-    pub const WTHRESH: Field = Field::new(0x007F0000, 16);
-    /// Bit 25.
-    pub const ENABLE: u32 = 0x02000000;
-    /// Bit 26.
-    pub const SWFLSH: u32 = 0x04000000;
-}
-
-/// The fields of TDWBAL.
-pub mod tdwbal {
-    use super::Field;
-
-    /// Bit 0.
-    pub const HEAD_WB_EN: u32 = 0x00000001;
-    /// Bits 31 to 2.
-    pub const HEADWB_LOW: Field = Field::new(0xFFFFFFFC, 2);
-}
-
-/// The fields of MTQC.
-pub mod mtqc {
-    use super::Field;
-
-    /// Bit 0.
-    pub const RT_ENA: u32 = 0x00000001;
-    /// Bit 1.
-    pub const VT_ENA: u32 = 0x00000002;
-    /// Bits 3 to 2.
-    pub const NUM_TC_OR_Q: Field = Field::new(0x0000000C, 2);
-}
-
-/// The fields of TQSM.
-pub mod tqsm {
-    use super::Field;
-
-    /// Bits 3 to 0.
-    pub const Q_MAP_0: Field = Field::new(0x0000000F, 0);
-    /// Bits 11 to 8.
-    pub const Q_MAP_1: Field = Field::new(0x00000F00, 8);
-    /// Bits 19 to 16.
-    pub const Q_MAP_2: Field = Field::new(0x000F0000, 16);
-    /// Bits 27 to 24.
-    pub const Q_MAP_3: Field = Field::new(0x0F000000, 24);
-}
-
-/// The fields of PSRTYPE.
-pub mod psrtype {
-    use super::Field;
-
-    /// Bits 15 to 0.
-    pub const PSR_TYPE: Field = Field::new(0x0000FFFF, 0);
-    /// Bits 31 to 29.
-    pub const RQPL: Field = Field::new(0xE0000000, 29);
-}
-
-/// The fields of EEC.
-pub mod eec {
-    use super::Field;
-
-    /// Bit 8.
-    pub const EE_PRES: u32 = 0x00000100;
-    /// Bit 9.
-    pub const AUTO_RD: u32 = 0x00000200;
-    /// Bits 14 to 11.
-    pub const EE_SIZE: Field = Field::new(0x00007800, 11);
-}
-
-/// The fields of EERD.
-pub mod eerd {
-    use super::Field;
-
-    /// Bit 0.
-    pub const START: u32 = 0x00000001;
-    /// Bit 1.
-    pub const DONE: u32 = 0x00000002;
-    /// Bits 15 to 2.
-    pub const ADDR: Field = Field::new(0x0000FFFC, 2);
-    /// Bits 31 to 16.
-    pub const DATA: Field = Field::new(0xFFFF0000, 16);
-}
-
-/// The fields of GCR_EXT.
-pub mod gcr_ext {
-    use super::Field;
-
-    /// Bits 1 to 0.
-    pub const VT_MODE: Field = Field::new(0x00000003, 0);
-}
-
-/// The fields of PVTIVAR.
-pub mod pvtivar {
-    use super::Field;
-
-    /// Bits 5 to 0.
-    pub const INT_ALLOC_0: Field = Field::new(0x0000003F, 0);
-    /// Bit 7.
-    pub const INT_ALLOC_VAL_0: u32 = 0x00000080;
-    /// Bits 13 to 8.
-    pub const INT_ALLOC_1: Field = Field::new(0x00003F00, 8);
-    /// Bit 15.
-    pub const INT_ALLOC_VAL_1: u32 = 0x00008000;
-    /// Bits 21 to 16.
-    pub const INT_ALLOC_2: Field = Field::new(0x003F0000, 16);
-    /// Bit 23.
-    pub const INT_ALLOC_VAL_2: u32 = 0x00800000;
-    /// Bits 29 to 24.
-    pub const INT_ALLOC_3: Field = Field::new(0x3F000000, 24);
-    /// Bit 31.
-    pub const INT_ALLOC_VAL_3: u32 = 0x80000000;
+fields! {
+    ctrl "CTRL": MASTER_DISABLE 2, LRST 3, RST 26;
+    status "STATUS": LAN_ID 3 2, LINKUP 7, NUM_VFS 17 10, IOV_ACTIVE 18, MASTER_ENABLE_STATUS 19;
+    ctrl_ext "CTRL_EXT": PFRSTD 14, NS_DIS 16, RO_DIS 17, EXTENDED_VLAN 26, DRV_LOAD 28;
+    pvfctrl "PVFCTRL": RST 26;
+    pfmbicr "PFMBICR": VFREQ 15 0, VFACK 31 16;
+    eicr "EICR": RTXQ 15 0, FLOW_DIRECTOR 16, RX_MISS 17, PCI_EXCEPTION 18, MAILBOX 19, LSC 20, LINKSEC 21, MNG 22,
+        GPI_SDP0 24, GPI_SDP1 25, GPI_SDP2 26, GPI_SDP3 27, ECC 28, TCP_TIMER 30;
+    eics "EICS": RTXQ 15 0, FLOW_DIRECTOR 16, RX_MISS 17, PCI_EXCEPTION 18, MAILBOX 19, LSC 20, LINKSEC 21, MNG 22,
+        GPI_SDP0 24, GPI_SDP1 25, GPI_SDP2 26, GPI_SDP3 27, ECC 28, TCP_TIMER 30;
+    eiac "EIAC": RTXQ 15 0, FLOW_DIRECTOR 16, RX_MISS 17, PCI_EXCEPTION 18, MAILBOX 19, LSC 20, LINKSEC 21, MNG 22,
+        GPI_SDP0 24, GPI_SDP1 25, GPI_SDP2 26, GPI_SDP3 27, ECC 28, TCP_TIMER 30;
+    eitr "EITR": ITR_INTERVAL 11 3, LLI_EN 15, LLI_CREDIT 20 16, ITR_COUNTER 27 21, CNT_WDIS 31;
+    eims "EIMS": RTXQ 15 0, FLOW_DIRECTOR 16, RX_MISS 17, PCI_EXCEPTION 18, MAILBOX 19, LSC 20, LINKSEC 21, MNG 22,
+        GPI_SDP0 24, GPI_SDP1 25, GPI_SDP2 26, GPI_SDP3 27, ECC 28, TCP_TIMER 30;
+    eimc "EIMC": RTXQ 15 0, FLOW_DIRECTOR 16, RX_MISS 17, PCI_EXCEPTION 18, MAILBOX 19, LSC 20, LINKSEC 21, MNG 22,
+        GPI_SDP0 24, GPI_SDP1 25, GPI_SDP2 26, GPI_SDP3 27, ECC 28, TCP_TIMER 30;
+    eiam "EIAM": RTXQ 15 0, FLOW_DIRECTOR 16, RX_MISS 17, PCI_EXCEPTION 18, MAILBOX 19, LSC 20, LINKSEC 21, MNG 22,
+        GPI_SDP0 24, GPI_SDP1 25, GPI_SDP2 26, GPI_SDP3 27, ECC 28, TCP_TIMER 30;
+    gpie "GPIE": SDP_GPIEN 3 0, MULTIPLE_MSIX 4, OCD 5, EIMEN 6, LL_INTERVAL 10 7, RSC_DELAY 13 11, VT_MODE 15 14,
+        EIAME 30, PBA_SUPPORT 31;
+    ivar "IVAR": INT_ALLOC_0 5 0, INT_ALLOC_VAL_0 7, INT_ALLOC_1 13 8, INT_ALLOC_VAL_1 15, INT_ALLOC_2 21 16,
+        INT_ALLOC_VAL_2 23, INT_ALLOC_3 29 24, INT_ALLOC_VAL_3 31;
+    ivar_misc "IVAR_MISC": INT_ALLOC_0 5 0, INT_ALLOC_VAL_0 7, INT_ALLOC_1 13 8, INT_ALLOC_VAL_1 15;
+    pvteicr "PVTEICR": MSIX_0 0, MSIX_1 1, MSIX_2 2;
+    pvteics "PVTEICS": MSIX_0 0, MSIX_1 1, MSIX_2 2;
+    pvteims "PVTEIMS": MSIX_0 0, MSIX_1 1, MSIX_2 2;
+    pvteimc "PVTEIMC": MSIX_0 0, MSIX_1 1, MSIX_2 2;
+    pvteiac "PVTEIAC": MSIX_0 0, MSIX_1 1, MSIX_2 2;
+    pfmailbox "PFMAILBOX": STS 0, ACK 1, VFU 2, PFU 3, RVFU 4;
+    pvfmailbox "PVFMAILBOX": REQ 0, ACK 1, VFU 2, PFU 3, PFSTS 4, PFACK 5, RSTI 6, RSTD 7;
+    pvteiam "PVTEIAM": MSIX_0 0, MSIX_1 1, MSIX_2 2;
+    pvtivar_misc "PVTIVAR_MISC": INT_ALLOC_0 5 0, INT_ALLOC_VAL_0 7;
+    rdlen "RDLEN": LEN 19 0;
+    rdh "RDH": RDH 15 0;
+    srrctl "SRRCTL": BSIZEPACKET 4 0, BSIZEHEADER 13 8, RDMTS 24 22, DESCTYPE 27 25, DROP_EN 28;
+    rdt "RDT": RDT 15 0;
+    rxdctl "RXDCTL": ENABLE 25, VME 30;
+    rqsmr "RQSMR": Q_MAP_0 3 0, Q_MAP_1 11 8, Q_MAP_2 19 16, Q_MAP_3 27 24;
+    rdrxctl "RDRXCTL": CRCSTRIP 1, DMAIDONE 3, RSCFRSTSIZE 21 17, RSCACKC 25, FCOE_WRFIX 26;
+    rxctrl "RXCTRL": RXEN 0;
+    hlreg0 "HLREG0": TXCRCEN 0, RXCRCSTRP 1, JUMBOEN 2, TXPADEN 10, LPBK 15, MDCSPD 16, CONTMDC 17, PREPEND 23 20,
+        RXLNGTHERREN 27, RXPADSTRIPEN 28;
+    maxfrs "MAXFRS": MFS 31 16;
+    autoc "AUTOC": FLU 0, RESTART_AN 12, LMS 15 13;
+    links "LINKS": LINK_STATUS 7, LINK_SPEED 29 28, LINK_UP 30;
+    dmatxctl "DMATXCTL": TE 0, GDV 3, VT 31 16;
+    rxcsum "RXCSUM": IPPCSE 12, PCSD 13;
+    fctrl "FCTRL": SBP 1, MPE 8, UPE 9, BAM 10;
+    mcstctrl "MCSTCTRL": MO 1 0, MFE 2;
+    vt_ctl "VT_CTL": VT_ENA 0, DEF_PL 12 7, DIS_DEF_POOL 29, RPL_EN 30;
+    rah "RAH": RAH 15 0, AV 31;
+    mrqc "MRQC": MRQE 3 0, TCPIPV4 16, IPV4 17, IPV6 20, TCPIPV6 21, UDPIPV4 22, UDPIPV6 23;
+    reta "RETA": ENTRY_0 3 0, ENTRY_1 11 8, ENTRY_2 19 16, ENTRY_3 27 24;
+    rssrk "RSSRK": K_0 7 0, K_1 15 8, K_2 23 16, K_3 31 24;
+    tdlen "TDLEN": LEN 19 0;
+    tdh "TDH": TDH 15 0;
+    tdt "TDT": TDT 15 0;
+    txdctl "TXDCTL": PTHRESH 6 0, HTHRESH 14 8, WTHRESH 22 16, ENABLE 25, SWFLSH 26;
+    tdwbal "TDWBAL": HEAD_WB_EN 0, HEADWB_LOW 31 2;
+    mtqc "MTQC": RT_ENA 0, VT_ENA 1, NUM_TC_OR_Q 3 2;
+    tqsm "TQSM": Q_MAP_0 3 0, Q_MAP_1 11 8, Q_MAP_2 19 16, Q_MAP_3 27 24;
+    psrtype "PSRTYPE": PSR_TYPE 15 0, RQPL 31 29;
+    eec "EEC": EE_PRES 8, AUTO_RD 9, EE_SIZE 14 11;
+    eerd "EERD": START 0, DONE 1, ADDR 15 2, DATA 31 16;
+    gcr_ext "GCR_EXT": VT_MODE 1 0;
+    pvtivar "PVTIVAR": INT_ALLOC_0 5 0, INT_ALLOC_VAL_0 7, INT_ALLOC_1 13 8, INT_ALLOC_VAL_1 15, INT_ALLOC_2 21 16,
+        INT_ALLOC_VAL_2 23, INT_ALLOC_3 29 24, INT_ALLOC_VAL_3 31;
 }
 
 /// The registers of a virtual function, by their own names.
 pub mod vf {
     use crate::register::{VfRegister, VfRegisters};
 
-    /// PVFCTRL of the function, at 0x0000.
-    pub const VFCTRL: VfRegister = VfRegister::new(0x0000);
-    /// STATUS of the function, at 0x0008.
-    pub const VFSTATUS: VfRegister = VfRegister::new(0x0008);
-    /// LINKS of the function, at 0x0010.
-    pub const VFLINKS: VfRegister = VfRegister::new(0x0010);
-    /// PVTEICR of the function, at 0x0100.
-    pub const VTEICR: VfRegister = VfRegister::new(0x0100);
-    /// PVTEICS of the function, at 0x0104.
-    pub const VTEICS: VfRegister = VfRegister::new(0x0104);
-    /// PVTEIMS of the function, at 0x0108.
-    pub const VTEIMS: VfRegister = VfRegister::new(0x0108);
-    /// PVTEIMC of the function, at 0x010C.
-    pub const VTEIMC: VfRegister = VfRegister::new(0x010C);
-    /// PVTEIAC of the function, at 0x0110.
-    pub const VTEIAC: VfRegister = VfRegister::new(0x0110);
-    /// PVTEIAM of the function, at 0x0114.
-    pub const VTEIAM: VfRegister = VfRegister::new(0x0114);
-    /// PVTIVAR of the function, at 0x0120 + 0x04 i.
-    pub const VTIVAR: VfRegisters = VfRegisters::array(0x0120, 0x04, 4);
-    /// PVTIVAR_MISC of the function, at 0x0140.
-    pub const VTIVAR_MISC: VfRegister = VfRegister::new(0x0140);
-    /// PFMBMEM of the function, at 0x0200 + 0x04 i.
-    pub const VFMBMEM: VfRegisters = VfRegisters::array(0x0200, 0x04, 16);
-    /// PVFMAILBOX of the function, at 0x02FC.
-    pub const VFMAILBOX: VfRegister = VfRegister::new(0x02FC);
-    /// PSRTYPE of the function, at 0x0300.
-    pub const VFPSRTYPE: VfRegister = VfRegister::new(0x0300);
-    /// RDBAL of the function, at 0x1000 + 0x40 i.
-    pub const VFRDBAL: VfRegisters = VfRegisters::array(0x1000, 0x40, 8);
-    /// RDBAH of the function, at 0x1004 + 0x40 i.
-    pub const VFRDBAH: VfRegisters = VfRegisters::array(0x1004, 0x40, 8);
-    /// RDLEN of the function, at 0x1008 + 0x40 i.
-    pub const VFRDLEN: VfRegisters = VfRegisters::array(0x1008, 0x40, 8);
-    /// RDH of the function, at 0x1010 + 0x40 i.
-    pub const VFRDH: VfRegisters = VfRegisters::array(0x1010, 0x40, 8);
-    /// SRRCTL of the function, at 0x1014 + 0x40 i.
-    pub const VFSRRCTL: VfRegisters = VfRegisters::array(0x1014, 0x40, 8);
-    /// RDT of the function, at 0x1018 + 0x40 i.
-    pub const VFRDT: VfRegisters = VfRegisters::array(0x1018, 0x40, 8);
-    /// VFGPRC of the function, at 0x101C.
-    pub const VFGPRC: VfRegister = VfRegister::new(0x101C);
-    /// RXDCTL of the function, at 0x1028 + 0x40 i.
-    pub const VFRXDCTL: VfRegisters = VfRegisters::array(0x1028, 0x40, 8);
-    /// TDBAL of the function, at 0x2000 + 0x40 i.
-    pub const VFTDBAL: VfRegisters = VfRegisters::array(0x2000, 0x40, 8);
-    /// TDBAH of the function, at 0x2004 + 0x40 i.
-    pub const VFTDBAH: VfRegisters = VfRegisters::array(0x2004, 0x40, 8);
-    /// TDLEN of the function, at 0x2008 + 0x40 i.
-    pub const VFTDLEN: VfRegisters = VfRegisters::array(0x2008, 0x40, 8);
-    /// TDH of the function, at 0x2010 + 0x40 i.
-    pub const VFTDH: VfRegisters = VfRegisters::array(0x2010, 0x40, 8);
-    /// TDT of the function, at 0x2018 + 0x40 i.
-    pub const VFTDT: VfRegisters = VfRegisters::array(0x2018, 0x40, 8);
-    /// VFGPTC of the function, at 0x201C.
-    pub const VFGPTC: VfRegister = VfRegister::new(0x201C);
-    /// TXDCTL of the function, at 0x2028 + 0x40 i.
-    pub const VFTXDCTL: VfRegisters = VfRegisters::array(0x2028, 0x40, 8);
-    /// TDWBAL of the function, at 0x2038 + 0x40 i.
-    pub const VFTDWBAL: VfRegisters = VfRegisters::array(0x2038, 0x40, 8);
-    /// TDWBAH of the function, at 0x203C + 0x40 i.
-    pub const VFTDWBAH: VfRegisters = VfRegisters::array(0x203C, 0x40, 8);
+    of_function! { VFCTRL "PVFCTRL" 0x0000 }
+    of_function! { VFSTATUS "STATUS" 0x0008 }
+    of_function! { VFLINKS "LINKS" 0x0010 }
+    of_function! { VTEICR "PVTEICR" 0x0100 }
+    of_function! { VTEICS "PVTEICS" 0x0104 }
+    of_function! { VTEIMS "PVTEIMS" 0x0108 }
+    of_function! { VTEIMC "PVTEIMC" 0x010C }
+    of_function! { VTEIAC "PVTEIAC" 0x0110 }
+    of_function! { VTEIAM "PVTEIAM" 0x0114 }
+    of_function! { VTIVAR "PVTIVAR" 0x0120 0x04 4 }
+    of_function! { VTIVAR_MISC "PVTIVAR_MISC" 0x0140 }
+    of_function! { VFMBMEM "PFMBMEM" 0x0200 0x04 16 }
+    of_function! { VFMAILBOX "PVFMAILBOX" 0x02FC }
+    of_function! { VFPSRTYPE "PSRTYPE" 0x0300 }
+    of_function! { VFRDBAL "RDBAL" 0x1000 0x40 8 }
+    of_function! { VFRDBAH "RDBAH" 0x1004 0x40 8 }
+    of_function! { VFRDLEN "RDLEN" 0x1008 0x40 8 }
+    of_function! { VFRDH "RDH" 0x1010 0x40 8 }
+    of_function! { VFSRRCTL "SRRCTL" 0x1014 0x40 8 }
+    of_function! { VFRDT "RDT" 0x1018 0x40 8 }
+    of_function! { VFGPRC "VFGPRC" 0x101C }
+    of_function! { VFRXDCTL "RXDCTL" 0x1028 0x40 8 }
+    of_function! { VFTDBAL "TDBAL" 0x2000 0x40 8 }
+    of_function! { VFTDBAH "TDBAH" 0x2004 0x40 8 }
+    of_function! { VFTDLEN "TDLEN" 0x2008 0x40 8 }
+    of_function! { VFTDH "TDH" 0x2010 0x40 8 }
+    of_function! { VFTDT "TDT" 0x2018 0x40 8 }
+    of_function! { VFGPTC "VFGPTC" 0x201C }
+    of_function! { VFTXDCTL "TXDCTL" 0x2028 0x40 8 }
+    of_function! { VFTDWBAL "TDWBAL" 0x2038 0x40 8 }
+    of_function! { VFTDWBAH "TDWBAH" 0x203C 0x40 8 }
 }
-
-/// Each name of the physical function with its registers, in the order of the table.
-pub const ALL: &[(&str, Registers)] = &[
-    ("CTRL", Registers::one(CTRL)),
-    ("STATUS", Registers::one(STATUS)),
-    ("CTRL_EXT", Registers::one(CTRL_EXT)),
-    ("LEDCTL", Registers::one(LEDCTL)),
-    ("PVFCTRL", PVFCTRL),
-    ("PFMBICR", PFMBICR),
-    ("PFMBIMR", PFMBIMR),
-    ("EICR", Registers::one(EICR)),
-    ("EICS", Registers::one(EICS)),
-    ("EIAC", Registers::one(EIAC)),
-    ("EITR", EITR),
-    ("EIMS", Registers::one(EIMS)),
-    ("EIMC", Registers::one(EIMC)),
-    ("EIAM", Registers::one(EIAM)),
-    ("GPIE", Registers::one(GPIE)),
-    ("IVAR", IVAR),
-    ("IVAR_MISC", Registers::one(IVAR_MISC)),
-    ("PVTEICR", PVTEICR),
-    ("PVTEICS", PVTEICS),
-    ("PVTEIMS", PVTEIMS),
-    ("PVTEIMC", PVTEIMC),
-    ("PVTEIAC", PVTEIAC),
-    ("PFMAILBOX", PFMAILBOX),
-    ("PVFMAILBOX", PVFMAILBOX),
-    ("PVTEIAM", PVTEIAM),
-    ("PVTIVAR_MISC", PVTIVAR_MISC),
-    ("RDBAL", RDBAL),
-    ("RDBAH", RDBAH),
-    ("RDLEN", RDLEN),
-    ("RDH", RDH),
-    ("SRRCTL", SRRCTL),
-    ("RDT", RDT),
-    ("RXDCTL", RXDCTL),
-    ("VFGPRC", VFGPRC),
-    ("QPRC", QPRC),
-    ("QPRDC", QPRDC),
-    ("RQSMR", RQSMR),
-    ("RDRXCTL", Registers::one(RDRXCTL)),
-    ("RXCTRL", Registers::one(RXCTRL)),
-    ("MPC", Registers::one(MPC)),
-    ("GPRC", Registers::one(GPRC)),
-    ("GPTC", Registers::one(GPTC)),
-    ("RUC", Registers::one(RUC)),
-    ("ROC", Registers::one(ROC)),
-    ("HLREG0", Registers::one(HLREG0)),
-    ("MAXFRS", Registers::one(MAXFRS)),
-    ("AUTOC", Registers::one(AUTOC)),
-    ("LINKS", Registers::one(LINKS)),
-    ("DMATXCTL", Registers::one(DMATXCTL)),
-    ("RXCSUM", Registers::one(RXCSUM)),
-    ("FCTRL", Registers::one(FCTRL)),
-    ("MCSTCTRL", Registers::one(MCSTCTRL)),
-    ("VT_CTL", Registers::one(VT_CTL)),
-    ("VFRE", VFRE),
-    ("VFTE", VFTE),
-    ("MTA", MTA),
-    ("RAL", RAL),
-    ("RAH", RAH),
-    ("MRQC", Registers::one(MRQC)),
-    ("RETA", RETA),
-    ("RSSRK", RSSRK),
-    ("TDBAL", TDBAL),
-    ("TDBAH", TDBAH),
-    ("TDLEN", TDLEN),
-    ("TDH", TDH),
-    ("TDT", TDT),
-    ("TXDCTL", TXDCTL),
-    ("TDWBAL", TDWBAL),
-    ("TDWBAH", TDWBAH),
-    ("QPTC", QPTC),
-    ("MTQC", Registers::one(MTQC)),
-    ("VFGPTC", VFGPTC),
-    ("TQSM", TQSM),
-    ("MPSAR", MPSAR),
-    ("PSRTYPE", PSRTYPE),
-    ("EEC", Registers::one(EEC)),
-    ("EERD", Registers::one(EERD)),
-    ("GCR_EXT", Registers::one(GCR_EXT)),
-    ("PVTIVAR", PVTIVAR),
-    ("PFMBMEM", PFMBMEM),
-];

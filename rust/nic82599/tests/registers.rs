@@ -32,14 +32,17 @@ fn number(text: &str) -> u64 {
     u64::from_str_radix(digits.split(')').next().unwrap(), 16).unwrap()
 }
 
+fn parsed(text: &str) -> u64 {
+    match text.trim().strip_prefix("0x") {
+        Some(digits) => u64::from_str_radix(digits, 16).unwrap(),
+        None => text.trim().parse().unwrap(),
+    }
+}
+
 /// The numbers of a call's arguments.
 fn numbers(text: &str) -> Vec<u64> {
     let inside = text.rsplit_once('(').unwrap().1.split(')').next().unwrap();
-    let parse = |it: &str| match it.trim().strip_prefix("0x") {
-        Some(digits) => u64::from_str_radix(digits, 16).unwrap(),
-        None => it.trim().parse().unwrap(),
-    };
-    inside.split(',').map(parse).collect()
+    inside.split(',').map(parsed).collect()
 }
 
 #[test]
@@ -71,10 +74,31 @@ fn addresses_are_those_of_the_header() {
     }
 }
 
-/// The fields of a generated module: the names of module and field, the mask, and the lowest bit of one with several.
-fn fields(text: &str) -> Vec<(String, String, u64, Option<u64>)> {
+/// A field: the names of its module and its own, the mask, and the lowest bit of one with several.
+type FieldOf = (String, String, u64, Option<u64>);
+
+/// The fields that src/regs.rs lists.
+fn fields_of_registers() -> Vec<FieldOf> {
+    let list = MODULE.split("\nfields! {\n").nth(1).unwrap().split("\n}\n").next().unwrap();
+    let entries = list.split(';').filter_map(|it| it.trim().split_once(": "));
+    let of_entry = |(head, rest): (&str, &str)| {
+        let module = head.split('"').nth(1).unwrap().to_owned();
+        let field = move |text: &str| {
+            let words: Vec<&str> = text.split_whitespace().collect();
+            let bits: Vec<u64> = words[1..].iter().map(|it| parsed(it)).collect();
+            let low = *bits.last().unwrap();
+            let mask = ((1 << (bits[0] - low + 1)) - 1) << low;
+            (module.clone(), words[0].to_owned(), mask, Some(low).filter(|_| bits.len() > 1))
+        };
+        rest.split(',').map(field).collect::<Vec<_>>()
+    };
+    entries.flat_map(of_entry).collect()
+}
+
+/// The fields of the generated modules of descriptors.
+fn fields_of_descriptors() -> Vec<FieldOf> {
     let (mut module, mut found) = (String::new(), Vec::new());
-    for line in text.lines() {
+    for line in DESCRIPTORS.lines() {
         if let Some(name) = line.strip_prefix("pub mod ") {
             module = name.trim_end_matches(" {").to_uppercase();
         }
@@ -93,12 +117,12 @@ fn fields(text: &str) -> Vec<(String, String, u64, Option<u64>)> {
 
 #[test]
 fn fields_are_those_of_the_header() {
-    for (file, text, at_least) in [("nic82599_regs.h", MODULE, 250), ("nic82599_desc.h", DESCRIPTORS, 20)] {
+    let files = [("nic82599_regs.h", fields_of_registers(), 250), ("nic82599_desc.h", fields_of_descriptors(), 20)];
+    for (file, fields, at_least) in files {
         let macros = match macros(file) {
             Some(macros) => macros,
             None => return,
         };
-        let fields = fields(text);
         assert!(fields.len() > at_least, "{file}: {}", fields.len());
         for (module, name, mask, low) in &fields {
             let macro_name = format!("NIC_{module}_{name}");
@@ -121,10 +145,10 @@ fn offsets_are_those_of_the_header() {
         None => return,
     };
     let module = MODULE.split("pub mod vf {").nth(1).unwrap();
-    let items = module.lines().filter_map(|line| line.trim().strip_prefix("pub const ")?.split_once(": Vf"));
     let mut count = 0;
-    for (name, rest) in items {
-        let got = numbers(rest);
+    for line in module.lines().filter_map(|line| line.trim().strip_prefix("of_function! { ")) {
+        let words: Vec<&str> = line.trim_end_matches(" }").split_whitespace().collect();
+        let (name, got) = (words[0], words[2..].iter().map(|it| parsed(it)).collect::<Vec<u64>>());
         let plain = [format!("NIC_{name}"), format!("NIC_{name}_OFFSET")];
         match macros.get(&format!("NIC_{name}(x)")) {
             Some(body) => assert_eq!(got[..2], [number(body), number(body.rsplit_once('+').unwrap().1)], "{name}"),

@@ -88,23 +88,6 @@ static void compare(struct replay *it, uint16_t actor, const struct step *step)
 
 /* --- who acts --- */
 
-static uint32_t place_of(uint16_t actor, const uint16_t *can, uint32_t count)
-{
-    uint32_t k = 0;
-    while (k < count && can[k] != actor)
-        k++;
-    return k;
-}
-
-static uint32_t longest_ago(const uint16_t *can, uint32_t count)
-{
-    uint32_t best = 0;
-    for (uint32_t k = 1; k < count; k++)
-        if (!nicxi_is_value(can[0]) && nicxi.actors[can[k]].last < nicxi.actors[can[best]].last)
-            best = k;
-    return best;
-}
-
 static uint32_t choose(void *argument, const uint16_t *can, uint32_t count)
 {
     struct replay *it = argument;
@@ -120,7 +103,7 @@ static uint32_t choose(void *argument, const uint16_t *can, uint32_t count)
         it->at -= it->file.cycle;
     while (it->at < it->file.length) {
         uint16_t wanted = it->file.list[it->at];
-        uint32_t k = place_of(wanted, can, count);
+        uint32_t k = nicxi_place_of(wanted, can, count);
         if (k == count && wanted != NOBODY && !nicxi_is_value(can[0]) && nicxi_may_come(wanted, can, count)) {
             it->asked = 0;
             return 0;
@@ -135,7 +118,7 @@ static uint32_t choose(void *argument, const uint16_t *can, uint32_t count)
     }
     if (!it->has_parted)
         it->now = it->file.length;
-    return nicxi_goes_on(can) ? 0 : longest_ago(can, count);
+    return nicxi_goes_on(can) ? 0 : nicxi_longest_ago(can, count);
 }
 
 /* --- what is told --- */

@@ -39,7 +39,7 @@ struct job {
     uint32_t number;
 };
 
-static double now(void)
+double nicxi_now(void)
 {
     struct timespec time;
     clock_gettime(CLOCK_MONOTONIC, &time);
@@ -285,7 +285,7 @@ static void sum(struct search *search)
         search->totals->runs += search->posts[k].runs;
         search->totals->points += search->posts[k].points;
     }
-    search->totals->seconds = now() - search->began;
+    search->totals->seconds = nicxi_now() - search->began;
 }
 
 /* What was noted in the bring-up, and by each process. */
@@ -307,7 +307,7 @@ static void sum_notes(struct search *search)
 
 static void tell(struct search *search)
 {
-    double seconds = now() - search->began;
+    double seconds = nicxi_now() - search->began;
     if (search->options->is_quiet || seconds < search->told + 2)
         return;
     search->told = seconds;
@@ -346,7 +346,7 @@ static void wait_for_all(struct search *search)
         bury_all(search);
         if (!search->living)
             break;
-        if (search->options->seconds && now() - search->began >= search->options->seconds)
+        if (search->options->seconds && nicxi_now() - search->began >= search->options->seconds)
             search->common->stop = true;
         tell(search);
         nanosleep(&pause, NULL);
@@ -419,7 +419,7 @@ static struct distinct *sketch_of(const struct search *search)
 
 const char *nicxi_search(const struct options *options, struct totals *totals, struct failure *failure)
 {
-    struct search search = {options, totals, NULL, NULL, 0, now(), 0};
+    struct search search = {options, totals, NULL, NULL, 0, nicxi_now(), 0};
     void *memory = mmap(NULL, sizeof *search.common, PROT_READ | PROT_WRITE, MAP_SHARED | MAP_ANONYMOUS, -1, 0);
     search.posts = nicxi_posts(options->jobs);
     memset(failure, 0, sizeof *failure);

@@ -32,6 +32,9 @@ struct failure {
     struct omitted omitted; /* what it does without */
 };
 
+/* Seconds by a clock that isn't set. */
+double nicxi_now(void);
+
 /* "random in run 36": by what it was found, and where. */
 const char *nicxi_where(const struct failure *failure, char room[80]);
 

@@ -8,7 +8,6 @@
 #include <stdio.h>
 #include <stdlib.h>
 #include <string.h>
-#include <time.h>
 #include <unistd.h>
 
 #include "strategy.h"
@@ -16,13 +15,6 @@
 
 enum { MOST_TRIES = 4000, BY_CHANCE = 200 };
 #define MOST_SECONDS 15.0
-
-double nicxi_now(void)
-{
-    struct timespec time;
-    clock_gettime(CLOCK_MONOTONIC, &time);
-    return (double)time.tv_sec + (double)time.tv_nsec * 1e-9;
-}
 
 void nicxi_be_quiet(void)
 {

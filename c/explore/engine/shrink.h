@@ -31,8 +31,6 @@ bool nicxi_is_the_same(const nicx_result *a, const nicx_result *b);
 /* What the driver prints, and what a sanitizer says of a crash, was seen once. */
 void nicxi_be_quiet(void);
 
-double nicxi_now(void);
-
 /* --- what goes round at the end of a schedule without end --- */
 
 struct cycle {

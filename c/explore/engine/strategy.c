@@ -1,5 +1,22 @@
 #include "strategy.h"
 
+uint32_t nicxi_place_of(uint16_t actor, const uint16_t *can, uint32_t count)
+{
+    uint32_t k = 0;
+    while (k < count && can[k] != actor)
+        k++;
+    return k;
+}
+
+uint32_t nicxi_longest_ago(const uint16_t *can, uint32_t count)
+{
+    uint32_t best = 0;
+    for (uint32_t k = 1; k < count && !nicxi_is_value(can[0]); k++)
+        if (nicxi.actors[can[k]].last < nicxi.actors[can[best]].last)
+            best = k;
+    return best;
+}
+
 static uint32_t choose_by_chance(void *argument, const uint16_t *can, uint32_t count)
 {
     struct by_chance *state = argument;
@@ -64,14 +81,6 @@ nicx_chooser nicxi_by_priority(struct by_priority *state, uint64_t seed, uint64_
 
 /* --- by a list --- */
 
-static uint32_t place_of(uint16_t actor, const uint16_t *can, uint32_t count)
-{
-    for (uint32_t k = 0; k < count; k++)
-        if (can[k] == actor)
-            return k;
-    return count;
-}
-
 /* Whether the list has a point, and whose turn it is there. */
 static bool is_listed(const struct by_list *state, uint32_t point)
 {
@@ -83,15 +92,6 @@ static uint16_t listed(const struct by_list *state, uint32_t point)
     if (point >= state->length)
         point = state->length - state->cycle + (point - state->length) % state->cycle;
     return state->list[point];
-}
-
-static uint32_t longest_ago(const uint16_t *can, uint32_t count)
-{
-    uint32_t best = 0;
-    for (uint32_t k = 1; k < count; k++)
-        if (nicxi.actors[can[k]].last < nicxi.actors[can[best]].last)
-            best = k;
-    return best;
 }
 
 /* The choice of a point is asked for again where it was a step of the device with nothing to do. Such a step is tried
@@ -107,7 +107,7 @@ static uint32_t choose_to_the_letter(void *argument, const uint16_t *can, uint32
     state->unfit = point;
     state->is_trying = false;
     bool is_in = is_listed(state, point);
-    uint32_t k = is_in ? place_of(listed(state, point), can, count) : count;
+    uint32_t k = is_in ? nicxi_place_of(listed(state, point), can, count) : count;
     if (k == count && (is_in ? nicxi_may_come(listed(state, point), can, count) : nicxi_may_be_idle(can, count))) {
         state->is_trying = true;
         return 0;
@@ -133,14 +133,14 @@ static uint32_t choose_by_list(void *argument, const uint16_t *can, uint32_t cou
         return value_of_list(state, count);
     while (state->at < state->length) {
         uint16_t wanted = state->list[state->at];
-        uint32_t k = place_of(wanted, can, count);
+        uint32_t k = nicxi_place_of(wanted, can, count);
         if (k == count && nicxi_may_come(wanted, can, count))
             return 0;
         state->at++;
         if (k < count)
             return k;
     }
-    return nicxi_goes_on(can) && !state->is_fair ? 0 : longest_ago(can, count);
+    return nicxi_goes_on(can) && !state->is_fair ? 0 : nicxi_longest_ago(can, count);
 }
 
 nicx_chooser nicxi_by_list(struct by_list *state, const uint16_t *list, uint32_t length, bool is_strict)

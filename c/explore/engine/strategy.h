@@ -5,6 +5,11 @@
 #include "chance.h"
 #include "engine.h"
 
+/* The place of an actor among those that can act, or their number. */
+uint32_t nicxi_place_of(uint16_t actor, const uint16_t *can, uint32_t count);
+/* The place of the one that acted longest ago; among values the first. */
+uint32_t nicxi_longest_ago(const uint16_t *can, uint32_t count);
+
 /* --- by chance: each that can act is as likely as the others --- */
 
 struct by_chance {

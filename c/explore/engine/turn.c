@@ -28,9 +28,9 @@ static uint32_t choose(void *argument, const uint16_t *can, uint32_t count)
     uint32_t point = *nicxi.points;
     if (!from->list || point >= from->length)
         return chance_below(&going->chance.chance, count);
-    for (uint32_t k = 0; k < count; k++)
-        if (can[k] == from->list[point])
-            return k;
+    uint32_t k = nicxi_place_of(from->list[point], can, count);
+    if (k < count)
+        return k;
     if (!nicxi_is_value(can[0]) && nicxi_may_come(from->list[point], can, count))
         return 0;
     going->is_unfit = true;

@@ -13,6 +13,7 @@
 #include "replay.h"
 #include "tell.h"
 #include "weak.h"
+#include "words.h"
 
 enum { NOTHING = 0, FAILURE = 1, REFUSED = 2, VACUOUS = 3 };
 
@@ -177,9 +178,7 @@ static bool is_writable(const char *path)
 
 static const char *unwritable(const char *word, const char *path)
 {
-    static char why[100];
-    snprintf(why, sizeof why, "%s: %.60s can't be written", word, path);
-    return why;
+    return nicxi_why("%s: %.60s can't be written", word, path);
 }
 
 /* Null, or why the files of a search couldn't be written. */
@@ -196,11 +195,8 @@ static const char *look_at_files(const struct options *options, const char *name
 
 static const char *ask_for_points(const struct options *options)
 {
-    static char why[120];
     const char *fault = options->points ? nicxi_ask_for_points(options->points) : NULL;
-    if (fault)
-        snprintf(why, sizeof why, "--points: %s", fault);
-    return fault ? why : NULL;
+    return fault ? nicxi_why("--points: %s", fault) : NULL;
 }
 
 int nicx_main(int argc, char **argv, const nicx_scenario *scenario)

@@ -10,6 +10,7 @@
 #include "parts.h"
 #include "strategy.h"
 #include "weak.h"
+#include "words.h"
 
 const char nicxi_usage[] =
     "usage: %s [options]\n"
@@ -47,12 +48,9 @@ const char *nicxi_strategy_name(enum strategy strategy)
     return names[strategy];
 }
 
-static char why[200];
-
 static const char *refused(const char *word, const char *what)
 {
-    snprintf(why, sizeof why, "%.60s: %s", *word ? word : "\"\"", what);
-    return why;
+    return nicxi_why("%.60s: %s", *word ? word : "\"\"", what);
 }
 
 static const char *without_word(const char *word)

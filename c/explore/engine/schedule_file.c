@@ -112,8 +112,6 @@ static const char *add(struct schedule_file *file, uint16_t actor, const char *t
     return NULL;
 }
 
-static char why[2 * MOST_LINE + 256];
-
 /* --- a line --- */
 
 static const char *take_scenario(struct schedule_file *file, const char *words, bool is_lenient)
@@ -125,8 +123,7 @@ static const char *take_scenario(struct schedule_file *file, const char *words, 
     snprintf(file->other, sizeof file->other, "%.63s", words + 9);
     if (is_lenient)
         return NULL;
-    snprintf(why, sizeof why, "it is a schedule of scenario %s, and this is %s", words + 9, nicxi.scenario->name);
-    return why;
+    return nicxi_why("it is a schedule of scenario %s, and this is %s", words + 9, nicxi.scenario->name);
 }
 
 /* A number below a bound, or that bound. */
@@ -167,8 +164,7 @@ static const char *take_without(struct schedule_file *file, const char *words, b
         *entry = true;
     if (entry || is_lenient)
         return NULL;
-    snprintf(why, sizeof why, "the scenario has no \"%s\"", words);
-    return why;
+    return nicxi_why("the scenario has no \"%s\"", words);
 }
 
 static const char *take_points(const struct schedule_file *file, const char *words)
@@ -180,8 +176,7 @@ static const char *take_points(const struct schedule_file *file, const char *wor
     const char *fault = nicxi_ask_for_points(points);
     if (!fault)
         return NULL;
-    snprintf(why, sizeof why, "points: \"%.100s\": %s", words, fault);
-    return why;
+    return nicxi_why("points: \"%.100s\": %s", words, fault);
 }
 
 /* What is wrong with a line, or null. */
@@ -204,14 +199,10 @@ static const char *take(struct schedule_file *file, const char *words, const cha
         file->cycle = file->length + 1;
         return NULL;
     }
-    if (actor == NOBODY && !is_lenient) {
-        snprintf(why, sizeof why, "the scenario has no \"%s\"", words);
-        return why;
-    }
-    if (actor == NOBODY) {
-        snprintf(why, sizeof why, "\"%s\", which the scenario hasn't", words);
-        told = why;
-    }
+    if (actor == NOBODY && !is_lenient)
+        return nicxi_why("the scenario has no \"%s\"", words);
+    if (actor == NOBODY)
+        told = nicxi_why("\"%s\", which the scenario hasn't", words);
     return add(file, actor, told);
 }
 
@@ -257,34 +248,28 @@ static const char *end_cycle(struct schedule_file *file)
 
 const char *nicxi_read_schedule(const char *path, bool is_lenient, struct schedule_file *file)
 {
-    static char told[sizeof why + MOST_LINE];
     char line[MOST_LINE];
     const char *fault = NULL;
     bool has_scenario = false;
     memset(file, 0, sizeof *file);
     FILE *from = fopen(path, "r");
-    if (!from) {
-        snprintf(told, sizeof told, "%.500s: it can't be read", path);
-        return told;
-    }
+    if (!from)
+        return nicxi_why("%.500s: it can't be read", path);
     while (!fault && fgets(line, sizeof line, from)) {
         file->last++;
         fault = take_line(file, line, feof(from) != 0, is_lenient, &has_scenario);
     }
     bool is_unread = ferror(from) != 0;
     fclose(from);
-    if (is_unread) {
-        snprintf(told, sizeof told, "%.500s: it can't be read", path);
-        return told;
-    }
+    if (is_unread)
+        return nicxi_why("%.500s: it can't be read", path);
     if (!fault && !has_scenario)
         fault = "it has no line \"scenario NAME\"";
     if (!fault)
         fault = end_cycle(file);
     if (!fault)
         return NULL;
-    snprintf(told, sizeof told, "%.500s:%u: %s", path, (unsigned)file->last, fault);
-    return told;
+    return nicxi_why("%.500s:%u: %s", path, (unsigned)file->last, fault);
 }
 
 void nicxi_free_schedule(struct schedule_file *file)

@@ -1,9 +1,22 @@
 #include "words.h"
 
+#include <stdarg.h>
 #include <stdio.h>
+#include <string.h>
 
 #include "names.h"
 #include "symbols.h"
+
+const char *nicxi_why(const char *form, ...)
+{
+    static char why[4096];
+    char words[sizeof why];
+    va_list list;
+    va_start(list, form);
+    vsnprintf(words, sizeof words, form, list);
+    va_end(list);
+    return memcpy(why, words, sizeof why);
+}
 
 static const char *fault_words(const nic_told *told, char *room)
 {

@@ -14,6 +14,9 @@ const char *nicxi_reply(const struct step *step, char room[MOST_WORDS]);
 
 const char *nicxi_outcome_name(uint8_t outcome);
 
+/* Words that say why something was refused. They stay until the next refusal, and may be given to it. */
+const char *nicxi_why(const char *form, ...) __attribute__((format(printf, 1, 2)));
+
 /* Words of the driver's for a line of a file: what is no printable ASCII is a question mark. */
 void nicxi_plain(const char *words, char *room, unsigned size);
 /* Lines become one, with "; " between them. */

@@ -14,6 +14,8 @@ enum { POLLS = 8, ENABLE = 1 << 25, MOST_WAITS = 100000 };
 
 /* Of no thread: the access that is made, or was made last. */
 static struct step outside;
+/* Whether no step of the device is left, in the bring-up. */
+static bool is_settled;
 
 /* Before an access: others may act. */
 static struct step *before(uint8_t kind)
@@ -30,6 +32,14 @@ void nicxi_forget_polls(struct polls *polls)
 {
     memset(polls->seen, 0xFF, sizeof polls->seen);
     polls->next = polls->times = 0;
+}
+
+void nicxi_outside_begins(void)
+{
+    memset(&outside, 0, sizeof outside);
+    is_settled = false;
+    nicxi.waits = 0;
+    nicxi_forget_polls(&nicxi.outside);
 }
 
 static struct polls *polls_of(struct thread *self)
@@ -143,7 +153,7 @@ static void after(const struct step *step)
     note_beyond(step);
     if (!nicxi.self && is_change(step)) {
         nicxi.waits = 0;
-        nicxi.is_settled = false;
+        is_settled = false;
     }
     if (nicxi.self && nicxi.self->is_void && is_change(step))
         nicxi.self->is_void = false;
@@ -447,7 +457,7 @@ static void settle(void)
             after(&step);
         }
     }
-    nicxi.is_settled = true;
+    is_settled = true;
 }
 
 void nicx_settle(void)
@@ -478,7 +488,7 @@ void nicxi_wait_outside(void)
 {
     if ((nicxi.phase != BRINGING_UP && nicxi.phase != BEGINNING) || nicxi.is_program)
         return;
-    if (!nicxi.is_settled)
+    if (!is_settled)
         settle();
     if (++nicxi.waits > MOST_WAITS)
         give_up();

@@ -10,7 +10,24 @@
 
 enum { RECEIVE = 0, TRANSMIT = 1, ENABLE = 1 << 25, MOST_LINE = 300 };
 
+/* Frames that the device let in, in the order in which it takes them, and which of them waits longest. So a reply that
+   names no frame, as that of a step of receiving, is known to be about one. */
+static struct {
+    uint16_t frames[NICX_FRAMES], let_in, oldest;
+} inside;
+
 /* --- while schedules are made --- */
+
+void nicxi_cover_begin(void)
+{
+    inside.let_in = inside.oldest = 0;
+}
+
+int nicxi_frame_in_hand(bool is_taken)
+{
+    uint16_t at = (uint16_t)(inside.oldest - (is_taken && inside.oldest ? 1 : 0));
+    return at < inside.let_in ? inside.frames[at] : -1;
+}
 
 void nicxi_cover_thread(uint16_t number)
 {
@@ -34,10 +51,9 @@ void nicxi_cover_bring_up(void)
 
 void nicxi_cover_reset(void)
 {
-    nicxi.oldest = nicxi.let_in;
+    inside.oldest = inside.let_in;
 }
 
-/* The device takes its frames in the order in which they came. */
 static void cover_arrival(const struct step *step)
 {
     uint16_t *frame = &nicxi.coverage->frames[step->of];
@@ -46,7 +62,7 @@ static void cover_arrival(const struct step *step)
         return;
     }
     *frame |= (uint16_t)LET_IN;
-    nicxi.waiting[nicxi.let_in++] = step->of;
+    inside.frames[inside.let_in++] = step->of;
 }
 
 static void cover_receive(const struct step *step)
@@ -54,9 +70,9 @@ static void cover_receive(const struct step *step)
     bool is_written = step->status == NIC_WROTE;
     if (is_written)
         nicxi.coverage->acted[RECEIVE][step->told.queue] = true;
-    if ((is_written && !step->told.end) || nicxi.oldest == nicxi.let_in)
+    if ((is_written && !step->told.end) || inside.oldest == inside.let_in)
         return;
-    uint16_t *frame = &nicxi.coverage->frames[nicxi.waiting[nicxi.oldest++]];
+    uint16_t *frame = &nicxi.coverage->frames[inside.frames[inside.oldest++]];
     *frame |= (uint16_t)(is_written ? DELIVERED : step->status == NIC_DROPPED ? 1u << step->told.why : FAULTED);
 }
 

@@ -26,6 +26,10 @@ struct coverage {
 
 struct step;
 
+/* A schedule begins. */
+void nicxi_cover_begin(void);
+/* The frame that a step of receiving is about, which it has taken or not, behind nicxi_cover_step; -1: none waited. */
+int nicxi_frame_in_hand(bool is_taken);
 /* A task or handler goes on from a point that is no wait, or ended. */
 void nicxi_cover_thread(uint16_t number);
 /* A step of the device or the link. */

@@ -4,12 +4,22 @@
 #include "engine.h"
 #include "heap.h"
 
+/* As the bring-up left it: where the library took its memory from the explorer's piece a copy of that (heap.h), else a
+   snapshot. */
+static bool is_copied;
+static nic_kept kept;
+
 const char *nicxi_keep(void)
 {
-    nicxi.is_copied = nicxi_heap_is_used();
-    if (nicxi.is_copied)
+    is_copied = nicxi_heap_is_used();
+    if (is_copied)
         return nicxi_heap_keep() ? NULL : "there is no memory to keep the device in";
-    return nic_snapshot(&nicxi.device, &nicxi.kept) == NIC_DONE ? NULL : "there is no memory to keep the device in";
+    return nic_snapshot(&nicxi.device, &kept) == NIC_DONE ? NULL : "there is no memory to keep the device in";
+}
+
+void nicxi_drop_kept(void)
+{
+    nic_drop_snapshot(&kept);
 }
 
 /* The library asks this before it lends memory of the caller's. A search sees no store into that, so it would miss
@@ -31,8 +41,8 @@ void nicxi_back(void)
     if (!nicxi.is_changed)
         return;
     nicxi.is_changed = false;
-    if (nicxi.is_copied)
+    if (is_copied)
         nicxi_heap_back();
-    else if (nic_restore(&nicxi.device, &nicxi.kept) != NIC_DONE)
+    else if (nic_restore(&nicxi.device, &kept) != NIC_DONE)
         nicxi_failed(NICX_MISUSE, "there is no memory to bring the device back");
 }

@@ -191,60 +191,80 @@ struct notes {
 /* Who hears of each event: for scripts and for what a replay prints. */
 typedef void nicxi_listener(void *argument, uint16_t actor, const struct step *step);
 
+/* The state of the one scenario of the process. It is global, and isn't passed, since a driver's calls (nicx_read32)
+   name no scenario. What one file alone needs lies in that file: the device as it was brought up in device.c, the
+   frames inside it in coverage.c, memory on its way in weak.c, where notes go without a search in scenario.c, which
+   thread of the process makes schedules in run.c. Each part here names the file that writes it, and lives for one of
+   these times:
+
+   - From nicx_open to nicx_close, which clears all but the schedules' number. The bring-up runs once; nicxi_back makes
+     the device what it left at the start of each schedule.
+   - For a schedule. `reset` in run.c makes such parts anew before anything of the driver runs: what it left out would
+     let a schedule depend on those before it, and a failure would not be found again from its file.
+
+   A search makes schedules in processes of its own, and what they write here is lost with them; but `schedule`,
+   `points`, `notes` and `coverage` point into memory that the search has too, and reads where one has crashed. */
 struct engine {
+    /* What there is to run: by nicx_open, and `begin` of each schedule (scenario.c). Numbers and names stay the same in
+       all schedules, or a schedule's file would mean another one. */
     const nicx_scenario *scenario;
-    nic device;
-    nic_kept kept;
-    bool is_copied;  /* the device goes back by a copy of its memory, and not by nic_restore */
-    bool is_changed; /* since it was brought back */
-    bool is_idle;    /* as it was kept it has no step to make */
     uint8_t phase;
     uint32_t most_points;
-
-    struct fiber main;
-    struct thread *self; /* who runs; null for the engine itself */
-    struct thread threads[MOST_THREADS];
+    struct thread threads[MOST_THREADS]; /* tasks from 0 on, handlers and timers from NICX_TASKS on */
     uint16_t tasks, handlers, timers;
-    bool is_weak;      /* memory is (weak.h) */
-    bool knows_memory; /* each access of the driver's own memory is told (nicxi_touched) */
+    struct frame frames[NICX_FRAMES];
+    uint16_t frame_count;
+    bool links[NICX_FRAMES];
+    uint16_t link_count;
+    struct omitted omitted; /* by a search that shrinks, and by a schedule's file */
+    bool is_weak;           /* memory is (weak.h) */
+    bool knows_memory;      /* each access of the driver's own memory is told (nicxi_touched) */
+    bool is_program;        /* the first task is a whole program, which makes the device's steps itself */
+
+    /* The device (device.c). */
+    nic device;
+    bool is_changed; /* since it was brought back: else there is nothing to bring back */
+    bool is_idle;    /* as it was kept it has no step to make, so none is tried before something wakes it */
+
+    /* Who may act (actors.c). An actor of the device that had nothing to do is idle, and isn't tried again before a
+       step that can give it work has woken it (nicxi_wake). Waking too many costs time, waking too few schedules. */
     struct actor actors[MOST_ACTORS];
     uint16_t count;
-    struct frame frames[NICX_FRAMES];
-    uint16_t frame_count, next_frame;
-    bool links[NICX_FRAMES];
-    uint16_t link_count, next_link;
-    struct omitted omitted;
-    uint32_t came; /* frames that came in this schedule */
+    uint16_t next_frame, next_link; /* that come next */
+    uint32_t came;                  /* frames that came in this schedule */
 
-    const void *maker; /* a mark of the thread of the process that makes the schedules */
-    bool is_program;   /* the first task is a whole program, which makes the device's steps itself, */
-    bool is_over;      /* and it came to its end */
+    /* Who runs (threads.c, run.c). */
+    struct fiber main;
+    struct thread *self; /* null for the engine itself, which then runs on `main` */
+    const char *asker;   /* the function of the scenario that may only look, while it runs */
 
-    const char *asker;    /* the function of the scenario that may only look, while it runs */
-    struct polls outside; /* of no thread */
-    uint32_t waits;       /* of no thread, in a row, without a step that changed anything */
-    bool is_settled;      /* in the bring-up, no step of the device is left */
-    struct notes *notes, own_notes;
-    struct coverage *coverage, own_coverage;
-    uint16_t waiting[NICX_FRAMES], let_in, oldest; /* frames that came in, and which of them waits longest */
+    /* The bring-up's own accesses, of no thread (access.c). */
+    struct polls outside;
+    uint32_t waits; /* in a row, without a step that changed anything */
 
-    uint64_t epoch; /* the schedule's number, for locks */
-    uint64_t acts, changes;
+    /* The schedule that is made (run.c). The first *points entries of `schedule` say who acted, and those of `steps`
+       what they did: a step of the device that had nothing to do is taken back, and was no point. */
     const nicx_chooser *chooser;
-    uint16_t *schedule; /* who acted, point by point */
-    uint16_t last;      /* who acted last: a thread, whatever value it chose, and however old what it read */
-    struct step *steps; /* what they did; null where nobody asks for it */
+    uint16_t can[MOST_ACTORS]; /* what the chooser is given; who acted last stands first, where it may go on */
+    uint16_t *schedule;
     volatile uint32_t *points;
-    uint16_t *own_schedule;
-    uint32_t own_points;
+    struct step *steps; /* null where nobody asks for it */
+    uint16_t last;      /* who acted last: a thread, whatever value it chose, and however old what it read */
     uint32_t switches;
-    bool is_cut;   /* the chooser ended the schedule */
-    uint32_t late; /* steps that were thought to be idle and weren't: none, or the rules of waking are wrong */
-    uint16_t can[MOST_ACTORS];
+    bool is_cut;  /* the chooser ended the schedule */
+    bool is_over; /* the program came to its end */
     nicx_result result;
+    uint64_t epoch; /* the schedule's number in this process: a lock that keeps another one is free (threads.c) */
+    /* Acts wake who waits: each is a point after which something may be another way for others. Changes are the acts
+       that weren't only looks of waiting threads: two that look at each other act for ever, and change nothing. */
+    uint64_t acts, changes;
+
+    /* Who hears of it, and what is told behind a search. */
     nicxi_listener *listener;
     void *listener_argument;
     nicxi_listener *watch; /* hears of each event beside the listener: for a scenario that judges by them */
+    struct notes *notes;
+    struct coverage *coverage;
 };
 
 extern struct engine nicxi;
@@ -260,6 +280,8 @@ bool nicxi_may_act(void);
  */
 void nicxi_wait_outside(void);
 void nicxi_forget_polls(struct polls *polls);
+/* A bring-up begins. */
+void nicxi_outside_begins(void);
 
 /* Somebody else may act, until the thread that runs is chosen. */
 void nicxi_next(struct thread *self);
@@ -306,6 +328,8 @@ bool nicxi_fires_at_rest(const struct actor *actor);
 void nicxi_touched(const void *place, size_t size, bool writes);
 /* Schedules are made by this thread of the process, and no other one makes these calls. */
 void nicxi_is_made_here(void);
+/* Whether a search's process makes schedules here. */
+bool nicxi_is_in_search(void);
 /* Has the scenario name what a schedule has. */
 void nicxi_begin(void);
 /* A frame of a schedule, with its bytes copied: false where there are as many as there may be. */
@@ -322,6 +346,7 @@ bool nicxi_others_acted(const struct thread *thread);
 /* The device, kept and brought back. */
 const char *nicxi_keep(void);
 void nicxi_back(void);
+void nicxi_drop_kept(void);
 
 static inline bool nicxi_is_device_step(uint8_t kind)
 {

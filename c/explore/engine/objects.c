@@ -112,13 +112,11 @@ static void add_interrupts(struct objects *objects, unsigned group)
         add(objects, "interrupts of pf");
 }
 
-/* The frame that the device has in hand; it takes them in the order in which they came. */
 static void add_received(struct objects *objects, const struct step *step)
 {
-    bool is_taken = step->status != NIC_WROTE || step->told.end;
-    uint16_t at = (uint16_t)(nicxi.oldest - (is_taken && nicxi.oldest ? 1 : 0));
-    if (at < nicxi.let_in)
-        add(objects, "frame %u", nicxi.waiting[at]);
+    int frame = nicxi_frame_in_hand(step->status != NIC_WROTE || step->told.end);
+    if (frame >= 0)
+        add(objects, "frame %d", frame);
     if (step->status == NIC_WROTE) {
         add(objects, "rx %u slot %u", step->told.queue, step->told.slot);
         add(objects, "block %llu", (unsigned long long)(step->told.at / NIC_BLOCK_BYTES));

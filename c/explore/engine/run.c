@@ -67,17 +67,18 @@ void nicxi_leave(void)
     nicxi_next(self);
 }
 
-/* Tasks run on stacks of one thread of the process: the one at whose address this lies. */
+/* Tasks run on stacks of one thread of the process: the one whose own `mark` lies at `maker`. */
 static __thread char mark;
+static const char *maker;
 
 void nicxi_is_made_here(void)
 {
-    nicxi.maker = &mark;
+    maker = &mark;
 }
 
 bool nicxi_is_maker(void)
 {
-    return nicxi.maker == &mark;
+    return maker == &mark;
 }
 
 bool nicxi_is_in_thread(void)
@@ -95,7 +96,7 @@ void nicxi_begin(void)
 
 bool nicxi_may_act(void)
 {
-    if (nicxi.maker != &mark && nicxi.phase != CLOSED)
+    if (maker != &mark && nicxi.phase != CLOSED)
         nicxi_refuse_thread();
     if (!nicxi.asker)
         return true;
@@ -307,14 +308,13 @@ static bool device_acts(uint16_t number)
     return true;
 }
 
-/* At rest each step of the device is tried once more: none of them should have something to do. */
+/* At rest each step of the device is tried once more. None of them should have something to do, or a rule of what wakes
+   it (nicxi_wake) is wrong: that costs a search schedules, and makes no result wrong. */
 static bool is_at_rest(void)
 {
     for (uint16_t k = 0; k < nicxi.count; k++)
-        if (is_of_device(k) && device_acts(k)) {
-            nicxi.late++;
+        if (is_of_device(k) && device_acts(k))
             return false;
-        }
     return true;
 }
 
@@ -464,7 +464,7 @@ static void reset(void)
     nicxi.frame_count = nicxi.next_frame = 0;
     nicxi.link_count = nicxi.next_link = 0;
     nicxi.came = 0;
-    nicxi.let_in = nicxi.oldest = 0;
+    nicxi_cover_begin();
 }
 
 /* The first that waits for a lock, or for ever where it shouldn't. */

@@ -7,6 +7,7 @@
 #include "heap.h"
 #include "parts.h"
 #include "weak.h"
+#include "words.h"
 
 static bool is_name(const char *name)
 {
@@ -155,6 +156,28 @@ uint32_t nicx_came(void)
 
 /* --- the whole --- */
 
+/* Where a schedule is noted that no search makes: the processes of a search note theirs in memory that they share with
+   it (nicxi_note_in), so that a driver's crash loses nothing of what came before it. */
+static struct {
+    uint16_t *schedule;
+    uint32_t points;
+    struct notes notes;
+    struct coverage coverage;
+} own;
+
+static void note_here(void)
+{
+    memset(&own, 0, sizeof own);
+    nicxi.points = &own.points;
+    nicxi.notes = &own.notes;
+    nicxi.coverage = &own.coverage;
+}
+
+bool nicxi_is_in_search(void)
+{
+    return nicxi.points != &own.points;
+}
+
 static const char *fault_of(const nicx_scenario *scenario)
 {
     if (!is_name(scenario->name))
@@ -175,18 +198,13 @@ static const char *fault_of(const nicx_scenario *scenario)
 static const char *bring_up(void)
 {
     const nicx_scenario *scenario = nicxi.scenario;
-    static char why[300];
     uint8_t status = nic_open(&nicxi.device, scenario->vfs, scenario->fifo, scenario->blocks);
-    if (status != NIC_DONE) {
-        snprintf(why, sizeof why, "there is no such device: %s", nic_status_name(status));
-        return why;
-    }
+    if (status != NIC_DONE)
+        return nicxi_why("there is no such device: %s", nic_status_name(status));
     nicxi.phase = BRINGING_UP;
     const char *words = scenario->bring_up();
-    if (words || nicxi.result.outcome) {
-        snprintf(why, sizeof why, "bring_up: %s", words ? words : nicxi.result.words);
-        return why;
-    }
+    if (words || nicxi.result.outcome)
+        return nicxi_why("bring_up: %s", words ? words : nicxi.result.words);
     nicxi_cover_bring_up();
     if (nicxi_form)
         nicxi_form->keep();
@@ -231,8 +249,7 @@ static const char *try_begin(void)
 /* Undoes what was opened of a scenario that is refused, and keeps the words that say why. */
 static const char *closed_for(const char *fault)
 {
-    static char why[300];
-    snprintf(why, sizeof why, "%s", fault);
+    const char *why = nicxi_why("%s", fault);
     nicx_close();
     return why;
 }
@@ -245,12 +262,10 @@ const char *nicx_open(const nicx_scenario *scenario)
     if (fault)
         return fault;
     nicxi.scenario = scenario;
-    nicxi.points = &nicxi.own_points;
-    nicxi.notes = &nicxi.own_notes;
-    nicxi.coverage = &nicxi.own_coverage;
-    nicxi_forget_polls(&nicxi.outside);
+    note_here();
+    nicxi_outside_begins();
     nicxi.most_points = scenario->points ? scenario->points : USUAL_POINTS;
-    nicxi.schedule = nicxi.own_schedule = calloc(nicxi.most_points + 1u, sizeof *nicxi.schedule);
+    nicxi.schedule = own.schedule = calloc(nicxi.most_points + 1u, sizeof *nicxi.schedule);
     if (!nicxi.schedule)
         return "there is no memory";
     nicxi_heap_open();
@@ -269,14 +284,16 @@ void nicx_close(void)
 {
     nicxi_threads_close();
     nicxi_weak_close();
-    nic_drop_snapshot(&nicxi.kept);
+    nicxi_drop_kept();
     nic_close(&nicxi.device);
     nicxi_heap_close();
     if (nicxi_form)
         nicxi_form->close();
     for (int k = 0; k < NICX_FRAMES; k++)
         free(nicxi.frames[k].bytes);
-    free(nicxi.own_schedule);
+    free(own.schedule);
     free(nicxi.steps);
+    uint64_t epoch = nicxi.epoch; /* what a schedule of this scenario left locked is free in the next one's */
     memset(&nicxi, 0, sizeof nicxi);
+    nicxi.epoch = epoch;
 }

@@ -106,7 +106,7 @@ static void ends(int status)
 static void run(void *unused)
 {
     (void)unused;
-    if (nicxi.points != &nicxi.own_points)
+    if (nicxi_is_in_search())
         be_silent();
     nicxi_alone = nicxi.self;
     nicxi.self = NULL;

@@ -14,6 +14,8 @@ from .known import ABSENT
 from .regs import ENABLE, Register
 from .script import Instruction, Op, Script
 
+_ABSENT = {address: (name, what) for what, names in ABSENT for address, name in names.items()}
+
 
 @dataclass(frozen=True, order=True)
 class Warning:
@@ -92,8 +94,8 @@ class Advice:
                 yield self._at(
                     pc, f"offset 0x{one.a:04x} of a virtual function names no register: the access is `stray`"
                 )
-            elif one.a in ABSENT:
-                name, what = ABSENT[one.a]
+            elif one.a in _ABSENT:
+                name, what = _ABSENT[one.a]
                 yield self._at(pc, f"0x{one.a:05x} is {name}, which the bench hasn't: {what}")
             else:
                 yield self._at(pc, f"0x{one.a:05x} names no register: the access is `stray`")

@@ -10,37 +10,14 @@ from collections.abc import Callable
 from pathlib import Path
 
 import nic82599
-from nic82599 import Advanced, Done, Dropped, Event, Fault, Message, Nic, Sent, Wrote, address_of
+from nic82599 import Advanced, Done, Event, Fault, Message, Nic, Sent, address_of
+from nic82599.printed import printed
 from nic82599.registers import OFFSETS, REGISTERS
 
 ROOT = Path(__file__).resolve().parent.parent.parent
 QUEUES, BLOCKS, USED, FIFO, MOST_LINES, MOST_DATA = 3, 256, 6, 6, 3_000, 900
 WORDS = (0, 1, 2, 3, 8, 128, 0x200, 0x2000, 0x0200_0000, 0x0200_0002, 0x1200_0001, 0x85)
 COMMANDS = (0x2B30_0000,) * 12 + (0x2330_0000, 0x2230_0000, 0x2A30_0000, 0x2B20_0000, 0x0B30_0000, 0x6B30_0000)
-
-
-def told(event: Event | None) -> str:
-    """The answer that `nicbench run` prints."""
-    match event:
-        case None:
-            return "idle"
-        case Done():
-            return "done"
-        case Dropped(why):
-            return f"dropped {why}"
-        case Wrote(queue, slot, end):
-            return f"wrote queue {queue} slot {slot} {'end' if end else 'more'}"
-        case Advanced(queue, slot):
-            return f"advanced queue {queue} slot {slot}"
-        case Sent(queue, length):
-            return f"sent queue {queue} len {length}"
-        case Fault(_, queue, why, bus):
-            return f"fault queue {queue} {why}" + ("" if bus is None else f" 0x{bus:05x}")
-        case Message(None, vector):
-            return f"message pf vector {vector}"
-        case Message(function, vector):
-            return f"message vf {function} vector {vector}"
-    raise AssertionError(event)
 
 
 def answered(call: Callable[[], Event | bool | None]) -> str:
@@ -51,9 +28,7 @@ def answered(call: Callable[[], Event | bool | None]) -> str:
         return "no queue"
     except nic82599.NoGroup:
         return "no group"
-    if isinstance(event, bool):
-        return "done" if event else "idle"
-    return told(event)
+    return printed(event or None)
 
 
 class Run:
@@ -157,7 +132,7 @@ class Run:
         frame[0], frame[5] = self.chance.choice((2, 2, 2, 0xFF)), self.chance.randrange(1, 3)
         name = self.data(bytes(frame))
         dropped = self.nic.arrive(frame)
-        self.put(f"arrive {name}", told(dropped) if dropped else "done")
+        self.put(f"arrive {name}", printed(dropped) if dropped else "done")
 
     def collect(self) -> None:
         frame = self.nic.collect()
@@ -187,13 +162,13 @@ class Run:
                 case Done(step, queue):
                     self.put(f"{step} {queue}", "done")
                 case Advanced(queue) | Sent(queue):
-                    self.put(f"tx {queue}", told(event))
+                    self.put(f"tx {queue}", printed(event))
                 case Fault("tx", queue):
-                    self.put(f"tx {queue}", told(event))
+                    self.put(f"tx {queue}", printed(event))
                 case Message(function):
-                    self.put(f"int {'pf' if function is None else function}", told(event))
+                    self.put(f"int {'pf' if function is None else function}", printed(event))
                 case _:
-                    self.put("rx", told(event))
+                    self.put("rx", printed(event))
 
     def set_up(self) -> None:
         chance = self.chance

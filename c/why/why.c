@@ -3,14 +3,13 @@
 #include <stdio.h>
 #include <string.h>
 
-#include "reasons.h"
+#include "why.h"
+
+#include "reasons.inc"
 
 enum { SHORTEST = 60, KILOBYTE = 1024, ENTRY_VALID = 0x80, CAUSE_OF_ENTRY = 0x3f };
 
 uint8_t nicd_dma_read(nic *n, uint64_t bus, uint8_t *bytes, size_t length);
-
-#define WORD(address) nicd_why_word(it, address)
-#define FIELD(address, field) nicd_why_field(it, address, field)
 
 /* What the lines from here on are about. */
 static void about(struct nicd_why *it, const char *what, int number)

@@ -48,6 +48,7 @@ pub use interleaved::{Finished, Interleaved};
 pub use names::Queue;
 pub use nic::Nic;
 pub use packet::{Packet, Record, fresh_packet, give_bufs, give_packet};
+pub use registers::Access;
 pub use setup::{Setting, Setup, pf_setup, set};
 pub use sides::POLLS;
 pub use slots::{blocks_for, descriptor_address, is_ring_block, next_slot, slot_after};

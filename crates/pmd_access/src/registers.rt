@@ -17,7 +17,7 @@ use std::alloc::Global;
 
 /// An access of a register of a queue.
 #[derive(Clone, Copy)]
-pub(crate) enum Access {
+pub enum Access {
     /// Its word is read, which has ENABLE, bit 25, so.
     Sees(RowId, bool),
     /// It is given a word.

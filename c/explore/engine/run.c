@@ -14,7 +14,7 @@
 #include "weak.h"
 #include "words.h"
 
-enum { MOST_RESTS = 20 };
+enum { MOST_RESTS = 20, LAST_POINTS = 100 };
 
 struct engine nicxi;
 const struct nicxi_form *nicxi_form;
@@ -318,15 +318,38 @@ static bool is_at_rest(void)
     return true;
 }
 
+/* What may be the reason of a schedule without end, by who acted in its last points. */
+static void ask_why(char *question, size_t room)
+{
+    uint32_t points = *nicxi.points, starts = 0;
+    bool only_threads = true;
+    const struct thread *started = NULL;
+    for (uint32_t k = points; k > 0 && k + LAST_POINTS > points; k--) {
+        const struct actor *actor = nicxi_is_value(nicxi.schedule[k - 1]) ? NULL : &nicxi.actors[nicxi.schedule[k - 1]];
+        if (!actor)
+            continue;
+        only_threads &= actor->kind == BY_THREAD || actor->kind == BY_OLDER;
+        if (actor->kind == BY_START) {
+            started = &nicxi.threads[actor->of];
+            starts++;
+        }
+    }
+    *question = 0;
+    if (only_threads && nicxi.actors[nicxi.last].kind == BY_THREAD)
+        snprintf(question, room, ": does its loop need nicx_wait?");
+    else if (starts > 1)
+        snprintf(question, room, ": %s %s over and over: is %s?", started->name, started->is_timer ? "fires" : "starts",
+                 started->is_timer ? "it armed each time" : "its cause cleared, and masked until it is served");
+}
+
 static bool is_endless(void)
 {
     if (*nicxi.points < nicxi.most_points)
         return false;
-    char room[96];
-    uint16_t last = nicxi.last;
+    char name[96], question[160];
+    ask_why(question, sizeof question);
     nicxi_failed(NICX_ENDLESS, "no end after %u points; last came %s%s", (unsigned)nicxi.most_points,
-                 nicx_actor_name(last, room),
-                 nicxi.actors[last].kind == BY_THREAD ? ": does its loop need nicx_wait?" : "");
+                 nicx_actor_name(nicxi.last, name), question);
     return true;
 }
 

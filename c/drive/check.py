@@ -39,13 +39,13 @@ BUGS = [
     Bug(
         "BUFFER_AGAIN_BEFORE_DD",
         "send-one",
-        "reclaim says that all of queue 0 went out, and 1 frames haven't",
+        "reclaim says that all of queue 0 went out, and frame 0 in slot 0 hasn't",
         "A buffer is taken back before the device has said that it went out",
     ),
     Bug(
         "EICR_CLEARED_BEHIND_POLL",
         "interrupt-receive",
-        "frame \\d lies in memory, in queue 0, and was never handed up",
+        "frame \\d lies in slot \\d of queue 0, and was never handed up: its cause 0 is not raised, and enabled",
         "A poll that found its ring empty clears EICR, and then unmasks",
     ),
     Bug(
@@ -87,7 +87,7 @@ BUGS = [
     Bug(
         "RS_ON_EVERY_FOURTH",
         "send-one",
-        "reclaim says that 1 frames of queue 0 haven't gone out, and all have",
+        "1 frame of queue 0 hasn't gone out, and all have: slot 0 was never reclaimed, which has no RS",
         "Every fourth descriptor asks for a report, and the others wait for it",
     ),
     Bug(
@@ -117,7 +117,7 @@ BUGS = [
     Bug(
         "TWO_THREADS_ONE_RING",
         "send-two-threads",
-        "sent frame \\d|went out by queue 0",
+        "slot \\d of queue 0 sent|frame \\d",
         "Two threads send by one ring, and nothing keeps them apart",
     ),
     Bug(
@@ -129,13 +129,13 @@ BUGS = [
     Bug(
         "WRITTEN_HEAD_STALE",
         "reset-twice",
-        "reclaim says that all of queue 0 went out, and \\d frames haven't",
+        "reclaim says that all of queue 0 went out, and frame \\d in slot \\d hasn't",
         "The head that the device wrote in an earlier life is taken for news",
     ),
     Bug(
         "INTERRUPT_MODERATION",
         "interrupt-receive",
-        "lies in memory, in queue 0, and was never handed up",
+        "lies in slot \\d of queue 0, and was never handed up",
         "A poll forgets a message, since it isn't the only one that unmasks",
     ),
     Bug(
@@ -177,7 +177,7 @@ BUGS = [
     Bug(
         "IDLE_TOLD_EARLY",
         "send-wrap",
-        "reclaim says that all of queue 0 went out, and \\d+ frames haven't",
+        "reclaim says that all of queue 0 went out, and frame \\d in slot \\d hasn't",
         "All is told to be out after the first of several",
     ),
     Bug(
@@ -195,7 +195,7 @@ BUGS = [
     Bug(
         "IVAR_BYTE_LOST",
         "interrupt-two-queues",
-        "frame \\d lies in memory, in queue 0, and was never handed up",
+        "frame \\d lies in slot \\d of queue 0, and was never handed up: its byte of IVAR isn't valid",
         "The vector of one queue is written over the other's",
     ),
     Bug(
@@ -207,13 +207,13 @@ BUGS = [
     Bug(
         "HEAD_CACHED_OVER_A_WRAP",
         "send-wrap",
-        "send is refused in queue 0 for ever, and all of its frames went out",
+        "send is refused in queue 0 for ever, and all of its frames went out: slot \\d was never reclaimed",
         "The head is compared with a slot beyond the wrap",
     ),
     Bug(
         "DOUBLE_CLEANER",
         "interrupt-both-ways",
-        "never went out|reclaim says|went out by|second time|deadlock|endless",
+        "never went out|reclaim says|isn't frame|second time|deadlock|endless",
         "The handler takes back slots beside the poll",
     ),
     Bug(
@@ -227,6 +227,78 @@ BUGS = [
         "setup-enables-polled",
         "open returns, and receive queue 0 isn't on",
         "A queue that was asked to go on isn't awaited, and not stopped where it reads as off",
+    ),
+    Bug(
+        "PAYLEN_OF_BUFFER",
+        "send-descriptor-chain",
+        "slot \\d has PAYLEN 2048 for a frame of 9014 bytes in slots",
+        "PAYLEN of each descriptor is what its buffer has, and not what the frame has",
+    ),
+    Bug(
+        "IFCS_MISSING",
+        "send-descriptor",
+        "slot 0 has no IFCS",
+        "The card isn't asked for the check sequence",
+    ),
+    Bug(
+        "RECLAIM_BY_HEAD",
+        "send-write-back",
+        "neither DD of a slot was read nor a head .*: TDH was",
+        "TDH is taken for how far the device has come",
+    ),
+    Bug(
+        "MEMORY_LOST_BY_RESET",
+        "reset-memory",
+        "after three: one of 2048 bytes at 0x\\w+, which reset asked for",
+        "A reset takes rings and buffers, and doesn't give back those it had",
+    ),
+    Bug(
+        "SUSPEND_LEAVES_LINK_CAUSE",
+        "suspend-quiet",
+        "vector 8 sends a message, and the driver is suspended: EIMS is 0x00180000",
+        "A suspend masks the causes of queues, and not that of the link",
+    ),
+    Bug(
+        "SUSPEND_LEAVES_QUEUES_ON",
+        "suspend-quiet",
+        "slot \\d of receive queue 0 is written, and the driver is suspended: RXDCTL is 0x02000000",
+        "A suspend masks all causes, and leaves the queues on",
+    ),
+    Bug(
+        "INTERVAL_UNSHIFTED",
+        "setup-moderation",
+        "EITR.0. is written with 0x00000064: bits .* reserved",
+        "An interval in microseconds is written into EITR as it is",
+    ),
+    Bug(
+        "INTERVAL_OF_QUEUE",
+        "setup-moderation",
+        "EITR.1. has an interval, and neither IVAR nor IVAR_MISC names vector 1",
+        "An interval goes to another vector than the queue's",
+    ),
+    Bug(
+        "INTERVAL_FOR_LOCK",
+        "interrupt-often",
+        "was never handed up",
+        "A handler relies on it that a poll takes less than an interval",
+    ),
+    Bug(
+        "BUDGET_WITHOUT_POLL",
+        "interrupt-late",
+        "frame 4 lies in slot 4 of queue 0, and was never handed up",
+        "A poll ends after four frames, and nobody polls again",
+    ),
+    Bug(
+        "RETA_OF_TWO_QUEUES",
+        "rss-four-queues",
+        "frame \\d+ came by queue [01], and is to come by [23]: .* names it, where [01] stands",
+        "Only the lowest bit of an entry is written into RETA",
+    ),
+    Bug(
+        "IVAR_OF_TWO_QUEUES",
+        "rss-four-vectors",
+        "of queue [23], and was never handed up: its byte of IVAR isn't valid",
+        "The vectors of queues 0 and 1 are written, and those of 2 and 3 aren't",
     ),
     Bug(
         "MISSING_WMB",
@@ -264,7 +336,7 @@ FAULTS = {
     "FROM_A_THREAD": ("receive-one", "a call comes from a thread that the driver made itself"),
     "THREAD_LEFT": ("open-close", "thread0 acts for the driver, and close has returned"),
     "LOCK_LEFT": ("receive-wrap", "deadlock: receive0 waits for a lock, which receive0 holds"),
-    "MEMORY_LEFT": ("open-close", "1 pieces of DMA memory weren't given back"),
+    "MEMORY_LEFT": ("open-close", "1 piece of DMA memory wasn't given back: \\d+ bytes at 0x\\w+, which open asked for"),
     "LENDS_IN_PLACE": ("open-close", "misuse: control calls nic_lend_memory"),
     "STATE_LEFT": ("receive-wrap", "misuse: begin doesn't make all of the driver's state anew"),
 }
@@ -412,7 +484,7 @@ def check_words(kit: Kit) -> str:
         folder = kit.folder / "flags"
         nicdrive(folder, [source, *words, "--rows", "receive-one", "--runs", 20, "--no-pages"], 1)
         expect(rows_of(folder)["receive-one"], FAULTS["NO_LENGTH"][1], " ".join(words))
-    for words, wanted in ((["--rows", "interrupt"], 5), (["--rows", "suspend,receive-wra"], 3), ([], 108)):
+    for words, wanted in ((["--rows", "interrupt"], 8), (["--rows", "suspend,receive-wra"], 3), ([], 119)):
         lines = nicdrive(kit.folder, ["--list", *words], 0).splitlines()
         if len(lines) != wanted or "not applicable" in "".join(lines):
             raise Wrong(f"nicdrive --list {' '.join(words)} tells {len(lines)} rows, and not {wanted}")

@@ -42,14 +42,26 @@ enum bug {
     LOCK_ORDER,
     MISSING_WMB,
     MISSING_RMB,
-    ENABLE_NOT_AWAITED
+    ENABLE_NOT_AWAITED,
+    PAYLEN_OF_BUFFER,
+    IFCS_MISSING,
+    RECLAIM_BY_HEAD,
+    MEMORY_LOST_BY_RESET,
+    SUSPEND_LEAVES_LINK_CAUSE,
+    SUSPEND_LEAVES_QUEUES_ON,
+    INTERVAL_UNSHIFTED,
+    INTERVAL_OF_QUEUE,
+    INTERVAL_FOR_LOCK,
+    BUDGET_WITHOUT_POLL,
+    RETA_OF_TWO_QUEUES,
+    IVAR_OF_TWO_QUEUES
 };
 
 #ifndef BUG
 #define BUG NONE
 #endif
 
-enum { PART = 2048, MOST_SLOTS = 64, ENABLE = 1 << 25, OTHER_VECTOR = 8 };
+enum { PART = 2048, MOST_SLOTS = 64, ENABLE = 1 << 25, OTHER_VECTOR = 8, INTERVAL = 50, BUDGET = 4 };
 
 /* With -DTHREADS, and of these bugs, the driver has threads of its own, which take the frames. */
 #ifdef THREADS
@@ -88,6 +100,8 @@ static struct {
     uint32_t seen;                                          /* of VFMAILBOX: what a read tells once */
     bool scheduled[NICD_QUEUES], polls[NICD_QUEUES], rests; /* of threads of its own */
     uint32_t interrupts, looked;
+    uint32_t taken; /* frames by one poll */
+    bool is_polled[NICD_QUEUES];
     nicd_frame partial;
     nicx_mutex counters, other;
 } driver;
@@ -249,12 +263,13 @@ static uint32_t hashed(uint32_t types)
 static void set_rss(void)
 {
     const nicd_rss *it = &driver.rss;
+    uint32_t kept = BUG == RETA_OF_TWO_QUEUES ? 0x01010101 : 0x0F0F0F0F;
     for (unsigned k = 0; k < 10; k++)
         nicx_write32(NIC_RSSRK(k), low_of(it->key + 4 * k));
     for (unsigned k = 0; k < 32; k++) {
         const uint8_t *entry = it->table + 4 * k;
         nicx_write32(NIC_RETA(k),
-                     entry[0] | (uint32_t)entry[1] << 8 | (uint32_t)entry[2] << 16 | (uint32_t)entry[3] << 24);
+                     (entry[0] | (uint32_t)entry[1] << 8 | (uint32_t)entry[2] << 16 | (uint32_t)entry[3] << 24) & kept);
     }
     nicx_write32(NIC_RXCSUM, NIC_RXCSUM_PCSD);
     nicx_write32(NIC_MRQC, NIC_MRQC_MRQE_IS(1) | hashed(it->types));
@@ -271,7 +286,8 @@ static void set_lengths(void)
 /* Vector q for both sides of queue q, of a function vector q % 2. */
 static void set_vectors(void)
 {
-    for (unsigned pair = 0; 2 * pair < driver.setup.queues; pair++) {
+    unsigned pairs = BUG == IVAR_OF_TWO_QUEUES ? 1 : (driver.setup.queues + 1) / 2;
+    for (unsigned pair = 0; pair < pairs; pair++) {
         uint32_t low = 0x80 | 2 * pair, high = low + 1, word = low | low << 8;
         if (2 * pair + 1 < driver.setup.queues)
             word = BUG == IVAR_BYTE_LOST ? high << 16 | high << 24 : word | high << 16 | high << 24;
@@ -285,6 +301,15 @@ static void set_vectors(void)
 static uint32_t own_causes(void)
 {
     return (UINT32_C(1) << driver.setup.queues) - 1;
+}
+
+/* Of each vector the least time between two of its messages, in units of two microseconds. */
+static void set_intervals(void)
+{
+    uint32_t word = BUG == INTERVAL_UNSHIFTED ? 2 * INTERVAL : NIC_EITR_ITR_INTERVAL_IS(INTERVAL);
+    for (unsigned queue = 0; queue < driver.setup.queues; queue++)
+        nicx_write32(NIC_EITR(queue + (BUG == INTERVAL_OF_QUEUE)), word);
+    nicx_write32(NIC_EITR(OTHER_VECTOR), NIC_EITR_ITR_INTERVAL_IS(INTERVAL));
 }
 
 static const uint32_t other_causes = NIC_EICR_LSC | NIC_EICR_MAILBOX;
@@ -305,17 +330,23 @@ static void set_interrupts(void)
     nicx_write32(NIC_GPIE, NIC_GPIE_MULTIPLE_MSIX | NIC_GPIE_PBA_SUPPORT | NIC_GPIE_EIAME |
                                (BUG == CAUSE_READ_AWAY ? 0 : NIC_GPIE_OCD));
     nicx_write32(NIC_IVAR_MISC, NIC_IVAR_MISC_INT_ALLOC_1_IS(OTHER_VECTOR) | NIC_IVAR_MISC_INT_ALLOC_VAL_1);
+    set_intervals();
     nicx_write32(NIC_EIAC, clears ? own_causes() : 0);
     nicx_write32(NIC_EIAM, own_causes());
     nicx_write32(NIC_EIMS, own_causes() | other_causes);
 }
 
-static void mask_all(void)
+static void mask(uint32_t causes)
 {
     if (driver.setup.port)
         nicx_vf_write32((uint8_t)(driver.setup.port - 1), NIC_VTEIMC, 7);
     else
-        nicx_write32(NIC_EIMC, 0x7FFFFFFF);
+        nicx_write32(NIC_EIMC, causes);
+}
+
+static void mask_all(void)
+{
+    mask(0x7FFFFFFF);
 }
 
 static void set_up_device(void)
@@ -519,7 +550,9 @@ static bool receive(uint16_t queue, nicd_frame *frame)
         nicx_lock(&driver.counters);
     if (BUG == LOCK_ORDER)
         nicx_lock(&driver.other);
-    bool is_there = take_frame(queue, frame);
+    bool is_over = BUG == BUDGET_WITHOUT_POLL && driver.taken == BUDGET;
+    bool is_there = !is_over && take_frame(queue, frame);
+    driver.taken = is_there ? driver.taken + 1 : 0;
     if (BUG == LOCK_ORDER)
         nicx_unlock(&driver.other);
     if (BUG == LOCK_IN_HANDLER_AND_POLL || BUG == LOCK_ORDER)
@@ -541,6 +574,9 @@ static bool is_out(unsigned queue, unsigned slot)
         return true;
     if (BUG == HEAD_CACHED_OVER_A_WRAP)
         return get(NIC_TDH(queue)) > slot;
+    if (BUG == RECLAIM_BY_HEAD)
+        return (get(NIC_TDH(queue)) + driver.setup.slots - tx->clean) % driver.setup.slots >
+               (slot + driver.setup.slots - tx->clean) % driver.setup.slots;
     if (BUG == RS_ON_EVERY_FOURTH)
         slot |= 3;
     if (WRITES_HEAD) {
@@ -573,7 +609,9 @@ static void fill(unsigned queue, const uint8_t *bytes, uint32_t length)
         uint32_t part = length - at < PART ? length - at : PART;
         bool is_end = at + part == length;
         uint64_t report = BUG == RS_ON_EVERY_FOURTH && tx->count % 4 != 3 ? 0 : NIC_TXD_RS;
-        nic_desc d = nic_tx_desc(tx->ring.buffers[slot], (uint16_t)part, length, is_end ? NIC_TXD_EOP | report : 0);
+        uint32_t whole = BUG == PAYLEN_OF_BUFFER ? part : length;
+        nic_desc d = nic_tx_desc(tx->ring.buffers[slot], (uint16_t)part, whole, is_end ? NIC_TXD_EOP | report : 0);
+        d.second &= BUG == IFCS_MISSING ? ~NIC_TXD_IFCS : ~UINT64_C(0);
         nicx_dma_write(tx->ring.buffers[slot], bytes + at, part);
         nicx_put64(tx->ring.bus + NIC_DESC_BYTES * slot, d.first);
         nicx_put64(tx->ring.bus + NIC_DESC_BYTES * slot + 8, d.second);
@@ -657,6 +695,11 @@ static uint32_t interrupt(uint8_t vector)
     }
     if (BUG == CAUSE_READ_AWAY)
         nicx_read32(NIC_EICR);
+    if (BUG == INTERVAL_FOR_LOCK && vector < NICD_QUEUES) { /* a poll is over before the interval is */
+        bool was_polled = driver.is_polled[vector];
+        driver.is_polled[vector] = true;
+        return was_polled ? 0 : UINT32_C(1) << vector;
+    }
     return UINT32_C(1) << vector;
 }
 
@@ -670,6 +713,7 @@ static void rearm(uint16_t queue)
     if (BUG == EICR_CLEARED_BEHIND_POLL)
         nicx_write32(NIC_EICR, cause);
     nicx_write32(NIC_EIMS, BUG == EIMS_OF_ALL_QUEUES ? own_causes() : cause);
+    driver.is_polled[queue] = false;
 }
 
 /* --- beside it --- */
@@ -696,7 +740,8 @@ static bool start_anew(bool takes_memory)
     mask_all();
     stop_queues();
     if (takes_memory) {
-        give_all();
+        if (BUG != MEMORY_LOST_BY_RESET)
+            give_all();
         if (!take_all())
             return false;
     }
@@ -748,14 +793,15 @@ static bool reset(void)
     if (BUG == LINK_CHANGE_LOST && !driver.setup.port)
         look_at_link();
     driver.partial.length = 0;
-    return start_anew(false);
+    return start_anew(BUG == MEMORY_LOST_BY_RESET);
 }
 
 static bool suspend(void)
 {
     rest_threads();
-    mask_all();
-    stop_queues();
+    mask(BUG == SUSPEND_LEAVES_LINK_CAUSE ? own_causes() : 0x7FFFFFFF);
+    if (BUG != SUSPEND_LEAVES_QUEUES_ON)
+        stop_queues();
     return true;
 }
 

@@ -3,7 +3,7 @@
 
 #include "drive.h"
 
-enum { VECTORS = 16 };
+enum { VECTORS = 16, AGAIN = 40 };
 
 static const uint16_t numbers[VECTORS] = {0, 1, 2, 3, 4, 5, 6, 7, 8, 9, 10, 11, 12, 13, 14, 15};
 
@@ -28,10 +28,28 @@ static void next_life(void)
     memset(nicd.went_now, 0, sizeof nicd.went_now);
 }
 
+/* From here on this thread makes that call of the driver, for the words of a failure. */
+static void begin_call(const char *name)
+{
+    nicd.doing = name;
+    nicd.doer = nicxi.self;
+}
+
+static void end_call(bool is_done)
+{
+    const char *name = nicd.doing;
+    nicd.doing = NULL;
+    if (!is_done)
+        nicd_failed("%s answered false", name);
+}
+
 bool nicd_open(void)
 {
     nicd.is_ended = false;
-    if (!nicd.driver->open(&nicd.setup))
+    begin_call("open");
+    bool is_open = nicd.driver->open(&nicd.setup);
+    end_call(true);
+    if (!is_open)
         return false;
     next_life();
     nicd.is_open = nicd.is_running = true;
@@ -41,9 +59,45 @@ bool nicd_open(void)
 void nicd_close(void)
 {
     next_life();
+    begin_call("close");
     nicd.driver->close();
+    end_call(true);
     nicd.is_open = nicd.is_running = false;
     nicd.is_ended = true;
+}
+
+void nicd_reset(void)
+{
+    begin_call("reset");
+    end_call(nicd.driver->reset());
+}
+
+void nicd_resize(uint16_t slots)
+{
+    begin_call("resize");
+    end_call(nicd.driver->resize(slots));
+    nicd.setup.slots = slots;
+}
+
+void nicd_mtu(uint32_t frame)
+{
+    begin_call("mtu");
+    end_call(nicd.driver->mtu(frame));
+    nicd.setup.frame = frame;
+}
+
+void nicd_suspend(void)
+{
+    begin_call("suspend");
+    end_call(nicd.driver->suspend());
+    nicd.is_asleep = true;
+}
+
+void nicd_resume(void)
+{
+    nicd.is_asleep = false;
+    begin_call("resume");
+    end_call(nicd.driver->resume());
 }
 
 static bool is_quiet(void *unused)
@@ -165,7 +219,7 @@ static void serve(void *given)
 
 static void handle(void *given)
 {
-    if (!nicd.is_open)
+    if (!nicd.is_open || nicd.is_asleep)
         return;
     uint32_t queues = nicd.driver->interrupt((uint8_t)number_of(given));
     for (unsigned k = 0; k < nicd.setup.queues; k++)
@@ -202,15 +256,41 @@ static bool is_used(unsigned vector)
     return is_in_word(NIC_IVAR_MISC, vector);
 }
 
+/* A message of a vector arms its timer: of a late one it is what calls the driver, else it calls it once more. */
+static void handle_by_timer(void *given)
+{
+    if (nicd.scenario->ways & OFTEN)
+        handle(given);
+    nicx_arm(nicd.timers[number_of(given)]);
+}
+
+static void add_timer(unsigned vector)
+{
+    static const char *const names[VECTORS] = {"again0",  "again1",  "again2",  "again3", "again4",  "again5",
+                                               "again6",  "again7",  "again8",  "again9", "again10", "again11",
+                                               "again12", "again13", "again14", "again15"};
+    static const char *const late[VECTORS] = {"late0",  "late1",  "late2",  "late3", "late4",  "late5",
+                                              "late6",  "late7",  "late8",  "late9", "late10", "late11",
+                                              "late12", "late13", "late14", "late15"};
+    bool is_late = nicd.scenario->ways & LATE;
+    nicd.timers[vector] =
+        nicx_timer(is_late ? late[vector] : names[vector], handle, argument(vector), is_late ? NICX_AT_REST : AGAIN);
+}
+
 static void add_handlers(void)
 {
     static const char *const names[VECTORS] = {"vector0",  "vector1",  "vector2",  "vector3", "vector4",  "vector5",
                                                "vector6",  "vector7",  "vector8",  "vector9", "vector10", "vector11",
                                                "vector12", "vector13", "vector14", "vector15"};
-    for (unsigned vector = 0; vector < VECTORS; vector++)
-        if (is_used(vector))
-            nicx_handler(names[vector], nicd.setup.port, (uint8_t)vector, handle, argument(vector),
-                         nicd.is_open ? NICX_ANYWHERE : NICX_BESIDE);
+    bool by_timer = nicd.scenario->ways & (LATE | OFTEN);
+    for (unsigned vector = 0; vector < VECTORS; vector++) {
+        if (!is_used(vector))
+            continue;
+        nicx_handler(names[vector], nicd.setup.port, (uint8_t)vector, by_timer ? handle_by_timer : handle,
+                     argument(vector), nicd.is_open ? NICX_ANYWHERE : NICX_BESIDE);
+        if (by_timer)
+            add_timer(vector);
+    }
 }
 
 void nicd_take_frames(void)
@@ -234,9 +314,8 @@ uint32_t nicd_reclaim(uint16_t queue)
     uint32_t left = nicd.driver->reclaim(queue);
     nicx_unlock(&poller->lock);
     nicd.calls--;
-    if (!left && life == nicd.life && nicd.went_now[queue] < accepted)
-        nicd_failed("reclaim says that all of queue %u went out, and %u frames haven't", queue,
-                    (unsigned)(accepted - nicd.went_now[queue]));
+    if (!left && life == nicd.life)
+        nicd_judge_reclaimed(queue, accepted);
     nicd.events += left < nicd.out[queue];
     return nicd.out[queue] = left;
 }
@@ -444,14 +523,16 @@ static void set_up(void)
     if (nicd.setup.slots < nicd.driver->slots)
         nicd.setup.slots = nicd.driver->slots;
     nicd.setup.frame = or_else(nicd.setup.frame, 1514);
-    nicd.setup.interrupts |= !nicd.driver->receive && nicd.driver->interrupt;
+    nicd.setup.interrupts |= !nicd.driver->receive;
+    nicd.setup.interrupts &= nicd.driver->interrupt != NULL;
     memcpy(nicd.setup.address, address, 6);
     nicd.base = nicd.setup.port ? (uint16_t)(2 * (nicd.setup.port - 1)) : 0;
 }
 
 static void forget(void)
 {
-    nicd.is_open = nicd.is_running = nicd.is_ended = false;
+    nicd.is_open = nicd.is_running = nicd.is_ended = nicd.is_asleep = false;
+    nicd.doing = NULL;
     nicd.life = nicd.cards = nicd.calls = nicd.events = 0;
     nicd.by_card = false;
     sender_count = 0;

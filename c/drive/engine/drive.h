@@ -49,7 +49,9 @@ enum ways {
     DROPS = 4,      /* the device may drop frames: the scenario judges which */
     FAULTY = 8,     /* faults of a queue are part of it, and of memory that isn't lent */
     NEIGHBOUR = 16, /* another driver has a queue beside, and each access of the driver to it fails */
-    UNPOLLED = 32   /* the scenario receives by itself */
+    UNPOLLED = 32,  /* the scenario receives by itself */
+    LATE = 64,      /* handlers are called once nobody else can act */
+    OFTEN = 128     /* and a second time for each message, at one of the next points */
 };
 
 struct scenario {
@@ -82,10 +84,13 @@ struct come {
 
 enum frame_state { ON_ITS_WAY, WAITS, IS_WRITTEN, IS_DELIVERED, IS_DROPPED, IS_LOST };
 
+enum lost { BY_A_FAULT, BY_A_QUEUE, BY_A_RESET };
+
 struct frame_now {
     uint8_t state;
-    uint8_t why;   /* it was dropped */
+    uint8_t why;   /* it was dropped; enum lost of one that was lost */
     uint8_t queue; /* the device's, of one that was written */
+    uint16_t slot; /* and the last one that it was written to */
     uint32_t life; /* how often the driver was interrupted as it arrived */
 };
 
@@ -94,6 +99,8 @@ struct frame_now {
 struct piece {
     uint64_t bus;
     uint32_t first, blocks; /* 0 blocks: it isn't taken */
+    uint32_t bytes;
+    char by[24]; /* the call or the thread that asked for it */
 };
 
 struct poller {
@@ -107,23 +114,33 @@ struct sent {
     uint32_t length, life;
 };
 
+/* One that went out, in its queue's order. */
+struct went {
+    uint16_t slot; /* of its last descriptor */
+    bool back;     /* something was written back for it */
+};
+
 struct drive {
     const nicd_driver *driver;
     const struct scenario *scenario;
-    nicd_setup setup; /* as open was asked */
-    uint16_t base;    /* the device's queue that is the port's queue 0 */
-    bool is_open;     /* from open's return to close's call */
-    bool is_running;  /* frames may be taken and sent */
-    bool is_ended;    /* close has returned */
-    uint32_t life;    /* how often all was interrupted: close, reset, resize */
-    uint32_t events;  /* steps of the device, and what else may make a call succeed that failed */
-    uint32_t calls;   /* of send and reclaim that are being made */
-    uint32_t cards;   /* bit k: task k is the card's own, and acts for others than the driver */
-    bool by_card;     /* outside of tasks: the card acts */
+    nicd_setup setup;  /* as open was asked */
+    uint16_t base;     /* the device's queue that is the port's queue 0 */
+    bool is_open;      /* from open's return to close's call */
+    bool is_running;   /* frames may be taken and sent */
+    bool is_ended;     /* close has returned */
+    bool is_asleep;    /* from suspend's return to resume's call */
+    const char *doing; /* the call that `doer` makes: open, reset and its like */
+    const void *doer;  /* a thread, or null for none */
+    uint32_t life;     /* how often all was interrupted: close, reset, resize */
+    uint32_t events;   /* steps of the device, and what else may make a call succeed that failed */
+    uint32_t calls;    /* of send and reclaim that are being made */
+    uint32_t cards;    /* bit k: task k is the card's own, and acts for others than the driver */
+    bool by_card;      /* outside of tasks: the card acts */
     const char *fault;
     char words[WORDS];
 
     struct piece pieces[MOST_PIECES];
+    const struct piece *newest;
     uint32_t taken, own_taken;    /* pieces that are taken; of nicd_alloc */
     uint32_t allocations, refuse; /* how many were asked for; the one that is refused, from 1 on */
     size_t own_used;
@@ -141,11 +158,13 @@ struct drive {
     struct sent sent[NICD_QUEUES][MOST_OUT];
     uint32_t accepted[NICD_QUEUES], went[NICD_QUEUES];         /* taken by send; sent by the device */
     uint32_t accepted_now[NICD_QUEUES], went_now[NICD_QUEUES]; /* the same since the last interruption */
+    struct went out_slots[NICD_QUEUES][MOST_OUT];
     bool is_refused[NICD_QUEUES], is_awaited[NICD_QUEUES]; /* send answered false; somebody waits until all went out */
     uint32_t out[NICD_QUEUES];                             /* as reclaim told last, and what was taken since */
     uint32_t numbers;
 
     struct poller pollers[NICD_QUEUES];
+    int timers[16]; /* of the vectors, in a scenario of late or frequent messages */
     struct {
         nicd_frame frame;
         uint8_t behind[64]; /* what the driver must not write */
@@ -167,6 +186,11 @@ void nicd_reach(unsigned number);
 void nicd_memory_begin(void);
 /* Null, or what of the driver's memory is left. */
 const char *nicd_memory_left(void);
+/* How many pieces of both kinds are taken, and the DMA memory that was asked for last. */
+uint32_t nicd_memory_taken(void);
+const struct piece *nicd_memory_newest(void);
+/* Where an address lies that isn't lent, seen from the pieces there are. */
+const char *nicd_memory_near(uint64_t bus);
 /* Whether a bus address lies in a piece of the driver's. */
 bool nicd_memory_has(uint64_t bus);
 
@@ -179,6 +203,8 @@ bool nicd_coverage_write(const char *path);
 void nicd_delivered_one(void);
 
 void nicd_judge_begin(void);
+/* reclaim said that nothing of a queue is out, of which so many were taken before it was called. */
+void nicd_judge_reclaimed(unsigned queue, uint32_t accepted);
 const char *nicd_judge_end(void);
 /* Makes frame `number` of those that come, or of those that are sent; answers its length. */
 uint32_t nicd_make(const struct come *come, uint16_t number, uint8_t *bytes);
@@ -215,6 +241,12 @@ void nicd_other(const char *name, void (*function)(void), bool waits_for_ever);
 
 bool nicd_open(void);
 void nicd_close(void);
+/* These fail where the driver answers false. */
+void nicd_reset(void);
+void nicd_resize(uint16_t slots);
+void nicd_mtu(uint32_t frame);
+void nicd_suspend(void);
+void nicd_resume(void);
 /* Interrupts the flow: no receive, send or reclaim runs when it returns, nor before nicd_go_on. */
 void nicd_hold(void);
 void nicd_go_on(void);

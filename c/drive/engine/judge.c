@@ -109,6 +109,31 @@ void nicd_deliver(uint16_t queue, const uint8_t *bytes, uint32_t length)
 
 /* --- at rest --- */
 
+/* Of a queue's cause, where messages tell of frames: whether it is there, and whether a mask holds it back. */
+static const char *tell_cause(unsigned queue)
+{
+    static char words[80];
+    unsigned port = nicd.setup.port;
+    uint32_t byte = nicd_peek(port ? NIC_PVTIVAR(nicd.base / 2u) : NIC_IVAR(queue / 2)) >> 16 * (queue % 2) & 0xFF;
+    if (!nicd.setup.interrupts || !nicd.driver->interrupt)
+        return "";
+    if (!(byte & 0x80))
+        return ": its byte of IVAR isn't valid";
+    uint32_t causes = nicd_peek(port ? NIC_PVTEICR(port - 1) : NIC_EICR);
+    uint32_t masks = nicd_peek(port ? NIC_PVTEIMS(port - 1) : NIC_EIMS);
+    snprintf(words, sizeof words, ": its cause %u is %s, and %s in EIMS", (unsigned)byte & 0x3F,
+             causes >> (byte & 0x1F) & 1 ? "raised" : "not raised", masks >> (byte & 0x1F) & 1 ? "enabled" : "masked");
+    return words;
+}
+
+static const char *tell_loss(uint8_t why)
+{
+    static const char *const words[] = {[BY_A_FAULT] = "its queue met a fault",
+                                        [BY_A_QUEUE] = "its queue went off while it was written",
+                                        [BY_A_RESET] = "the device was reset"};
+    return words[why];
+}
+
 /* The first line of what the library says is in the way. */
 static void tell_waiting(uint16_t number)
 {
@@ -133,8 +158,8 @@ static void judge_frame(uint16_t number)
         return;
     case IS_WRITTEN:
         if (!may_be_lost)
-            nicd_note("frame %u lies in memory, in queue %u, and was never handed up", number,
-                      frame->queue - nicd.base);
+            nicd_note("frame %u lies in slot %u of queue %u, and was never handed up%s", number, frame->slot,
+                      frame->queue - nicd.base, tell_cause((unsigned)(frame->queue - nicd.base)));
         return;
     case WAITS:
         if (!may_be_lost)
@@ -142,12 +167,42 @@ static void judge_frame(uint16_t number)
         return;
     default:
         if (!may_be_lost)
-            nicd_note("frame %u was lost inside the device: a queue went off, or the device was reset", number);
+            nicd_note("frame %u was lost inside the device: %s", number, tell_loss(frame->why));
     }
 }
 
-/* One that went out is the next of its queue, or one behind it where those between may be lost. */
-static void judge_out(const nic_told *told, uint32_t next[NICD_QUEUES])
+/* The first byte in which a frame that went out isn't one that was sent. */
+static unsigned first_other(const struct sent *sent, uint64_t length)
+{
+    unsigned at = 0;
+    nicd_make_sent(sent->number, sent->length, whole);
+    while (at < length && at < sent->length && out[at] == whole[at])
+        at++;
+    return at;
+}
+
+/* What a frame is that isn't the one that goes out next in its queue. */
+static void tell_strange_out(unsigned queue, uint16_t slot, uint64_t length, uint32_t next)
+{
+    const struct sent *sent = nicd.sent[queue];
+    for (uint32_t k = 0; k < next; k++)
+        if (length == sent[k].length && first_other(&sent[k], length) == length) {
+            nicd_note("sent frame %u went out a second time, by slot %u of queue %u", sent[k].number, slot, queue);
+            return;
+        }
+    if (next == nicd.accepted[queue])
+        nicd_note("slot %u of queue %u sent a frame that nobody gave it", slot, queue);
+    else if (length != sent[next].length)
+        nicd_note("what slot %u of queue %u sent isn't frame %u: it has %u bytes, and not %u", slot, queue,
+                  sent[next].number, (unsigned)length, (unsigned)sent[next].length);
+    else
+        nicd_note("what slot %u of queue %u sent isn't frame %u, from byte %u on", slot, queue, sent[next].number,
+                  first_other(&sent[next], length));
+}
+
+/* One that went out, as number `count` of its queue, is the next of it, or one behind where those between may be lost.
+ */
+static void judge_out(const nic_told *told, uint32_t next[NICD_QUEUES], uint32_t count[NICD_QUEUES])
 {
     unsigned queue = (unsigned)(told->queue - nicd.base);
     if (queue >= nicd.setup.queues) {
@@ -157,45 +212,51 @@ static void judge_out(const nic_told *told, uint32_t next[NICD_QUEUES])
     }
     for (uint32_t k = next[queue]; k < nicd.accepted[queue]; k++) {
         const struct sent *sent = &nicd.sent[queue][k];
-        nicd_make_sent(sent->number, sent->length, whole);
-        if (told->len == sent->length && !memcmp(out, whole, sent->length)) {
+        if (told->len == sent->length && first_other(sent, told->len) == told->len) {
             next[queue] = k + 1;
             return;
         }
         if (!is_lossy() || sent->life == nicd.life)
             break;
     }
-    for (uint32_t k = 0; k < next[queue]; k++) {
-        const struct sent *sent = &nicd.sent[queue][k];
-        nicd_make_sent(sent->number, sent->length, whole);
-        if (told->len == sent->length && !memcmp(out, whole, sent->length)) {
-            nicd_note("sent frame %u went out a second time", sent->number);
-            return;
-        }
-    }
-    if (next[queue] < nicd.accepted[queue])
-        nicd_note("what went out by queue %u isn't sent frame %u, byte by byte", queue,
-                  nicd.sent[queue][next[queue]].number);
-    else
-        nicd_note("queue %u sent a frame that nobody gave it", queue);
+    tell_strange_out(queue, nicd.out_slots[queue][count[queue] % MOST_OUT].slot, told->len, next[queue]);
 }
 
 static void judge_sent(void)
 {
-    uint32_t next[NICD_QUEUES] = {0};
+    uint32_t next[NICD_QUEUES] = {0}, count[NICD_QUEUES] = {0};
     nic_told told;
     while (!nicd.fault && nic_next_out(&nicxi.device)) {
         if (nic_collect(&nicxi.device, out, sizeof out, &told) != NIC_FRAME) {
             nicd_note("a frame went out that is longer than any that was sent");
             return;
         }
-        judge_out(&told, next);
+        judge_out(&told, next, count);
+        if (!nicd.fault)
+            count[told.queue - nicd.base]++;
     }
     for (unsigned queue = 0; queue < nicd.setup.queues && !nicd.fault; queue++)
         for (uint32_t k = next[queue]; k < nicd.accepted[queue] && !nicd.fault; k++)
             if (!is_lossy() || (nicd.sent[queue][k].life == nicd.life && nicd.is_open))
-                nicd_note("sent frame %u was taken by send in queue %u, and never went out", nicd.sent[queue][k].number,
-                          queue);
+                nicd_note("frame %u was taken by send in queue %u, and never went out: TDH is %u, TDT is %u",
+                          nicd.sent[queue][k].number, queue, (unsigned)nicd_peek(NIC_TDH(nicd.base + queue)),
+                          (unsigned)nicd_peek(NIC_TDT(nicd.base + queue)));
+}
+
+/* The oldest slot that the driver hasn't reclaimed, as far as its own count says. */
+static const char *tell_kept(unsigned queue)
+{
+    static char words[96];
+    uint32_t kept = nicd.out[queue], went = nicd.went[queue];
+    if (!kept || kept > went || kept > MOST_OUT)
+        return "";
+    const struct went *it = &nicd.out_slots[queue][(went - kept) % MOST_OUT];
+    bool has_head = nicd_peek(NIC_TDWBAL(nicd.base + queue)) & NIC_TDWBAL_HEAD_WB_EN;
+    snprintf(words, sizeof words, ": slot %u was never reclaimed, %s", it->slot,
+             !it->back  ? "which has no RS, so no DD"
+             : has_head ? "though the head behind it was written"
+                        : "though it has DD");
+    return words;
 }
 
 /* Somebody waits for the driver, and the device has nothing to do. */
@@ -204,10 +265,27 @@ static void judge_stuck(unsigned queue)
     if (nicd.went[queue] != nicd.accepted[queue] || !nicd.is_open)
         return;
     if (nicd.is_refused[queue])
-        nicd_note("send is refused in queue %u for ever, and all of its frames went out", queue);
+        nicd_note("send is refused in queue %u for ever, and all of its frames went out%s", queue, tell_kept(queue));
     else if (nicd.is_awaited[queue] && nicd.out[queue])
-        nicd_note("reclaim says that %u frames of queue %u haven't gone out, and all have", (unsigned)nicd.out[queue],
-                  queue);
+        nicd_note("reclaim says for ever that %u frame%s of queue %u ha%s gone out, and all have%s",
+                  (unsigned)nicd.out[queue], nicd.out[queue] == 1 ? "" : "s", queue,
+                  nicd.out[queue] == 1 ? "sn't" : "ven't", tell_kept(queue));
+}
+
+void nicd_judge_reclaimed(unsigned queue, uint32_t accepted)
+{
+    unsigned number = nicd.base + queue, head = nicd_peek(NIC_TDH(number)), tail = nicd_peek(NIC_TDT(number));
+    uint32_t first = nicd.accepted[queue] - (nicd.accepted_now[queue] - nicd.went_now[queue]);
+    if (nicd.went_now[queue] >= accepted)
+        return;
+    if (head == tail)
+        nicd_failed(
+            "reclaim says that all of queue %u went out, and frame %u hasn't: no slot has it, since TDH and TDT "
+            "are both %u",
+            queue, nicd.sent[queue][first % MOST_OUT].number, head);
+    else
+        nicd_failed("reclaim says that all of queue %u went out, and frame %u in slot %u hasn't: TDH is %u, TDT is %u",
+                    queue, nicd.sent[queue][first % MOST_OUT].number, head, head, tail);
 }
 
 const char *nicd_judge_end(void)

@@ -117,6 +117,8 @@ static const char *lack_of(const struct scenario *it)
             return needs[k].name;
     if (it->setup.queues > 1 && it->setup.queues > d->queues)
         return "fewer queues";
+    if (it->setup.queues > 2 && d->slots > 8)
+        return "longer rings, of which four queues have no room";
     if (it->setup.frame > 1514 && it->setup.frame > d->frame)
         return "shorter frames";
     return NULL;

@@ -1,10 +1,11 @@
 /* The driver's memory: pieces of packet memory that end where a block does, with a block behind that isn't lent; and
    memory of its own. Both are counted, and both can be refused. */
+#include <stdio.h>
 #include <string.h>
 
 #include "drive.h"
 
-enum { ALIGNED = 128, MOST_BYTES = 524288, OWN_ROOM = 1 << 20, OWN_HEAD = 16 };
+enum { ALIGNED = 128, MOST_BYTES = 524288, OWN_ROOM = 1 << 20, OWN_HEAD = 16, OWN_SIZE = 8 };
 
 static union {
     uint64_t aligned;
@@ -16,6 +17,7 @@ void nicd_memory_begin(void)
     memset(nicd.pieces, 0, sizeof nicd.pieces);
     nicd.taken = nicd.own_taken = nicd.allocations = nicd.refuse = 0;
     nicd.own_used = 0;
+    nicd.newest = NULL;
 }
 
 static bool is_refused(void)
@@ -52,6 +54,12 @@ static struct piece *place(uint32_t blocks)
     return NULL;
 }
 
+static void name_asker(struct piece *piece)
+{
+    const char *name = nicd.doing && nicd.doer == nicxi.self ? nicd.doing : nicxi.self ? nicxi.self->name : "the card";
+    snprintf(piece->by, sizeof piece->by, "%s", name);
+}
+
 uint64_t nicd_dma_alloc(size_t bytes)
 {
     if (!bytes || bytes > MOST_BYTES)
@@ -65,6 +73,9 @@ uint64_t nicd_dma_alloc(size_t bytes)
         return 0;
     nicd.taken++;
     piece->bus = (uint64_t)(piece->first + blocks) * NIC_BLOCK_BYTES - rounded;
+    piece->bytes = (uint32_t)bytes;
+    name_asker(piece);
+    nicd.newest = piece;
     uint64_t bus = piece->bus;
     for (uint32_t k = 0; k < blocks; k++)
         nicx_lend(piece->first + k);
@@ -108,6 +119,7 @@ void *nicd_alloc(size_t bytes)
     uint8_t *piece = own.bytes + nicd.own_used;
     memset(piece, 0, whole);
     piece[0] = 1;
+    memcpy(piece + OWN_SIZE, &bytes, sizeof bytes);
     nicd.own_used += whole;
     nicd.own_taken++;
     return piece + OWN_HEAD;
@@ -126,15 +138,57 @@ void nicd_free(void *memory)
     nicd.own_taken--;
 }
 
+uint32_t nicd_memory_taken(void)
+{
+    return nicd.taken + nicd.own_taken;
+}
+
+const struct piece *nicd_memory_newest(void)
+{
+    return nicd.newest;
+}
+
+const char *nicd_memory_near(uint64_t bus)
+{
+    static char words[96];
+    const struct piece *below = NULL;
+    for (unsigned k = 0; k < MOST_PIECES; k++) {
+        const struct piece *it = &nicd.pieces[k];
+        if (it->blocks && it->bus <= bus && (!below || it->bus > below->bus))
+            below = it;
+    }
+    if (!below)
+        return "no memory of nicd_dma_alloc lies below it";
+    snprintf(words, sizeof words, "%llu bytes behind the %u at 0x%llx, which %s asked for",
+             (unsigned long long)(bus - below->bus - below->bytes), (unsigned)below->bytes,
+             (unsigned long long)below->bus, below->by);
+    return words;
+}
+
+/* The size of the first piece of nicd_alloc that is taken. */
+static size_t first_own(void)
+{
+    size_t size = 0;
+    for (size_t at = 0; at < nicd.own_used; at += OWN_HEAD + (size + OWN_HEAD - 1) / OWN_HEAD * OWN_HEAD) {
+        memcpy(&size, own.bytes + at + OWN_SIZE, sizeof size);
+        if (own.bytes[at] == 1)
+            return size;
+    }
+    return 0;
+}
+
 const char *nicd_memory_left(void)
 {
-    if (nicd.taken) {
-        nicd_note("%u pieces of DMA memory weren't given back", (unsigned)nicd.taken);
-        return nicd.fault;
-    }
-    if (nicd.own_taken) {
-        nicd_note("%u pieces of nicd_alloc weren't given back", (unsigned)nicd.own_taken);
-        return nicd.fault;
-    }
-    return NULL;
+    const struct piece *it = nicd.pieces;
+    while (nicd.taken && !it->blocks)
+        it++;
+    if (nicd.taken)
+        nicd_note("%u piece%s of DMA memory %s given back: %s%u bytes at 0x%llx, which %s asked for",
+                  (unsigned)nicd.taken, nicd.taken == 1 ? "" : "s", nicd.taken == 1 ? "wasn't" : "weren't",
+                  nicd.taken == 1 ? "" : "the first has ", (unsigned)it->bytes, (unsigned long long)it->bus, it->by);
+    else if (nicd.own_taken)
+        nicd_note("%u piece%s of nicd_alloc %s given back: one has %lu bytes", (unsigned)nicd.own_taken,
+                  nicd.own_taken == 1 ? "" : "s", nicd.own_taken == 1 ? "wasn't" : "weren't",
+                  (unsigned long)first_own());
+    return nicd.taken || nicd.own_taken ? nicd.fault : NULL;
 }

@@ -117,6 +117,13 @@ static void leave(uint8_t state)
     nicd.oldest += frame != NULL;
 }
 
+static void lose(enum lost why)
+{
+    if (oldest())
+        oldest()->why = (uint8_t)why;
+    leave(IS_LOST);
+}
+
 static void see_written(const struct step *step)
 {
     unsigned queue = (unsigned)(step->told.queue - nicd.base);
@@ -125,6 +132,7 @@ static void see_written(const struct step *step)
         return;
     uint16_t number = nicd.waiting[nicd.oldest];
     nicd.frames[number].queue = (uint8_t)step->told.queue;
+    nicd.frames[number].slot = step->told.slot;
     leave(IS_WRITTEN);
     if (queue < NICD_QUEUES)
         nicd.written[queue][nicd.written_count[queue]++] = number;
@@ -140,7 +148,7 @@ static void see_receive(const struct step *step)
             frame->why = step->told.why;
         leave(IS_DROPPED);
     } else if (step->status == NIC_FAULT) {
-        leave(IS_LOST);
+        lose(BY_A_FAULT);
     }
 }
 
@@ -148,13 +156,13 @@ static void see_receive(const struct step *step)
 static void see_enable(const struct step *step)
 {
     if (nicd.partial == step->of && !(nicd_peek(NIC_RXDCTL(step->of)) & NIC_RXDCTL_ENABLE))
-        leave(IS_LOST);
+        lose(BY_A_QUEUE);
 }
 
 static void see_reset(void)
 {
     while (oldest())
-        leave(IS_LOST);
+        lose(BY_A_RESET);
 }
 
 static bool is_reset(const struct step *step)
@@ -174,6 +182,11 @@ static void see_sent(const struct step *step)
 {
     unsigned queue = (unsigned)(step->told.queue - nicd.base);
     if (step->status == NIC_SENT && queue < NICD_QUEUES) {
+        uint32_t slots = nicd_peek(NIC_TDLEN(step->told.queue)) / NIC_DESC_BYTES;
+        uint32_t head = nicd_peek(NIC_TDH(step->told.queue));
+        struct went *it = &nicd.out_slots[queue][nicd.went[queue] % MOST_OUT];
+        it->slot = (uint16_t)(head ? head - 1 : slots - 1);
+        it->back = step->told.back;
         nicd.went[queue]++;
         nicd.went_now[queue]++;
         seen->sent++;
@@ -201,6 +214,34 @@ static void judge_lent(const struct step *step)
 
 static __thread char mark;
 static char *card_thread;
+
+/* Of an access of the driver to memory that isn't lent, where that lies. The explorer ends its thread behind this. */
+static void judge_memory(const struct step *step)
+{
+    bool reads = step->kind == STEP_PEEK;
+    if (step->status != NIC_NOT_LENT || (!reads && step->kind != STEP_POKE) || !nicxi.self ||
+        nicd.scenario->ways & FAULTY)
+        return;
+    nicxi_failed(NICX_MEMORY, "%s %s 0x%llx, which isn't lent: %s", nicxi.self->name, reads ? "reads" : "writes",
+                 (unsigned long long)step->bus, nicd_memory_near(step->bus));
+}
+
+/* Behind the explorer's words of a fault: the slot, and what of it, the descriptor or its buffer. */
+static void tell_fault(const struct step *step)
+{
+    bool sends = step->kind == STEP_TX;
+    unsigned queue = step->told.queue;
+    size_t used = strlen(nicxi.result.words);
+    if (step->status != NIC_FAULT || nicxi.result.outcome != NICX_FAULT)
+        return;
+    uint64_t ring = nicd_peek(sends ? NIC_TDBAL(queue) : NIC_RDBAL(queue)) & ~UINT32_C(127);
+    ring |= (uint64_t)nicd_peek(sends ? NIC_TDBAH(queue) : NIC_RDBAH(queue)) << 32;
+    uint64_t length = nicd_peek(sends ? NIC_TDLEN(queue) : NIC_RDLEN(queue));
+    bool is_buffer = step->told.why == NIC_FAULT_NOT_LENT && step->told.bus - ring >= length;
+    snprintf(nicxi.result.words + used, sizeof nicxi.result.words - used, " (%s slot %u, its %s)",
+             sends ? "transmit" : "receive", (unsigned)nicd_peek(sends ? NIC_TDH(queue) : NIC_RDH(queue)),
+             is_buffer ? "buffer" : "descriptor");
+}
 
 /* Calls come on the card's threads, which are stacks of one thread of the process. */
 static void judge_thread(void)
@@ -233,15 +274,40 @@ static void judge_ended(uint16_t actor, const struct step *step)
         nicd_note("%s acts for the driver, and close has returned", nicxi.threads[nicxi.actors[actor].of].name);
 }
 
+/* Between suspend and resume the device does nothing for the driver, which asks nothing of it, but in a handler that ran
+   already. */
+static void judge_sleep(const struct step *step, bool is_of_driver)
+{
+    if (!nicd.is_asleep)
+        return;
+    if (step->kind == STEP_INT && step->status == NIC_MESSAGE && step->told.group == nicd.setup.port)
+        nicd_note("vector %u sends a message, and the driver is suspended: EIMS is 0x%08x, EICR 0x%08x",
+                  step->told.vector,
+                  (unsigned)nicd_peek(nicd.setup.port ? NIC_PVTEIMS(nicd.setup.port - 1u) : NIC_EIMS),
+                  (unsigned)nicd_peek(nicd.setup.port ? NIC_PVTEICR(nicd.setup.port - 1u) : NIC_EICR));
+    else if (step->kind == STEP_RX && step->status == NIC_WROTE)
+        nicd_note("slot %u of receive queue %u is written, and the driver is suspended: RXDCTL is 0x%08x",
+                  step->told.slot, step->told.queue - nicd.base, (unsigned)nicd_peek(NIC_RXDCTL(step->told.queue)));
+    else if (step->kind == STEP_TX && (step->status == NIC_SENT || step->status == NIC_ADVANCED))
+        nicd_note("transmit queue %u sends, and the driver is suspended: TXDCTL is 0x%08x",
+                  step->told.queue - nicd.base, (unsigned)nicd_peek(NIC_TXDCTL(step->told.queue)));
+    else if (is_of_driver && step->kind >= STEP_READ && step->kind <= STEP_TAKE && nicxi.self &&
+             nicxi.self < nicxi.threads + NICX_TASKS)
+        nicd_note("%s acts for the driver, and it is suspended", nicxi.self->name);
+}
+
 void nicd_watch(void *unused, uint16_t actor, const struct step *step)
 {
     (void)unused;
     bool is_of_driver = step->kind < STEP_RX && is_drivers(actor);
     cover(step, is_of_driver);
     nicd.events += step->kind >= STEP_RX;
+    tell_fault(step);
+    judge_sleep(step, is_of_driver);
     if (is_of_driver) {
         judge_ended(actor, step);
         judge_lent(step);
+        judge_memory(step);
         judge_thread();
     }
     switch (step->kind) {

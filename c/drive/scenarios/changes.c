@@ -35,7 +35,7 @@ static void go_down_and_up(void)
 static void reset_once(void)
 {
     nicd_hold();
-    nicx_check(nicd.driver->reset(), "reset answered false");
+    nicd_reset();
     nicd_go_on();
 }
 
@@ -89,6 +89,32 @@ static void reset_and_go_on(void)
     nicd_come_late(2, 60);
 }
 
+/* What the first reset takes more than open may be kept; what each one takes is lost. */
+static void reset_and_count(void)
+{
+    nicd_hold();
+    nicd_reset();
+    uint32_t before = nicd_memory_taken();
+    for (unsigned k = 0; k < 2; k++)
+        nicd_reset();
+    const struct piece *it = nicd_memory_newest();
+    if (nicd_memory_taken() > before && it)
+        nicd_failed(
+            "%u pieces of memory are taken after a reset, and %u after three: one of %u bytes at 0x%llx, which %s "
+            "asked for",
+            (unsigned)before, (unsigned)nicd_memory_taken(), (unsigned)it->bytes, (unsigned long long)it->bus, it->by);
+    nicd_close();
+    if (nicd_memory_left())
+        nicx_fail(nicd.fault);
+}
+
+static void reset_and_close(void)
+{
+    nicd_control(reset_and_count);
+    nicd_take_frames();
+    nicd_come_plain(2, 60);
+}
+
 /* --- a fault: the device finds memory gone, and the queue is off --- */
 
 static uint32_t ring_block(bool transmit)
@@ -125,7 +151,7 @@ static void break_and_reset(bool transmit)
     nicd_hold();
     nicx_lend(block);
     nic_dma_write(nicx_device(), (uint64_t)block * NIC_BLOCK_BYTES, kept, sizeof kept);
-    nicx_check(nicd.driver->reset(), "reset answered false");
+    nicd_reset();
     nicd_go_on();
 }
 
@@ -172,7 +198,7 @@ static void break_send(void)
         nicd_reach(0);
     nicx_lend(block);
     nic_dma_write(nicx_device(), (uint64_t)block * NIC_BLOCK_BYTES, kept, sizeof kept);
-    nicx_check(nicd.driver->reset(), "reset answered false");
+    nicd_reset();
     nicd_go_on();
     for (unsigned k = 0; k < 3; k++)
         nicd_send_surely(0, 60);
@@ -188,8 +214,7 @@ static void fault_in_send(void)
 static void grow_frames(void)
 {
     nicd_hold();
-    nicx_check(nicd.driver->mtu(4096), "mtu answered false");
-    nicd.setup.frame = 4096;
+    nicd_mtu(4096);
     nicd_go_on();
     if (nicd.driver->send)
         nicd_send_surely(0, 4096);
@@ -207,8 +232,7 @@ static void grow_amid_traffic(void)
 static void shrink_frames(void)
 {
     nicd_hold();
-    nicx_check(nicd.driver->mtu(1514), "mtu answered false");
-    nicd.setup.frame = 1514;
+    nicd_mtu(1514);
     nicd_go_on();
 }
 
@@ -234,8 +258,7 @@ static void shrink_amid_traffic(void)
 static void make_rings_longer(void)
 {
     nicd_hold();
-    nicx_check(nicd.driver->resize(16), "resize answered false");
-    nicd.setup.slots = 16;
+    nicd_resize(16);
     nicd_go_on();
 }
 
@@ -333,6 +356,14 @@ const struct scenario nicd_changes[] = {
      .ways = LOSSY | DROPS,
      .begin = reset_and_go_on,
      .see = nicd_see_held},
+    {.name = "reset-memory",
+     .family = "reset",
+     .title = "three resets and a close, and nothing is left",
+     .rule = "A reset that takes memory gives back what it had",
+     .source = "reset of the adapter",
+     .needs = RESET,
+     .ways = LOSSY | DROPS,
+     .begin = reset_and_close},
     {.name = "fault-receive",
      .family = "reset",
      .title = "a receive queue met a fault, and is reset",

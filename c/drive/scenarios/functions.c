@@ -54,7 +54,7 @@ static void be_reset(void)
 {
     nicx_wait_until(pool_was_reset, NULL);
     nicd_hold();
-    nicx_check(nicd.driver->reset(), "reset answered false");
+    nicd_reset();
     nicd_go_on();
     for (unsigned k = 0; k < 2 && nicd.driver->send; k++)
         nicd_send_surely(0, 60);

@@ -49,6 +49,13 @@ static void use_two_queues(void)
     }
 }
 
+/* More than the ring holds, so that a late handler finds it full. */
+static void come_many(void)
+{
+    nicd_take_frames();
+    nicd_come_plain(2u * nicd.setup.slots, 60);
+}
+
 /* rearm of a queue changes the masks of the causes of that queue alone. */
 static uint32_t vector_of(unsigned queue)
 {
@@ -111,6 +118,36 @@ const struct scenario nicd_interrupts[] = {
      .needs = RECEIVES | INTERRUPTS,
      .setup = {.interrupts = true},
      .begin = come_spurious},
+    {.name = "interrupt-late",
+     .family = "interrupts",
+     .title = "the handler is called once the ring is full",
+     .rule = "With an interval in EITR one message tells of many frames, so a poll takes all; the bench throttles "
+             "nothing, and the card calls the handler late",
+     .source = "Extended Interrupt Throttle",
+     .needs = RECEIVES | INTERRUPTS,
+     .ways = LATE,
+     .setup = {.interrupts = true},
+     .begin = come_many},
+    {.name = "interrupt-late-both-ways",
+     .family = "interrupts",
+     .title = "the same with frames that are sent",
+     .rule = "With an interval in EITR one message tells of many frames, so a poll takes all; the bench throttles "
+             "nothing, and the card calls the handler late",
+     .source = "Extended Interrupt Throttle",
+     .needs = RECEIVES | SENDS | INTERRUPTS,
+     .ways = LATE,
+     .setup = {.interrupts = true},
+     .begin = come_and_go},
+    {.name = "interrupt-often",
+     .family = "interrupts",
+     .title = "the handler is called more often than an interval lets it",
+     .rule = "An interval in EITR keeps nothing apart: a low latency interrupt comes before it is over, and a poll may "
+             "take longer than that",
+     .source = "Extended Interrupt Throttle",
+     .needs = RECEIVES | INTERRUPTS,
+     .ways = OFTEN,
+     .setup = {.interrupts = true},
+     .begin = come_few},
     {.name = "interrupt-rearm-alone",
      .family = "interrupts",
      .title = "one queue's cause is enabled, and no other's",

@@ -3,9 +3,9 @@
 
 /* --- what a close leaves --- */
 
-static bool is_on(unsigned queue)
+static bool is_on(unsigned queue, bool transmit)
 {
-    return (nicd_peek(NIC_RXDCTL(queue)) | nicd_peek(NIC_TXDCTL(queue))) & NIC_RXDCTL_ENABLE;
+    return nicd_peek(transmit ? NIC_TXDCTL(queue) : NIC_RXDCTL(queue)) & NIC_RXDCTL_ENABLE;
 }
 
 static uint32_t masks(void)
@@ -17,9 +17,9 @@ static uint32_t masks(void)
 /* Null, or what is left of the driver. */
 static const char *left(void)
 {
-    for (unsigned queue = 0; queue < nicd.setup.queues; queue++)
-        if (is_on(nicd.base + queue)) {
-            nicd_note("queue %u is on, and the driver is closed", queue);
+    for (unsigned side = 0; side < 2u * nicd.setup.queues; side++)
+        if (is_on(nicd.base + side / 2, side % 2)) {
+            nicd_note("%s queue %u is on, and the driver is closed", side % 2 ? "transmit" : "receive", side / 2);
             return nicd.fault;
         }
     if (masks()) {
@@ -151,8 +151,8 @@ static void refuse_memory(void)
 static void rest_and_go_on(void)
 {
     nicd_hold();
-    nicx_check(nicd.driver->suspend(), "suspend answered false");
-    nicx_check(nicd.driver->resume(), "resume answered false");
+    nicd_suspend();
+    nicd_resume();
     nicd_go_on();
 }
 
@@ -162,6 +162,27 @@ static void suspend_amid_all(void)
     nicd_take_frames();
     nicd_send_frames(0, 3, 60);
     nicd_come_plain(3, 60);
+    nicd_come_late(2, 60);
+}
+
+/* Frames come and the link goes down meanwhile. */
+static void rest_for_long(void)
+{
+    nicd_hold();
+    nicd_suspend();
+    for (unsigned k = 0; k < 3; k++)
+        nicx_pause();
+    nicd_resume();
+    nicd_go_on();
+}
+
+static void suspend_for_long(void)
+{
+    nicd_control(rest_for_long);
+    nicd_take_frames();
+    nicd_come_plain(3, 60);
+    nicx_link_change(false);
+    nicx_link_change(true);
     nicd_come_late(2, 60);
 }
 
@@ -238,4 +259,13 @@ const struct scenario nicd_life[] = {
      .ways = LOSSY | DROPS,
      .begin = suspend_amid_all,
      .see = nicd_see_held},
+    {.name = "suspend-quiet",
+     .family = "life",
+     .title = "frames come and the link changes between suspend and resume",
+     .rule = "While the device rests no cause is enabled, no queue is on, and nobody accesses it",
+     .source = "suspend of the adapter",
+     .needs = RECEIVES | SUSPEND,
+     .ways = LOSSY | DROPS,
+     .setup = {.interrupts = true},
+     .begin = suspend_for_long},
     {0}};

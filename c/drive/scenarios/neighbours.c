@@ -100,8 +100,7 @@ static void close_beside(void)
 static void resize_it(void)
 {
     nicd_hold();
-    nicx_check(nicd.driver->resize(16), "resize answered false");
-    nicd.setup.slots = 16;
+    nicd_resize(16);
     nicd_go_on();
 }
 

@@ -1,9 +1,10 @@
 /* Receive side scaling: each type to each queue, and another table amid traffic. */
+#include <stdio.h>
 #include <string.h>
 
 #include "../engine/drive.h"
 
-enum { FLOWS = 10 };
+enum { FLOWS = 10, MOST_FLOWS = 64, OF_EACH = 3 };
 
 static nicd_rss wanted;
 
@@ -23,17 +24,37 @@ static unsigned hashed_bytes(const struct come *come)
     return (is_ipv6 ? 32u : 8u) + (has_ports ? 4u : 0u);
 }
 
-/* The queue that a frame belongs to, by the key and the table that were asked for. */
-static unsigned queue_of(const struct come *come, uint16_t number)
+static bool is_hashed(const struct come *come)
+{
+    return wanted.types >> come->type & 1 && come->type != NIC_RSS_NONE;
+}
+
+static uint32_t hash_of(const struct come *come, uint16_t number)
 {
     static uint8_t bytes[NICD_FRAME_MOST];
     uint32_t hash = 0;
-    if (!(wanted.types >> come->type & 1) || come->type == NIC_RSS_NONE)
-        return 0;
     nicd_make(come, number, bytes);
     bool is_ipv6 = bytes[12] == 0x86;
     nic_hash(wanted.key, bytes + (is_ipv6 ? 22 : 26), hashed_bytes(come), &hash);
-    return wanted.table[hash % sizeof wanted.table];
+    return hash;
+}
+
+/* The queue that a frame belongs to, by the key and the table that were asked for. */
+static unsigned queue_of(const struct come *come, uint16_t number)
+{
+    return is_hashed(come) ? wanted.table[hash_of(come, number) % sizeof wanted.table] : 0;
+}
+
+/* Which entry of RETA names it, and what stands there. */
+static const char *entry_of(const struct come *come, uint16_t number)
+{
+    static char words[120];
+    uint32_t hash = is_hashed(come) ? hash_of(come, number) : 0, entry = hash % sizeof wanted.table;
+    if (!is_hashed(come))
+        return "its type isn't hashed";
+    snprintf(words, sizeof words, "its hash is 0x%08x, by which entry %u of RETA names it, where %u stands",
+             (unsigned)hash, (unsigned)entry, (unsigned)(nicd_peek(NIC_RETA(entry / 4)) >> 8 * (entry % 4) & 0xF));
+    return words;
 }
 
 static const char *judge_queues(void)
@@ -41,7 +62,8 @@ static const char *judge_queues(void)
     for (uint16_t k = 0; k < nicd.count; k++) {
         unsigned queue = queue_of(&nicd.coming[k], k);
         if (nicd.frames[k].state == IS_DELIVERED && nicd.frames[k].queue != queue) {
-            nicd_note("frame %u came by queue %u, and its hash says %u", k, nicd.frames[k].queue, queue);
+            nicd_note("frame %u came by queue %u, and is to come by %u: %s", k, nicd.frames[k].queue, queue,
+                      entry_of(&nicd.coming[k], k));
             return nicd.fault;
         }
         if (queue < MOST_REACHED && nicd.frames[k].state == IS_DELIVERED)
@@ -55,8 +77,10 @@ static uint8_t type_of(const char *name)
     static const struct {
         const char *name;
         uint8_t type;
-    } types[] = {{"rss-tcp-ipv4", NIC_RSS_TCP_IPV4}, {"rss-udp-ipv4", NIC_RSS_UDP_IPV4}, {"rss-ipv4", NIC_RSS_IPV4},
-                 {"rss-tcp-ipv6", NIC_RSS_TCP_IPV6}, {"rss-udp-ipv6", NIC_RSS_UDP_IPV6}, {"rss-ipv6", NIC_RSS_IPV6}};
+    } types[] = {
+        {"rss-tcp-ipv4", NIC_RSS_TCP_IPV4},    {"rss-udp-ipv4", NIC_RSS_UDP_IPV4},    {"rss-ipv4", NIC_RSS_IPV4},
+        {"rss-tcp-ipv6", NIC_RSS_TCP_IPV6},    {"rss-udp-ipv6", NIC_RSS_UDP_IPV6},    {"rss-ipv6", NIC_RSS_IPV6},
+        {"rss-four-queues", NIC_RSS_TCP_IPV4}, {"rss-four-vectors", NIC_RSS_UDP_IPV4}};
     for (unsigned k = 0; k < sizeof types / sizeof *types; k++)
         if (!strcmp(types[k].name, name))
             return types[k].type;
@@ -71,6 +95,17 @@ static void come_of(uint8_t type)
     }
 }
 
+/* As many for each of four queues, so that none is full. */
+static void come_to_each(uint8_t type)
+{
+    unsigned counts[NICD_QUEUES] = {0};
+    for (uint16_t flow = 0; flow < MOST_FLOWS; flow++) {
+        struct come come = {TO_OWN, type, flow, 60};
+        if (counts[queue_of(&come, 0)]++ < OF_EACH)
+            nicd_come(come);
+    }
+}
+
 static void come_of_type(void)
 {
     uint8_t type = type_of(nicd.scenario->name);
@@ -78,7 +113,10 @@ static void come_of_type(void)
     if (!nicd.driver->rss(&wanted))
         nicd_note("rss answered false");
     nicd_take_frames();
-    come_of(type);
+    if (nicd.setup.queues > 2)
+        come_to_each(type);
+    else
+        come_of(type);
 }
 
 static void change_table(void)
@@ -130,6 +168,26 @@ const struct scenario nicd_rss_rows[] = {
      .begin = come_of_type,
      .end = judge_queues,
      .reaches = {"queue 0"}},
+    {.name = "rss-four-queues",
+     .family = "rss",
+     .title = "flows of TCP over IPv4 over four queues",
+     .rule = rule,
+     .source = "Receive Side Scaling",
+     .needs = RECEIVES | RSS,
+     .setup = {.queues = 4},
+     .begin = come_of_type,
+     .end = judge_queues,
+     .reaches = {"queue 0", "queue 1", "queue 2", "queue 3"}},
+    {.name = "rss-four-vectors",
+     .family = "rss",
+     .title = "flows of UDP over IPv4 over four queues, with messages",
+     .rule = "Queues 2 and 3 have their bytes in the second word of IVAR",
+     .source = "Interrupt Vector Allocation",
+     .needs = RECEIVES | RSS | INTERRUPTS,
+     .setup = {.queues = 4, .interrupts = true},
+     .begin = come_of_type,
+     .end = judge_queues,
+     .reaches = {"queue 0", "queue 1", "queue 2", "queue 3"}},
     {.name = "rss-changed",
      .family = "rss",
      .title = "another key and table while frames come",

@@ -1,6 +1,8 @@
 /* How a driver sets the controller up: order and values, also where the bench forgives what the card doesn't. */
 #include "../engine/drive.h"
 
+#define EITR_RESERVED UINT32_C(0x70007007)
+
 static struct {
     bool is_masked; /* EIMC was written with all causes, since the last reset */
     bool was_reset;
@@ -164,6 +166,23 @@ static void see_thresholds(const struct step *step, bool is_drivers)
                   (unsigned)nic_field(word, NIC_TXDCTL_WTHRESH));
 }
 
+static uint32_t eitr_vectors; /* those whose interval was set */
+
+static void see_moderation(const struct step *step, bool is_drivers)
+{
+    for (unsigned vector = 0; vector < 16 && is_write(step, is_drivers); vector++) {
+        if (step->address != NIC_EITR(vector))
+            continue;
+        nicd_reach(0);
+        eitr_vectors |= step->word & NIC_EITR_ITR_INTERVAL ? 1u << vector : 0;
+        if (step->word & EITR_RESERVED)
+            nicd_note(
+                "EITR(%u) is written with 0x%08x: bits 30:28, 14:12 and 2:0 are reserved, and the interval stands in "
+                "11:3",
+                vector, (unsigned)step->word);
+    }
+}
+
 static void see_alignment(const struct step *step, bool is_drivers)
 {
     if (is_drivers && step->kind >= STEP_READ && step->kind <= STEP_VF_WRITE && step->address % 4)
@@ -204,9 +223,31 @@ static void check_enables(void)
 {
     for (unsigned queue = 0; queue < nicd.setup.queues; queue++) {
         if (nicd.driver->receive && !(nicd_peek(NIC_RXDCTL(queue)) & NIC_RXDCTL_ENABLE))
-            nicd_failed("open returns, and receive queue %u isn't on", queue);
+            nicd_failed("open returns, and receive queue %u isn't on: RXDCTL is 0x%08x", queue,
+                        (unsigned)nicd_peek(NIC_RXDCTL(queue)));
         if (nicd.driver->send && !(nicd_peek(NIC_TXDCTL(queue)) & NIC_TXDCTL_ENABLE))
-            nicd_failed("open returns, and transmit queue %u isn't on", queue);
+            nicd_failed("open returns, and transmit queue %u isn't on: TXDCTL is 0x%08x", queue,
+                        (unsigned)nicd_peek(NIC_TXDCTL(queue)));
+    }
+}
+
+static bool is_named(unsigned vector, uint32_t word)
+{
+    for (unsigned k = 0; k < 32; k += 8)
+        if (word >> k & 0x80 && (word >> k & 0x3F) == vector)
+            return true;
+    return false;
+}
+
+/* The interval of a vector counts, not that of a queue. */
+static void check_moderation(void)
+{
+    for (unsigned vector = 0; vector < 16; vector++) {
+        bool is_used = is_named(vector, nicd_peek(NIC_IVAR_MISC));
+        for (unsigned pair = 0; 2 * pair < nicd.setup.queues; pair++)
+            is_used |= is_named(vector, nicd_peek(NIC_IVAR(pair)));
+        if (eitr_vectors >> vector & 1 && !is_used)
+            nicd_failed("EITR(%u) has an interval, and neither IVAR nor IVAR_MISC names vector %u", vector, vector);
     }
 }
 
@@ -221,7 +262,8 @@ static void check_length(void)
 
 static void check_masks(void)
 {
-    nicx_check(!nicd_peek(NIC_EIMS), "causes are enabled, and the setup asks for no interrupts");
+    if (nicd_peek(NIC_EIMS))
+        nicd_failed("EIMS is 0x%08x, and the setup asks for no interrupts", (unsigned)nicd_peek(NIC_EIMS));
 }
 
 static void check_after_reset(void)
@@ -287,6 +329,12 @@ OPEN_WITH(check_after_reset)
 OPEN_WITH(check_loaded)
 OPEN_WITH(check_hash)
 OPEN_WITH(check_drop)
+
+static void open_moderated(void)
+{
+    eitr_vectors = 0;
+    open_with(check_moderation);
+}
 
 static void come_with_messages(void)
 {
@@ -361,6 +409,17 @@ const struct scenario nicd_setup_rows[] = {
            "General Purpose Interrupt Enable", .interrupts = true),
     CHECKS("setup-vectors", INTERRUPTS | RECEIVES | PHYSICAL, "each receive queue has a vector", check_vectors,
            "A byte of IVAR counts where its valid bit is 1", "Interrupt Vector Allocation", .interrupts = true),
+    {.name = "setup-moderation",
+     .family = "setup",
+     .title = "what is written as the interval of a vector",
+     .rule = "EITR has the interval in bits 11:3, for a vector; on the bench it has no effect",
+     .source = "Extended Interrupt Throttle",
+     .needs = INTERRUPTS | PHYSICAL,
+     .ways = OPENS,
+     .setup = {.queues = 1, .interrupts = true},
+     .begin = open_moderated,
+     .see = see_moderation,
+     .reaches = {"EITR was written"}},
     {.name = "setup-cause-read",
      .family = "setup",
      .title = "causes of queues aren't taken by reads",

@@ -1,0 +1,154 @@
+/* What a transmit descriptor says that the bench doesn't read, and by what a driver knows that a frame went out. */
+#include "../engine/drive.h"
+
+/* --- descriptors: judged as the device has fetched them, which keeps what the driver wrote --- */
+
+static struct {
+    bool is_amid;     /* a frame's first descriptor was fetched, and not its last */
+    uint32_t payload; /* PAYLEN of the first */
+    uint16_t first;   /* its slot */
+    uint32_t length;  /* DTALEN of all so far */
+} frame;
+
+static uint64_t second_of(unsigned queue, unsigned slot)
+{
+    uint64_t half = 0, ring = nicd_peek(NIC_TDBAL(queue)) & ~UINT32_C(127);
+    uint8_t bytes[8];
+    ring |= (uint64_t)nicd_peek(NIC_TDBAH(queue)) << 32;
+    nic_dma_read(nicx_device(), ring + NIC_DESC_BYTES * slot + 8, bytes, sizeof bytes);
+    for (unsigned k = 0; k < 8; k++)
+        half |= (uint64_t)bytes[k] << 8 * k;
+    return half;
+}
+
+/* The slot that the device has just fetched. */
+static unsigned fetched(unsigned queue)
+{
+    uint32_t slots = nicd_peek(NIC_TDLEN(queue)) / NIC_DESC_BYTES, head = nicd_peek(NIC_TDH(queue));
+    return head ? head - 1 : slots - 1;
+}
+
+static void judge_end(unsigned slot)
+{
+    if (frame.payload != frame.length)
+        nicd_note(
+            "slot %u has PAYLEN %u for a frame of %u bytes in slots %u to %u: the bench doesn't read it, the card "
+            "does",
+            frame.first, (unsigned)frame.payload, (unsigned)frame.length, frame.first, slot);
+    frame.is_amid = false;
+}
+
+static void see_descriptor(const struct step *step, bool is_drivers)
+{
+    (void)is_drivers;
+    if (step->kind != STEP_TX || (step->status != NIC_SENT && step->status != NIC_ADVANCED))
+        return;
+    unsigned slot = fetched(step->told.queue);
+    uint64_t second = second_of(step->told.queue, slot);
+    if ((second & NIC_TXD_DTYP) != NIC_TXD_DTYP_IS(3))
+        return;
+    if (!frame.is_amid) {
+        frame.is_amid = true;
+        frame.length = 0;
+        frame.first = (uint16_t)slot;
+        frame.payload = (uint32_t)nic_desc_field(second, NIC_TXD_PAYLEN);
+    }
+    frame.length += (uint32_t)nic_desc_field(second, NIC_TXD_DTALEN);
+    if ((slot == frame.first || second & NIC_TXD_EOP) && !(second & NIC_TXD_IFCS))
+        nicd_note("slot %u has no IFCS: the card sends its frame without a check sequence, and the bench has none",
+                  slot);
+    if (second & NIC_TXD_EOP)
+        judge_end(slot);
+}
+
+static void send_short_and_long(void)
+{
+    nicd_send_surely(0, 60);
+    nicd_send_surely(0, nicd.setup.frame);
+    nicd_send_surely(0, 61);
+    nicd_wait_until_out(0);
+}
+
+static void send_lengths(void)
+{
+    frame.is_amid = false;
+    nicd_control(send_short_and_long);
+}
+
+/* --- the write-back: DD of a slot, or the head where TDWBAL asks for it --- */
+
+static bool was_read; /* the driver read one that the device had written, since the last frames were sent */
+static bool has_head; /* it read TDH */
+
+static bool reaches(const struct step *step, uint64_t at, uint32_t length)
+{
+    return step->bus < at + length && at < step->bus + step->length;
+}
+
+static void see_write_back(const struct step *step, bool is_drivers)
+{
+    uint64_t ring = nicd_peek(NIC_TDBAL(0)) & ~UINT32_C(127), head = nicd_peek(NIC_TDWBAL(0));
+    if (!is_drivers)
+        return;
+    has_head |= step->kind == STEP_READ && step->address == NIC_TDH(0);
+    if (step->kind != STEP_PEEK)
+        return;
+    ring |= (uint64_t)nicd_peek(NIC_TDBAH(0)) << 32;
+    if (head & NIC_TDWBAL_HEAD_WB_EN)
+        was_read |= reaches(step, ((uint64_t)nicd_peek(NIC_TDWBAH(0)) << 32 | head) & ~UINT64_C(3), 4);
+    for (unsigned slot = 0; slot < nicd_peek(NIC_TDLEN(0)) / NIC_DESC_BYTES; slot++)
+        was_read |= reaches(step, ring + NIC_DESC_BYTES * slot + 12, 1) && second_of(0, slot) & NIC_TXWB_DD;
+}
+
+static void send_and_reclaim(void)
+{
+    for (unsigned round = 0; round < 3; round++) {
+        was_read = has_head = false;
+        for (unsigned k = 0; k < 3; k++)
+            nicd_send_surely(0, 60);
+        nicd_wait_until_out(0);
+        if (!was_read)
+            nicd_failed(
+                "reclaim says that all of queue 0 went out, and neither DD of a slot was read nor a head that the "
+                "device wrote%s",
+                has_head ? ": TDH was, which on the card moves before the buffers are read" : "");
+    }
+}
+
+static void reclaim_by_write_back(void)
+{
+    nicd_control(send_and_reclaim);
+}
+
+const struct scenario nicd_sending[] = {
+    {.name = "send-descriptor",
+     .family = "frames",
+     .title = "what stands in transmit descriptors",
+     .rule = "PAYLEN is the length of the whole frame, in its first descriptor, and IFCS has the card append the check "
+             "sequence; the bench reads neither",
+     .source = "Advanced Transmit Data Descriptor",
+     .needs = SENDS | PHYSICAL,
+     .setup = {.frame = 1514},
+     .begin = send_lengths,
+     .see = see_descriptor},
+    {.name = "send-descriptor-chain",
+     .family = "frames",
+     .title = "the same of frames in several buffers",
+     .rule = "PAYLEN is the length of the whole frame, in its first descriptor, and IFCS has the card append the check "
+             "sequence; the bench reads neither",
+     .source = "Advanced Transmit Data Descriptor",
+     .needs = SENDS | PHYSICAL,
+     .setup = {.frame = 9014},
+     .begin = send_lengths,
+     .see = see_descriptor},
+    {.name = "send-write-back",
+     .family = "rings",
+     .title = "by what reclaim knows that a frame went out",
+     .rule =
+         "TDH moves as descriptors are fetched, before their buffers are read: only DD, or the head that the device "
+         "writes, says that a buffer is software's again; on the bench TDH moves in the same step",
+     .source = "Transmit Descriptor Write-Back",
+     .needs = SENDS | RECLAIMS | PHYSICAL,
+     .begin = reclaim_by_write_back,
+     .see = see_write_back},
+    {0}};

@@ -7,17 +7,15 @@ import shlex
 import subprocess
 from pathlib import Path
 
+from . import where
 from .rows import Refused
-
-C = Path(__file__).resolve().parents[2]
-ARCHIVES = ("libnic82599_drive.a", "libnic82599_explore.a", "libnic82599.a")
 
 
 def archives(folder: Path) -> list[Path]:
-    found = [folder / name for name in ARCHIVES]
+    found = [folder / name for name in where.ARCHIVES]
     for path in found:
         if not path.exists():
-            raise Refused(f"{path}: there is no such file: `make -C c` makes it")
+            raise Refused(f"{path}: there is no such file{': `make -C c` makes it' if where.clone() else ''}")
     return found
 
 
@@ -29,7 +27,7 @@ def build(given: list[Path], folder: Path, compiler: str, flags: str, libraries:
     if len(given) == 1 and given[0].suffix not in (".c", ".o", ".a") and os.access(given[0], os.X_OK):
         return given[0]
     program = folder / "program"
-    words = [*shlex.split(compiler), "-g", "-O1", f"-I{C / 'include'}", *shlex.split(flags), *map(str, given)]
+    words = [*shlex.split(compiler), "-g", "-O1", f"-I{where.include()}", *shlex.split(flags), *map(str, given)]
     words += [str(path) for path in archives(libraries)] + ["-lpthread", "-o", str(program)]
     try:
         made = subprocess.run(words, capture_output=True, text=True, check=False)

@@ -1,4 +1,18 @@
-"""The command `nicdrive`."""
+"""Makes a driver's report card: every scenario of the card under many orders of steps, judged by what the device did.
+
+    nicdrive my_driver.c                compiles, links, searches, and writes card/card.html
+    nicdrive ./my_driver                the same with a program that is linked already
+    nicdrive --list                     the rows, each with what is tried in it
+    nicdrive --compare OLD NEW          two cards: what passes now, and what no longer does
+
+A driver is a source that names its functions in a struct (nic82599_drive.h) and calls nicd_main; or several sources,
+objects, or a program. The folder of the card gets card.html, card.txt, card.json and, for a gate, card.xml in the form
+of JUnit; of each failed row its schedule, a script of its run for nicbench, and the page of that run. Each row is
+searched in a process of its own: one of a driver that crashes or hangs fails, and the others go on.
+
+Exit status: 0 each row that applies passed; 1 one failed, or with --compare one that passed no longer does; 2 the
+driver or the words can't be taken, and one line says why.
+"""
 
 from __future__ import annotations
 
@@ -11,13 +25,14 @@ import tempfile
 import time
 from pathlib import Path
 
-from . import page, report
-from .build import C, build
+from nic82599.tools.tool import add_version
+
+from . import page, report, where
+from .build import build
 from .rows import FAILED, Budget, Refused, Row, Runner, listed, make_all, name_of
 
 ALL_PASSED, ONE_FAILED, REFUSED = 0, 1, 2
-# The programs that ./nicbench starts, proved or not.
-NICBENCH = [C.parent / "crates/nicbench/out" / name for name in ("nicbench", "unproved/current")]
+NICBENCH = where.programs()
 
 
 def joined(given: list[str]) -> list[str]:
@@ -29,28 +44,32 @@ def joined(given: list[str]) -> list[str]:
 
 
 def words() -> argparse.Namespace:
-    parser = argparse.ArgumentParser(
-        prog="nicdrive",
-        description="Makes a driver's report card. Status 0: each row that applies passed; 1: one failed, or with "
-        "--compare one that passed no longer does; 2: the driver or the words can't be taken.",
-    )
-    parser.add_argument("driver", nargs="*", type=Path, help="sources and objects of the driver, or its program")
-    parser.add_argument("-o", "--out", type=Path, default=Path("card"), help="the folder of the card (card)")
+    how = argparse.RawDescriptionHelpFormatter
+    parser = argparse.ArgumentParser(prog="nicdrive", description=__doc__, formatter_class=how)
+    add_version(parser, "nicdrive")
+    given = "sources and objects of the driver, or its program"
+    parser.add_argument("driver", nargs="*", type=Path, metavar="DRIVER", help=given)
+    folder = "the folder of the card (card)"
+    parser.add_argument("-o", "--out", type=Path, default=Path("card"), metavar="FOLDER", help=folder)
     rows = "these rows alone, with commas between: names or families, or what names begin with"
-    parser.add_argument("--rows", help=rows)
+    parser.add_argument("--rows", metavar="NAMES", help=rows)
     every = "tells the rows, and makes none; with a driver also which of them aren't applicable"
     parser.add_argument("--list", action="store_true", help=every)
-    parser.add_argument("--runs", type=int, default=Budget.runs, help="schedules by chance of a row (%(default)s)")
-    parser.add_argument("--seconds", type=float, default=Budget.seconds, help="at most so long (%(default)s)")
+    runs = "schedules by chance of a row (%(default)s)"
+    parser.add_argument("--runs", type=int, default=Budget.runs, metavar="N", help=runs)
+    seconds = "at most so long (%(default)s)"
+    parser.add_argument("--seconds", type=float, default=Budget.seconds, metavar="S", help=seconds)
     every = "schedules of the exhaustive search (%(default)s)"
-    parser.add_argument("--every", type=int, default=Budget.every, help=every)
-    parser.add_argument("--seed", type=int, default=1, help="what chance begins with (1)")
+    parser.add_argument("--every", type=int, default=Budget.every, metavar="N", help=every)
+    parser.add_argument("--seed", type=int, default=1, metavar="N", help="what chance begins with (1)")
     memory = "weak: stores to DMA memory may be late where no barrier orders them, and loads old (strong)"
     parser.add_argument("--memory", choices=("strong", "weak"), default="strong", help=memory)
-    parser.add_argument("--jobs", type=int, default=os.cpu_count() or 1, help="rows at a time (one for each core)")
-    parser.add_argument("--cc", default=os.environ.get("CC", "cc"), help="the compiler (cc)")
-    parser.add_argument("--flags", default="", help="more words for it, in quotes")
-    parser.add_argument("--libraries", type=Path, default=C / "out", help="the folder of the archives (c/out)")
+    jobs = "rows at a time (one for each core)"
+    parser.add_argument("--jobs", type=int, default=os.cpu_count() or 1, metavar="N", help=jobs)
+    parser.add_argument("--cc", default=os.environ.get("CC", "cc"), metavar="CC", help="the compiler (cc)")
+    parser.add_argument("--flags", default="", metavar="WORDS", help="more words for it, in quotes")
+    archives = "the folder of the archives (c/out of a clone, else where they are installed)"
+    parser.add_argument("--libraries", type=Path, default=where.libraries(), metavar="FOLDER", help=archives)
     parser.add_argument("--no-pages", action="store_true", help="no page of the run of a failed row")
     parser.add_argument("--compare", nargs=2, type=Path, metavar=("OLD", "NEW"), help="two cards that were made")
     return parser.parse_args(joined(sys.argv[1:]))
@@ -79,9 +98,8 @@ def draw(row: Row, folder: Path) -> None:
     if row.state != FAILED or not script.exists():
         return
     target = folder / f"{row.name}.html"
-    made = subprocess.run(
-        [sys.executable, C.parent / "tools/nicview", script, "-o", target], capture_output=True, text=True, check=False
-    )
+    words = [*where.nicview(), script, "-o", target]
+    made = subprocess.run(words, capture_output=True, text=True, check=False)
     if made.returncode == 0 and target.exists():
         row.page = target.name
     else:
@@ -110,8 +128,7 @@ def tell_names(rows: list[Row]) -> int:
 def list_all(given: argparse.Namespace) -> int:
     """The rows without a driver: those of the corpus's driver, which has all functions."""
     with tempfile.TemporaryDirectory() as folder:
-        source = [C / "drive/corpus/driver.c"]
-        rows = listed(build(source, Path(folder), given.cc, given.flags, given.libraries))
+        rows = listed(build([where.WHOLE], Path(folder), given.cc, given.flags, given.libraries))
     for row in rows:
         row.lack = ""
     return tell_names(chosen(rows, given.rows))

@@ -23,9 +23,9 @@ class Budget:
     """How long a row is searched: by chance, and then each schedule with at most one preemption."""
 
     runs: int = 2000
-    seconds: float = 8
+    seconds: float = 7
     every: int = 20000
-    every_seconds: float = 3
+    every_seconds: float = 2.5
     hang: int = 3
     seed: int = 1
     memory: str = "strong"

@@ -285,7 +285,7 @@ BUGS = [
     Bug(
         "BUDGET_WITHOUT_POLL",
         "interrupt-late",
-        "frame 4 lies in slot 4 of queue 0, and was never handed up",
+        "frame \\d+ lies in slot \\d of queue 0, and was never handed up",
         "A poll ends after four frames, and nobody polls again",
     ),
     Bug(
@@ -336,7 +336,7 @@ FAULTS = {
     "FROM_A_THREAD": ("receive-one", "a call comes from a thread that the driver made itself"),
     "THREAD_LEFT": ("open-close", "thread0 acts for the driver, and close has returned"),
     "LOCK_LEFT": ("receive-wrap", "deadlock: receive0 waits for a lock, which receive0 holds"),
-    "MEMORY_LEFT": ("open-close", "1 piece of DMA memory wasn't given back: \\d+ bytes at 0x\\w+, which open asked for"),
+    "MEMORY_LEFT": ("open-close", "1 piece of DMA memory wasn't given back: \\d+ bytes at 0x\\w+, which open asked"),
     "LENDS_IN_PLACE": ("open-close", "misuse: control calls nic_lend_memory"),
     "STATE_LEFT": ("receive-wrap", "misuse: begin doesn't make all of the driver's state anew"),
 }

@@ -1,4 +1,4 @@
-"""Where headers, archives and tools are: in the clone that this lies in, or below the prefix of an installed package."""
+"""Where headers, archives and tools are: in the clone that this lies in, or below the prefix it is installed in."""
 
 from __future__ import annotations
 

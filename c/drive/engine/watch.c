@@ -274,7 +274,7 @@ static void judge_ended(uint16_t actor, const struct step *step)
         nicd_note("%s acts for the driver, and close has returned", nicxi.threads[nicxi.actors[actor].of].name);
 }
 
-/* Between suspend and resume the device does nothing for the driver, which asks nothing of it, but in a handler that ran
+/* Between suspend and resume the device does nothing for the driver, which makes no access but in a handler that ran
    already. */
 static void judge_sleep(const struct step *step, bool is_of_driver)
 {

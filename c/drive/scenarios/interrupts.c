@@ -53,7 +53,7 @@ static void use_two_queues(void)
 static void come_many(void)
 {
     nicd_take_frames();
-    nicd_come_plain(2u * nicd.setup.slots, 60);
+    nicd_come_plain(2u * nicd.setup.slots + 3, 60);
 }
 
 /* rearm of a queue changes the masks of the causes of that queue alone. */

@@ -561,6 +561,9 @@ def check_files(kit: Kit) -> str:
     for wanted in ("setup-crc", "RDRXCTL.CRCSTRIP isn&#x27;t what HLREG0.RXCRCSTRP is", "not applicable: no send"):
         if wanted not in page:
             raise Wrong(f"card.html has no {wanted}")
+    found = re.search(r'href="(setup-crc\.html)#p(\d+)"', page)
+    if not found or '"actor"' not in (before / found[1]).read_text():
+        raise Wrong("card.html doesn't lead to the page of the schedule of setup-crc, at a point of it")
     said = nicdrive(kit.folder, ["--compare", before, after], 1)
     wanted_lines = ("fails now:\n  receive-one: ", "passes now:\n  setup-crc: it failed by", "now:\n  send-one: passed")
     for wanted in wanted_lines:

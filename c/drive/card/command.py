@@ -97,11 +97,11 @@ def draw(row: Row, folder: Path) -> None:
     script = folder / f"{row.name}.nic"
     if row.state != FAILED or not script.exists():
         return
-    target = folder / f"{row.name}.html"
+    target = folder / f"{row.name}.run.html"
     words = [*where.nicview(), script, "-o", target]
     made = subprocess.run(words, capture_output=True, text=True, check=False)
     if made.returncode == 0 and target.exists():
-        row.page = target.name
+        row.run = target.name
     else:
         said = (made.stderr.strip() or "nicview wrote nothing").splitlines()[-1]
         row.notes.append(f"no page of the run: {said}")

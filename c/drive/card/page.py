@@ -50,8 +50,10 @@ def bar(card: Card) -> str:
 
 def failure(row: Row) -> str:
     parts = [f'<p class="cause">{escape(row.cause)}</p>']
-    if row.page:
-        parts.append(f'<p><a href="{escape(row.page)}">the run, step by step</a></p>')
+    pages = [(row.page, "the schedule, who acts behind whom"), (row.run, "the machine, step by step")]
+    links = [f'<a href="{escape(page)}">{words}</a>' for page, words in pages if page]
+    if links:
+        parts.append(f"<p>{'; '.join(links)}</p>")
     if row.schedule.strip():
         parts.append(f"<details><summary>the schedule</summary><pre>{escape(row.schedule.strip())}</pre></details>")
     if row.again:

@@ -51,7 +51,8 @@ class Row:
     schedule: str = ""
     schedule_file: str = ""
     again: str = ""
-    page: str = ""
+    page: str = ""  # of its schedule, at the point where it goes wrong
+    run: str = ""  # and of the machine, step by step
     reached: dict[str, int] = field(default_factory=dict)
     notes: list[str] = field(default_factory=list)
     delivered: int = 0
@@ -159,6 +160,7 @@ class Runner:
         found = re.search(r": FAILED (.+)", printed)
         fail(row, found[1] if found else "it failed")
         row.schedule_file = f"{row.name}.schedule"
+        row.page = page_of(self.folder / f"{row.name}.html")
         memory = " --memory weak" if self.budget.memory == "weak" else ""
         row.again = f"{self.program} --row {row.name}{memory} --replay {self.folder / row.schedule_file}"
 
@@ -182,6 +184,16 @@ class Runner:
                 name = f"{kind} {rest[0]}"
                 row.registers[name] = row.registers.get(name, 0) + int(rest[1])
         path.unlink()
+
+
+def page_of(path: Path) -> str:
+    """The page that the explorer wrote of a schedule, at the point where it goes wrong, else at the last one."""
+    if not path.exists():
+        return ""
+    text = path.read_text()
+    turn = re.search(r'"turn":(\d+),', text)
+    points = len(re.findall(r'^\{"actor":', text, re.M))
+    return f"{path.name}#p{int(turn[1]) if turn else max(points - 1, 0)}"
 
 
 def fail(row: Row, cause: str) -> None:

@@ -422,9 +422,9 @@ class Kit:
         return program
 
     def card(self, program: Path, wanted: int | None, *words: object) -> dict[str, dict[str, Any]]:
-        """The rows of a program's card."""
+        """The rows of a program's card; a machine that has much to do makes as many schedules as another."""
         folder = self.folder / f"card-{program.name}"
-        nicdrive(folder, [program, "--jobs", self.jobs, "--no-pages", *words], wanted)
+        nicdrive(folder, [program, "--jobs", self.jobs, "--no-pages", "--seconds", 120, *words], wanted)
         return rows_of(folder)
 
 

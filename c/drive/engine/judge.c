@@ -145,6 +145,13 @@ static void tell_waiting(uint16_t number)
     nicd_note("frame %u waits inside the device at rest: %.190s", number, *why ? why : "nothing takes it");
 }
 
+/* Whether a frame was dropped as its driver asked: DROP_EN, and a ring that was full then and isn't for ever. */
+static bool is_dropped_by_choice(const struct frame_now *frame)
+{
+    return frame->why == NIC_WHY_NO_SLOT && nicd_peek(NIC_SRRCTL(frame->queue)) & NIC_SRRCTL_DROP_EN &&
+           nicd_peek(NIC_RDH(frame->queue)) != nicd_peek(NIC_RDT(frame->queue));
+}
+
 static void judge_frame(uint16_t number)
 {
     const struct frame_now *frame = &nicd.frames[number];
@@ -153,7 +160,7 @@ static void judge_frame(uint16_t number)
     case IS_DELIVERED:
     case ON_ITS_WAY: return;
     case IS_DROPPED:
-        if (!may_be_lost && !(nicd.scenario->ways & DROPS))
+        if (!may_be_lost && !(nicd.scenario->ways & DROPS) && !is_dropped_by_choice(frame))
             nicd_note("frame %u was dropped: %s", number, nic_why_name(frame->why));
         return;
     case IS_WRITTEN:

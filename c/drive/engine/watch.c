@@ -144,8 +144,10 @@ static void see_receive(const struct step *step)
     if (step->status == NIC_WROTE) {
         see_written(step);
     } else if (step->status == NIC_DROPPED) {
-        if (frame)
+        if (frame) {
             frame->why = step->told.why;
+            frame->queue = (uint8_t)step->told.queue;
+        }
         leave(IS_DROPPED);
     } else if (step->status == NIC_FAULT) {
         lose(BY_A_FAULT);

@@ -26,12 +26,21 @@ static bool is_full(void *unused)
     return nicd.written_count[0] >= nicd.setup.slots - 1u || nicd.let_in == 0;
 }
 
+/* Of the frames that come one isn't handed up yet, and wasn't dropped. */
+static bool is_one_left(void)
+{
+    for (uint16_t k = 0; k < nicd.count; k++)
+        if (nicd.frames[k].state != IS_DELIVERED && nicd.frames[k].state != IS_DROPPED)
+            return true;
+    return false;
+}
+
 static void take_late(void)
 {
     nicx_wait_until(is_full, NULL);
     if (nicd.written_count[0] >= nicd.setup.slots - 1u)
         nicd_reach(0);
-    while (nicd.delivered < nicd.count) {
+    while (is_one_left()) {
         uint32_t seen = nicd_before_look();
         if (!nicd_receive(0))
             nicd_wait_for_event(seen);

@@ -24,7 +24,7 @@ p { margin: .25rem 0; } a { color: var(--link); } .dim { color: var(--dim); }
 .pass { --tone: var(--pass); } .fail { --tone: var(--fail); }
 .bar span { background: var(--tone); }
 .row { display: grid; grid-template-columns: 3rem 15rem 1fr; gap: .25rem .75rem; padding: .5rem 0;
-  border-top: 1px solid var(--line); overflow-wrap: anywhere; }
+  align-items: baseline; border-top: 1px solid var(--line); overflow-wrap: anywhere; }
 .mark { color: var(--tone); font-weight: 600; } .name { font-family: ui-monospace, monospace; font-size: .9em; }
 .cause { color: var(--fail); font-weight: 600; }
 details { margin-top: .35rem; } summary { cursor: pointer; color: var(--link); }
@@ -33,7 +33,8 @@ pre { background: var(--box); border: 1px solid var(--line); border-radius: .4re
 .chips { display: flex; flex-wrap: wrap; gap: .3rem; padding: 0; list-style: none; font-size: .85em; }
 .chips li { border: 1px solid var(--line); border-radius: .3rem; padding: 0 .4rem;
   font-family: ui-monospace, monospace; }
-.chips li.off { color: var(--dim); text-decoration: line-through; }
+.chips li.off { color: var(--dim); border-style: dashed; }
+.row:target { background: var(--box); }
 @media (max-width: 40rem) { .row { grid-template-columns: 2.5rem 1fr; } .row > .what { grid-column: 1 / -1; } }
 """
 
@@ -50,14 +51,14 @@ def bar(card: Card) -> str:
 
 def failure(row: Row) -> str:
     parts = [f'<p class="cause">{escape(row.cause)}</p>']
-    pages = [(row.page, "the schedule, who acts behind whom"), (row.run, "the machine, step by step")]
+    pages = [(row.page, "the schedule, point by point"), (row.run, "the machine, step by step")]
     links = [f'<a href="{escape(page)}">{words}</a>' for page, words in pages if page]
     if links:
         parts.append(f"<p>{'; '.join(links)}</p>")
     if row.schedule.strip():
-        parts.append(f"<details><summary>the schedule</summary><pre>{escape(row.schedule.strip())}</pre></details>")
+        parts.append(f"<details><summary>the schedule as text</summary><pre>{escape(row.schedule.strip())}</pre></details>")
     if row.again:
-        parts.append(f"<details><summary>again</summary><pre>{escape(row.again)}</pre></details>")
+        parts.append(f"<details><summary>the command that makes it again</summary><pre>{escape(row.again)}</pre></details>")
     return "".join(parts)
 
 
@@ -73,8 +74,9 @@ def reached(row: Row) -> str:
 def result(row: Row) -> str:
     if row.state == NOT_APPLICABLE:
         return f'<p class="dim">not applicable: {escape(row.lack)}</p>'
-    told = f'<p class="dim">{escape(extent(row))}{escape(". " + reached(row) if reached(row) else "")}</p>'
-    return (failure(row) if row.state == FAILED else "") + told
+    if row.state == FAILED:
+        return failure(row) + f'<p class="dim">found in {escape(extent(row))}</p>'
+    return f'<p class="dim">{escape(extent(row))}{escape(". " + reached(row) if reached(row) else "")}</p>'
 
 
 def one(row: Row) -> str:
@@ -114,24 +116,32 @@ def coverage(card: Card) -> str:
 
 
 def family_of(card: Card, family: str) -> str:
-    """The rows of a family; those that don't apply are folded away."""
+    """The rows of a family that passed. Those that failed stand on top of the page, and those that don't apply are folded
+    away."""
     rows = card.of(family)
+    failed = [row for row in rows if row.state == FAILED]
     others = [row for row in rows if row.state == NOT_APPLICABLE]
-    tried = "".join(one(row) for row in rows if row.state != NOT_APPLICABLE)
+    above = f'<p class="fail">failed: {links(failed)}</p>' if failed else ""
+    passed = "".join(one(row) for row in rows if row.state == PASSED)
     folded = "".join(map(one, others))
     more = f"<details><summary>{len(others)} not applicable</summary>{folded}</details>" if others else ""
-    return f"<h2>{escape(family)}</h2>{tried}{more}"
+    return f"<h2>{escape(family)}</h2>{above}{passed}{more}"
+
+
+def links(rows: list[Row]) -> str:
+    return ", ".join(f'<a href="#{row.name}">{row.name}</a>' for row in rows)
 
 
 def page(card: Card) -> str:
     families = "".join(family_of(card, family) for family in card.families())
     failed = [row for row in card.rows if row.state == FAILED]
-    links = ", ".join(f'<a href="#{row.name}">{row.name}</a>' for row in failed)
+    first = f"<h2>failed</h2>{''.join(map(one, failed))}" if failed else ""
     return (
         '<!doctype html><html lang="en"><head><meta charset="utf-8">'
         '<meta name="viewport" content="width=device-width, initial-scale=1">'
         f"<title>{escape(card.driver)}: report card</title><style>{STYLE}</style></head><body>"
         f"<h1>{escape(card.driver)}</h1><p>{card.count(PASSED)} passed, {card.count(FAILED)} failed, "
         f"{card.count(NOT_APPLICABLE)} not applicable, in {card.seconds:.0f} s with seed {card.budget.seed}</p>"
-        f"{bar(card)}{f'<p>failed: {links}</p>' if failed else ''}{families}{coverage(card)}</body></html>\n"
+        f"{bar(card)}{f'<p>failed: {links(failed)}</p>' if failed else ''}{first}{families}{coverage(card)}"
+        "</body></html>\n"
     )

@@ -45,6 +45,14 @@ static bool is_frame(uint16_t number, const uint8_t *bytes, uint32_t length)
     return nicd_make(&nicd.coming[number], number, whole) == length && !memcmp(whole, bytes, length);
 }
 
+/* One that the device wrote behind the one that is to come next in its queue. */
+static void tell_too_early(uint16_t queue, uint16_t number)
+{
+    uint16_t next = nicd.written[queue][nicd.next[queue]];
+    nicd_failed("frame %u in slot %u is handed up before frame %u in slot %u of queue %u", number,
+                nicd.frames[number].slot, next, nicd.frames[next].slot, queue);
+}
+
 /* What a frame is that isn't the one that comes next in its queue. */
 static void tell_strange(uint16_t queue, const uint8_t *bytes, uint32_t length)
 {
@@ -52,11 +60,12 @@ static void tell_strange(uint16_t queue, const uint8_t *bytes, uint32_t length)
         if (!is_frame(k, bytes, length))
             continue;
         if (nicd.frames[k].state == IS_DELIVERED)
-            nicd_failed("frame %u is handed up a second time, in queue %u", k, queue);
+            nicd_failed("frame %u is handed up a second time, in queue %u, where it lay in slot %u", k, queue,
+                        nicd.frames[k].slot);
         else if (nicd.frames[k].state == IS_WRITTEN && nicd.frames[k].queue != nicd.base + queue)
             nicd_failed("frame %u of queue %u is handed up in queue %u", k, nicd.frames[k].queue - nicd.base, queue);
         else if (nicd.frames[k].state == IS_WRITTEN)
-            nicd_failed("frame %u is handed up before one that came earlier in queue %u", k, queue);
+            tell_too_early(queue, k);
         else
             nicd_failed("frame %u is handed up, and the device has written no such frame", k);
         return;
@@ -70,9 +79,11 @@ static void tell_strange(uint16_t queue, const uint8_t *bytes, uint32_t length)
     while (at < length && at < wanted && bytes[at] == whole[at])
         at++;
     if (length != wanted)
-        nicd_failed("frame %u of %u bytes is handed up with %u", number, (unsigned)wanted, (unsigned)length);
+        nicd_failed("frame %u of %u bytes is handed up with %u: it ends in slot %u of queue %u", number,
+                    (unsigned)wanted, (unsigned)length, nicd.frames[number].slot, queue);
     else
-        nicd_failed("frame %u is handed up with other bytes, from byte %u on", number, (unsigned)at);
+        nicd_failed("frame %u is handed up with other bytes, from byte %u on: it ends in slot %u of queue %u", number,
+                    (unsigned)at, nicd.frames[number].slot, queue);
 }
 
 /* Of a flow that was interrupted, frames may be missing. */

@@ -11,7 +11,7 @@ import re
 import subprocess
 import sys
 import xml.etree.ElementTree
-from dataclasses import dataclass
+from dataclasses import dataclass, replace
 from pathlib import Path
 from typing import Any
 
@@ -404,11 +404,13 @@ class Kit:
     compiler: str
     flags: list[str]
     jobs: int = 2
+    engine: Path = C / "out"  # where the archives of the card and the explorer are
 
     def build(self, source: Path, *defines: str) -> Path:
         name = "-".join([source.stem, *defines]).lower().replace("=", "-")
         program = self.folder / name
-        archives = [C / "out" / f"libnic82599{part}.a" for part in ("_drive", "_explore", "")]
+        archives = [self.engine / f"libnic82599{part}.a" for part in ("_drive", "_explore")]
+        archives.append(C / "out/libnic82599.a")
         words = [self.compiler, *STRICT, *self.flags, f"-I{C}/include", *(f"-D{one}" for one in defines), source]
         made = subprocess.run(
             [str(word) for word in [*words, *archives, "-lpthread", "-o", program]],
@@ -571,6 +573,26 @@ def check_files(kit: Kit) -> str:
             raise Wrong(f"--compare doesn't tell \"{wanted}\":\n{said}")
     nicdrive(kit.folder, ["--compare", before, before], 0)
     return "text, JUnit, page, and two cards compared"
+
+
+def check_sanitized(kit: Kit, flags: list[str]) -> str:
+    """The card's engine and a driver with the sanitizers' checks in them: all rows, and some bugs."""
+    folder = kit.folder / "sanitized"
+    folder.mkdir(exist_ok=True)
+    parts = [folder / f"out/libnic82599{part}.a" for part in ("_drive", "_explore")]
+    words = " ".join(flags)
+    made = subprocess.run(
+        ["make", "-s", "-C", C, f"OUT={folder}/out", f"EXPLORE_FLAGS={words}", f"DRIVE_FLAGS={words}", *parts],
+        stdout=subprocess.PIPE,
+        stderr=subprocess.STDOUT,
+        text=True,
+        check=False,
+    )
+    if made.returncode:
+        raise Wrong(f"the sanitized engine isn't made:\n{made.stdout}")
+    own = replace(kit, folder=folder, flags=flags, engine=folder / "out")
+    rows = own.card(own.build(HERE / "corpus/driver.c"), 0, "--runs", 5, "--every", 5)
+    return f"sanitized, {sum(row['state'] == 'passed' for row in rows.values())} rows; {check_bugs(own, 2000, 12)}"
 
 
 def check_all(kit: Kit, full: bool) -> list[str]:

@@ -122,7 +122,8 @@ typedef struct nicd_driver {
     bool (*mtu)(uint32_t frame);    /* the longest frame from now on; frames on their way may be lost */
     bool (*resize)(uint16_t slots); /* other rings; the same */
     bool (*reset)(void);            /* makes all anew after a fault; the same, and the setup stays */
-    bool (*suspend)(void);          /* the device rests: no frame, no message, no access until `resume` */
+    bool (*suspend)(void);          /* the device rests: no frame, no message, no access until `resume`, but by a
+                                       handler that runs as it returns */
     bool (*resume)(void);
     bool (*link)(void); /* whether the link is up, as far as the driver knows; it makes no access */
 
@@ -140,8 +141,8 @@ typedef struct nicd_driver {
 /* DMA memory: the bus address of its first byte, a multiple of 128, and its bytes are 0. Behind it nothing is lent, so
    an access of the driver or the device there is told. 0: it is refused, by a scenario that tries that or since all is
    taken. There is room for 123 pieces of 2 KB, or for one of 503,808 bytes. `open` is asked for at most two queues of
-   16 slots, or of the fewest that the driver takes; two of 64, with 2 KB for each slot both ways, have no room. `bytes`
-   is 1 to 524,288. */
+   16 slots, or four of 8, or two of the fewest slots that the driver takes; two of 64, with 2 KB for each slot both ways,
+   have no room. `bytes` is 1 to 524,288. */
 uint64_t nicd_dma_alloc(size_t bytes);
 /* Gives it back: by its first address. The device must not touch it any more. */
 void nicd_dma_free(uint64_t bus);

@@ -141,8 +141,8 @@ typedef struct nicd_driver {
 /* DMA memory: the bus address of its first byte, a multiple of 128, and its bytes are 0. Behind it nothing is lent, so
    an access of the driver or the device there is told. 0: it is refused, by a scenario that tries that or since all is
    taken. There is room for 123 pieces of 2 KB, or for one of 503,808 bytes. `open` is asked for at most two queues of
-   16 slots, or four of 8, or two of the fewest slots that the driver takes; two of 64, with 2 KB for each slot both ways,
-   have no room. `bytes` is 1 to 524,288. */
+   16 slots, or four of 8, or two of the fewest slots that the driver takes; two of 64, with 2 KB for each slot both
+   ways, have no room. `bytes` is 1 to 524,288. */
 uint64_t nicd_dma_alloc(size_t bytes);
 /* Gives it back: by its first address. The device must not touch it any more. */
 void nicd_dma_free(uint64_t bus);

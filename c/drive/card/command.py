@@ -18,6 +18,7 @@ from __future__ import annotations
 
 import argparse
 import os
+import resource
 import shutil
 import subprocess
 import sys
@@ -134,6 +135,11 @@ def list_all(given: argparse.Namespace) -> int:
     return tell_names(chosen(rows, given.rows))
 
 
+def processor_seconds() -> float:
+    used = resource.getrusage(resource.RUSAGE_CHILDREN)
+    return used.ru_utime + used.ru_stime
+
+
 def make(given: argparse.Namespace) -> int:
     folder: Path = given.out
     try:
@@ -145,11 +151,12 @@ def make(given: argparse.Namespace) -> int:
     if given.list:
         return tell_names(rows)
     budget = Budget(runs=given.runs, seconds=given.seconds, every=given.every, seed=given.seed, memory=given.memory)
-    began = time.monotonic()
+    began, used = time.monotonic(), processor_seconds()
     make_all(Runner(program, folder, budget), rows, given.jobs, tell)
     if not given.no_pages:
         draw_all(rows, folder)
-    card = report.Card(name_of(program.resolve()), rows, budget, time.monotonic() - began)
+    spent = time.monotonic() - began, processor_seconds() - used
+    card = report.Card(name_of(program.resolve()), rows, budget, *spent)
     card.write(folder / "card.json")
     (folder / "card.txt").write_text(report.text(card))
     report.write_junit(card, folder / "card.xml")

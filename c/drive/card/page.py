@@ -55,10 +55,9 @@ def failure(row: Row) -> str:
     links = [f'<a href="{escape(page)}">{words}</a>' for page, words in pages if page]
     if links:
         parts.append(f"<p>{'; '.join(links)}</p>")
-    if row.schedule.strip():
-        parts.append(f"<details><summary>the schedule as text</summary><pre>{escape(row.schedule.strip())}</pre></details>")
-    if row.again:
-        parts.append(f"<details><summary>the command that makes it again</summary><pre>{escape(row.again)}</pre></details>")
+    for summary, text in (("the schedule as text", row.schedule), ("the command that makes it again", row.again)):
+        if text.strip():
+            parts.append(f"<details><summary>{summary}</summary><pre>{escape(text.strip())}</pre></details>")
     return "".join(parts)
 
 
@@ -116,8 +115,7 @@ def coverage(card: Card) -> str:
 
 
 def family_of(card: Card, family: str) -> str:
-    """The rows of a family that passed. Those that failed stand on top of the page, and those that don't apply are folded
-    away."""
+    """The rows of a family that passed: those that failed stand on top of the page, and the others are folded away."""
     rows = card.of(family)
     failed = [row for row in rows if row.state == FAILED]
     others = [row for row in rows if row.state == NOT_APPLICABLE]

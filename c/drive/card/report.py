@@ -35,6 +35,7 @@ class Card:
     rows: list[Row]
     budget: Budget
     seconds: float
+    processor: float = 0  # the seconds that its processes took
 
     def count(self, state: str) -> int:
         return sum(row.state == state for row in self.rows)
@@ -68,6 +69,7 @@ class Card:
         data = {
             "driver": self.driver,
             "seconds": round(self.seconds, 1),
+            "processor": round(self.processor, 1),
             "budget": vars(self.budget),
             "rows": [row.data() for row in self.rows],
         }
@@ -80,7 +82,8 @@ def read(path: Path) -> Card:
     try:
         data: dict[str, Any] = json.loads(path.read_text())
         rows = [Row(**row) for row in data["rows"]]
-        return Card(str(data["driver"]), rows, Budget(**data["budget"]), float(data["seconds"]))
+        spent = float(data["seconds"]), float(data.get("processor", 0))
+        return Card(str(data["driver"]), rows, Budget(**data["budget"]), *spent)
     except (OSError, ValueError, KeyError, TypeError) as fault:
         raise Refused(f"{path}: it is no card: {fault}") from fault
 
@@ -112,7 +115,7 @@ def line(row: Row) -> str:
 def summary(card: Card) -> str:
     return (
         f"{card.driver}: {card.count(PASSED)} passed, {card.count(FAILED)} failed, "
-        f"{card.count(NOT_APPLICABLE)} not applicable, {card.seconds:.0f} s"
+        f"{card.count(NOT_APPLICABLE)} not applicable, {card.seconds:.0f} s, of the processor {card.processor:.0f} s"
     )
 
 

@@ -16,8 +16,9 @@
    nicx_point. Each of them is a point at which anybody may act. DMA memory it takes by nicd_dma_alloc, below. It names
    no tasks, handlers or frames: the card does.
 
-   Each schedule begins with `open`, on a controller as after power-up: what the driver keeps is made anew there. What a
-   schedule leaves behind isn't ended: take memory from nicd_alloc, which gives it back by itself, or have it static.
+   Each schedule begins with `open`, on a controller as after power-up: what the driver keeps is made anew there, or in
+   `begin`. What a schedule leaves behind isn't ended: take memory from nicd_alloc, which gives it back by itself, or
+   have it static.
 
    This part is tested, not proved. */
 #ifndef NIC82599_DRIVE_H
@@ -91,6 +92,8 @@ typedef struct nicd_driver {
     uint16_t slots;   /* the fewest that `open` takes, 8, 16, .. 64; 0 stands for 8 */
     uint32_t frame;   /* the longest frame that it takes; 0 stands for 1,514 */
 
+    /* A schedule begins: what the driver keeps is made anew. It makes no access, and may be null. */
+    void (*begin)(void);
     /* Sets the controller up, from power-up or from what `close` left, and answers when frames can come and go. False
        where it can't, as where memory is refused: then nothing is left behind, and it may be called again. */
     bool (*open)(const nicd_setup *setup);

@@ -549,6 +549,8 @@ static void forget(void)
 
 void nicd_begin(void)
 {
+    if (nicd.driver->begin)
+        nicd.driver->begin();
     set_up();
     forget();
     nicd_memory_begin();

@@ -10,6 +10,7 @@
 #include "drive.h"
 
 enum { DONE = 0, REFUSED = 2, NOT_APPLICABLE = 4, NO_END = 5, MOST_WORDS_GIVEN = 64, PATIENCE = 20 };
+enum { STACK = 262144 }; /* of a thread: those of drivers in Rust that aren't optimized take more than the usual */
 
 struct drive nicd;
 
@@ -168,6 +169,7 @@ static int search(int argc, char **argv, const char *coverage)
     scenario.always = nicd_always;
     scenario.end = nicd_end;
     scenario.points = it->points ? it->points : 20000;
+    scenario.stack = STACK;
     scenario.allowed = it->ways & FAULTY ? NICX_FAULTS | NICX_NOT_LENT : 0;
     if (!nicd_coverage_open()) {
         fprintf(stderr, "%s: there is no memory\n", it->name);

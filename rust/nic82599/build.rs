@@ -99,18 +99,21 @@ fn check_version(folder: &Path, found: Option<String>) -> Result<(), String> {
 }
 
 /// Of an archive what is asked for is linked: the explorer's has the calls of memory of the library's once more. (Rust
-/// 1.63 would take the whole of it for tests.)
+/// 1.63 would take the whole of it for tests.) The one that calls another stands in front of it.
 fn link(folder: &Path) -> Result<(), String> {
     println!("cargo:rustc-link-search=native={}", folder.display());
     let archive = folder.join("libnic82599.a");
-    if env::var_os("CARGO_FEATURE_EXPLORE").is_some() {
-        let explorer = folder.join("libnic82599_explore.a");
-        if !explorer.exists() || !archive.exists() {
-            let place = folder.display();
-            return Err(format!("no libnic82599_explore.a in {place}, which the feature explore needs: {HELP}"));
+    for (feature, name) in [("drive", "nic82599_drive"), ("explore", "nic82599_explore")] {
+        if env::var_os(format!("CARGO_FEATURE_{}", feature.to_uppercase())).is_none() {
+            continue;
         }
-        println!("cargo:rerun-if-changed={}", explorer.display());
-        println!("cargo:rustc-link-lib=static:-whole-archive=nic82599_explore");
+        let more = folder.join(format!("lib{name}.a"));
+        if !more.exists() || !archive.exists() {
+            let place = folder.display();
+            return Err(format!("no lib{name}.a in {place}, which the feature {feature} needs: {HELP}"));
+        }
+        println!("cargo:rerun-if-changed={}", more.display());
+        println!("cargo:rustc-link-lib=static:-whole-archive={name}");
     }
     if archive.exists() {
         println!("cargo:rerun-if-changed={}", archive.display());

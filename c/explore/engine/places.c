@@ -62,9 +62,9 @@ static unsigned end_of_thread(const struct frames *frames, const struct thread *
 /* Lines of other languages' libraries say nothing of the driver. */
 static bool is_of_library(const char *file)
 {
-    return strstr(file, "/nic82599/src/explore/") || has_prefix(file, "/rustc/") || strstr(file, "/library/core/") ||
-           strstr(file, "/library/std/") || strstr(file, "/library/alloc/") || strstr(file, "/explore/engine/") ||
-           strstr(file, "/explore/threads/");
+    return strstr(file, "/nic82599/src/explore/") || strstr(file, "/nic82599/src/drive/") ||
+           has_prefix(file, "/rustc/") || strstr(file, "/library/core/") || strstr(file, "/library/std/") ||
+           strstr(file, "/library/alloc/") || strstr(file, "/explore/engine/") || strstr(file, "/explore/threads/");
 }
 
 static void add_lines(struct place *place, const void *call)

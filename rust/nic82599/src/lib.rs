@@ -42,7 +42,7 @@
 //! ```
 //!
 //! The feature `explore` adds the search for the order of steps that breaks a driver. Code over [`Device`] runs there
-//! and here.
+//! and here. The feature `drive` adds a driver's report card: its own functions in scenarios that it doesn't write.
 //!
 //! What the device does is proved; this crate is tested. A refused call gives an [`Error`] and changes nothing. No
 //! argument ends the program but an index of [`Registers::at`] and of [`VfRegisters::at`], which say so.
@@ -58,6 +58,8 @@ include!(concat!(env!("OUT_DIR"), "/library.rs"));
 
 pub mod desc;
 mod device;
+#[cfg(feature = "drive")]
+pub mod drive;
 mod error;
 mod event;
 #[cfg(feature = "explore")]

@@ -52,7 +52,7 @@
 //! theirs as without a search.
 
 mod kit;
-mod raw;
+pub(crate) mod raw;
 
 pub use kit::{frame_number, numbered_frame, Flow, Mailbox, Protocol};
 
@@ -200,6 +200,18 @@ pub fn search(scenario: impl Scenario, words: &[&str]) -> Outcome {
 /// A panic of a task is a failure that the search tells, and one of thousands: it isn't printed but by a replay.
 static HOOK: Once = Once::new();
 
+pub(crate) fn hook_panics() {
+    HOOK.call_once(|| {
+        let before = panic::take_hook();
+        panic::set_hook(Box::new(move |told| {
+            raw::panics_at(told.location());
+            if !raw::is_quiet() {
+                before(told)
+            }
+        }));
+    });
+}
+
 fn run(scenario: impl Scenario, words: Vec<String>) -> Outcome {
     if raw::is_running() {
         return Outcome::Refused; // (a search in a task of one)
@@ -213,15 +225,7 @@ fn run(scenario: impl Scenario, words: Vec<String>) -> Outcome {
     let race_free = scenario.is_race_free();
     let settings = raw::Settings { name: &name, vfs, fifo, blocks, queues, points, stack, allowed, memory, race_free };
     let driven = Driven { state: RefCell::new(Rc::new(scenario.state())), scenario };
-    HOOK.call_once(|| {
-        let before = panic::take_hook();
-        panic::set_hook(Box::new(move |told| {
-            raw::panics_at(told.location());
-            if !raw::is_quiet() {
-                before(told)
-            }
-        }));
-    });
+    hook_panics();
     let is_quiet = !words.iter().any(|it| it == "--replay");
     match raw::run(&driven, &settings, &words, is_quiet) {
         0 => Outcome::Nothing,
@@ -376,7 +380,7 @@ pub struct Bus {
 }
 
 impl Bus {
-    fn new() -> Bus {
+    pub(crate) fn new() -> Bus {
         Bus { here: PhantomData }
     }
 

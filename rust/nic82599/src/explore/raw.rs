@@ -117,13 +117,20 @@ extern "C" {
     fn nicx_close();
 }
 
-/// What a scenario does when the explorer asks: why something is wrong, or `None`.
-pub(super) trait Driven {
+/// What a scenario does when the explorer asks: why something is wrong, or `None`. The scenarios of a report card are
+/// in C, and ask for nothing here.
+pub(crate) trait Driven {
     fn sizes(&self) -> Sizes;
-    fn bring_up(&self) -> Option<String>;
-    fn begin(&self);
-    fn always(&self, device: &Nic) -> Option<String>;
-    fn end(&self, device: &Nic) -> Option<String>;
+    fn bring_up(&self) -> Option<String> {
+        None
+    }
+    fn begin(&self) {}
+    fn always(&self, _device: &Nic) -> Option<String> {
+        None
+    }
+    fn end(&self, _device: &Nic) -> Option<String> {
+        None
+    }
 }
 
 /// How a scenario is run.
@@ -166,7 +173,7 @@ thread_local! {
 static ONE: Mutex<()> = Mutex::new(());
 
 /// A text as C has it; what can't be told stands as a question mark.
-fn text(words: &str) -> CString {
+pub(crate) fn text(words: &str) -> CString {
     CString::new(words.replace('\0', "?")).unwrap_or_default()
 }
 
@@ -191,7 +198,7 @@ impl Running {
 }
 
 /// Whether a search is running on this thread.
-pub(super) fn is_running() -> bool {
+pub(crate) fn is_running() -> bool {
     RUNNING.with(|it| !it.get().is_null())
 }
 
@@ -226,7 +233,7 @@ fn driven(action: impl FnOnce(&dyn Driven) -> Option<String>) -> *const c_char {
 }
 
 /// The result of an action, or the words of its panic and where it was.
-fn caught<T>(action: impl FnOnce() -> T) -> Result<T, String> {
+pub(crate) fn caught<T>(action: impl FnOnce() -> T) -> Result<T, String> {
     panic::catch_unwind(AssertUnwindSafe(action)).map_err(|panic| {
         let words = words_of(&*panic);
         match PLACE.with(|it| it.borrow_mut().take()) {
@@ -290,11 +297,20 @@ extern "C" fn go(argument: *mut c_void) {
     // SAFETY: it is the address of a thread of this schedule, which is kept until the next one begins.
     let thread = unsafe { &*argument.cast::<Thread>() };
     if let Err(words) = caught(|| (thread.function)()) {
-        let words = running(|it| it.tell(&words));
-        // SAFETY: the words are a string that stays until the next ones. It doesn't return, and nothing here has to be
-        // dropped.
-        unsafe { nicx_fail(words) }
+        fail(words);
     }
+}
+
+/// Words as the explorer takes them, which stay until the next ones are told.
+pub(crate) fn told(words: String) -> *const c_char {
+    running(|it| it.tell(&words))
+}
+
+/// The schedule fails with these words. In a task it doesn't return, so the caller keeps nothing that is to be dropped.
+pub(crate) fn fail(words: String) {
+    let words = told(words);
+    // SAFETY: the words are a string that stays until the next ones. Nothing here has to be dropped.
+    unsafe { nicx_fail(words) }
 }
 
 extern "C" fn holds<F: Fn() -> bool>(argument: *mut c_void) -> bool {
@@ -304,13 +320,31 @@ extern "C" fn holds<F: Fn() -> bool>(argument: *mut c_void) -> bool {
     caught(condition).unwrap_or_else(|_| std::process::abort())
 }
 
+/// The words of a command line as C has them: the pointers are those of the texts, and one that is null behind them.
+pub(crate) fn arguments(words: &[CString]) -> Vec<*mut c_char> {
+    words.iter().map(|it| it.as_ptr() as *mut c_char).chain([ptr::null_mut()]).collect()
+}
+
+/// What a search of the process's one explorer ends with: an action that makes it, and asks `driven`.
+pub(crate) fn within(driven: &dyn Driven, is_quiet: bool, action: impl FnOnce() -> c_int) -> c_int {
+    let _one = ONE.lock().unwrap_or_else(PoisonError::into_inner);
+    // SAFETY: only the lifetime is changed, which `RUNNING` ends before this function returns.
+    let driven: &'static dyn Driven = unsafe { mem::transmute::<&dyn Driven, _>(driven) };
+    let (threads, names, words) = (RefCell::default(), RefCell::default(), RefCell::default());
+    let running = Running { is_quiet, driven, threads, names, words };
+    RUNNING.with(|it| it.set(&running));
+    let status = action();
+    // SAFETY: no schedule is at work. (A scenario that was refused is open still, and closing twice does nothing.)
+    unsafe { nicx_close() };
+    RUNNING.with(|it| it.set(ptr::null()));
+    status
+}
+
 /// Searches as the words say: the explorer's exit status.
 pub(super) fn run(driven: &dyn Driven, settings: &Settings<'_>, words: &[String], is_quiet: bool) -> c_int {
-    let _one = ONE.lock().unwrap_or_else(PoisonError::into_inner);
     let name = text(settings.name);
     let words: Vec<CString> = words.iter().map(|it| text(it)).collect();
-    let mut argv: Vec<*mut c_char> =
-        words.iter().map(|it| it.as_ptr() as *mut c_char).chain([ptr::null_mut()]).collect();
+    let mut argv = arguments(&words);
     let scenario = RawScenario {
         name: name.as_ptr(),
         vfs: settings.vfs,
@@ -327,18 +361,9 @@ pub(super) fn run(driven: &dyn Driven, settings: &Settings<'_>, words: &[String]
         memory: settings.memory,
         race_free: settings.race_free,
     };
-    // SAFETY: only the lifetime is changed, which `RUNNING` ends before this function returns.
-    let driven: &'static dyn Driven = unsafe { mem::transmute::<&dyn Driven, _>(driven) };
-    let (threads, names, words_told) = (RefCell::default(), RefCell::default(), RefCell::default());
-    let running = Running { is_quiet, driven, threads, names, words: words_told };
-    RUNNING.with(|it| it.set(&running));
     // SAFETY: the words are strings and end with a null; the scenario and all that it points to stay until the call is
-    // over; no other search is at work in the process, since `ONE` is held.
-    let status = unsafe { nicx_main(words.len() as c_int, argv.as_mut_ptr(), &scenario) };
-    // SAFETY: no schedule is at work. (A scenario that was refused is open still, and closing twice does nothing.)
-    unsafe { nicx_close() };
-    RUNNING.with(|it| it.set(ptr::null()));
-    status
+    // over; no other search is at work in the process, since `within` lets one in.
+    within(driven, is_quiet, || unsafe { nicx_main(words.len() as c_int, argv.as_mut_ptr(), &scenario) })
 }
 
 // --- in `begin` ---

@@ -1,0 +1,357 @@
+//! The calls of `nic82599_drive.h`, and the functions that the card calls: all `unsafe` code of the card.
+//!
+//! The card's scenarios and the explorer are one for the whole process, and run on the thread that called `nicd_main`.
+//! The driver's functions run on stacks of their own, as tasks of the explorer do (explore/raw.rs): a panic is caught
+//! where C called, and a `Platform` is made here alone, for functions that the card calls.
+#![allow(unsafe_code)]
+
+use std::any::Any;
+use std::cell::{Cell, RefCell};
+use std::ffi::CString;
+use std::os::raw::{c_char, c_int, c_void};
+use std::rc::Rc;
+use std::slice;
+
+use super::{Driver, Filter, Frame, Platform, Rss, Setup, MAILBOX_WORDS, MOST_FRAME};
+use crate::explore::raw::{arguments, caught, fail, is_running, text, told, within, Driven};
+use crate::explore::{hook_panics, Bus};
+use crate::nic::Sizes;
+
+/// `struct nicd_setup`.
+#[repr(C)]
+struct RawSetup {
+    port: u8,
+    queues: u16,
+    slots: u16,
+    frame: u32,
+    interrupts: bool,
+    address: [u8; 6],
+    functions: u8,
+}
+
+/// `struct nicd_frame`.
+#[repr(C)]
+struct RawFrame {
+    length: u32,
+    hash: u32,
+    bytes: [u8; MOST_FRAME],
+}
+
+/// `struct nicd_filter`.
+#[repr(C)]
+struct RawFilter {
+    all_unicast: bool,
+    all_multicast: bool,
+    broadcast: bool,
+    count: u32,
+    address: [[u8; 6]; 4],
+}
+
+/// `struct nicd_rss`.
+#[repr(C)]
+struct RawRss {
+    key: [u8; 40],
+    table: [u8; 128],
+    types: u32,
+}
+
+type Plain = extern "C" fn() -> bool;
+
+/// `struct nicd_driver`.
+#[repr(C)]
+struct RawDriver {
+    name: *const c_char,
+    can: u32,
+    queues: u16,
+    slots: u16,
+    frame: u32,
+    begin: extern "C" fn(),
+    open: extern "C" fn(*const RawSetup) -> bool,
+    close: extern "C" fn(),
+    receive: Option<extern "C" fn(u16, *mut RawFrame) -> bool>,
+    send: Option<extern "C" fn(u16, *const u8, u32) -> bool>,
+    reclaim: Option<extern "C" fn(u16) -> u32>,
+    interrupt: Option<extern "C" fn(u8) -> u32>,
+    rearm: Option<extern "C" fn(u16)>,
+    threads: u32,
+    thread: Option<extern "C" fn(u32)>,
+    filter: Option<extern "C" fn(*const RawFilter) -> bool>,
+    rss: Option<extern "C" fn(*const RawRss) -> bool>,
+    mtu: Option<extern "C" fn(u32) -> bool>,
+    resize: Option<extern "C" fn(u16) -> bool>,
+    reset: Option<Plain>,
+    suspend: Option<Plain>,
+    resume: Option<Plain>,
+    link: Option<Plain>,
+    mailbox_send: Option<extern "C" fn(u8, *const u32, u32) -> bool>,
+    mailbox_receive: Option<extern "C" fn(u8, *mut u32) -> bool>,
+    mailbox_ready: Option<Plain>,
+}
+
+extern "C" {
+    fn nicd_main(argc: c_int, argv: *mut *mut c_char, driver: *const RawDriver) -> c_int;
+    fn nicd_dma_alloc(bytes: usize) -> u64;
+    fn nicd_dma_free(bus: u64);
+    fn nicd_alloc(bytes: usize) -> *mut c_void;
+    fn nicd_free(memory: *mut c_void);
+    fn nicd_deliver(queue: u16, bytes: *const u8, length: u32);
+    fn nicd_failed(form: *const c_char, ...);
+}
+
+thread_local! {
+    /// What the driver keeps in this schedule. A stack that an earlier schedule left behind is never gone on with, so
+    /// what it borrowed may end.
+    static DRIVER: RefCell<Option<Rc<dyn Any>>> = const { RefCell::new(None) };
+    /// Virtual functions of the device, as far as `open` was told.
+    static FUNCTIONS: Cell<u8> = const { Cell::new(0) };
+}
+
+/// A result of one of the driver's functions, or this one where it panics, which fails the row.
+fn called<D: Driver, T>(failed: T, action: impl FnOnce(&D, &Platform) -> T) -> T {
+    let done = caught(|| {
+        let kept = DRIVER.with(|it| it.borrow().clone()).expect("the driver is made as a schedule begins");
+        let driver: &D = kept.downcast_ref().expect("the process has one driver");
+        action(driver, &Platform { bus: Bus::new() })
+    });
+    done.unwrap_or_else(|words| {
+        let words = told(words);
+        // SAFETY: both are strings, and the words stay until the next ones. In a task it doesn't return, and nothing
+        // here has to be dropped; outside of one the schedule fails at its next step.
+        unsafe { nicd_failed(b"%s\0".as_ptr().cast(), words) }
+        failed
+    })
+}
+
+/// A function that the driver has, since its pointer was given.
+fn of<T: Copy>(function: Option<T>) -> T {
+    function.expect("the driver has this function")
+}
+
+extern "C" fn begin<D: Driver>() {
+    let made = caught(|| {
+        DRIVER.with(|it| it.borrow_mut().take());
+        let made: Rc<dyn Any> = Rc::new(D::new());
+        DRIVER.with(|it| *it.borrow_mut() = Some(made));
+    });
+    if let Err(words) = made {
+        fail(words);
+    }
+}
+
+extern "C" fn open<D: Driver>(setup: *const RawSetup) -> bool {
+    // SAFETY: the card gives a setup that stays while `open` runs.
+    let RawSetup { port, queues, slots, frame, interrupts, address, functions } = *unsafe { &*setup };
+    FUNCTIONS.with(|it| it.set(if port > 0 || functions > 0 { 2 } else { 0 }));
+    let setup = Setup { port, queues, slots, frame, interrupts, address, functions };
+    called::<D, _>(false, |driver, platform| driver.open(platform, &setup))
+}
+
+extern "C" fn close<D: Driver>() {
+    called::<D, _>((), |driver, platform| driver.close(platform));
+}
+
+/// A frame that is too long has its length told, and as many bytes as there is room for.
+fn put(frame: &Frame, room: &mut RawFrame) {
+    let length = frame.bytes.len().min(MOST_FRAME);
+    room.bytes[..length].copy_from_slice(&frame.bytes[..length]);
+    room.length = u32::try_from(frame.bytes.len()).unwrap_or(u32::MAX);
+    room.hash = frame.hash;
+}
+
+extern "C" fn receive<D: Driver>(queue: u16, frame: *mut RawFrame) -> bool {
+    called::<D, _>(false, |driver, platform| match of(D::RECEIVE)(driver, platform, queue) {
+        Some(got) => {
+            // SAFETY: the card gives room for a frame that nobody else touches while `receive` runs.
+            put(&got, unsafe { &mut *frame });
+            true
+        }
+        None => false,
+    })
+}
+
+extern "C" fn send<D: Driver>(queue: u16, bytes: *const u8, length: u32) -> bool {
+    // SAFETY: the card gives so many bytes, which stay as they are while `send` runs.
+    let bytes = unsafe { slice::from_raw_parts(bytes, length as usize) };
+    called::<D, _>(false, |driver, platform| of(D::SEND)(driver, platform, queue, bytes))
+}
+
+extern "C" fn reclaim<D: Driver>(queue: u16) -> u32 {
+    called::<D, _>(0, |driver, platform| of(D::RECLAIM)(driver, platform, queue))
+}
+
+extern "C" fn interrupt<D: Driver>(vector: u8) -> u32 {
+    called::<D, _>(0, |driver, platform| of(D::INTERRUPT)(driver, platform, vector))
+}
+
+extern "C" fn rearm<D: Driver>(queue: u16) {
+    called::<D, _>((), |driver, platform| of(D::REARM)(driver, platform, queue));
+}
+
+extern "C" fn thread<D: Driver>(number: u32) {
+    called::<D, _>((), |driver, platform| D::THREADS[number as usize](driver, platform));
+}
+
+extern "C" fn filter<D: Driver>(filter: *const RawFilter) -> bool {
+    // SAFETY: the card gives a filter that stays while the function runs.
+    let it = unsafe { &*filter };
+    let addresses = it.address.iter().take(it.count as usize).copied().collect();
+    let RawFilter { all_unicast, all_multicast, broadcast, .. } = *it;
+    let filter = Filter { all_unicast, all_multicast, broadcast, addresses };
+    called::<D, _>(false, |driver, platform| of(D::FILTER)(driver, platform, &filter))
+}
+
+extern "C" fn rss<D: Driver>(rss: *const RawRss) -> bool {
+    // SAFETY: the card gives it, and it stays while the function runs.
+    let RawRss { key, table, types } = *unsafe { &*rss };
+    called::<D, _>(false, |driver, platform| of(D::RSS)(driver, platform, &Rss { key, table, types }))
+}
+
+extern "C" fn mtu<D: Driver>(frame: u32) -> bool {
+    called::<D, _>(false, |driver, platform| of(D::MTU)(driver, platform, frame))
+}
+
+extern "C" fn resize<D: Driver>(slots: u16) -> bool {
+    called::<D, _>(false, |driver, platform| of(D::RESIZE)(driver, platform, slots))
+}
+
+extern "C" fn reset<D: Driver>() -> bool {
+    called::<D, _>(false, |driver, platform| of(D::RESET)(driver, platform))
+}
+
+extern "C" fn suspend<D: Driver>() -> bool {
+    called::<D, _>(false, |driver, platform| of(D::SUSPEND)(driver, platform))
+}
+
+extern "C" fn resume<D: Driver>() -> bool {
+    called::<D, _>(false, |driver, platform| of(D::RESUME)(driver, platform))
+}
+
+extern "C" fn link<D: Driver>() -> bool {
+    called::<D, _>(false, |driver, _| of(D::LINK)(driver))
+}
+
+extern "C" fn mailbox_send<D: Driver>(vf: u8, words: *const u32, count: u32) -> bool {
+    // SAFETY: the card gives so many words, which stay as they are while the function runs.
+    let words = unsafe { slice::from_raw_parts(words, count as usize) };
+    called::<D, _>(false, |driver, platform| of(D::MAILBOX_SEND)(driver, platform, vf, words))
+}
+
+extern "C" fn mailbox_receive<D: Driver>(vf: u8, words: *mut u32) -> bool {
+    called::<D, _>(false, |driver, platform| match of(D::MAILBOX_RECEIVE)(driver, platform, vf) {
+        Some(got) => {
+            // SAFETY: the card gives room for a mailbox's words that nobody else touches while the function runs.
+            unsafe { *words.cast::<[u32; MAILBOX_WORDS]>() = got };
+            true
+        }
+        None => false,
+    })
+}
+
+extern "C" fn mailbox_ready<D: Driver>() -> bool {
+    called::<D, _>(false, |driver, platform| of(D::MAILBOX_READY)(driver, platform))
+}
+
+/// The driver as C has it: a function's pointer is there where the driver has the function.
+fn raw_driver<D: Driver>(name: &CString) -> RawDriver {
+    RawDriver {
+        name: name.as_ptr(),
+        can: D::CAN.0,
+        queues: D::QUEUES,
+        slots: D::SLOTS,
+        frame: D::FRAME,
+        begin: begin::<D>,
+        open: open::<D>,
+        close: close::<D>,
+        receive: D::RECEIVE.map(|_| receive::<D> as _),
+        send: D::SEND.map(|_| send::<D> as _),
+        reclaim: D::RECLAIM.map(|_| reclaim::<D> as _),
+        interrupt: D::INTERRUPT.map(|_| interrupt::<D> as _),
+        rearm: D::REARM.map(|_| rearm::<D> as _),
+        threads: D::THREADS.len() as u32,
+        thread: D::THREADS.first().map(|_| thread::<D> as _),
+        filter: D::FILTER.map(|_| filter::<D> as _),
+        rss: D::RSS.map(|_| rss::<D> as _),
+        mtu: D::MTU.map(|_| mtu::<D> as _),
+        resize: D::RESIZE.map(|_| resize::<D> as _),
+        reset: D::RESET.map(|_| reset::<D> as _),
+        suspend: D::SUSPEND.map(|_| suspend::<D> as _),
+        resume: D::RESUME.map(|_| resume::<D> as _),
+        link: D::LINK.map(|_| link::<D> as _),
+        mailbox_send: D::MAILBOX_SEND.map(|_| mailbox_send::<D> as _),
+        mailbox_receive: D::MAILBOX_RECEIVE.map(|_| mailbox_receive::<D> as _),
+        mailbox_ready: D::MAILBOX_READY.map(|_| mailbox_ready::<D> as _),
+    }
+}
+
+/// The device of the card's scenarios.
+struct Device;
+
+impl Driven for Device {
+    fn sizes(&self) -> Sizes {
+        Sizes { vfs: FUNCTIONS.with(Cell::get), fifo: 256, blocks: 256 }
+    }
+}
+
+/// The program: its exit status.
+pub(super) fn run<D: Driver>(words: Vec<String>) -> u8 {
+    const REFUSED: u8 = 2;
+    if is_running() {
+        return REFUSED; // (a card in a function of a driver)
+    }
+    hook_panics();
+    let is_quiet = !words.iter().any(|it| it == "--replay");
+    let name = text(D::NAME);
+    let driver = raw_driver::<D>(&name);
+    let words: Vec<CString> = words.iter().map(|it| text(it)).collect();
+    let mut argv = arguments(&words);
+    // SAFETY: the words are strings and end with a null; the driver and its name stay until the call is over; no other
+    // search is at work in the process, since `within` lets one in.
+    let status = within(&Device, is_quiet, || unsafe { nicd_main(words.len() as c_int, argv.as_mut_ptr(), &driver) });
+    DRIVER.with(|it| it.borrow_mut().take());
+    u8::try_from(status).unwrap_or(REFUSED)
+}
+
+// --- in the driver's functions; a `Platform` is only in their hands ---
+
+pub(super) fn dma_alloc(bytes: usize) -> u64 {
+    // SAFETY: it takes no pointer.
+    unsafe { nicd_dma_alloc(bytes) }
+}
+
+pub(super) fn dma_free(bus: u64) {
+    // SAFETY: it takes no pointer.
+    unsafe { nicd_dma_free(bus) }
+}
+
+pub(super) fn deliver(queue: u16, bytes: &[u8]) {
+    // SAFETY: the frame has as many bytes as its length.
+    unsafe { nicd_deliver(queue, bytes.as_ptr(), u32::try_from(bytes.len()).unwrap_or(u32::MAX)) }
+}
+
+/// A piece of memory that the card counts. What is kept in it lies elsewhere: the card gives the piece to others once
+/// the next schedule begins.
+pub(super) struct Token {
+    piece: *mut c_void,
+}
+
+impl Token {
+    pub(super) fn take(bytes: usize) -> Option<Token> {
+        // SAFETY: it takes no pointer.
+        let piece = unsafe { nicd_alloc(bytes.max(1)) };
+        if piece.is_null() {
+            None
+        } else {
+            Some(Token { piece })
+        }
+    }
+}
+
+impl Drop for Token {
+    fn drop(&mut self) {
+        // A driver's function that panics has failed, and so has the schedule.
+        if !std::thread::panicking() {
+            // SAFETY: the card looks whether it gave the piece, and reads nothing of it otherwise.
+            unsafe { nicd_free(self.piece) }
+        }
+    }
+}

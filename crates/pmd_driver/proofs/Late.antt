@@ -7,7 +7,8 @@ use Rattle.pmd_rx.specs.NicDevice.DmaRing.declared.dir.Dir.TheVariants.{Rx}
 use Rattle.pmd_rx.specs.PmdAccess.declared.fault.PmdFault.{PmdFault}
 use Rattle.pmd_rx.specs.PmdAccess.declared.fault.PmdFault.TheVariants as fault
 use Rattle.pmd_rx.specs.PmdAccess.Both.{SwitchFails}
-use Rattle.pmd_rx.specs.PmdAccess.QueueMade.{Access, StopsBy}
+use Rattle.pmd_rx.specs.PmdAccess.QueueMade.{StopsBy}
+use Rattle.pmd_rx.specs.PmdAccess.declared.registers.Access.{Access}
 use Rattle.pmd_rx.specs.PmdAccess.Named.{AtPort}
 use Rattle.pmd_rx.specs.PmdAccess.Sides.{PollsEnd}
 use Rattle.pmd_rx.specs.Filling.{StopsFilling}

@@ -38,7 +38,9 @@ pub use Rattle.pmd_driver.specs.PmdAccess.Begun.{entries_in, marked_entries}
 pub use Rattle.pmd_driver.specs.PmdAccess.Both.{IsSwitched, SwitchFails, both_asked, both_quiet, receive_polled}
 pub use Rattle.pmd_driver.specs.PmdAccess.Frames.{is_frame, most_blocks, packet_limit}
 pub use Rattle.pmd_driver.specs.PmdAccess.Named.{AtPort, IsNumberOf, is_driven}
-pub use Rattle.pmd_driver.specs.PmdAccess.QueueMade.{Access, AreMade, IsMade, Sees, Sets, StopsBy}
+pub use Rattle.pmd_driver.specs.PmdAccess.QueueMade.{AreMade, IsMade, StopsBy}
+pub use Rattle.pmd_driver.specs.PmdAccess.declared.registers.Access.{Access}
+pub use Rattle.pmd_driver.specs.PmdAccess.declared.registers.Access.TheVariants.{Sees, Sets}
 pub use Rattle.pmd_driver.specs.PmdAccess.Sides.{missed, polled, quiet, ring_words}
 pub use Rattle.pmd_driver.specs.PmdAccess.Slots.{EachRingBlock, blocks_for, is_ring_block, ring_blocks}
 pub use Rattle.pmd_driver.specs.PmdAccess.declared.fault.PmdFault.TheVariants.{DeviceFault, StartTimeout}

@@ -6,7 +6,7 @@
    between is forgotten. With -DFIXED it clears it before its first look. */
 #include <string.h>
 
-#include "nic82599_explore.h"
+#include "../driver.h"
 
 enum { SLOTS = 8, FRAME = 60, FRAMES = 4, CAUSE = 1, RING = 0, INTERVALS = 2, MANY = 1 };
 
@@ -38,11 +38,6 @@ static void isr(void *unused)
     driver.scheduled = true;
 }
 
-static bool is_set(void *flag)
-{
-    return *(const bool *)flag;
-}
-
 static void deliver(const uint8_t *frame)
 {
     uint8_t whole[FRAME];
@@ -70,7 +65,7 @@ static void poll(void *unused)
 {
     (void)unused;
     for (;;) {
-        nicx_wait_until(is_set, &driver.scheduled);
+        nicx_wait_until(nicx_is_set, &driver.scheduled);
 #ifdef FIXED
         driver.scheduled = false;
 #endif
@@ -155,16 +150,4 @@ static const char *end(void)
     return mask & CAUSE ? NULL : "the vector is masked at rest";
 }
 
-int main(int argc, char **argv)
-{
-    static const nicx_scenario scenario = {
-        .name = "interrupt_moderation",
-        .fifo = 64,
-        .blocks = 1 + SLOTS,
-        .queues = 1,
-        .bring_up = bring_up,
-        .begin = begin,
-        .end = end,
-    };
-    return nicx_main(argc, argv, &scenario);
-}
+DRIVER(.name = "interrupt_moderation", .blocks = 1 + SLOTS)

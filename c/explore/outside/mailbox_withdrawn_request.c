@@ -5,7 +5,7 @@
    if there is another request. */
 #include <string.h>
 
-#include "nic82599_explore.h"
+#include "../driver.h"
 
 enum { VF = 0, VECTOR = 1, GET_QUEUES = 0x10, GET_ADDRESS = 0x11, NOT_KNOWN = 0xFF, PATIENCE = 8 };
 
@@ -163,17 +163,4 @@ static const char *end(void)
     return word ? "a request wasn't looked at" : NULL;
 }
 
-int main(int argc, char **argv)
-{
-    static const nicx_scenario scenario = {
-        .name = "mailbox_withdrawn_request",
-        .vfs = 1,
-        .fifo = 64,
-        .blocks = 1,
-        .queues = 1,
-        .bring_up = bring_up,
-        .begin = begin,
-        .end = end,
-    };
-    return nicx_main(argc, argv, &scenario);
-}
+DRIVER(.name = "mailbox_withdrawn_request", .vfs = 1, .blocks = 1)

@@ -6,7 +6,7 @@
    -DFIXED it is dropped. */
 #include <string.h>
 
-#include "nic82599_explore.h"
+#include "../driver.h"
 
 enum { SMALL = 8, LARGE = 16, SMALL_RING = 0, LARGE_RING = 0x100, PART = 1024, FRAME = 2500, FRAMES = 3 };
 
@@ -72,16 +72,11 @@ static void isr(void *unused)
     driver.scheduled = true;
 }
 
-static bool is_set(void *flag)
-{
-    return *(const bool *)flag;
-}
-
 static void poll(void *unused)
 {
     (void)unused;
     for (;;) {
-        nicx_wait_until(is_set, &driver.scheduled);
+        nicx_wait_until(nicx_is_set, &driver.scheduled);
         driver.scheduled = false;
         nicx_lock(&driver.lock);
         while (take())
@@ -180,16 +175,4 @@ static const char *end(void)
     return NULL;
 }
 
-int main(int argc, char **argv)
-{
-    static const nicx_scenario scenario = {
-        .name = "ring_resize_jumbo",
-        .fifo = 64,
-        .blocks = 1 + LARGE,
-        .queues = 1,
-        .bring_up = bring_up,
-        .begin = begin,
-        .end = end,
-    };
-    return nicx_main(argc, argv, &scenario);
-}
+DRIVER(.name = "ring_resize_jumbo", .blocks = 1 + LARGE)

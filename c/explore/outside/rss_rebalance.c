@@ -6,7 +6,7 @@
    after the new worker has a frame of the flow. */
 #include <string.h>
 
-#include "nic82599_explore.h"
+#include "../driver.h"
 
 enum { QUEUES = 2, SLOTS = 8, FLOWS = 2, FRAME = 60, FRAMES = 4, PORT_AT = 35, NUMBER_AT = 54 };
 enum { BULK = 0, FROM = 0, TO = 1 }; /* flow BULK moves from one queue to the other */
@@ -49,11 +49,6 @@ static void make_frame(uint8_t frame[FRAME], unsigned flow, unsigned number)
 
 /* --- the driver --- */
 
-static bool is_set(void *flag)
-{
-    return *(const bool *)flag;
-}
-
 static void deliver(unsigned queue, const uint8_t *frame)
 {
     uint8_t whole[FRAME];
@@ -62,7 +57,7 @@ static void deliver(unsigned queue, const uint8_t *frame)
 #ifdef FIXED
         driver.waits = true;
 #endif
-        nicx_wait_until(is_set, &driver.moved);
+        nicx_wait_until(nicx_is_set, &driver.moved);
     }
     make_frame(whole, flow, frame[NUMBER_AT]);
     nicx_check(!memcmp(whole, frame, FRAME), "a frame isn't whole");
@@ -126,10 +121,10 @@ static void balance(void *unused)
     nicx_wait_until(is_busy, NULL);
     nicx_write32(NIC_RETA(0), NIC_RETA_ENTRY_0_IS(TO) | NIC_RETA_ENTRY_1_IS(TO));
 #ifdef FIXED
-    nicx_wait_until(is_set, &driver.waits);
+    nicx_wait_until(nicx_is_set, &driver.waits);
 #endif
     driver.flush[FROM] = true;
-    nicx_wait_until(is_set, &driver.flushed);
+    nicx_wait_until(nicx_is_set, &driver.flushed);
     driver.moved = true;
 }
 
@@ -197,16 +192,4 @@ static const char *end(void)
     return NULL;
 }
 
-int main(int argc, char **argv)
-{
-    static const nicx_scenario scenario = {
-        .name = "rss_rebalance",
-        .fifo = 64,
-        .blocks = 1 + QUEUES * SLOTS,
-        .queues = QUEUES,
-        .bring_up = bring_up,
-        .begin = begin,
-        .end = end,
-    };
-    return nicx_main(argc, argv, &scenario);
-}
+DRIVER(.name = "rss_rebalance", .blocks = 1 + QUEUES * SLOTS, .queues = QUEUES)

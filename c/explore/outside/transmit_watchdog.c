@@ -5,7 +5,7 @@
    waits until the queue is off. */
 #include <string.h>
 
-#include "nic82599_explore.h"
+#include "../driver.h"
 
 enum { SLOTS = 8, BUFFERS = 3, FRAME = 60, FRAMES = 4, TICKS = 2, RING = 0 };
 
@@ -77,16 +77,11 @@ static void isr(void *unused)
     driver.scheduled = true;
 }
 
-static bool is_set(void *flag)
-{
-    return *(const bool *)flag;
-}
-
 static void cleaner(void *unused)
 {
     (void)unused;
     for (;;) {
-        nicx_wait_until(is_set, &driver.scheduled);
+        nicx_wait_until(nicx_is_set, &driver.scheduled);
         driver.scheduled = false;
         nicx_lock(&driver.lock);
         reclaim();
@@ -197,17 +192,4 @@ static const char *end(void)
     return head == driver.tail ? NULL : "the ring isn't at rest";
 }
 
-int main(int argc, char **argv)
-{
-    static const nicx_scenario scenario = {
-        .name = "transmit_watchdog",
-        .fifo = 64,
-        .blocks = 1 + BUFFERS,
-        .queues = 1,
-        .bring_up = bring_up,
-        .begin = begin,
-        .always = always,
-        .end = end,
-    };
-    return nicx_main(argc, argv, &scenario);
-}
+DRIVER(.name = "transmit_watchdog", .blocks = 1 + BUFFERS, .always = always)

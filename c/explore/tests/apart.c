@@ -4,10 +4,10 @@
 #include <string.h>
 
 #include "card.h"
+#include "modes.h"
 
 enum { QUEUES = 2 };
 
-static const char *mode;
 static const unsigned queues[QUEUES] = {0, 1};
 static nicx_mutex lock;
 static unsigned count;
@@ -72,6 +72,5 @@ int main(int argc, char **argv)
         .begin = begin,
         .end = end,
     };
-    argv[argc > 1] = argv[0];
-    return nicx_main(argc - (argc > 1), argv + (argc > 1), &scenario);
+    return search_in_mode(argc, argv, &scenario);
 }

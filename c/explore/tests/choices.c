@@ -4,18 +4,13 @@
 #include <string.h>
 
 #include "card.h"
+#include "modes.h"
 
 enum { BOUND = 6, READS = 10 };
 
-static const char *mode;
 static int timer, other_timer;
 static unsigned chosen[2], fired, at_point, points;
 static bool is_running, was_armed;
-
-static bool is(const char *name)
-{
-    return !strcmp(mode, name);
-}
 
 static const char *bring_up(void)
 {
@@ -166,6 +161,5 @@ int main(int argc, char **argv)
         .begin = begin,
         .end = end,
     };
-    argv[argc > 1] = argv[0];
-    return nicx_main(argc - (argc > 1), argv + (argc > 1), &scenario);
+    return search_in_mode(argc, argv, &scenario);
 }

@@ -7,17 +7,12 @@
 #include <unistd.h>
 
 #include "card.h"
+#include "modes.h"
 
-static const char *mode;
 static nicx_mutex locks[2];
 static volatile unsigned turns;
 static bool head_moved, first_ran, second_ran, service_ran;
 static unsigned left; /* begin doesn't make it anew */
-
-static bool is(const char *name)
-{
-    return !strcmp(mode, name);
-}
 
 /* Memory of the driver's own, which no search takes. */
 static void lend_own(nic *n)
@@ -261,6 +256,5 @@ int main(int argc, char **argv)
         scenario.end = NULL;
     if (is("scenario"))
         scenario.name = "a scenario";
-    argv[argc > 1] = argv[0];
-    return nicx_main(argc - (argc > 1), argv + (argc > 1), &scenario);
+    return search_in_mode(argc, argv, &scenario);
 }

@@ -15,13 +15,7 @@
 #include <unistd.h>
 
 #include "card.h"
-
-static const char *mode;
-
-static bool is(const char *name)
-{
-    return !strcmp(mode, name);
-}
+#include "modes.h"
 
 static pthread_mutex_t first = PTHREAD_MUTEX_INITIALIZER, second = PTHREAD_MUTEX_INITIALIZER;
 static pthread_cond_t changed = PTHREAD_COND_INITIALIZER;

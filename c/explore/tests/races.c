@@ -8,17 +8,11 @@
 #include <string.h>
 
 #include "card.h"
+#include "modes.h"
 
 #if defined(__GNUC__) && !defined(__clang__)
 #pragma GCC diagnostic ignored "-Wtsan" /* fences are known here */
 #endif
-
-static const char *mode;
-
-static bool is(const char *name)
-{
-    return !strcmp(mode, name);
-}
 
 static struct {
     unsigned value, other;

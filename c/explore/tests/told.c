@@ -4,19 +4,14 @@
 #include <string.h>
 
 #include "card.h"
+#include "modes.h"
 
 enum { FRAMES = 6, LINKS = 4 };
 
-static const char *mode;
 static nicx_mutex named = {.name = "the ring"}, plain_lock;
 static nicx_mutex *far_lock;
 static bool ready, wants[2];
 static unsigned got, count, seen;
-
-static bool is(const char *name)
-{
-    return !strcmp(mode, name);
-}
 
 static const char *bring_up(void)
 {
@@ -208,6 +203,5 @@ int main(int argc, char **argv)
         .begin = begin,
         .end = end,
     };
-    argv[argc > 1] = argv[0];
-    return nicx_main(argc - (argc > 1), argv + (argc > 1), &scenario);
+    return search_in_mode(argc, argv, &scenario);
 }

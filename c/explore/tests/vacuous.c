@@ -3,14 +3,9 @@
 #include <string.h>
 
 #include "card.h"
+#include "modes.h"
 
-static const char *mode;
 static bool scheduled, never;
-
-static bool is(const char *name)
-{
-    return !strcmp(mode, name);
-}
 
 static const char *bring_up(void)
 {
@@ -84,6 +79,5 @@ int main(int argc, char **argv)
         .end = end,
         .allowed = is("faults") ? NICX_FAULTS : 0,
     };
-    argv[argc > 1] = argv[0];
-    return nicx_main(argc - (argc > 1), argv + (argc > 1), &scenario);
+    return search_in_mode(argc, argv, &scenario);
 }

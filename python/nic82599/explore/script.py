@@ -11,7 +11,8 @@ from functools import cache
 from typing import TYPE_CHECKING
 
 from .. import Nic, NotLent
-from ..registers import OFFSETS, REGISTERS
+from ..registers import OFFSETS
+from ..tools.regs import REGISTERS
 
 if TYPE_CHECKING:
     from . import Scenario
@@ -20,21 +21,10 @@ if TYPE_CHECKING:
 MOST_INSTRUCTIONS, MOST_STRINGS, MOST_BLOCKS, CHECKED = 4_096, 1_024, 256, 64
 
 
-@cache
-def _names() -> dict[int, str]:
-    """All addresses with their names."""
-    found = {}
-    for name, runs in REGISTERS.items():
-        is_one = sum(count for _, _, _, count in runs) == 1
-        for index, first, stride, count in runs:
-            for k in range(count):
-                found.setdefault(first + stride * k, name if is_one else f"{name}[{index + k}]")
-    return found
-
-
 def name_of(address: int) -> str:
     """A register by its name, `RDT[3]`, or its address where none is there."""
-    return _names().get(address, f"0x{address:05x}")
+    register = REGISTERS.get(address)
+    return register.name if register else f"0x{address:05x}"
 
 
 @cache

@@ -22,6 +22,13 @@ static inline uint32_t chance_below(struct chance *chance, uint32_t bound)
     return (uint32_t)((chance_next(chance) >> 32) * bound >> 32);
 }
 
+/* A sum of values in their order, with one more. */
+static inline uint64_t chance_mixed(uint64_t sum, uint64_t value)
+{
+    sum = (sum ^ value) * 0x9E3779B97F4A7C15u;
+    return sum ^ sum >> 29;
+}
+
 /* What begins a run of a seed: two runs have nothing in common. */
 static inline struct chance chance_of(uint64_t seed, uint64_t run)
 {

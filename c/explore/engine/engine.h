@@ -348,6 +348,12 @@ const char *nicxi_keep(void);
 void nicxi_back(void);
 void nicxi_drop_kept(void);
 
+/* Whether two ranges of memory have a byte in common. */
+static inline bool nicxi_overlap(uint64_t a, uint64_t a_length, uint64_t b, uint64_t b_length)
+{
+    return a < b + b_length && b < a + a_length;
+}
+
 static inline bool nicxi_is_device_step(uint8_t kind)
 {
     return kind >= STEP_RX;

@@ -161,19 +161,14 @@ static bool is_of_a_function(const struct step *a, const struct step *b)
     return a->of != 0;
 }
 
-static bool overlap(uint64_t a, uint64_t a_length, uint64_t b, uint64_t b_length)
-{
-    return a < b + b_length && b < a + a_length;
-}
-
 /* A step of the device writes memory where it tells so: a frame's bytes and its descriptor, a descriptor or a head. */
 static bool writes_elsewhere(const struct step *a, const struct step *b)
 {
     const nic_told *told = &b->told;
     if (b->status == NIC_WROTE)
-        return !overlap(a->bus, a->length, told->desc, NIC_DESC_BYTES) &&
-               !overlap(a->bus, a->length, told->at, told->len);
-    return !told->back || !overlap(a->bus, a->length, told->at, NIC_DESC_BYTES);
+        return !nicxi_overlap(a->bus, a->length, told->desc, NIC_DESC_BYTES) &&
+               !nicxi_overlap(a->bus, a->length, told->at, told->len);
+    return !told->back || !nicxi_overlap(a->bus, a->length, told->at, NIC_DESC_BYTES);
 }
 
 /* And what a frame that was written had read is its descriptor. */
@@ -186,7 +181,7 @@ static bool wrote_elsewhere(const struct step *a, const struct step *b)
 
 static bool are_other_bytes(const struct step *a, const struct step *b)
 {
-    return !overlap(a->bus, a->length, b->bus, b->length);
+    return !nicxi_overlap(a->bus, a->length, b->bus, b->length);
 }
 
 static bool is_read(const struct step *step)

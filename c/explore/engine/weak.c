@@ -51,11 +51,6 @@ void nicxi_give_memory(enum given_memory given)
     given_memory = given;
 }
 
-static bool overlap(uint64_t a, uint64_t a_length, uint64_t b, uint64_t b_length)
-{
-    return a < b + b_length && b < a + a_length;
-}
-
 static struct processor *processor_of(const struct thread *thread)
 {
     return &weak.processors[thread->on >= 0 ? thread->on : (int)(thread - nicxi.threads)];
@@ -196,7 +191,7 @@ static uint32_t floor_of(const struct processor *it, uint64_t bus, uint32_t leng
 {
     uint32_t floor = it->floor;
     for (uint32_t k = 0; k < it->seen_count; k++)
-        if (it->seen[k].time > floor && overlap(it->seen[k].bus, it->seen[k].length, bus, length))
+        if (it->seen[k].time > floor && nicxi_overlap(it->seen[k].bus, it->seen[k].length, bus, length))
             floor = it->seen[k].time;
     return floor;
 }
@@ -223,7 +218,7 @@ static void note_seen(struct processor *it, uint64_t bus, uint32_t length, uint3
 static bool gives_own(const struct processor *it, uint64_t bus, uint32_t length)
 {
     for (uint32_t k = 0; k < it->count; k++)
-        if (overlap(it->stores[k].bus, it->stores[k].length, bus, length))
+        if (nicxi_overlap(it->stores[k].bus, it->stores[k].length, bus, length))
             return true;
     return false;
 }
@@ -234,7 +229,7 @@ static bool time_before(const struct processor *it, uint64_t bus, uint32_t lengt
     uint32_t floor = floor_of(it, bus, length), last = 0;
     for (size_t k = weak.count; k > 0 && weak.changes[k - 1].time > floor; k--) {
         const struct change *change = &weak.changes[k - 1];
-        if (change->time == last || !overlap(change->bus, change->length, bus, length))
+        if (change->time == last || !nicxi_overlap(change->bus, change->length, bus, length))
             continue;
         last = change->time;
         *time = last - 1;
@@ -283,7 +278,7 @@ uint8_t nicxi_load(struct step *step, uint8_t *bytes)
     }
     for (uint32_t k = 0; k < it->count; k++) {
         const struct store *store = &it->stores[k];
-        step->is_kept |= overlap(store->bus, store->length, step->bus, step->length);
+        step->is_kept |= nicxi_overlap(store->bus, store->length, step->bus, step->length);
         lay_over(bytes, step->bus, step->length, store->bytes, store->bus, store->length);
     }
     note_seen(it, step->bus, step->length, time);
@@ -371,7 +366,7 @@ bool nicxi_can_land(const struct actor *actor)
     if (place >= it->count)
         return false;
     for (uint32_t k = 0; k < place; k++)
-        if (overlap(it->stores[k].bus, it->stores[k].length, it->stores[place].bus, it->stores[place].length))
+        if (nicxi_overlap(it->stores[k].bus, it->stores[k].length, it->stores[place].bus, it->stores[place].length))
             return false;
     return true;
 }

@@ -286,16 +286,10 @@ static void make(struct pick *it)
 
 /* --- what a state shows --- */
 
-static uint64_t mixed(uint64_t sum, uint64_t value)
-{
-    sum = (sum ^ value) * 0x9E3779B97F4A7C15u;
-    return sum ^ sum >> 29;
-}
-
 static uint64_t sum_of_bytes(uint64_t sum, const uint8_t *bytes, size_t length)
 {
     for (size_t k = 0; k < length; k++)
-        sum = mixed(sum, bytes[k]);
+        sum = chance_mixed(sum, bytes[k]);
     return sum;
 }
 
@@ -304,7 +298,7 @@ static uint64_t sum_of_frames_out(uint64_t sum)
     static uint8_t frame[20000];
     nic_told told;
     while (nic_collect(&n, frame, sizeof frame, &told) == NIC_FRAME)
-        sum = sum_of_bytes(mixed(sum, told.queue), frame, (size_t)told.len);
+        sum = sum_of_bytes(chance_mixed(sum, told.queue), frame, (size_t)told.len);
     return sum;
 }
 
@@ -316,9 +310,10 @@ static uint64_t sum_of_going_on(uint64_t sum)
     size_t count = 0;
     nic_settle(&n, QUEUES, told, MOST_OUT, &count);
     for (size_t k = 0; k < count; k++) {
-        sum = mixed(sum,
-                    (uint64_t)told[k].status << 40 | (uint64_t)told[k].step << 32 | told[k].queue << 16 | told[k].slot);
-        sum = mixed(sum, told[k].at ^ told[k].desc << 20 ^ told[k].len << 40 ^ told[k].why ^ told[k].vector << 8);
+        sum = chance_mixed(sum, (uint64_t)told[k].status << 40 | (uint64_t)told[k].step << 32 | told[k].queue << 16 |
+                                    told[k].slot);
+        sum =
+            chance_mixed(sum, told[k].at ^ told[k].desc << 20 ^ told[k].len << 40 ^ told[k].why ^ told[k].vector << 8);
     }
     return sum;
 }
@@ -328,7 +323,7 @@ static uint64_t sum_of_registers(uint64_t sum)
     uint32_t word = 0;
     for (size_t k = 0; k < ADDRESSES; k++) {
         nic_peek32(&n, addresses[k], &word);
-        sum = mixed(sum, word);
+        sum = chance_mixed(sum, word);
     }
     return sum;
 }
@@ -338,7 +333,7 @@ static uint64_t sum_of_memory(uint64_t sum)
     uint8_t bytes[NIC_BLOCK_BYTES];
     for (uint64_t block = 0; block < BLOCKS; block++)
         if (nic_dma_read(&n, block * NIC_BLOCK_BYTES, bytes, sizeof bytes) == NIC_DONE)
-            sum = sum_of_bytes(mixed(sum, block), bytes, sizeof bytes);
+            sum = sum_of_bytes(chance_mixed(sum, block), bytes, sizeof bytes);
     return sum;
 }
 

@@ -23,12 +23,6 @@ static uint64_t seen[TWO + 1];
 static uint64_t ends[MOST_ENDS];
 static uint32_t end_count;
 
-static uint64_t mixed(uint64_t sum, uint64_t value)
-{
-    sum = (sum ^ value) * 0x9E3779B97F4A7C15u;
-    return sum ^ sum >> 29;
-}
-
 /* --- a driver by chance; what each of its threads saw, in its order, is its sum --- */
 
 /* The driver's own memory is told as code that is compiled for it does. */
@@ -42,7 +36,7 @@ static void count_in_lock(uint64_t *sum)
 {
     nicx_lock(&lock);
     tell(&shared, sizeof shared, true);
-    *sum = mixed(*sum, ++shared);
+    *sum = chance_mixed(*sum, ++shared);
     nicx_unlock(&lock);
 }
 
@@ -50,16 +44,16 @@ static void act(unsigned who, uint8_t doing)
 {
     uint64_t *sum = &seen[who];
     switch (doing) {
-    case 0: *sum = mixed(*sum, nicx_read32(NIC_RDH(0))); break;
-    case 1: *sum = mixed(*sum, nicx_read32(NIC_TDH(0))); break;
-    case 2: *sum = mixed(*sum, nicx_read32(NIC_EICR)); break;
-    case 3: *sum = mixed(*sum, nicx_get64(RX_RING + 8)); break;
+    case 0: *sum = chance_mixed(*sum, nicx_read32(NIC_RDH(0))); break;
+    case 1: *sum = chance_mixed(*sum, nicx_read32(NIC_TDH(0))); break;
+    case 2: *sum = chance_mixed(*sum, nicx_read32(NIC_EICR)); break;
+    case 3: *sum = chance_mixed(*sum, nicx_get64(RX_RING + 8)); break;
     case 4: nicx_write32(NIC_RDT(0), 2); break;
     case 5: nicx_write32(NIC_TDT(0), who + 1); break;
     case 6: nicx_put64(RX_RING + 16, buffer(1)); break;
     case 7: nicx_write32(NIC_EIMS, CAUSE); break;
     case 8: nicx_write32(NIC_EERD, 1); break;
-    case 9: *sum = mixed(*sum, nicx_read32(NIC_EERD)); break;
+    case 9: *sum = chance_mixed(*sum, nicx_read32(NIC_EERD)); break;
     case 10: nicx_write32(NIC_RXDCTL(0), who ? ENABLE : 0); break;
     case 11: nicx_wait(); break;
     case 12:
@@ -68,13 +62,13 @@ static void act(unsigned who, uint8_t doing)
             break;
         }
         tell(&seen[who ^ 1], sizeof *seen, false);
-        *sum = mixed(*sum, seen[who ^ 1]);
+        *sum = chance_mixed(*sum, seen[who ^ 1]);
         nicx_point();
         break;
-    case 13: *sum = mixed(*sum, nicx_get64(buffer(0) + 8 * who)); break;
-    case 14: *sum = mixed(*sum, nicx_vf_read32(0, NIC_VFRDH(0))); break;
-    case 15: *sum = mixed(*sum, nicx_vf_read32(0, NIC_VTEICR)); break;
-    case 16: *sum = mixed(*sum, nicx_vf_read32(0, NIC_VFMAILBOX)); break;
+    case 13: *sum = chance_mixed(*sum, nicx_get64(buffer(0) + 8 * who)); break;
+    case 14: *sum = chance_mixed(*sum, nicx_vf_read32(0, NIC_VFRDH(0))); break;
+    case 15: *sum = chance_mixed(*sum, nicx_vf_read32(0, NIC_VTEICR)); break;
+    case 16: *sum = chance_mixed(*sum, nicx_vf_read32(0, NIC_VFMAILBOX)); break;
     case 17: nicx_vf_write32(0, NIC_VFMBMEM(0), who + 1); break;
     case 18: nicx_vf_write32(0, NIC_VFMAILBOX, 1); break;
     case 19: nicx_vf_write32(0, NIC_VFRDT(0), 2); break;
@@ -101,7 +95,7 @@ static void handler(void *unused)
 {
     (void)unused;
     tell(&seen[TWO], sizeof *seen, true);
-    seen[TWO] = mixed(seen[TWO], has_function ? nicx_vf_read32(0, NIC_VTEICR) : nicx_read32(NIC_EICR));
+    seen[TWO] = chance_mixed(seen[TWO], has_function ? nicx_vf_read32(0, NIC_VTEICR) : nicx_read32(NIC_EICR));
 }
 
 static const char *bring_up(void)
@@ -140,14 +134,14 @@ static const char *end(void)
     uint64_t sum = 1, half = 0;
     uint32_t word;
     for (unsigned k = 0; k <= TWO; k++)
-        sum = mixed(sum, seen[k]);
+        sum = chance_mixed(sum, seen[k]);
     for (size_t k = 0; k < sizeof looked / sizeof *looked; k++) {
         nic_peek32(nicx_device(), looked[k], &word);
-        sum = mixed(sum, word);
+        sum = chance_mixed(sum, word);
     }
     nic_peek32(nicx_device(), NIC_EICR, &word);
     nic_get64(nicx_device(), RX_RING + 8, &half);
-    sum = mixed(mixed(sum, word), half + shared);
+    sum = chance_mixed(chance_mixed(sum, word), half + shared);
     if (end_count < MOST_ENDS)
         ends[end_count++] = sum;
     return NULL;
@@ -167,7 +161,7 @@ static uint64_t sum_of_ends(void)
     qsort(ends, end_count, sizeof *ends, order);
     for (uint32_t k = 0; k < end_count; k++)
         if (!k || ends[k] != ends[k - 1])
-            sum = mixed(sum, ends[k]);
+            sum = chance_mixed(sum, ends[k]);
     return sum;
 }
 

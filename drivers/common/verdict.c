@@ -59,6 +59,14 @@ bool read_number(const char *word, unsigned long least, unsigned long most, unsi
     return true;
 }
 
+bool read_device(const char *word, uint16_t *device)
+{
+    char *end;
+    unsigned long id = strtoul(word, &end, 16);
+    *device = (uint16_t)id;
+    return *word && !*end && id > 0 && id <= UINT16_MAX;
+}
+
 double seconds(void)
 {
     static double first = -1;

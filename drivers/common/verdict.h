@@ -18,6 +18,9 @@ int verdict(void);
 /* A number in decimal digits, from `least` to `most`; false for any other word, also a number with something behind. */
 bool read_number(const char *word, unsigned long least, unsigned long most, unsigned int *number);
 
+/* A PCI device's number, as "10fb"; false: it is none. */
+bool read_device(const char *word, uint16_t *device);
+
 /* Seconds of the clock since the first call. */
 double seconds(void);
 

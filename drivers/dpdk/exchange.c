@@ -167,14 +167,6 @@ static bool read_turn(const char *way, struct words *it)
     return true;
 }
 
-static bool read_device(const char *word, uint16_t *device)
-{
-    char *end;
-    unsigned long id = strtoul(word, &end, 16);
-    *device = (uint16_t)id;
-    return *word && !*end && id > 0 && id <= UINT16_MAX;
-}
-
 /* A word that has another behind it: false where either isn't known. */
 static bool read_pair(const char *word, const char *next, struct words *it)
 {

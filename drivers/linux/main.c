@@ -34,14 +34,6 @@ struct words {
 
 /* ---- the words ---- */
 
-static bool read_device(const char *word, uint16_t *device)
-{
-    char *end;
-    unsigned long id = strtoul(word, &end, 16);
-    *device = (uint16_t)id;
-    return *word && !*end && id > 0 && id <= UINT16_MAX;
-}
-
 static bool read_turn(const char *word, struct words *it)
 {
     it->turn_in = strcmp(word, "in") == 0 ? TURNED : it->turn_in;

@@ -424,9 +424,10 @@ class Kit:
         return program
 
     def card(self, program: Path, wanted: int | None, *words: object) -> dict[str, dict[str, Any]]:
-        """The rows of a program's card; a machine that has much to do makes as many schedules as another."""
+        """The rows of a program's card, by the clock of a machine that may have much else to do."""
         folder = self.folder / f"card-{program.name}"
-        nicdrive(folder, [program, "--jobs", self.jobs, "--no-pages", "--seconds", 120, *words], wanted)
+        how = ["--jobs", self.jobs, "--no-pages", "--seconds", 120, "--hang", 30]
+        nicdrive(folder, [program, *how, *words], wanted)
         return rows_of(folder)
 
 
@@ -469,7 +470,8 @@ def check_faults(kit: Kit, each: int = 1) -> str:
     for mode in list(FAULTS)[::each]:
         name, cause = FAULTS[mode]
         program = kit.build(HERE / "tests/faulty.c", f"MODE={mode}")
-        rows = kit.card(program, 1, "--rows", "receive-one,open-close,receive-wrap", "--runs", 400, "--every", 50)
+        some: list[object] = ["--rows", "receive-one,open-close,receive-wrap", "--runs", 400, "--every", 50]
+        rows = kit.card(program, 1, *some, "--hang", 3)
         expect(rows[name], cause, mode)
         if any(not row["state"] for row in rows.values()):
             raise Wrong(f"{mode}: a row wasn't made")

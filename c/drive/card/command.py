@@ -62,6 +62,8 @@ def words() -> argparse.Namespace:
     parser.add_argument("--seconds", type=float, default=Budget.seconds, metavar="S", help=seconds)
     every = "schedules of the exhaustive search (%(default)s)"
     parser.add_argument("--every", type=int, default=Budget.every, metavar="N", help=every)
+    hang = "so long the driver may act without a call of the card's, by the clock, before it hangs (%(default)s)"
+    parser.add_argument("--hang", type=int, default=Budget.hang, metavar="S", help=hang)
     parser.add_argument("--seed", type=int, default=1, metavar="N", help="what chance begins with (1)")
     memory = "weak: stores to DMA memory may be late where no barrier orders them, and loads old (strong)"
     parser.add_argument("--memory", choices=("strong", "weak"), default="strong", help=memory)
@@ -150,7 +152,7 @@ def make(given: argparse.Namespace) -> int:
     rows = chosen(listed(program.resolve()), given.rows)
     if given.list:
         return tell_names(rows)
-    budget = Budget(runs=given.runs, seconds=given.seconds, every=given.every, seed=given.seed, memory=given.memory)
+    budget = Budget(given.runs, given.seconds, given.every, hang=given.hang, seed=given.seed, memory=given.memory)
     began, used = time.monotonic(), processor_seconds()
     make_all(Runner(program, folder, budget), rows, given.jobs, tell)
     if not given.no_pages:
@@ -177,8 +179,8 @@ def command() -> int:
             return list_all(given)
         if not given.driver:
             raise Refused("which driver? a source, objects, or a program (--help)")
-        if given.jobs < 1 or given.runs < 1 or given.every < 1 or given.seconds <= 0:
-            raise Refused("--jobs, --runs, --every and --seconds are above 0")
+        if min(given.jobs, given.runs, given.every, given.hang) < 1 or given.seconds <= 0:
+            raise Refused("--jobs, --runs, --every, --hang and --seconds are above 0")
         return make(given)
     except Refused as fault:
         print(f"nicdrive: {fault}", file=sys.stderr)

@@ -7,8 +7,9 @@
 
 A driver is a source that names its functions in a struct (nic82599_drive.h) and calls nicd_main; or several sources,
 objects, or a program. The folder of the card gets card.html, card.txt, card.json and, for a gate, card.xml in the form
-of JUnit; of each failed row its schedule, a script of its run for nicbench, and the page of that run. Each row is
-searched in a process of its own: one of a driver that crashes or hangs fails, and the others go on.
+of JUnit; of each failed row its schedule, as text and as a page, and its run, as a script for nicbench and as a page of
+nicview. Each row is searched in a process of its own: one of a driver that crashes or hangs fails, and the others go
+on.
 
 Exit status: 0 each row that applies passed; 1 one failed, or with --compare one that passed no longer does; 2 the
 driver or the words can't be taken, and one line says why.

@@ -14,3 +14,16 @@ $(OUT)/drive/%.o: $(HERE)/drive/%.c $(DRIVE_HEADERS)
 $(OUT)/libnic82599_drive.a: $(DRIVE_OBJECTS)
 	rm -f $@
 	$(AR) rcs $@ $^
+
+# The same for drivers in Python, as one shared library: the stacks are threads there (python/fiber.c).
+PYTHON_SOURCES := $(wildcard $(HERE)/drive/python/*.c)
+PYTHON_HEADERS := $(wildcard $(HERE)/drive/python/*.h)
+PYTHON_OBJECTS := $(patsubst $(HERE)/drive/%.c,$(OUT)/drive/%.o,$(PYTHON_SOURCES))
+
+$(PYTHON_OBJECTS): $(PYTHON_HEADERS)
+
+$(OUT)/libnic82599_drive.so: $(DRIVE_OBJECTS) $(PYTHON_OBJECTS) $(EXPLORE_OBJECTS) $(OUT)/libnic82599.a \
+    $(HERE)/drive/python/exports.map
+	$(CC) -shared -o $@ $(DRIVE_OBJECTS) $(PYTHON_OBJECTS) $(filter-out %/fiber.o,$(EXPLORE_OBJECTS)) \
+	    $(OUT)/libnic82599.a -Wl,--version-script=$(HERE)/drive/python/exports.map -Wl,-z,defs -Wl,-z,relro \
+	    -Wl,-z,now -lpthread

@@ -31,6 +31,7 @@ import nic82599  # noqa: E402
 import nic82599.buffers  # noqa: E402
 import nic82599.descriptors  # noqa: E402
 import packing  # noqa: E402
+import report_card  # noqa: E402
 import weak_memory  # noqa: E402
 import why_nothing  # noqa: E402
 
@@ -78,6 +79,7 @@ def main() -> None:
     print(f"{units(descriptors_of_device)} tests of descriptors")
     print(f"{units(explorer)} tests of the explorer")
     print(f"{units(weak_memory)} tests of weak memory, values and timers")
+    print(f"{units(report_card)} tests of the report card")
     print(f"{units(packing)} tests of the package")
     print(f"{units(ends)} tests of how tools end")
     print(f"{units(why_nothing)} tests of why nothing happens")

@@ -252,6 +252,11 @@ static void judge_thread(void)
         nicd_note("a call comes from a thread that the driver made itself: the card's are those of `threads`");
 }
 
+void nicd_thread_is_mine(void)
+{
+    card_thread = &mark;
+}
+
 /* A write that the device drops since the queue is on. */
 void nicd_see_held(const struct step *step, bool is_drivers)
 {
@@ -331,7 +336,7 @@ void nicd_watch_begin(void)
     memset(nicd.written_count, 0, sizeof nicd.written_count);
     memset(nicd.next, 0, sizeof nicd.next);
     memset(nicd.went, 0, sizeof nicd.went);
-    card_thread = &mark;
+    nicd_thread_is_mine();
     nicd.count = nicd.late = nicd.oldest = nicd.let_in = 0;
     nicd.partial = -1;
 }

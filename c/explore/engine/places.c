@@ -11,6 +11,8 @@
 
 enum { MOST_FRAMES = 64, MOST_OBJECT = 2 * MOST_TEXT };
 
+unsigned (*nicxi_ask_for_lines)(struct source_line *lines, unsigned most);
+
 struct frames {
     const void *calls[MOST_FRAMES]; /* an instruction of the call itself, not the one behind it */
     unsigned count;
@@ -101,6 +103,9 @@ void nicxi_place(uint16_t actor, const struct step *step, struct place *place)
         return;
     }
     if (nicxi.self != thread)
+        return;
+    place->count = nicxi_ask_for_lines ? nicxi_ask_for_lines(place->calls, MOST_CALLS) : 0;
+    if (place->count)
         return;
     _Unwind_Backtrace(note_frame, &frames);
     unsigned end = end_of_thread(&frames, thread);

@@ -13,6 +13,10 @@ struct place {
     const void *function; /* where none is known but this: the call was the last one of its function */
 };
 
+/* Null, or of a driver in another language, whose calls aren't on the stack: the lines of the step that is made, the
+   innermost first, and how many there are; 0 where its place is one in C. */
+extern unsigned (*nicxi_ask_for_lines)(struct source_line *lines, unsigned most);
+
 /* Of a step that is told as it is made: in a listener, and nowhere else. Nothing is known of the device's steps, nor
    where the program has no debug information. */
 void nicxi_place(uint16_t actor, const struct step *step, struct place *place);

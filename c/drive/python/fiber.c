@@ -1,0 +1,285 @@
+/* The stacks of explore/engine/fiber.h as threads of the process, in place of explore/engine/fiber.c. A switch wakes
+   one, and waits for its own turn.
+
+   A thread that a schedule leaves amid something is unwound as the schedule is over, so that what Python keeps of it
+   ends. Threads aren't there in a process that was forked: there they are made once more. */
+#define _GNU_SOURCE
+#include "../../explore/engine/fiber.h"
+
+#include <errno.h>
+#include <pthread.h>
+#include <semaphore.h>
+#include <signal.h>
+#include <stdlib.h>
+#include <sys/eventfd.h>
+#include <sys/mman.h>
+#include <unistd.h>
+
+#include "../../explore/engine/engine.h"
+#include "../../explore/engine/heap.h"
+#include "../engine/drive.h"
+#include "python.h"
+
+enum { LEAST_ROOM = 4 << 20, MOST_CALLS_ON = 100 };
+
+struct host {
+    struct fiber *fiber;
+    pid_t process; /* in which its thread is; 0: it has none */
+    pthread_t thread;
+    sem_t turn;
+    bool is_amid, is_left, is_ended, is_stuck;
+    unsigned calls_on; /* that it made as it was to leave */
+    struct nicp_way *way;
+};
+
+/* The main thread waits in read and not for a lock: a search takes a wait for a lock as one of the driver's. */
+static struct {
+    pid_t process;
+    int turn;
+    struct nicp_way *way;
+} outside;
+
+static __thread struct host *here;
+static __thread bool is_outside;
+
+void (*nicp_begin_thread)(void *host);
+
+struct nicp_way **nicp_way(void)
+{
+    return here ? &here->way : is_outside ? &outside.way : NULL;
+}
+
+bool nicp_is_left(void)
+{
+    return here && here->is_left;
+}
+
+void nicp_leave(void)
+{
+    struct nicp_way **way = nicp_way();
+    if (!way || !*way)
+        abort();
+    longjmp((*way)->place, 1);
+}
+
+static void give_turn(struct host *host);
+
+void nicp_calls_on(void)
+{
+    if (++here->calls_on < MOST_CALLS_ON)
+        return;
+    here->is_stuck = true;
+    give_turn(NULL);
+    for (;;)
+        pause();
+}
+
+/* --- turns --- */
+
+static void fatal(bool is_wrong)
+{
+    if (is_wrong)
+        abort();
+}
+
+/* A process has a turn of its own: else one that was forked would take its parent's. */
+static void renew(void)
+{
+    if (outside.process == getpid())
+        return;
+    outside.process = getpid();
+    outside.turn = eventfd(0, EFD_CLOEXEC);
+    fatal(outside.turn < 0);
+}
+
+void nicp_open(void)
+{
+    is_outside = true;
+    renew();
+}
+
+static void give_turn(struct host *host)
+{
+    uint64_t one = 1;
+    if (host)
+        fatal(sem_post(&host->turn) != 0);
+    else
+        fatal(write(outside.turn, &one, sizeof one) != sizeof one);
+}
+
+/* The engine, its memory and the card take this thread for the one that they run on. */
+static void take_over(void)
+{
+    nicxi_is_made_here();
+    nicxi_heap_is_mine();
+    nicd_thread_is_mine();
+}
+
+static void wait_outside(void)
+{
+    uint64_t count;
+    while (read(outside.turn, &count, sizeof count) != sizeof count)
+        fatal(errno != EINTR);
+    take_over();
+}
+
+/* A thread that is to leave what it is amid doesn't return. */
+static void wait_for_turn(struct host *host)
+{
+    while (sem_wait(&host->turn) != 0)
+        fatal(errno != EINTR);
+    if (host->is_left)
+        nicp_leave();
+    take_over();
+}
+
+/* --- a thread --- */
+
+void nicp_live(void *given)
+{
+    struct host *host = given;
+    struct nicp_way way = {.outer = NULL};
+    here = host;
+    while (!host->is_ended) {
+        host->way = &way;
+        if (setjmp(way.place) == 0) {
+            wait_for_turn(host);
+            host->is_amid = true;
+            host->fiber->function(host->fiber->argument);
+            abort();
+        }
+        host->is_left = host->is_amid = false;
+        if (!host->is_ended) /* else it is joined */
+            give_turn(NULL);
+    }
+}
+
+static void *begin_thread(void *host)
+{
+    nicp_begin_thread(host);
+    return NULL;
+}
+
+/* Signals are for the main thread. */
+static bool start(struct host *host)
+{
+    sigset_t all, before;
+    pthread_attr_t how;
+    renew();
+    fatal(sem_init(&host->turn, 0, 0) != 0);
+    host->is_amid = host->is_left = host->is_ended = host->is_stuck = false;
+    host->calls_on = 0;
+    sigfillset(&all);
+    pthread_attr_init(&how);
+    pthread_attr_setstack(&how, host->fiber->bottom, host->fiber->size);
+    pthread_sigmask(SIG_SETMASK, &all, &before);
+    int fault = pthread_create(&host->thread, &how, begin_thread, host);
+    pthread_sigmask(SIG_SETMASK, &before, NULL);
+    pthread_attr_destroy(&how);
+    host->process = fault ? 0 : getpid();
+    return !fault;
+}
+
+static bool take_stack(struct fiber *fiber, size_t room)
+{
+    char *memory =
+        mmap(NULL, room + NICX_GUARD, PROT_READ | PROT_WRITE, MAP_PRIVATE | MAP_ANONYMOUS | MAP_NORESERVE, -1, 0);
+    if (memory == MAP_FAILED)
+        return false;
+    if (mprotect(memory, NICX_GUARD, PROT_NONE) != 0) {
+        munmap(memory, room + NICX_GUARD);
+        return false;
+    }
+    fiber->bottom = memory + NICX_GUARD;
+    fiber->size = room;
+    return true;
+}
+
+/* The main thread has one leave what it is amid: it stands at its beginning when this returns. One that goes on is left
+   where it is, with its stack, and another thread takes its place. */
+static void unwind(struct host *host)
+{
+    host->is_left = true;
+    host->calls_on = 0;
+    give_turn(host);
+    wait_outside();
+    if (!host->is_stuck)
+        return;
+    host->process = 0;
+    host->is_amid = false;
+    fatal(!take_stack(host->fiber, host->fiber->size));
+}
+
+/* --- what the engine calls --- */
+
+/* The main thread has no stack here. */
+static struct host *host_of(const struct fiber *fiber)
+{
+    return fiber->bottom ? fiber->top : NULL;
+}
+
+int nicxi_fiber_open(struct fiber *fiber, size_t size)
+{
+    struct host *host = calloc(1, sizeof *host);
+    if (!host || !take_stack(fiber, size < LEAST_ROOM ? LEAST_ROOM : size)) {
+        free(host);
+        return 0;
+    }
+    host->fiber = fiber;
+    fiber->top = host;
+    return 1;
+}
+
+void nicxi_fiber_close(struct fiber *fiber)
+{
+    struct host *host = host_of(fiber);
+    if (!host)
+        return;
+    if (host->process == getpid()) {
+        host->is_ended = host->is_left = true;
+        give_turn(host);
+        pthread_join(host->thread, NULL);
+    }
+    munmap(fiber->bottom - NICX_GUARD, fiber->size + NICX_GUARD);
+    free(host);
+    fiber->bottom = NULL;
+}
+
+void nicxi_fiber_begin(struct fiber *fiber, void (*function)(void *), void *argument)
+{
+    struct host *host = host_of(fiber);
+    fatal(host->process == getpid() && host->is_amid);
+    fiber->function = function;
+    fiber->argument = argument;
+    if (host->process != getpid() && !start(host))
+        abort();
+}
+
+/* The schedule is over: its threads leave what they are amid. */
+static void unwind_all(void)
+{
+    for (int k = 0; k < MOST_THREADS; k++) {
+        struct thread *thread = &nicxi.threads[k];
+        struct host *host = host_of(&thread->fiber);
+        if (!host || thread->stack != BUSY || host->process != getpid() || !host->is_amid)
+            continue;
+        unwind(host);
+        if (host->is_stuck)
+            nicxi_failed(NICX_MISUSE, "%s goes on where its schedule is over: does it take each BaseException?",
+                         thread->name);
+    }
+}
+
+void nicxi_fiber_switch(struct fiber *from, struct fiber *to)
+{
+    struct host *self = host_of(from), *next = host_of(to);
+    if (next && next->process != getpid() && !start(next)) /* it stood at its beginning in the process before this */
+        abort();
+    give_turn(next);
+    if (self) {
+        wait_for_turn(self);
+    } else {
+        wait_outside();
+        unwind_all();
+    }
+}

@@ -1,0 +1,264 @@
+"""A report card for a driver in Python, as docs/report-card.md tells it of C: the driver's own functions, tried in
+scenarios that it doesn't write. Tested, not proved.
+
+    class Mine(Driver):
+        name = "mine"
+
+        def open(self, setup: Setup) -> bool:
+            ...
+
+        def close(self) -> None:
+            ...
+
+        def receive(self, queue: int) -> bytes | None:
+            ...
+
+    python3 -m nic82599.drive mine.py
+
+makes its card. The scenarios, the search and what judges are those of C. Each schedule has a driver of its own, so what
+it keeps is made anew in `__init__` or in `open`. The functions run on threads of which one runs at a time, and code
+between two calls of the device isn't interrupted. What a function raises is a failed row, with its words and lines.
+"""
+
+from __future__ import annotations
+
+from collections.abc import Callable, Iterator, Sequence
+from contextlib import contextmanager
+from typing import TYPE_CHECKING, NoReturn
+
+from .. import address_of, offset_of
+from ..statuses import DONE
+from .calls import CARD, Failed, Lock
+from .values import MAILBOX_WORDS, MOST_FRAME, MOST_QUEUES, Can, Filter, Rss, Setup
+
+__all__ = ["Can", "Driver", "Filter", "MAILBOX_WORDS", "MOST_FRAME", "MOST_QUEUES", "Mutex", "Rss", "Setup"]
+
+class Mutex:
+    """A lock of the driver's own, which every schedule finds free: `with self.holding(mutex):`."""
+
+    def __init__(self, name: str = "a lock") -> None:
+        self.name = name
+        self._lock = Lock.of(name)
+
+
+class Driver:
+    """A driver. Write a class of it with `name`, `open`, `close`, and `receive` or `send`, and what else it has of the
+    functions below. What is left out isn't applicable, and the card says so.
+
+    The card calls `receive` of a queue on one thread at a time, and so `send` and `reclaim` of a queue; those of other
+    queues beside them. `interrupt` comes at any time between open and close, on top of any thread or beside all. The
+    others (close, reset, filter, rss, mtu, resize, suspend, resume) are called by one thread, and no receive, send or
+    reclaim runs meanwhile. `mailbox_send` and `mailbox_receive` are called by one thread at a time, `mailbox_ready`
+    beside them.
+    """
+
+    name = ""  # 1 to 40 letters, digits, '-' and '_'
+    can = Can.NOTHING
+    queues = 1  # the most that `open` takes, 1 to MOST_QUEUES
+    slots = 8  # the fewest that `open` takes: 8, 16, .. 64
+    frame = 1514  # bytes of the longest frame that it takes: up to MOST_FRAME
+    threads = 0  # threads of its own, 0 to 4, which call `thread`
+
+    # --- what a driver has ---
+
+    def open(self, setup: Setup) -> bool:
+        """Sets the controller up, from power-up or from what `close` left, and answers when frames can come and go.
+        False where it can't, as where memory is refused: then nothing is left behind, and it may be called again."""
+        raise NotImplementedError("a driver has open")
+
+    def close(self) -> None:
+        """Ends it: on return the device touches no memory of the driver's, which is given back, and sends no
+        message."""
+        raise NotImplementedError("a driver has close")
+
+    if TYPE_CHECKING:  # A driver has those of these that it defines.
+
+        def receive(self, queue: int) -> bytes | tuple[bytes, int] | None:
+            """The frame that came next in a queue, whole, or with its hash of RSS; None where none is there, at
+            once."""
+
+        def send(self, queue: int, frame: bytes) -> bool:
+            """Sends a frame of 60 bytes to those of the setup. False where the ring has no room now, or the frame is
+            longer than that."""
+
+        def reclaim(self, queue: int) -> int:
+            """Takes back what went out: how many frames of the queue haven't gone out yet, as far as it knows."""
+
+        def interrupt(self, vector: int) -> int:
+            """The handler of a vector: which queues are to be polled, bit q for queue q. The card calls `receive` until
+            it is None, and `reclaim`, and then `rearm`."""
+
+        def rearm(self, queue: int) -> None:
+            """A queue was polled, and its interrupts may come again."""
+
+        def thread(self, number: int) -> None:
+            """Thread 0 to `threads` - 1 of its own, which runs from open on and may wait for ever. Where there is no
+            `receive` it hands frames up by `deliver`."""
+
+        def filter(self, wanted: Filter) -> bool:
+            """Which frames come in. This and the following answer whether it is done; False leaves all as it was."""
+
+        def rss(self, wanted: Rss) -> bool:
+            """Receive side scaling."""
+
+        def mtu(self, frame: int) -> bool:
+            """The longest frame from now on; frames on their way may be lost."""
+
+        def resize(self, slots: int) -> bool:
+            """Rings of so many slots from now on; the same."""
+
+        def reset(self) -> bool:
+            """Makes all anew after a fault; the same, and the setup stays."""
+
+        def suspend(self) -> bool:
+            """The device rests: no frame, no message, no access until `resume`."""
+
+        def resume(self) -> bool:
+            """The device goes on."""
+
+        def link(self) -> bool:
+            """Whether the link is up, as far as the driver knows; it makes no access."""
+
+        def mailbox_send(self, vf: int, words: tuple[int, ...]) -> bool:
+            """Puts 1 to 16 words in the mailbox for the other side, as host for this function, as function for its
+            host (then vf is 0): False where the mailbox isn't free now."""
+
+        def mailbox_receive(self, vf: int) -> Sequence[int] | None:
+            """Takes a message of the other side, 16 words, and acknowledges it: None where none is there."""
+
+        def mailbox_ready(self) -> bool:
+            """Of a function: whether the device is ready, since its host has set it up."""
+
+    # --- registers: each call from here on is a point, at which others may act first ---
+
+    def read32(self, at: int | str) -> int:
+        """The word that a driver sees, by address or name."""
+        return CARD.read32(at if isinstance(at, int) else address_of(at))
+
+    def write32(self, at: int | str, word: int) -> bool:
+        """Whether a register was there."""
+        return CARD.write32(at if isinstance(at, int) else address_of(at), word) == DONE
+
+    def vf_read32(self, vf: int, at: int | str) -> int:
+        """The same of a virtual function, by offset or name."""
+        return CARD.vf_read32(vf, at if isinstance(at, int) else offset_of(at))
+
+    def vf_write32(self, vf: int, at: int | str, word: int) -> bool:
+        return CARD.vf_write32(vf, at if isinstance(at, int) else offset_of(at), word) == DONE
+
+    # --- memory ---
+
+    def dma_alloc(self, size: int) -> int | None:
+        """DMA memory of 1 to 524,288 bytes: the bus address of its first byte, a multiple of 128, and its bytes are 0.
+        Behind it nothing is lent, so an access of the driver or the device there is told. None: it is refused, by a
+        scenario that tries that or since all is taken (nic82599_drive.h)."""
+        return CARD.dma_alloc(size) or None
+
+    def dma_free(self, bus: int) -> None:
+        """Gives it back, by its first address. The device must not touch it any more."""
+        CARD.dma_free(bus)
+
+    def alloc(self, size: int) -> int | None:
+        """A piece of the driver's own memory, by its number: it counts what the driver takes beside DMA memory. None
+        where a scenario refuses it."""
+        return CARD.alloc(size) or None
+
+    def free(self, piece: int) -> None:
+        """Gives it back."""
+        CARD.free(piece)
+
+    def dma_read(self, bus: int, length: int) -> bytes:
+        """Bytes of DMA memory; one that isn't lent is a failure."""
+        return CARD.dma_read(bus, length)
+
+    def dma_write(self, bus: int, data: bytes) -> bool:
+        """Whether all of it is lent, and so written; else that is a failure."""
+        return CARD.dma_write(bus, bytes(data), len(data)) == DONE
+
+    def get64(self, bus: int) -> int:
+        return int.from_bytes(self.dma_read(bus, 8), "little")
+
+    def put64(self, bus: int, value: int) -> bool:
+        return self.dma_write(bus, value.to_bytes(8, "little"))
+
+    def descriptor(self, ring: int, slot: int) -> bytes:
+        """A descriptor by one access, at one point: two `get64` are two. nic82599.descriptors reads it."""
+        return self.dma_read(ring + 16 * slot, 16)
+
+    def put_descriptor(self, ring: int, slot: int, data: bytes) -> bool:
+        """The same written, as nic82599.descriptors packs it."""
+        return self.dma_write(ring + 16 * slot, data)
+
+    # --- waiting ---
+
+    def point(self) -> None:
+        """A point and nothing else: between two accesses of the driver's own memory."""
+        CARD.point()
+
+    def wait(self) -> None:
+        """Waits until somebody else has acted since this thread last went on: `while not ready(): self.wait()`."""
+        CARD.wait()
+
+    def pause(self) -> None:
+        """Lets others act; where nobody can, it goes on. For loops that poll a bounded number of times."""
+        CARD.pause()
+
+    def wait_until(self, condition: Callable[[], object]) -> None:
+        """Waits until a condition on the driver's own memory holds, which makes none of these calls."""
+        CARD.wait_until(condition)
+
+    def lock(self, mutex: Mutex) -> None:
+        CARD.lock(mutex._lock)
+
+    def unlock(self, mutex: Mutex) -> None:
+        CARD.unlock(mutex._lock)
+
+    @contextmanager
+    def holding(self, mutex: Mutex) -> Iterator[None]:
+        """Takes a lock, and gives it back at the end."""
+        self.lock(mutex)
+        try:
+            yield
+        finally:
+            self.unlock(mutex)
+
+    @contextmanager
+    def interrupts_off(self) -> Iterator[None]:
+        """No handler starts on this thread meanwhile."""
+        CARD.interrupts(False)
+        try:
+            yield
+        finally:
+            CARD.interrupts(True)
+
+    # --- barriers of weak memory: where memory is strong they do nothing, and are no points ---
+
+    def wmb(self) -> None:
+        """When it returns all stores of the thread before it have reached memory."""
+        CARD.wmb()
+
+    def rmb(self) -> None:
+        """A load behind it isn't older than it."""
+        CARD.rmb()
+
+    def mb(self) -> None:
+        """Both."""
+        CARD.mb()
+
+    # --- else ---
+
+    def choose(self, bound: int) -> int:
+        """A value below the bound, 1 to 256, that is part of the schedule."""
+        return CARD.choose(bound)
+
+    def deliver(self, queue: int, frame: bytes) -> None:
+        """Hands a frame up that came in a queue, from a thread of the driver's own, where there is no `receive`."""
+        CARD.deliver(queue, bytes(frame), len(frame))
+
+    def fail(self, words: str) -> NoReturn:
+        """The schedule fails here, with these words."""
+        raise Failed(words)
+
+    def check(self, holds: object, words: str) -> None:
+        if not holds:
+            self.fail(words)

@@ -1,0 +1,107 @@
+"""A driver's program, as nicdrive starts it: python3 -m nic82599.drive.row FILE.py[:CLASS] --list or --row NAME .."""
+
+from __future__ import annotations
+
+import importlib.util
+import os
+import signal
+import sys
+from pathlib import Path
+from types import ModuleType
+
+from . import Can, Driver
+from .calls import CARD, OPTIONAL, REFUSED, Refused, _words_of
+
+FOUND = 1
+
+
+def load(path: Path) -> ModuleType:
+    """The module of a file. Refused where it can't be run."""
+    spec = importlib.util.spec_from_file_location(path.stem, path)
+    if spec is None or spec.loader is None or not path.is_file():
+        raise Refused(f"{path}: there is no such file of Python")
+    module = importlib.util.module_from_spec(spec)
+    sys.modules[path.stem] = module
+    sys.path.insert(0, str(path.parent))
+    try:
+        spec.loader.exec_module(module)
+    except BaseException as fault:
+        raise Refused(f"{path}: it can't be loaded: {_words_of(fault)}") from fault
+    return module
+
+
+def driver_of(module: ModuleType, name: str, path: Path) -> type[Driver]:
+    """The driver of a module: of this name, or the only one that it has and that no other one is made of."""
+    all_of = [one for one in vars(module).values() if isinstance(one, type) and issubclass(one, Driver)]
+    own = [one for one in dict.fromkeys(all_of) if one.__module__ == module.__name__]
+    found = [one for one in own if not any(one in other.__mro__[1:] for other in own)]
+    if name:
+        found = [one for one in own if one.__name__ == name]
+    if len(found) != 1:
+        told = f"no class {name}" if name else f"{len(found)} classes"
+        names = ", ".join(one.__name__ for one in own)
+        raise Refused(f"{path}: it has {told} of Driver{f': {names}; FILE.py:CLASS names one' if own else ''}")
+    return found[0]
+
+
+def checked(driver: type[Driver], path: Path) -> type[Driver]:
+    """Refused where something of it isn't what the card takes; ranges are the card's to look at."""
+    for name in ("queues", "slots", "frame", "threads"):
+        told = getattr(driver, name)
+        if not isinstance(told, int) or isinstance(told, bool) or not 0 <= told < 1 << 16:
+            raise Refused(f"{path}: {driver.__name__}.{name} is {told!r}, and no number that it can be")
+    if not isinstance(driver.name, str) or not isinstance(driver.can, Can):
+        raise Refused(f"{path}: {driver.__name__}.name is no text, or its can is none of Can")
+    for name in ("open", "close", *(one for one in OPTIONAL if hasattr(driver, one))):
+        if not callable(getattr(driver, name)):
+            raise Refused(f"{path}: {driver.__name__}.{name} is no function")
+        if getattr(driver, name) is getattr(Driver, name, None):
+            raise Refused(f"{path}: {driver.__name__} has no {name}")
+    return driver
+
+
+def traceback_file(words: list[str]) -> Path:
+    """Where a row's traceback goes: beside its schedule."""
+    out = words[words.index("--out") + 1] if "--out" in words[:-1] else "."
+    return Path(out) / f"{words[words.index('--row') + 1]}.traceback"
+
+
+def tell_traceback(words: list[str]) -> None:
+    """The last exception: in a file, or as Python shows it where a schedule is made again."""
+    told = CARD.told()
+    if "--replay" in words and told:
+        print(told.rstrip(), file=sys.stderr)
+    elif told:
+        file = traceback_file(words)
+        file.write_text(told)
+        print(f"{file.stem}: the traceback is {file}")
+
+
+def program(driver: type[Driver], words: list[str]) -> int:
+    """The program of a driver, by the words behind its file: its status. Refused."""
+    is_row = "--row" in words[:-1]
+    if is_row:
+        traceback_file(words).unlink(missing_ok=True)
+    status = CARD.run(driver, words)
+    if is_row and status == FOUND:
+        tell_traceback(words)
+    return status
+
+
+def main(words: list[str]) -> int:
+    file, _, name = words[1].partition(":") if len(words) > 1 else ("", "", "")
+    path = Path(file)
+    try:
+        driver = checked(driver_of(load(path.resolve()), name, path), path)
+        signal.signal(signal.SIGINT, signal.SIG_DFL)
+        return program(driver, [words[0], *words[2:]])
+    except Refused as fault:
+        print(" ".join(str(fault).split()), file=sys.stderr)
+        return REFUSED
+
+
+if __name__ == "__main__":
+    told = main([os.environ.get("NIC82599_PROGRAM", sys.argv[0]), *sys.argv[1:]])
+    sys.stdout.flush()
+    # (threads of schedules stand in the library still)
+    os._exit(told)

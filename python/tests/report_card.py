@@ -1,0 +1,200 @@
+"""Tests of the report card of drivers in Python: a right driver passes what applies, a wrong one fails in the row that
+names what is wrong, and what no driver may do is a failed row beside which others pass."""
+
+from __future__ import annotations
+
+import os
+import re
+import subprocess
+import sys
+import tempfile
+import unittest
+from pathlib import Path
+
+import card_drivers as drivers
+from nic82599 import places
+from nic82599.drive import Driver
+from nic82599.drive.calls import OPTIONAL, Refused
+from nic82599.drive.row import checked, driver_of, load, program
+
+HERE = Path(__file__).resolve().parent
+SMALL = HERE.parent / "examples/small.py"
+
+# What stands in the card's list for a function that is left out; no row asks for `reclaim`, `rearm` or `thread` alone.
+LACKS = {
+    "reclaim": set(),
+    "rearm": set(),
+    "thread": set(),
+    "suspend": {"no suspend and resume"},
+    "resume": {"no suspend and resume"},
+    "mailbox_send": {"no mailbox_send and mailbox_receive"},
+    "mailbox_receive": {"no mailbox_send and mailbox_receive"},
+}
+
+# Of each class of card_drivers.py: the row that fails, and by what words.
+WRONG = {
+    "SlotWithoutDd": ("receive-empty", "check: receive answers true, and no frame came"),
+    "StopThatDoesNotWait": ("close-amid-frames", "queue 0 is on, and the driver is closed"),
+    "IdleToldEarly": ("send-wrap", r"check: reclaim says that all of queue 0 went out, and \d+ frames haven't"),
+    "LengthBeforeDd": ("receive-one", "check: a frame of 0 bytes is handed up in queue 0"),
+    "LockTwice": ("receive-one", "deadlock: receive0 waits for counters, which receive0 holds"),
+    "RaisesInReceive": ("receive-one", r"check: IndexError: list index out of range \(card_drivers.py:\d+\)"),
+    "RaisesInOpen": ("open-close", r"check: the EEPROM has no address \(card_drivers.py:\d+\)"),
+    "RaisesInInit": ("open-close", r"AttributeError: .* no attribute 'nowhere' \(card_drivers.py:\d+\)"),
+    "RaisesInACondition": ("receive-one", r"check: IndexError: list index out of range \(card_drivers.py:\d+\)"),
+    "HangsInReceive": ("receive-one", "hang: task receive0 made no further point"),
+    "WaitsForAThreadsLock": ("both-ways", "hang: task (receive|send)0 made no further point"),
+    "TakesEveryException": ("receive-one", "misuse: receive0 goes on where its schedule is over"),
+    "Recurses": ("receive-one", "check: RecursionError: "),
+    "OpenAnswersNone": ("receive-one", "TypeError: open answers NoneType, and not True or False"),
+    "ReceiveAnswersText": ("receive-one", "check: TypeError: receive answers str, and not bytes"),
+    "ReclaimAnswersBelowZero": ("send-one", "check: TypeError: reclaim answers -1, and not a number"),
+    "FrameTooLong": ("receive-one", "check: a frame of 9725 bytes is handed up in queue 0"),
+    "WordTooLong": ("interrupt-receive", "check: ValueError: 4294967296 is no word of a register"),
+    "OutsideDma": ("receive-one", "memory: receive0 writes 0x1000, which isn't lent"),
+    "ExitsInReceive": ("receive-one", "check: SystemExit: 0"),
+    "EndsTheProcess": ("receive-one", "crash: the process ended with status 0"),
+    "AbortsInClose": ("open-close", "crash: the process was ended by signal 6"),
+    "PieceLeft": ("open-close", "1 pieces of nicd_alloc weren't given back"),
+    "FromAThread": ("receive-one", "a call comes from a thread that the driver made itself"),
+    "StateLeft": ("receive-wrap", "misuse: begin doesn't make all of the driver's state anew"),
+}
+# Their rows end before the first schedule, so no other passes.
+NONE_PASSES = ("RaisesInOpen", "RaisesInInit", "OpenAnswersNone")
+
+
+def ran(driver: type[Driver], *words: str) -> tuple[int, str]:
+    """The status of a driver's program, and what it prints."""
+    with tempfile.TemporaryFile() as file:
+        process = os.fork()
+        if not process:
+            os.dup2(file.fileno(), 1)
+            os.dup2(file.fileno(), 2)
+            status = program(driver, ["card", *words])
+            sys.stdout.flush()
+            os._exit(status)
+        status = os.waitstatus_to_exitcode(os.waitpid(process, 0)[1])
+        file.seek(0)
+        return status, file.read().decode()
+
+
+def row(driver: type[Driver], name: str, runs: int, folder: str, hang: int = 20) -> tuple[int, str]:
+    words = ["--row", name, "--quiet", "--jobs", "1", "--runs", str(runs), "--hang", str(hang), "--no-shrink"]
+    return ran(driver, *words, "--out", folder)
+
+
+def rows_of(driver: type[Driver]) -> dict[str, str]:
+    """The rows of a driver, and what it lacks for each."""
+    status, told = ran(driver, "--list")
+    assert status == 0, told
+    return {line.split("\t")[0]: line.split("\t")[2] for line in told.splitlines()}
+
+
+class Cards(unittest.TestCase):
+    def test_a_right_driver_passes(self) -> None:
+        rows = rows_of(drivers.Both)
+        self.assertGreater(len(rows), 100)
+        with tempfile.TemporaryDirectory() as folder:
+            for name, lack in rows.items():
+                status, told = row(drivers.Both, name, 25, folder)
+                self.assertEqual(status, 0 if lack == "-" else 4, told)
+
+    def test_what_is_wrong_is_told(self) -> None:
+        for name, (failed, words) in WRONG.items():
+            driver = getattr(drivers, name)
+            with self.subTest(name), tempfile.TemporaryDirectory() as folder:
+                status, told = row(driver, failed, 300, folder, 2 if words.startswith("hang") else 20)
+                self.assertEqual(status, 2 if name == "RaisesInInit" else 1, told)
+                self.assertRegex(told, words)
+                if status == 1:
+                    self.assertIn("# ", (Path(folder) / f"{failed}.schedule").read_text())
+                if name not in NONE_PASSES:
+                    status, told = row(driver, "setup-ring-values", 25, folder)
+                    self.assertEqual(status, 0, told)
+
+    def test_an_exception_has_its_lines(self) -> None:
+        with tempfile.TemporaryDirectory() as folder:
+            _, told = row(drivers.RaisesInReceive, "receive-one", 50, folder)
+            told = (Path(folder) / "receive-one.traceback").read_text()
+            self.assertRegex(told, r"return bytes\(self.rx.buffers\[99\]\)\n[\s\S]+\nIndexError: list index out of range\n$")
+            self.assertNotIn("calls.py", told)
+            schedule = Path(folder) / "receive-one.schedule"
+            self.assertRegex(schedule.read_text(), r"r EICS = 0x\w+ at card_drivers.py:\d+\n")
+            status, told = ran(drivers.RaisesInReceive, "--row", "receive-one", "--replay", str(schedule))
+            self.assertEqual(status, 1)
+            self.assertRegex(told, r"(?m)^IndexError: list index out of range$")
+
+    def test_what_is_left_out_is_told(self) -> None:
+        everything = {lack for lack in rows_of(drivers.Everything).values()}
+        self.assertEqual(everything, {"-"})
+        for name in OPTIONAL:
+            kept = {key: value for key, value in vars(drivers.Everything).items() if key != name}
+            lacks = set(rows_of(type("Without", (Driver,), kept)).values()) - {"-"}
+            self.assertEqual(lacks, LACKS.get(name, {f"no {name}"}), name)
+
+
+class Refusals(unittest.TestCase):
+    """Drivers that can't be taken."""
+
+    def refused(self, words: str, text: str, name: str = "") -> None:
+        with tempfile.TemporaryDirectory() as folder:
+            path = Path(folder) / "given.py"
+            path.write_text("from nic82599.drive import Driver\n" + text)
+            with self.assertRaisesRegex(Refused, words):
+                checked(driver_of(load(path), name, path), path)
+        sys.path.remove(folder)
+
+    def test_files(self) -> None:
+        self.refused("it can't be loaded: NameError: .* \\(given.py:2\\)", "nothing\n")
+        self.refused("it can't be loaded: SystemExit", "raise SystemExit\n")
+        self.refused("it has 0 classes of Driver$", "")
+        self.refused("it has 2 classes of Driver: A, B; FILE.py:CLASS", "class A(Driver): ...\nclass B(Driver): ...\n")
+        self.refused("it has no class C of Driver: A; FILE.py:CLASS", "class A(Driver): ...\n", "C")
+        with self.assertRaisesRegex(Refused, "there is no such file of Python"):
+            load(Path("/nowhere.py"))
+
+    def test_classes(self) -> None:
+        self.refused("A has no open", "class A(Driver): ...\n")
+        begin = "class A(Driver):\n    def open(self, setup): ...\n    def close(self): ...\n"
+        self.refused("A.receive is no function", begin + "    receive = 3\n")
+        self.refused("A.queues is 'two', and no number", begin + "    queues = 'two'\n")
+        self.refused("A.threads is -1, and no number", begin + "    threads = -1\n")
+        self.refused("A.name is no text, or its can is none of Can", begin + "    name = 3\n")
+
+    def test_what_the_card_refuses(self) -> None:
+        fields = {"name": "a b", "queues": 5, "slots": 12, "frame": 9, "threads": 1}
+        for field, value in fields.items():
+            status, told = ran(type("Wrong", (drivers.Both,), {field: value}), "--list")
+            self.assertEqual(status, 2)
+            self.assertRegex(told, "card: the driver can't be taken: its name|its queues|its slots|its frame|no thread")
+
+    def test_a_call_without_a_card(self) -> None:
+        with self.assertRaisesRegex(RuntimeError, "read32 is called by a driver on its card"):
+            drivers.Both().read32("STATUS")
+
+
+class Command(unittest.TestCase):
+    """The command, as an author starts it."""
+
+    def test_a_card(self) -> None:
+        how = {**os.environ, "PYTHONPATH": str(HERE.parent)}
+        rows = ["--rows", "receive-one,send-one,open-close", "--runs", "50", "--every", "50", "--no-pages"]
+        if places.clone() is None:
+            self.skipTest("the command needs a clone")
+        with tempfile.TemporaryDirectory() as folder:
+            words = [sys.executable, "-P", "-m", "nic82599.drive", SMALL, *rows, "-o", folder]
+            made = subprocess.run(words, env=how, capture_output=True, text=True, check=False)
+            self.assertEqual(made.returncode, 0, made.stdout + made.stderr)
+            self.assertRegex(made.stdout, r"small: 2 passed, 0 failed, 1 not applicable, \d+ s")
+            self.assertEqual(len(re.findall("<testcase ", (Path(folder) / "card.xml").read_text())), 3)
+            words[4:5] = [f"{HERE / 'card_drivers.py'}:RaisesInReceive"]
+            made = subprocess.run(words, env=how, capture_output=True, text=True, check=False)
+            self.assertEqual(made.returncode, 1, made.stdout + made.stderr)
+            self.assertRegex(made.stdout, "both: 2 passed, 1 failed, 0 not applicable")
+            page = (Path(folder) / "card.html").read_text()
+            self.assertIn("IndexError: list index out of range (card_drivers.py:", page)
+            self.assertIn("return bytes(self.rx.buffers[99])", page)
+
+
+if __name__ == "__main__":
+    unittest.main()

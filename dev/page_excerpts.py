@@ -23,7 +23,7 @@ sys.dont_write_bytecode = True
 from generated import ROOT, keep, text_of  # noqa: E402
 
 PAGES = [ROOT / "README.md", ROOT / "c/README.md", *sorted((ROOT / "docs").glob("*.md"))]
-PIECE = re.compile(r"<!-- ([\w./]+): (\S.*) -->\n\n((?:    .*\n|\n(?=    ))*)")
+PIECE = re.compile(r"<!-- ([\w./]+): (\S.*) -->\n\n((?:    .*\n|\n+(?=    ))*)")
 
 
 def first(lines: list[str], what: str, is_it: re.Pattern[str]) -> int:

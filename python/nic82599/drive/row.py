@@ -13,6 +13,7 @@ from . import Can, Driver
 from .calls import CARD, OPTIONAL, REFUSED, Refused, _words_of
 
 FOUND = 1
+LEAST_HANG = 10
 
 
 def load(path: Path) -> ModuleType:
@@ -88,13 +89,22 @@ def program(driver: type[Driver], words: list[str]) -> int:
     return status
 
 
+def patient(words: list[str]) -> list[str]:
+    """The words with a hang that is waited for ten seconds at least: steps in Python take longer than those in C."""
+    if "--hang" not in words[:-1]:
+        return words
+    place = words.index("--hang") + 1
+    told = words[place]
+    return [*words[:place], str(max(int(told), LEAST_HANG)) if told.isdecimal() else told, *words[place + 1 :]]
+
+
 def main(words: list[str]) -> int:
     file, _, name = words[1].partition(":") if len(words) > 1 else ("", "", "")
     path = Path(file)
     try:
         driver = checked(driver_of(load(path.resolve()), name, path), path)
         signal.signal(signal.SIGINT, signal.SIG_DFL)
-        return program(driver, [words[0], *words[2:]])
+        return program(driver, patient([words[0], *words[2:]]))
     except Refused as fault:
         print(" ".join(str(fault).split()), file=sys.stderr)
         return REFUSED

@@ -197,6 +197,7 @@ FAULTS = {
     "locks": "deadlock: (up|down) waits for (first|second), which (up|down) holds",
     "waits": "deadlock: faulty waits, and nobody can act",
     "endless": r"endless: no end after 200 points; last came task faulty: does its loop need nicx_wait\?",
+    "ticks": r"endless: no end after 200 points; last came .*: tick fires over and over: is it armed each time\?",
     "memory": "memory: faulty reads 0x0, which isn't lent",
     "unlock": "misuse: faulty unlocks first, which it doesn't hold",
     "interrupts": "misuse: faulty ends with its interrupts off",
@@ -336,7 +337,7 @@ def check_faults(kit: Kit) -> str:
     for mode, wanted in FAULTS.items():
         junit = out / "result.xml"
         words = [program, mode, "--quiet", "--jobs", 2, "--out", out, "--junit", junit]
-        if mode in ("hang", "endless"):
+        if mode in ("hang", "endless", "ticks"):
             words += ["--no-shrink", "--hang", 2]
         told(ran(words, 1), f"FAILED {wanted}", mode)
         failure = xml.etree.ElementTree.parse(junit).find("testcase/failure")

@@ -180,6 +180,16 @@ static void fault(void *unused)
         nicx_wait_until((bool (*)(void *))(uintptr_t)is, (void *)(uintptr_t) "never");
 }
 
+static int ticker;
+
+/* A timer that arms itself each time. */
+static void tick(void *unused)
+{
+    (void)unused;
+    nicx_write32(NIC_EIMC, CAUSE);
+    nicx_arm(ticker);
+}
+
 static void begin(void)
 {
     memset(locks, 0, sizeof locks);
@@ -199,6 +209,10 @@ static void begin(void)
     nicx_task(is("name") ? "a name" : "faulty", fault, NULL);
     nicx_task(is("twice") ? "faulty" : "other", quiet, NULL);
     nicx_handler("isr", is("group"), 5, quiet, NULL, is("nowhere") ? 2 : NICX_ANYWHERE);
+    if (is("ticks")) {
+        ticker = nicx_timer("tick", tick, NULL, 3);
+        nicx_arm(ticker);
+    }
     while (is("begin_waits") && !nicx_read32(NIC_RDH(0)))
         nicx_wait();
     frames_come(1);

@@ -35,7 +35,7 @@ LACKS = {
 WRONG = {
     "SlotWithoutDd": ("receive-empty", "check: receive answers true, and no frame came"),
     "StopThatDoesNotWait": ("close-amid-frames", "queue 0 is on, and the driver is closed"),
-    "IdleToldEarly": ("send-wrap", r"check: reclaim says that all of queue 0 went out, and \d+ frames haven't"),
+    "IdleToldEarly": ("send-wrap", r"check: reclaim says that all of queue 0 went out, and frame \d+ .*hasn't"),
     "LengthBeforeDd": ("receive-one", "check: a frame of 0 bytes is handed up in queue 0"),
     "LockTwice": ("receive-one", "deadlock: receive0 waits for counters, which receive0 holds"),
     "RaisesInReceive": ("receive-one", r"check: IndexError: list index out of range \(card_drivers.py:\d+\)"),
@@ -55,7 +55,7 @@ WRONG = {
     "ExitsInReceive": ("receive-one", "check: SystemExit: 0"),
     "EndsTheProcess": ("receive-one", "crash: the process ended with status 0"),
     "AbortsInClose": ("open-close", "crash: the process was ended by signal 6"),
-    "PieceLeft": ("open-close", "1 pieces of nicd_alloc weren't given back"),
+    "PieceLeft": ("open-close", "1 piece of nicd_alloc wasn't given back"),
     "FromAThread": ("receive-one", "a call comes from a thread that the driver made itself"),
     "StateLeft": ("receive-wrap", "misuse: begin doesn't make all of the driver's state anew"),
 }

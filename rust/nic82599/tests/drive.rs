@@ -445,7 +445,7 @@ fn what_is_wrong_is_told(folder: &Path) {
         (FRAME_TOO_LONG, "receive-one", "check: a frame of 9725 bytes is handed up in queue 0"),
         (ABORT_IN_CLOSE, "open-close", "crash: the process was ended by signal 6"),
         (EXIT_IN_RECEIVE, "receive-one", "crash: the process ended with status 0"),
-        (OWN_LEFT, "open-close", "1 pieces of nicd_alloc weren't given back"),
+        (OWN_LEFT, "open-close", "1 piece of nicd_alloc wasn't given back"),
         (GUARD_OVER_A_CALL, "both-ways", "already borrowed"),
     ];
     for (fault, name, words) in faults {

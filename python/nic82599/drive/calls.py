@@ -225,7 +225,7 @@ def library() -> Path:
     except places.Missing as fault:
         raise Refused(str(fault)) from None
     if not place.exists():
-        raise Refused(f"there is no {place}: {places.BUILDS_LIBRARY}")
+        raise Refused(f"there is no {place}: `make -C c` in a clone makes it")
     return place
 
 

@@ -22,7 +22,7 @@ SMALL = HERE.parent / "examples/small.py"
 
 # What stands in the card's list for a function that is left out; no row asks for `reclaim`, `rearm` or `thread` alone.
 LACKS = {
-    "reclaim": set(),
+    "reclaim": {"no reclaim"},
     "rearm": set(),
     "thread": set(),
     "suspend": {"no suspend and resume"},

@@ -1,10 +1,11 @@
-"""A driver's program, from what an author has: a source, an object, or the program itself."""
+"""A driver's program, from what an author has: a source, an object, a file of Python, or the program itself."""
 
 from __future__ import annotations
 
 import os
 import shlex
 import subprocess
+import sys
 from pathlib import Path
 
 from . import where
@@ -19,8 +20,25 @@ def archives(folder: Path) -> list[Path]:
     return found
 
 
+def of_python(given: Path, folder: Path) -> Path:
+    """A program of a driver in Python, FILE.py or FILE.py:CLASS: a script that starts the module with it."""
+    file, _, name = str(given).partition(":")
+    driver = str(Path(file).resolve()) + f":{name}" * bool(name)
+    program = folder.resolve() / "program"
+    words = [sys.executable, "-P", "-m", "nic82599.drive.row", driver]
+    program.write_text(
+        "#!/bin/sh\n"
+        f"PYTHONPATH={shlex.quote(str(C.parent / 'python'))} PYTHONHASHSEED=0 NIC82599_PROGRAM=\"$0\" \\\n"
+        f'    exec {shlex.join(words)} "$@"\n'
+    )
+    program.chmod(0o755)
+    return program
+
+
 def build(given: list[Path], folder: Path, compiler: str, flags: str, libraries: Path) -> Path:
     """The program of what is given; Refused with the compiler's words where there is none."""
+    if len(given) == 1 and given[0].name.partition(":")[0].endswith(".py"):
+        return of_python(given[0], folder)
     for path in given:
         if not path.exists():
             raise Refused(f"{path}: there is no such file")

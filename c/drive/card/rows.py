@@ -159,6 +159,8 @@ class Runner:
     def read_failure(self, row: Row, printed: str) -> None:
         found = re.search(r": FAILED (.+)", printed)
         fail(row, found[1] if found else "it failed")
+        if (told := self.folder / f"{row.name}.traceback").exists():  # of what a driver in Python raised
+            row.schedule = f"{told.read_text().rstrip()}\n\n{row.schedule}"
         row.schedule_file = f"{row.name}.schedule"
         row.page = page_of(self.folder / f"{row.name}.html")
         memory = " --memory weak" if self.budget.memory == "weak" else ""

@@ -313,11 +313,11 @@ const fn unless<T: Copy>(left_out: bool, function: T) -> Option<T> {
     }
 }
 
-/// What stands in the card's list for a function that is left out; no row asks for `reclaim` or `rearm` alone.
+/// What stands in the card's list for a function that is left out; no row asks for `rearm` alone.
 const LACKS: [&str; 17] = [
     "no receive",
     "no send",
-    "",
+    "no reclaim",
     "no interrupt",
     "",
     "no filter",

@@ -11,6 +11,8 @@ from pathlib import Path
 from . import where
 from .rows import Refused
 
+PYTHON = Path(__file__).resolve().parents[3] / "python"
+
 
 def archives(folder: Path) -> list[Path]:
     found = [folder / name for name in where.ARCHIVES]
@@ -28,7 +30,7 @@ def of_python(given: Path, folder: Path) -> Path:
     words = [sys.executable, "-P", "-m", "nic82599.drive.row", driver]
     program.write_text(
         "#!/bin/sh\n"
-        f"PYTHONPATH={shlex.quote(str(C.parent / 'python'))} PYTHONHASHSEED=0 NIC82599_PROGRAM=\"$0\" \\\n"
+        f"PYTHONPATH={shlex.quote(str(PYTHON))} PYTHONHASHSEED=0 NIC82599_PROGRAM=\"$0\" \\\n"
         f'    exec {shlex.join(words)} "$@"\n'
     )
     program.chmod(0o755)

@@ -292,6 +292,7 @@ void nicx_close(void)
     for (int k = 0; k < NICX_FRAMES; k++)
         free(nicxi.frames[k].bytes);
     free(own.schedule);
+    own.schedule = NULL;
     free(nicxi.steps);
     uint64_t epoch = nicxi.epoch; /* what a schedule of this scenario left locked is free in the next one's */
     memset(&nicxi, 0, sizeof nicxi);

@@ -547,6 +547,29 @@ static void forget(void)
     nicxi.waits = 0;
 }
 
+/* So many frames as a scenario says; 0 where it says nothing. */
+static uint32_t frames_of(const struct scenario *it, int more)
+{
+    return more ? (uint32_t)(it->rings * nicd.setup.slots + more) : 0;
+}
+
+static void name_all(const struct scenario *it)
+{
+    uint32_t length = or_else(it->length, 60);
+    if (it->control)
+        nicd_control(it->control);
+    if (it->begin)
+        it->begin();
+    if (it->takes)
+        nicd_take_frames();
+    if (it->sends && nicd.driver->send)
+        nicd_send_frames(0, frames_of(it, it->sends), length);
+    nicd_come_plain(frames_of(it, it->comes), length);
+    for (unsigned k = 0; k < it->links; k++)
+        nicx_link_change(k % 2);
+    nicd_come_late((uint32_t)it->late, length);
+}
+
 void nicd_begin(void)
 {
     if (nicd.driver->begin)
@@ -558,7 +581,7 @@ void nicd_begin(void)
     nicd_watch_begin();
     if (!(nicd.scenario->ways & OPENS) && !nicd_open())
         nicd_note("open answered false");
-    nicd.scenario->begin();
+    name_all(nicd.scenario);
     nicxi.frame_count = (uint16_t)(nicxi.frame_count - nicd.late); /* the link has no more yet */
     add_threads();
     if (nicd.setup.interrupts && nicd.driver->interrupt)

@@ -55,21 +55,41 @@ enum ways {
 };
 
 struct scenario {
-    const char *name, *family;
+    const char *name;
     const char *title;  /* what is tried, in some words */
     const char *rule;   /* the sentence that it stands for */
     const char *source; /* where that sentence comes from: a section of the datasheet, or a rule of the adapter */
     uint32_t needs, ways;
     nicd_setup setup; /* 0 in queues, slots or frame stands for 1, 8 and 1,514 */
     uint32_t points;
-    void (*begin)(void);                                   /* names tasks and frames; the card's own are there */
-    const char *(*end)(void);                              /* judges more, or null */
+    /* What there is beside the card's own tasks, in the order in which it is named. Frames that are sent or come are so
+       many more than the slots of so many `rings`; those that come late do so once the flow goes on. */
+    void (*control)(void); /* a thread of the scenario's own that calls the driver, or null */
+    void (*opened)(void);  /* what that looks at once the driver is open, or null */
+    void (*begin)(void);   /* names more, or null */
+    bool takes;            /* threads take frames */
+    int8_t rings, sends, comes, late;
+    uint8_t links;            /* changes of the link, of which the first one has it go down */
+    uint16_t length;          /* of each frame; 0 stands for 60 */
+    uint8_t type;             /* enum nic_rss_type, of the flows that come */
+    const char *(*end)(void); /* judges more, or null */
     void (*see)(const struct step *step, bool is_drivers); /* hears of each step, or null */
     const char *reaches[MOST_REACHED];                     /* what should come up in some schedule */
 };
 
-/* The families' tables; each ends with a scenario without a name. */
-extern const struct scenario *const nicd_families[];
+/* A row of a family's table; by name behind it what else a scenario has. */
+#define ROW(row, what, words, section, need, ...)                                                                      \
+    {                                                                                                                  \
+        .name = row, .title = what, .rule = words, .source = section, .needs = need, __VA_ARGS__                       \
+    }
+
+/* A table ends with a scenario without a name, and the families with one without rows. */
+struct family {
+    const char *name;
+    const struct scenario *rows;
+};
+
+extern const struct family nicd_families[];
 
 /* --- frames that come --- */
 
@@ -226,10 +246,12 @@ const char *nicd_end(void);
 
 /* A frame will come: to whom, of what kind and length. Answers its number. */
 uint16_t nicd_come(struct come come);
-/* So many to the port's own address, of 60 bytes or of this length. */
+/* So many to the port's own address, of this length. */
 void nicd_come_plain(uint32_t count, uint32_t length);
 /* The same, once the flow goes on: these are named last. */
 void nicd_come_late(uint32_t count, uint32_t length);
+/* One of each of so many flows of a type. */
+void nicd_come_flows(uint8_t type, uint16_t count);
 /* Threads that take frames, one a queue, and handlers of the vectors in use. */
 void nicd_take_frames(void);
 /* A thread that sends so many frames by a queue and waits until they went out. */

@@ -3,9 +3,25 @@
 
 #include "drive.h"
 
-extern const struct scenario nicd_setup_rows[], nicd_rings[], nicd_frames[], nicd_sending[], nicd_interrupts[],
-    nicd_rss_rows[], nicd_filters[], nicd_life[], nicd_changes[], nicd_functions[], nicd_hosts[], nicd_neighbours[];
+extern const struct scenario nicd_setup_rows[], nicd_rings[], nicd_frames[], nicd_descriptors[], nicd_write_back[],
+    nicd_interrupts[], nicd_rss_rows[], nicd_filters[], nicd_life[], nicd_link[], nicd_resets[], nicd_changes[],
+    nicd_functions[], nicd_hosts[], nicd_neighbours[];
 
-const struct scenario *const nicd_families[] = {
-    nicd_setup_rows, nicd_rings,   nicd_frames,    nicd_sending, nicd_interrupts, nicd_rss_rows, nicd_filters,
-    nicd_life,       nicd_changes, nicd_functions, nicd_hosts,   nicd_neighbours, NULL};
+const struct family nicd_families[] = {
+    {"setup", nicd_setup_rows},
+    {"rings", nicd_rings},
+    {"frames", nicd_frames},
+    {"frames", nicd_descriptors},
+    {"rings", nicd_write_back},
+    {"interrupts", nicd_interrupts},
+    {"rss", nicd_rss_rows},
+    {"filters", nicd_filters},
+    {"life", nicd_life},
+    {"link", nicd_link},
+    {"reset", nicd_resets},
+    {"changes", nicd_changes},
+    {"function", nicd_functions},
+    {"host", nicd_hosts},
+    {"neighbour", nicd_neighbours},
+    {NULL, NULL},
+};

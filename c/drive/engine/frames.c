@@ -114,6 +114,14 @@ void nicd_come_late(uint32_t count, uint32_t length)
     nicd.late = (uint16_t)(nicd.late + count);
 }
 
+void nicd_come_flows(uint8_t type, uint16_t count)
+{
+    for (uint16_t flow = 0; flow < count; flow++) {
+        struct come come = {TO_OWN, type, flow, 0};
+        nicd_come(come);
+    }
+}
+
 void nicd_come_plain(uint32_t count, uint32_t length)
 {
     for (uint32_t k = 0; k < count; k++) {

@@ -68,20 +68,9 @@ static void begin(void)
 
 /* --- which scenarios apply --- */
 
-static const struct scenario *next_of(const struct scenario *it, unsigned *family)
-{
-    if (it && (++it)->name)
-        return it;
-    for (;;) {
-        it = nicd_families[(*family)++];
-        if (!it || it->name)
-            return it;
-    }
-}
-
-#define EACH(it)                                                                                                       \
-    unsigned nicd_family = 0;                                                                                          \
-    for (const struct scenario *it = next_of(NULL, &nicd_family); it; it = next_of(it, &nicd_family))
+#define EACH(family, it)                                                                                               \
+    for (const struct family *family = nicd_families; family->rows; family++)                                          \
+        for (const struct scenario *it = family->rows; it->name; it++)
 
 struct need {
     uint32_t need;
@@ -127,16 +116,16 @@ static const char *lack_of(const struct scenario *it)
 
 static void list(void)
 {
-    EACH(it)
+    EACH(family, it)
     {
         const char *lack = lack_of(it);
-        printf("%s\t%s\t%s\t%s\t%s\t%s\n", it->name, it->family, lack ? lack : "-", it->title, it->rule, it->source);
+        printf("%s\t%s\t%s\t%s\t%s\t%s\n", it->name, family->name, lack ? lack : "-", it->title, it->rule, it->source);
     }
 }
 
 static const struct scenario *find(const char *name)
 {
-    EACH(it)
+    EACH(family, it)
     {
         if (!strcmp(it->name, name))
             return it;

@@ -1,14 +1,6 @@
 /* Link, reset, faults, other lengths and other rings, amid traffic. */
 #include "../engine/drive.h"
 
-static void use_both_ways(void)
-{
-    nicd_take_frames();
-    if (nicd.driver->send)
-        nicd_send_frames(0, 3, 60);
-    nicd_come_plain(4, 60);
-}
-
 /* --- the link --- */
 
 static const char *judge_link(void)
@@ -19,19 +11,6 @@ static const char *judge_link(void)
     return is_up ? "the link is up, and the driver has it down" : "the link is down, and the driver has it up";
 }
 
-static void go_down(void)
-{
-    nicd_take_frames();
-    nicx_link_change(false);
-}
-
-static void go_down_and_up(void)
-{
-    use_both_ways();
-    nicx_link_change(false);
-    nicx_link_change(true);
-}
-
 static void reset_once(void)
 {
     nicd_hold();
@@ -39,35 +18,7 @@ static void reset_once(void)
     nicd_go_on();
 }
 
-static void reset_amid_link(void)
-{
-    nicd_control(reset_once);
-    nicd_take_frames();
-    nicx_link_change(false);
-}
-
 /* --- resets --- */
-
-static void reset_amid_receive(void)
-{
-    nicd_control(reset_once);
-    nicd_take_frames();
-    nicd_come_plain(4, 60);
-    nicd_come_late(2, 60);
-}
-
-static void reset_amid_send(void)
-{
-    nicd_control(reset_once);
-    nicd_send_frames(0, 6, 60);
-}
-
-static void reset_amid_all(void)
-{
-    nicd_control(reset_once);
-    use_both_ways();
-    nicd_come_late(2, 60);
-}
 
 static void reset_twice(void)
 {
@@ -79,14 +30,6 @@ static void reset_twice(void)
         nicd_send_surely(0, 60);
     if (nicd.driver->send)
         nicd_wait_until_out(0);
-}
-
-static void reset_and_go_on(void)
-{
-    nicd_control(reset_twice);
-    nicd_take_frames();
-    nicd_come_plain(3, 60);
-    nicd_come_late(2, 60);
 }
 
 /* What the first reset takes more than open may be kept; what each one takes is lost. */
@@ -106,13 +49,6 @@ static void reset_and_count(void)
     nicd_close();
     if (nicd_memory_left())
         nicx_fail(nicd.fault);
-}
-
-static void reset_and_close(void)
-{
-    nicd_control(reset_and_count);
-    nicd_take_frames();
-    nicd_come_plain(2, 60);
 }
 
 /* --- a fault: the device finds memory gone, and the queue is off --- */
@@ -165,13 +101,6 @@ static void break_receive(void)
     }
 }
 
-static void fault_in_receive(void)
-{
-    nicd_control(break_receive);
-    nicd_come_plain(1, 60);
-    nicd_come_late(2, 60);
-}
-
 static const char *judge_recovery(void)
 {
     for (unsigned queue = 0; queue < nicd.setup.queues; queue++) {
@@ -204,11 +133,6 @@ static void break_send(void)
         nicd_send_surely(0, 60);
 }
 
-static void fault_in_send(void)
-{
-    nicd_control(break_send);
-}
-
 /* --- other lengths, other rings --- */
 
 static void grow_frames(void)
@@ -220,9 +144,8 @@ static void grow_frames(void)
         nicd_send_surely(0, 4096);
 }
 
-static void grow_amid_traffic(void)
+static void come_longer(void)
 {
-    nicd_control(grow_frames);
     nicd_take_frames();
     nicd_come_plain(2, 60);
     nicd_come_late(1, 4096);
@@ -245,9 +168,8 @@ static const char *judge_shrunk(void)
     return NULL;
 }
 
-static void shrink_amid_traffic(void)
+static void come_shorter(void)
 {
-    nicd_control(shrink_frames);
     nicd_take_frames();
     nicd_come_plain(1, 4096);
     nicd_come_plain(1, 60);
@@ -271,156 +193,59 @@ static const char *judge_rings(void)
     return nicd.fault;
 }
 
-static void resize_amid_traffic(void)
-{
-    nicd_control(make_rings_longer);
-    use_both_ways();
-    nicd_come_late(12, 60);
-}
-
-static void resize_amid_chains(void)
-{
-    nicd_control(make_rings_longer);
-    nicd_take_frames();
-    nicd_come_plain(2, 5000);
-    nicd_come_late(2, 5000);
-}
-
 static const char reset_rule[] =
     "A reset ends all queues, masks and filters: software sets all up anew, and throws away "
     "what was on its way";
 static const char resize_rule[] =
     "While a queue is on its base and length don't change, and its memory is the device's";
 
+const struct scenario nicd_link[] = {
+    ROW("link-down", "the link goes down, and the driver knows",
+        "A change of the link raises LSC; LINKS says how it is", "Link Status", RECEIVES | LINK | INTERRUPTS,
+        .setup = {.interrupts = true}, .takes = true, .links = 1, .end = judge_link),
+    ROW("link-down-up", "down and up amid traffic", "A change of the link raises LSC; LINKS says how it is",
+        "Link Status", RECEIVES | LINK | INTERRUPTS, .ways = LOSSY | DROPS, .setup = {.interrupts = true},
+        .takes = true, .sends = 3, .comes = 4, .links = 2, .end = judge_link),
+    ROW("link-amid-reset", "the link goes down while the device is reset",
+        "A reset takes the causes that were raised before it, so the link is looked at after it", "Link Status",
+        RECEIVES | LINK | INTERRUPTS | RESET, .ways = LOSSY | DROPS, .setup = {.interrupts = true},
+        .control = reset_once, .takes = true, .links = 1, .end = judge_link),
+    {0}};
+
+const struct scenario nicd_resets[] = {
+    ROW("reset-amid-receive", "a reset while frames come", reset_rule, "Software Reset", RECEIVES | RESET,
+        .ways = LOSSY | DROPS, .control = reset_once, .takes = true, .comes = 4, .late = 2),
+    ROW("reset-amid-send", "a reset while frames are sent", reset_rule, "Software Reset", SENDS | RESET,
+        .ways = LOSSY | DROPS, .control = reset_once, .sends = 6),
+    ROW("reset-amid-interrupts", "a reset amid both, with interrupts", reset_rule, "Software Reset",
+        RECEIVES | RESET | INTERRUPTS, .ways = LOSSY | DROPS, .setup = {.interrupts = true}, .control = reset_once,
+        .takes = true, .sends = 3, .comes = 4, .late = 2),
+    ROW("reset-twice", "two resets, and traffic after them", reset_rule, "Software Reset", RECEIVES | RESET,
+        .ways = LOSSY | DROPS, .control = reset_twice, .takes = true, .comes = 3, .late = 2, .see = nicd_see_held),
+    ROW("reset-memory", "three resets and a close, and nothing is left",
+        "A reset that takes memory gives back what it had", "reset of the adapter", RESET, .ways = LOSSY | DROPS,
+        .control = reset_and_count, .takes = true, .comes = 2),
+    ROW("fault-receive", "a receive queue met a fault, and is reset",
+        "A queue that met a fault is off until software sets it up anew", "reset of the adapter", PULLS | RESET,
+        .ways = LOSSY | DROPS | FAULTY, .control = break_receive, .comes = 1, .late = 2, .end = judge_recovery,
+        .reaches = {"the queue met the fault"}),
+    ROW("fault-send", "a transmit queue met a fault, and is reset",
+        "A queue that met a fault is off until software sets it up anew", "reset of the adapter", SENDS | RESET,
+        .ways = LOSSY | DROPS | FAULTY, .control = break_send, .end = judge_recovery,
+        .reaches = {"the queue met the fault"}),
+    {0}};
+
 const struct scenario nicd_changes[] = {
-    {.name = "link-down",
-     .family = "link",
-     .title = "the link goes down, and the driver knows",
-     .rule = "A change of the link raises LSC; LINKS says how it is",
-     .source = "Link Status",
-     .needs = RECEIVES | LINK | INTERRUPTS,
-     .setup = {.interrupts = true},
-     .begin = go_down,
-     .end = judge_link},
-    {.name = "link-down-up",
-     .family = "link",
-     .title = "down and up amid traffic",
-     .rule = "A change of the link raises LSC; LINKS says how it is",
-     .source = "Link Status",
-     .needs = RECEIVES | LINK | INTERRUPTS,
-     .ways = LOSSY | DROPS,
-     .setup = {.interrupts = true},
-     .begin = go_down_and_up,
-     .end = judge_link},
-    {.name = "link-amid-reset",
-     .family = "link",
-     .title = "the link goes down while the device is reset",
-     .rule = "A reset takes the causes that were raised before it, so the link is looked at after it",
-     .source = "Link Status",
-     .needs = RECEIVES | LINK | INTERRUPTS | RESET,
-     .ways = LOSSY | DROPS,
-     .setup = {.interrupts = true},
-     .begin = reset_amid_link,
-     .end = judge_link},
-    {.name = "reset-amid-receive",
-     .family = "reset",
-     .title = "a reset while frames come",
-     .rule = reset_rule,
-     .source = "Software Reset",
-     .needs = RECEIVES | RESET,
-     .ways = LOSSY | DROPS,
-     .begin = reset_amid_receive},
-    {.name = "reset-amid-send",
-     .family = "reset",
-     .title = "a reset while frames are sent",
-     .rule = reset_rule,
-     .source = "Software Reset",
-     .needs = SENDS | RESET,
-     .ways = LOSSY | DROPS,
-     .begin = reset_amid_send},
-    {.name = "reset-amid-interrupts",
-     .family = "reset",
-     .title = "a reset amid both, with interrupts",
-     .rule = reset_rule,
-     .source = "Software Reset",
-     .needs = RECEIVES | RESET | INTERRUPTS,
-     .ways = LOSSY | DROPS,
-     .setup = {.interrupts = true},
-     .begin = reset_amid_all},
-    {.name = "reset-twice",
-     .family = "reset",
-     .title = "two resets, and traffic after them",
-     .rule = reset_rule,
-     .source = "Software Reset",
-     .needs = RECEIVES | RESET,
-     .ways = LOSSY | DROPS,
-     .begin = reset_and_go_on,
-     .see = nicd_see_held},
-    {.name = "reset-memory",
-     .family = "reset",
-     .title = "three resets and a close, and nothing is left",
-     .rule = "A reset that takes memory gives back what it had",
-     .source = "reset of the adapter",
-     .needs = RESET,
-     .ways = LOSSY | DROPS,
-     .begin = reset_and_close},
-    {.name = "fault-receive",
-     .family = "reset",
-     .title = "a receive queue met a fault, and is reset",
-     .rule = "A queue that met a fault is off until software sets it up anew",
-     .source = "reset of the adapter",
-     .needs = PULLS | RESET,
-     .ways = LOSSY | DROPS | FAULTY,
-     .begin = fault_in_receive,
-     .end = judge_recovery,
-     .reaches = {"the queue met the fault"}},
-    {.name = "fault-send",
-     .family = "reset",
-     .title = "a transmit queue met a fault, and is reset",
-     .rule = "A queue that met a fault is off until software sets it up anew",
-     .source = "reset of the adapter",
-     .needs = SENDS | RESET,
-     .ways = LOSSY | DROPS | FAULTY,
-     .begin = fault_in_send,
-     .end = judge_recovery,
-     .reaches = {"the queue met the fault"}},
-    {.name = "mtu-grows",
-     .family = "changes",
-     .title = "longer frames from now on, amid traffic",
-     .rule = "MAXFRS and JUMBOEN are set before longer frames come",
-     .source = "Maximum Frame Size",
-     .needs = RECEIVES | MTU,
-     .ways = LOSSY | DROPS,
-     .begin = grow_amid_traffic},
-    {.name = "mtu-shrinks",
-     .family = "changes",
-     .title = "shorter frames from now on, amid traffic",
-     .rule = "A frame above MAXFRS is dropped",
-     .source = "Maximum Frame Size",
-     .needs = RECEIVES | MTU,
-     .ways = LOSSY | DROPS,
-     .setup = {.frame = 4096},
-     .begin = shrink_amid_traffic,
-     .end = judge_shrunk},
-    {.name = "resize-amid-traffic",
-     .family = "changes",
-     .title = "other rings amid traffic",
-     .rule = resize_rule,
-     .source = "Dynamic Disabling of Receive Queues",
-     .needs = RECEIVES | RESIZE,
-     .ways = LOSSY | DROPS,
-     .begin = resize_amid_traffic,
-     .end = judge_rings,
-     .see = nicd_see_held},
-    {.name = "resize-amid-chains",
-     .family = "changes",
-     .title = "other rings amid frames of several buffers",
-     .rule = "A frame whose end was lost with its ring is thrown away",
-     .source = "Dynamic Disabling of Receive Queues",
-     .needs = RECEIVES | RESIZE,
-     .ways = LOSSY | DROPS,
-     .setup = {.frame = 5000},
-     .begin = resize_amid_chains,
-     .end = judge_rings,
-     .see = nicd_see_held},
+    ROW("mtu-grows", "longer frames from now on, amid traffic", "MAXFRS and JUMBOEN are set before longer frames come",
+        "Maximum Frame Size", RECEIVES | MTU, .ways = LOSSY | DROPS, .control = grow_frames, .begin = come_longer),
+    ROW("mtu-shrinks", "shorter frames from now on, amid traffic", "A frame above MAXFRS is dropped",
+        "Maximum Frame Size", RECEIVES | MTU, .ways = LOSSY | DROPS, .setup = {.frame = 4096}, .control = shrink_frames,
+        .begin = come_shorter, .end = judge_shrunk),
+    ROW("resize-amid-traffic", "other rings amid traffic", resize_rule, "Dynamic Disabling of Receive Queues",
+        RECEIVES | RESIZE, .ways = LOSSY | DROPS, .control = make_rings_longer, .takes = true, .sends = 3, .comes = 4,
+        .late = 12, .end = judge_rings, .see = nicd_see_held),
+    ROW("resize-amid-chains", "other rings amid frames of several buffers",
+        "A frame whose end was lost with its ring is thrown away", "Dynamic Disabling of Receive Queues",
+        RECEIVES | RESIZE, .ways = LOSSY | DROPS, .setup = {.frame = 5000}, .control = make_rings_longer, .takes = true,
+        .comes = 2, .late = 2, .length = 5000, .end = judge_rings, .see = nicd_see_held),
     {0}};

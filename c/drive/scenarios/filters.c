@@ -104,10 +104,8 @@ static void see_broadcast(const struct step *step, bool is_drivers)
 }
 
 #define FILTER_ROW(row, what, function, words, section)                                                                \
-    {                                                                                                                  \
-        .name = row, .family = "filters", .title = what, .rule = words, .source = section, .needs = RECEIVES | FILTER, \
-        .ways = DROPS, .begin = function, .end = judge, .see = see_broadcast                                           \
-    }
+    ROW(row, what, words, section, RECEIVES | FILTER, .ways = DROPS, .begin = function, .end = judge,                  \
+        .see = see_broadcast)
 
 const struct scenario nicd_filters[] = {
     FILTER_ROW("filter-own", "its own address alone", let_own_in, "A unicast frame comes in by a valid receive address",

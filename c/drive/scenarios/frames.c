@@ -1,27 +1,6 @@
 /* Frames of all lengths, in one buffer and in several. */
 #include "../engine/drive.h"
 
-static uint32_t length_of(const char *name)
-{
-    uint32_t length = 0;
-    for (; *name; name++)
-        if (*name >= '0' && *name <= '9')
-            length = 10 * length + (uint32_t)(*name - '0');
-    return length;
-}
-
-/* The number in the scenario's name is the frames' length. */
-static void come(void)
-{
-    nicd_take_frames();
-    nicd_come_plain(3, length_of(nicd.scenario->name));
-}
-
-static void go(void)
-{
-    nicd_send_frames(0, 3, length_of(nicd.scenario->name));
-}
-
 static void come_mixed(void)
 {
     static const uint32_t lengths[] = {60, 2048, 61, 1514, 4096, 64, 2049, 1518};
@@ -43,41 +22,25 @@ static const char send_rule[] =
     "A frame may have several descriptors: DTALEN is each buffer's, and EOP stands in the last";
 
 #define RECEIVE(bytes, most)                                                                                           \
-    {                                                                                                                  \
-        .name = "receive-" #bytes, .family = "frames", .title = "frames of " #bytes " bytes come",                     \
-        .rule = length_rule, .source = "Receive Descriptor Write-Back", .needs = RECEIVES, .setup = {.frame = most},   \
-        .begin = come                                                                                                  \
-    }
+    ROW("receive-" #bytes, "frames of " #bytes " bytes come", length_rule, "Receive Descriptor Write-Back", RECEIVES,  \
+        .setup = {.frame = most}, .takes = true, .comes = 3, .length = bytes)
 #define SEND(bytes, most)                                                                                              \
-    {                                                                                                                  \
-        .name = "send-" #bytes, .family = "frames", .title = "frames of " #bytes " bytes are sent", .rule = send_rule, \
-        .source = "Advanced Transmit Data Descriptor", .needs = SENDS, .setup = {.frame = most}, .begin = go           \
-    }
+    ROW("send-" #bytes, "frames of " #bytes " bytes are sent", send_rule, "Advanced Transmit Data Descriptor", SENDS,  \
+        .setup = {.frame = most}, .sends = 3, .length = bytes)
 
-const struct scenario nicd_frames[] = {RECEIVE(60, 1514),
-                                       RECEIVE(1514, 1514),
-                                       RECEIVE(2048, 2048),
-                                       RECEIVE(4096, 4096),
-                                       RECEIVE(9014, 9014),
-                                       {.name = "receive-mixed",
-                                        .family = "frames",
-                                        .title = "short and chained frames one after the other",
-                                        .rule = length_rule,
-                                        .source = "Receive Descriptor Write-Back",
-                                        .needs = RECEIVES,
-                                        .setup = {.frame = 4096},
-                                        .begin = come_mixed},
-                                       SEND(60, 1514),
-                                       SEND(1514, 1514),
-                                       SEND(2048, 2048),
-                                       SEND(4096, 4096),
-                                       SEND(9014, 9014),
-                                       {.name = "send-mixed",
-                                        .family = "frames",
-                                        .title = "three threads send frames of three lengths",
-                                        .rule = send_rule,
-                                        .source = "Advanced Transmit Data Descriptor",
-                                        .needs = SENDS | SHARED_SEND,
-                                        .setup = {.frame = 4096},
-                                        .begin = go_mixed},
-                                       {0}};
+const struct scenario nicd_frames[] = {
+    RECEIVE(60, 1514),
+    RECEIVE(1514, 1514),
+    RECEIVE(2048, 2048),
+    RECEIVE(4096, 4096),
+    RECEIVE(9014, 9014),
+    ROW("receive-mixed", "short and chained frames one after the other", length_rule, "Receive Descriptor Write-Back",
+        RECEIVES, .setup = {.frame = 4096}, .begin = come_mixed),
+    SEND(60, 1514),
+    SEND(1514, 1514),
+    SEND(2048, 2048),
+    SEND(4096, 4096),
+    SEND(9014, 9014),
+    ROW("send-mixed", "three threads send frames of three lengths", send_rule, "Advanced Transmit Data Descriptor",
+        SENDS | SHARED_SEND, .setup = {.frame = 4096}, .begin = go_mixed),
+    {0}};

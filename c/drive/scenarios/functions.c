@@ -3,20 +3,6 @@
 
 enum { VF = 0, PORT = VF + 1 };
 
-static void use_both_ways(void)
-{
-    nicd_take_frames();
-    if (nicd.driver->send)
-        nicd_send_frames(0, 4, 60);
-    nicd_come_plain(5, 60);
-}
-
-static void come_over_a_wrap(void)
-{
-    nicd_take_frames();
-    nicd_come_plain(nicd.setup.slots + 4u, 60);
-}
-
 static void close_it(void)
 {
     nicd_hold();
@@ -28,12 +14,6 @@ static void close_it(void)
     nicx_check(!nicd_peek(NIC_PVTEIMS(VF)), "causes of the function are enabled, and its driver is closed");
     if (nicd_memory_left())
         nicx_fail(nicd.fault);
-}
-
-static void close_amid_traffic(void)
-{
-    nicd_control(close_it);
-    use_both_ways();
 }
 
 /* --- the host resets the pool under it, as a host does that takes the function away --- */
@@ -60,13 +40,9 @@ static void be_reset(void)
         nicd_send_surely(0, 60);
 }
 
-static void reset_under_it(void)
+static void begin_host(void)
 {
-    nicd_control(be_reset);
     nicd_other("host", reset_pool, false);
-    nicd_take_frames();
-    nicd_come_plain(3, 60);
-    nicd_come_late(2, 60);
 }
 
 /* --- what isn't the function's --- */
@@ -317,51 +293,39 @@ static void be_ready_once(void)
     nicd_other("host", host_gets_ready, false);
 }
 
-#define ROW(row, what, words, section, need, way, function, judge)                                                     \
-    {                                                                                                                  \
-        .name = row, .family = "function", .title = what, .rule = words, .source = section,                            \
-        .needs = FUNCTIONS | (need), .ways = way, .setup = {.port = PORT}, .begin = function, .end = judge,            \
-        .see = see_foreign                                                                                             \
-    }
-
 const struct scenario nicd_functions[] = {
     ROW("function-both-ways", "a function's frames come and go",
-        "A virtual function reaches its own queues by offsets of its own", "Virtual Function Registers", RECEIVES, 0,
-        use_both_ways, NULL),
+        "A virtual function reaches its own queues by offsets of its own", "Virtual Function Registers",
+        FUNCTIONS | RECEIVES, .setup = {.port = PORT}, .takes = true, .sends = 4, .comes = 5, .see = see_foreign),
     ROW("function-wrap", "frames over each slot of a function's ring",
-        "A function's rings are as the physical function's", "Virtual Function Registers", RECEIVES, 0,
-        come_over_a_wrap, NULL),
-    {.name = "function-interrupts",
-     .family = "function",
-     .title = "a function's messages",
-     .rule = "A function's causes and masks are its own; what a message masks is enabled again",
-     .source = "Virtual Function Interrupt Registers",
-     .needs = FUNCTIONS | RECEIVES | INTERRUPTS,
-     .setup = {.port = PORT, .interrupts = true},
-     .begin = use_both_ways,
-     .see = see_foreign},
-    {.name = "function-two-queues",
-     .family = "function",
-     .title = "a function with both queues of its pool",
-     .rule = "A function has the queues of its pool",
-     .source = "Virtual Function Registers",
-     .needs = FUNCTIONS | RECEIVES,
-     .setup = {.port = PORT, .queues = 2},
-     .begin = use_both_ways,
-     .see = see_foreign},
+        "A function's rings are as the physical function's", "Virtual Function Registers", FUNCTIONS | RECEIVES,
+        .setup = {.port = PORT}, .takes = true, .rings = 1, .comes = 4, .see = see_foreign),
+    ROW("function-interrupts", "a function's messages",
+        "A function's causes and masks are its own; what a message masks is enabled again",
+        "Virtual Function Interrupt Registers", FUNCTIONS | RECEIVES | INTERRUPTS,
+        .setup = {.port = PORT, .interrupts = true}, .takes = true, .sends = 4, .comes = 5, .see = see_foreign),
+    ROW("function-two-queues", "a function with both queues of its pool", "A function has the queues of its pool",
+        "Virtual Function Registers", FUNCTIONS | RECEIVES, .setup = {.port = PORT, .queues = 2}, .takes = true,
+        .sends = 4, .comes = 5, .see = see_foreign),
     ROW("function-close", "a function closes amid traffic",
         "A queue that is asked to go off may receive and send until ENABLE reads 0; only then is its memory software's",
-        "Dynamic Disabling of Receive Queues", RECEIVES, LOSSY | DROPS, close_amid_traffic, NULL),
+        "Dynamic Disabling of Receive Queues", FUNCTIONS | RECEIVES, .ways = LOSSY | DROPS, .setup = {.port = PORT},
+        .control = close_it, .takes = true, .sends = 4, .comes = 5, .see = see_foreign),
     ROW("function-reset-under-it", "its host resets its pool amid traffic",
         "A reset of the pool ends its queues; the function sets them up anew", "Virtual Function Reset",
-        RECEIVES | RESET, LOSSY | DROPS, reset_under_it, NULL),
+        FUNCTIONS | RECEIVES | RESET, .ways = LOSSY | DROPS, .setup = {.port = PORT}, .control = be_reset,
+        .begin = begin_host, .takes = true, .comes = 3, .late = 2, .see = see_foreign),
     ROW("mailbox-function-sends", "two messages to the host",
         "A side takes the mailbox before it writes, and writes the next message once the last one is acknowledged",
-        "Mailbox", MAILBOX, 0, send_messages, judge_mail),
+        "Mailbox", FUNCTIONS | MAILBOX, .setup = {.port = PORT}, .begin = send_messages, .end = judge_mail,
+        .see = see_foreign),
     ROW("mailbox-function-receives", "two messages of the host", "PFSTS is told by one read: what is read once is kept",
-        "Mailbox", MAILBOX, 0, receive_messages, judge_mail),
+        "Mailbox", FUNCTIONS | MAILBOX, .setup = {.port = PORT}, .begin = receive_messages, .end = judge_mail,
+        .see = see_foreign),
     ROW("mailbox-function-collides", "both sides send at once",
-        "VFU and PFU are never both 1: who comes second tries again", "Mailbox", MAILBOX, 0, collide, judge_mail),
+        "VFU and PFU are never both 1: who comes second tries again", "Mailbox", FUNCTIONS | MAILBOX,
+        .setup = {.port = PORT}, .begin = collide, .end = judge_mail, .see = see_foreign),
     ROW("mailbox-ready-once", "the device's reset is done, while another thread reads the mailbox",
-        "RSTD is told by one read, whoever reads it", "Mailbox", MAILBOX | READY_BIT, 0, be_ready_once, NULL),
+        "RSTD is told by one read, whoever reads it", "Mailbox", FUNCTIONS | MAILBOX | READY_BIT,
+        .setup = {.port = PORT}, .begin = be_ready_once, .see = see_foreign),
     {0}};

@@ -235,22 +235,20 @@ static void withdraw(void)
     nicx_service("mailbox", serve_and_answer, NULL);
 }
 
-#define ROW(row, what, words, function, judges)                                                                        \
-    {                                                                                                                  \
-        .name = row, .family = "host", .title = what, .rule = words, .source = "Mailbox", .needs = HOST | MAILBOX,     \
-        .setup = {.functions = FUNCTIONS_THERE}, .begin = function, .end = judges                                      \
-    }
+#define HOST_ROW(row, what, words, function, judges)                                                                   \
+    ROW(row, what, words, "Mailbox", HOST | MAILBOX, .setup = {.functions = FUNCTIONS_THERE}, .begin = function,       \
+        .end = judges)
 
 const struct scenario nicd_hosts[] = {
-    ROW("host-takes-messages", "two functions send two messages each",
-        "Each function has a mailbox and a bit of PFMBICR of its own; an acknowledgement lets it send again",
-        take_from_two, judge),
-    ROW("host-sends-messages", "two messages to a function",
-        "A side takes the mailbox before it writes, and writes the next message once the last one is read", tell_one,
-        NULL),
-    ROW("host-collides", "both sides send at once",
-        "VFU and PFU are never both 1: who comes second tries again, and a request that waits isn't overwritten",
-        collide, judge),
-    ROW("host-withdrawn-request", "a function resets itself and asks anew",
-        "An answer to a request that was withdrawn doesn't overwrite the next one", withdraw, judge_answer),
+    HOST_ROW("host-takes-messages", "two functions send two messages each",
+             "Each function has a mailbox and a bit of PFMBICR of its own; an acknowledgement lets it send again",
+             take_from_two, judge),
+    HOST_ROW("host-sends-messages", "two messages to a function",
+             "A side takes the mailbox before it writes, and writes the next message once the last one is read",
+             tell_one, NULL),
+    HOST_ROW("host-collides", "both sides send at once",
+             "VFU and PFU are never both 1: who comes second tries again, and a request that waits isn't overwritten",
+             collide, judge),
+    HOST_ROW("host-withdrawn-request", "a function resets itself and asks anew",
+             "An answer to a request that was withdrawn doesn't overwrite the next one", withdraw, judge_answer),
     {0}};

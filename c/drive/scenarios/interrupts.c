@@ -1,19 +1,6 @@
 /* Messages: amid a poll, late, lost to a mask, spurious. */
 #include "../engine/drive.h"
 
-static void come_few(void)
-{
-    nicd_take_frames();
-    nicd_come_plain(4, 60);
-}
-
-static void come_and_go(void)
-{
-    nicd_take_frames();
-    nicd_send_frames(0, 4, 60);
-    nicd_come_plain(3, 60);
-}
-
 static bool has_begun(void *unused)
 {
     (void)unused;
@@ -40,20 +27,9 @@ static void come_spurious(void)
     nicd_come_plain(3, 60);
 }
 
-static void use_two_queues(void)
+static void come_by_flows(void)
 {
-    nicd_take_frames();
-    for (uint16_t flow = 0; flow < 6; flow++) {
-        struct come come = {TO_OWN, NIC_RSS_TCP_IPV4, flow, 0};
-        nicd_come(come);
-    }
-}
-
-/* More than the ring holds, so that a late handler finds it full. */
-static void come_many(void)
-{
-    nicd_take_frames();
-    nicd_come_plain(2u * nicd.setup.slots + 3, 60);
+    nicd_come_flows(NIC_RSS_TCP_IPV4, 6);
 }
 
 /* rearm of a queue changes the masks of the causes of that queue alone. */
@@ -76,85 +52,35 @@ static void rearm_one(void)
     nicd_go_on();
 }
 
-static void rearm_alone(void)
-{
-    nicd_control(rearm_one);
-}
-
 static const char message_rule[] =
     "A frame that comes between the last look at a ring and the enabling of its cause raises "
     "that cause, and it has to be seen";
+static const char late_rule[] =
+    "With an interval in EITR one message tells of many frames, so a poll takes all; the bench throttles "
+    "nothing, and the card calls the handler late";
 
 const struct scenario nicd_interrupts[] = {
-    {.name = "interrupt-receive",
-     .family = "interrupts",
-     .title = "frames are taken by the messages that tell of them",
-     .rule = message_rule,
-     .source = "Interrupt Causes",
-     .needs = RECEIVES | INTERRUPTS,
-     .setup = {.interrupts = true},
-     .begin = come_few},
-    {.name = "interrupt-both-ways",
-     .family = "interrupts",
-     .title = "frames come and go by messages",
-     .rule = message_rule,
-     .source = "Interrupt Causes",
-     .needs = RECEIVES | SENDS | INTERRUPTS,
-     .setup = {.interrupts = true},
-     .begin = come_and_go},
-    {.name = "interrupt-two-queues",
-     .family = "interrupts",
-     .title = "two queues, each with its own message",
-     .rule = "A byte of IVAR for each queue and side, each with its valid bit",
-     .source = "Interrupt Vector Allocation",
-     .needs = RECEIVES | INTERRUPTS,
-     .setup = {.queues = 2, .interrupts = true},
-     .begin = use_two_queues},
-    {.name = "interrupt-spurious",
-     .family = "interrupts",
-     .title = "the handler is called, and nothing came",
-     .rule = "A handler tells nothing by being called",
-     .source = "interrupt of the adapter",
-     .needs = RECEIVES | INTERRUPTS,
-     .setup = {.interrupts = true},
-     .begin = come_spurious},
-    {.name = "interrupt-late",
-     .family = "interrupts",
-     .title = "the handler is called once the ring is full",
-     .rule = "With an interval in EITR one message tells of many frames, so a poll takes all; the bench throttles "
-             "nothing, and the card calls the handler late",
-     .source = "Extended Interrupt Throttle",
-     .needs = RECEIVES | INTERRUPTS,
-     .ways = LATE,
-     .setup = {.interrupts = true},
-     .begin = come_many},
-    {.name = "interrupt-late-both-ways",
-     .family = "interrupts",
-     .title = "the same with frames that are sent",
-     .rule = "With an interval in EITR one message tells of many frames, so a poll takes all; the bench throttles "
-             "nothing, and the card calls the handler late",
-     .source = "Extended Interrupt Throttle",
-     .needs = RECEIVES | SENDS | INTERRUPTS,
-     .ways = LATE,
-     .setup = {.interrupts = true},
-     .begin = come_and_go},
-    {.name = "interrupt-often",
-     .family = "interrupts",
-     .title = "the handler is called more often than an interval lets it",
-     .rule = "An interval in EITR keeps nothing apart: a low latency interrupt comes before it is over, and a poll may "
-             "take longer than that",
-     .source = "Extended Interrupt Throttle",
-     .needs = RECEIVES | INTERRUPTS,
-     .ways = OFTEN,
-     .setup = {.interrupts = true},
-     .begin = come_few},
-    {.name = "interrupt-rearm-alone",
-     .family = "interrupts",
-     .title = "one queue's cause is enabled, and no other's",
-     .rule = "A write of EIMS enables each cause that is written as 1: a queue that is being polled stays masked",
-     .source = "Extended Interrupt Mask Set",
-     .needs = PULLS | INTERRUPTS,
-     .setup = {.queues = 2, .interrupts = true},
-     .begin = rearm_alone,
-     .reaches = {"the queues have vectors of their own"}},
+    ROW("interrupt-receive", "frames are taken by the messages that tell of them", message_rule, "Interrupt Causes",
+        RECEIVES | INTERRUPTS, .setup = {.interrupts = true}, .takes = true, .comes = 4),
+    ROW("interrupt-both-ways", "frames come and go by messages", message_rule, "Interrupt Causes",
+        RECEIVES | SENDS | INTERRUPTS, .setup = {.interrupts = true}, .takes = true, .sends = 4, .comes = 3),
+    ROW("interrupt-two-queues", "two queues, each with its own message",
+        "A byte of IVAR for each queue and side, each with its valid bit", "Interrupt Vector Allocation",
+        RECEIVES | INTERRUPTS, .setup = {.queues = 2, .interrupts = true}, .begin = come_by_flows, .takes = true),
+    ROW("interrupt-spurious", "the handler is called, and nothing came", "A handler tells nothing by being called",
+        "interrupt of the adapter", RECEIVES | INTERRUPTS, .setup = {.interrupts = true}, .begin = come_spurious),
+    ROW("interrupt-late", "the handler is called once the ring is full", late_rule, "Extended Interrupt Throttle",
+        RECEIVES | INTERRUPTS, .ways = LATE, .setup = {.interrupts = true}, .takes = true, .rings = 2, .comes = 3),
+    ROW("interrupt-late-both-ways", "the same with frames that are sent", late_rule, "Extended Interrupt Throttle",
+        RECEIVES | SENDS | INTERRUPTS, .ways = LATE, .setup = {.interrupts = true}, .takes = true, .sends = 4,
+        .comes = 3),
+    ROW("interrupt-often", "the handler is called more often than an interval lets it",
+        "An interval in EITR keeps nothing apart: a low latency interrupt comes before it is over, and a poll may "
+        "take longer than that",
+        "Extended Interrupt Throttle", RECEIVES | INTERRUPTS, .ways = OFTEN, .setup = {.interrupts = true},
+        .takes = true, .comes = 4),
+    ROW("interrupt-rearm-alone", "one queue's cause is enabled, and no other's",
+        "A write of EIMS enables each cause that is written as 1: a queue that is being polled stays masked",
+        "Extended Interrupt Mask Set", PULLS | INTERRUPTS, .setup = {.queues = 2, .interrupts = true},
+        .control = rearm_one, .reaches = {"the queues have vectors of their own"}),
     {0}};

@@ -45,22 +45,9 @@ static void open_and_close(void)
     see_nothing_left();
 }
 
-static void open_in_a_task(void)
-{
-    nicd_control(open_and_close);
-}
-
 static void open_with_frames(void)
 {
     nicx_check(nicd_open(), "open answered false");
-}
-
-/* Frames may come before it is open: those are dropped, or delivered. */
-static void open_amid_frames(void)
-{
-    nicd_control(open_with_frames);
-    nicd_take_frames();
-    nicd_come_plain(3, 60);
 }
 
 static void close_all(void)
@@ -68,27 +55,6 @@ static void close_all(void)
     nicd_hold();
     nicd_close();
     see_nothing_left();
-}
-
-static void close_amid_frames(void)
-{
-    nicd_control(close_all);
-    nicd_take_frames();
-    nicd_come_plain(5, 60);
-}
-
-static void close_amid_sends(void)
-{
-    nicd_control(close_all);
-    nicd_send_frames(0, 5, 60);
-}
-
-static void close_amid_all(void)
-{
-    nicd_control(close_all);
-    nicd_take_frames();
-    nicd_send_frames(0, 3, 60);
-    nicd_come_plain(3, 60);
 }
 
 static void send_two(void)
@@ -116,13 +82,6 @@ static void three_lives(void)
     nicx_check(nicd_open(), "open answered false");
 }
 
-static void restart(void)
-{
-    nicd_control(three_lives);
-    nicd_take_frames();
-    nicd_come_plain(4, 60);
-}
-
 /* Each of open's requests for memory is refused once; then none is. */
 static void refuse_each(void)
 {
@@ -141,28 +100,12 @@ static void refuse_each(void)
         nicd_reach(0);
 }
 
-static void refuse_memory(void)
-{
-    nicd_control(refuse_each);
-    nicd_take_frames();
-    nicd_come_plain(2, 60);
-}
-
 static void rest_and_go_on(void)
 {
     nicd_hold();
     nicd_suspend();
     nicd_resume();
     nicd_go_on();
-}
-
-static void suspend_amid_all(void)
-{
-    nicd_control(rest_and_go_on);
-    nicd_take_frames();
-    nicd_send_frames(0, 3, 60);
-    nicd_come_plain(3, 60);
-    nicd_come_late(2, 60);
 }
 
 /* Frames come and the link goes down meanwhile. */
@@ -176,96 +119,35 @@ static void rest_for_long(void)
     nicd_go_on();
 }
 
-static void suspend_for_long(void)
-{
-    nicd_control(rest_for_long);
-    nicd_take_frames();
-    nicd_come_plain(3, 60);
-    nicx_link_change(false);
-    nicx_link_change(true);
-    nicd_come_late(2, 60);
-}
-
 static const char stop_rule[] =
     "A queue that is asked to go off may receive and send until ENABLE reads 0; only then is "
     "its memory software's";
 
 const struct scenario nicd_life[] = {
-    {.name = "open-close",
-     .family = "life",
-     .title = "open and close, and nothing is left",
-     .rule = "What close leaves is as it was before open: queues off, causes masked, memory given back",
-     .source = "close of the adapter",
-     .ways = OPENS,
-     .begin = open_in_a_task},
-    {.name = "open-amid-frames",
-     .family = "life",
-     .title = "frames come while it opens",
-     .rule = "RXEN is set once all else is",
-     .source = "Receive Initialization",
-     .needs = RECEIVES,
-     .ways = OPENS | LOSSY | DROPS,
-     .begin = open_amid_frames},
-    {.name = "close-amid-frames",
-     .family = "life",
-     .title = "frames come while it closes",
-     .rule = stop_rule,
-     .source = "Dynamic Disabling of Receive Queues",
-     .needs = RECEIVES,
-     .ways = LOSSY | DROPS,
-     .begin = close_amid_frames},
-    {.name = "close-amid-sends",
-     .family = "life",
-     .title = "frames are on their way out while it closes",
-     .rule = stop_rule,
-     .source = "Dynamic Disabling of Transmit Queues",
-     .needs = SENDS,
-     .ways = LOSSY | DROPS,
-     .begin = close_amid_sends},
-    {.name = "close-amid-all",
-     .family = "life",
-     .title = "both, with interrupts",
-     .rule = stop_rule,
-     .source = "Dynamic Disabling of Receive Queues",
-     .needs = RECEIVES | SENDS | INTERRUPTS,
-     .ways = LOSSY | DROPS,
-     .setup = {.interrupts = true},
-     .begin = close_amid_all},
-    {.name = "restart",
-     .family = "life",
-     .title = "three lives, then a fourth that goes on",
-     .rule = "What an earlier life left, in rings, heads and causes, isn't taken for news",
-     .source = "open of the adapter",
-     .needs = RECEIVES,
-     .ways = OPENS | LOSSY | DROPS,
-     .begin = restart,
-     .see = nicd_see_held},
-    {.name = "memory-refused",
-     .family = "life",
-     .title = "each request for memory is refused once",
-     .rule = "An open that is refused memory leaves nothing behind, and the next one succeeds",
-     .source = "open of the adapter",
-     .needs = RECEIVES,
-     .ways = OPENS | LOSSY | DROPS,
-     .begin = refuse_memory,
-     .reaches = {"memory was refused"},
-     .points = 60000},
-    {.name = "suspend",
-     .family = "life",
-     .title = "suspend and resume amid traffic",
-     .rule = stop_rule,
-     .source = "suspend of the adapter",
-     .needs = RECEIVES | SENDS | SUSPEND,
-     .ways = LOSSY | DROPS,
-     .begin = suspend_amid_all,
-     .see = nicd_see_held},
-    {.name = "suspend-quiet",
-     .family = "life",
-     .title = "frames come and the link changes between suspend and resume",
-     .rule = "While the device rests no cause is enabled, no queue is on, and nobody accesses it",
-     .source = "suspend of the adapter",
-     .needs = RECEIVES | SUSPEND,
-     .ways = LOSSY | DROPS,
-     .setup = {.interrupts = true},
-     .begin = suspend_for_long},
+    ROW("open-close", "open and close, and nothing is left",
+        "What close leaves is as it was before open: queues off, causes masked, memory given back",
+        "close of the adapter", 0, .ways = OPENS, .control = open_and_close),
+    ROW("open-amid-frames", "frames come while it opens", "RXEN is set once all else is", "Receive Initialization",
+        RECEIVES, .ways = OPENS | LOSSY | DROPS, .control = open_with_frames, .takes = true, .comes = 3),
+    ROW("close-amid-frames", "frames come while it closes", stop_rule, "Dynamic Disabling of Receive Queues", RECEIVES,
+        .ways = LOSSY | DROPS, .control = close_all, .takes = true, .comes = 5),
+    ROW("close-amid-sends", "frames are on their way out while it closes", stop_rule,
+        "Dynamic Disabling of Transmit Queues", SENDS, .ways = LOSSY | DROPS, .control = close_all, .sends = 5),
+    ROW("close-amid-all", "both, with interrupts", stop_rule, "Dynamic Disabling of Receive Queues",
+        RECEIVES | SENDS | INTERRUPTS, .ways = LOSSY | DROPS, .setup = {.interrupts = true}, .control = close_all,
+        .takes = true, .sends = 3, .comes = 3),
+    ROW("restart", "three lives, then a fourth that goes on",
+        "What an earlier life left, in rings, heads and causes, isn't taken for news", "open of the adapter", RECEIVES,
+        .ways = OPENS | LOSSY | DROPS, .control = three_lives, .takes = true, .comes = 4, .see = nicd_see_held),
+    ROW("memory-refused", "each request for memory is refused once",
+        "An open that is refused memory leaves nothing behind, and the next one succeeds", "open of the adapter",
+        RECEIVES, .ways = OPENS | LOSSY | DROPS, .points = 60000, .control = refuse_each, .takes = true, .comes = 2,
+        .reaches = {"memory was refused"}),
+    ROW("suspend", "suspend and resume amid traffic", stop_rule, "suspend of the adapter", RECEIVES | SENDS | SUSPEND,
+        .ways = LOSSY | DROPS, .control = rest_and_go_on, .takes = true, .sends = 3, .comes = 3, .late = 2,
+        .see = nicd_see_held),
+    ROW("suspend-quiet", "frames come and the link changes between suspend and resume",
+        "While the device rests no cause is enabled, no queue is on, and nobody accesses it", "suspend of the adapter",
+        RECEIVES | SUSPEND, .ways = LOSSY | DROPS, .setup = {.interrupts = true}, .control = rest_for_long,
+        .takes = true, .comes = 3, .links = 2, .late = 2),
     {0}};

@@ -74,27 +74,10 @@ static void see(const struct step *step, bool is_drivers)
         nicd_note("the driver writes the mask of another's cause: 0x%08x", (unsigned)step->word);
 }
 
-static void use_both_ways(void)
-{
-    move_in();
-    nicd_take_frames();
-    if (nicd.driver->send)
-        nicd_send_frames(0, 10, 60);
-    nicd_come_plain(10, 60);
-}
-
 static void close_it(void)
 {
     nicd_hold();
     nicd_close();
-}
-
-static void close_beside(void)
-{
-    move_in();
-    nicd_control(close_it);
-    nicd_take_frames();
-    nicd_come_plain(3, 60);
 }
 
 static void resize_it(void)
@@ -104,56 +87,19 @@ static void resize_it(void)
     nicd_go_on();
 }
 
-static void resize_beside(void)
-{
-    move_in();
-    nicd_control(resize_it);
-    nicd_take_frames();
-    nicd_come_plain(3, 60);
-}
-
 static const char rule[] =
     "What a driver wasn't asked for is another's: its queues, its bytes of IVAR, its masks, its memory";
 
-const struct scenario nicd_neighbours[] = {{.name = "neighbour-traffic",
-                                            .family = "neighbour",
-                                            .title = "traffic beside another's queue",
-                                            .rule = rule,
-                                            .source = "open of the adapter",
-                                            .needs = RECEIVES | PHYSICAL,
-                                            .ways = NEIGHBOUR,
-                                            .begin = use_both_ways,
-                                            .end = judge,
-                                            .see = see},
-                                           {.name = "neighbour-interrupts",
-                                            .family = "neighbour",
-                                            .title = "the same with interrupts",
-                                            .rule = rule,
-                                            .source = "open of the adapter",
-                                            .needs = RECEIVES | PHYSICAL | INTERRUPTS,
-                                            .ways = NEIGHBOUR,
-                                            .setup = {.interrupts = true},
-                                            .begin = use_both_ways,
-                                            .end = judge,
-                                            .see = see},
-                                           {.name = "neighbour-close",
-                                            .family = "neighbour",
-                                            .title = "it closes beside another's queue",
-                                            .rule = rule,
-                                            .source = "NICD_SHARED_DEVICE",
-                                            .needs = RECEIVES | PHYSICAL | SHARED_DEVICE,
-                                            .ways = NEIGHBOUR | LOSSY | DROPS,
-                                            .begin = close_beside,
-                                            .end = judge,
-                                            .see = see},
-                                           {.name = "neighbour-resize",
-                                            .family = "neighbour",
-                                            .title = "other rings beside another's queue",
-                                            .rule = rule,
-                                            .source = "NICD_SHARED_DEVICE",
-                                            .needs = RECEIVES | PHYSICAL | SHARED_DEVICE | RESIZE,
-                                            .ways = NEIGHBOUR | LOSSY | DROPS,
-                                            .begin = resize_beside,
-                                            .end = judge,
-                                            .see = see},
-                                           {0}};
+const struct scenario nicd_neighbours[] = {
+    ROW("neighbour-traffic", "traffic beside another's queue", rule, "open of the adapter", RECEIVES | PHYSICAL,
+        .ways = NEIGHBOUR, .begin = move_in, .takes = true, .sends = 10, .comes = 10, .end = judge, .see = see),
+    ROW("neighbour-interrupts", "the same with interrupts", rule, "open of the adapter",
+        RECEIVES | PHYSICAL | INTERRUPTS, .ways = NEIGHBOUR, .setup = {.interrupts = true}, .begin = move_in,
+        .takes = true, .sends = 10, .comes = 10, .end = judge, .see = see),
+    ROW("neighbour-close", "it closes beside another's queue", rule, "NICD_SHARED_DEVICE",
+        RECEIVES | PHYSICAL | SHARED_DEVICE, .ways = NEIGHBOUR | LOSSY | DROPS, .control = close_it, .begin = move_in,
+        .takes = true, .comes = 3, .end = judge, .see = see),
+    ROW("neighbour-resize", "other rings beside another's queue", rule, "NICD_SHARED_DEVICE",
+        RECEIVES | PHYSICAL | SHARED_DEVICE | RESIZE, .ways = NEIGHBOUR | LOSSY | DROPS, .control = resize_it,
+        .begin = move_in, .takes = true, .comes = 3, .end = judge, .see = see),
+    {0}};

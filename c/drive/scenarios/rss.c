@@ -1,6 +1,5 @@
 /* Receive side scaling: each type to each queue, and another table amid traffic. */
 #include <stdio.h>
-#include <string.h>
 
 #include "../engine/drive.h"
 
@@ -72,29 +71,6 @@ static const char *judge_queues(void)
     return NULL;
 }
 
-static uint8_t type_of(const char *name)
-{
-    static const struct {
-        const char *name;
-        uint8_t type;
-    } types[] = {
-        {"rss-tcp-ipv4", NIC_RSS_TCP_IPV4},    {"rss-udp-ipv4", NIC_RSS_UDP_IPV4},    {"rss-ipv4", NIC_RSS_IPV4},
-        {"rss-tcp-ipv6", NIC_RSS_TCP_IPV6},    {"rss-udp-ipv6", NIC_RSS_UDP_IPV6},    {"rss-ipv6", NIC_RSS_IPV6},
-        {"rss-four-queues", NIC_RSS_TCP_IPV4}, {"rss-four-vectors", NIC_RSS_UDP_IPV4}};
-    for (unsigned k = 0; k < sizeof types / sizeof *types; k++)
-        if (!strcmp(types[k].name, name))
-            return types[k].type;
-    return NIC_RSS_NONE;
-}
-
-static void come_of(uint8_t type)
-{
-    for (uint16_t flow = 0; flow < FLOWS; flow++) {
-        struct come come = {TO_OWN, type, flow, 0};
-        nicd_come(come);
-    }
-}
-
 /* As many for each of four queues, so that none is full. */
 static void come_to_each(uint8_t type)
 {
@@ -106,17 +82,21 @@ static void come_to_each(uint8_t type)
     }
 }
 
-static void come_of_type(void)
+static void ask(uint32_t types)
 {
-    uint8_t type = type_of(nicd.scenario->name);
-    choose(1u << type, 0);
+    choose(types, 0);
     if (!nicd.driver->rss(&wanted))
         nicd_note("rss answered false");
-    nicd_take_frames();
+}
+
+static void come_of_type(void)
+{
+    uint8_t type = nicd.scenario->type;
+    ask(1u << type);
     if (nicd.setup.queues > 2)
         come_to_each(type);
     else
-        come_of(type);
+        nicd_come_flows(type, FLOWS);
 }
 
 static void change_table(void)
@@ -127,73 +107,34 @@ static void change_table(void)
     nicd_go_on();
 }
 
-static void change_amid_frames(void)
-{
-    choose(1u << NIC_RSS_TCP_IPV4, 0);
-    if (!nicd.driver->rss(&wanted))
-        nicd_note("rss answered false");
-    nicd_control(change_table);
-    nicd_take_frames();
-    come_of(NIC_RSS_TCP_IPV4);
-}
-
 static const char rule[] =
     "The low seven bits of a frame's hash name the entry of RETA that names its queue; MRQC says "
     "which types are hashed";
 
-#define TYPE(row, what)                                                                                                \
-    {                                                                                                                  \
-        .name = row, .family = "rss", .title = "flows of " what " over the queues", .rule = rule,                      \
-        .source = "Receive Side Scaling", .needs = RECEIVES | RSS, .setup = {.queues = 2, .slots = 16},                \
-        .begin = come_of_type, .end = judge_queues, .reaches = {                                                       \
-            "queue 0",                                                                                                 \
-            "queue 1"                                                                                                  \
-        }                                                                                                              \
-    }
+#define TYPE(row, what, of)                                                                                            \
+    ROW(row, "flows of " what " over the queues", rule, "Receive Side Scaling", RECEIVES | RSS,                        \
+        .setup = {.queues = 2, .slots = 16}, .begin = come_of_type, .takes = true, .type = of, .end = judge_queues,    \
+        .reaches = {"queue 0", "queue 1"})
 
 const struct scenario nicd_rss_rows[] = {
-    TYPE("rss-tcp-ipv4", "TCP over IPv4"),
-    TYPE("rss-udp-ipv4", "UDP over IPv4"),
-    TYPE("rss-ipv4", "IPv4 without ports"),
-    TYPE("rss-tcp-ipv6", "TCP over IPv6"),
-    TYPE("rss-udp-ipv6", "UDP over IPv6"),
-    TYPE("rss-ipv6", "IPv6 without ports"),
-    {.name = "rss-none",
-     .family = "rss",
-     .title = "frames that aren't hashed",
-     .rule = rule,
-     .source = "Receive Side Scaling",
-     .needs = RECEIVES | RSS,
-     .setup = {.queues = 2, .slots = 16},
-     .begin = come_of_type,
-     .end = judge_queues,
-     .reaches = {"queue 0"}},
-    {.name = "rss-four-queues",
-     .family = "rss",
-     .title = "flows of TCP over IPv4 over four queues",
-     .rule = rule,
-     .source = "Receive Side Scaling",
-     .needs = RECEIVES | RSS,
-     .setup = {.queues = 4},
-     .begin = come_of_type,
-     .end = judge_queues,
-     .reaches = {"queue 0", "queue 1", "queue 2", "queue 3"}},
-    {.name = "rss-four-vectors",
-     .family = "rss",
-     .title = "flows of UDP over IPv4 over four queues, with messages",
-     .rule = "Queues 2 and 3 have their bytes in the second word of IVAR",
-     .source = "Interrupt Vector Allocation",
-     .needs = RECEIVES | RSS | INTERRUPTS,
-     .setup = {.queues = 4, .interrupts = true},
-     .begin = come_of_type,
-     .end = judge_queues,
-     .reaches = {"queue 0", "queue 1", "queue 2", "queue 3"}},
-    {.name = "rss-changed",
-     .family = "rss",
-     .title = "another key and table while frames come",
-     .rule = "A write of RETA takes effect at no particular frame: each is handed up by the queue that it came by",
-     .source = "Redirection Table",
-     .needs = RECEIVES | RSS,
-     .setup = {.queues = 2, .slots = 16},
-     .begin = change_amid_frames},
+    TYPE("rss-tcp-ipv4", "TCP over IPv4", NIC_RSS_TCP_IPV4),
+    TYPE("rss-udp-ipv4", "UDP over IPv4", NIC_RSS_UDP_IPV4),
+    TYPE("rss-ipv4", "IPv4 without ports", NIC_RSS_IPV4),
+    TYPE("rss-tcp-ipv6", "TCP over IPv6", NIC_RSS_TCP_IPV6),
+    TYPE("rss-udp-ipv6", "UDP over IPv6", NIC_RSS_UDP_IPV6),
+    TYPE("rss-ipv6", "IPv6 without ports", NIC_RSS_IPV6),
+    ROW("rss-none", "frames that aren't hashed", rule, "Receive Side Scaling", RECEIVES | RSS,
+        .setup = {.queues = 2, .slots = 16}, .begin = come_of_type, .takes = true, .end = judge_queues,
+        .reaches = {"queue 0"}),
+    ROW("rss-four-queues", "flows of TCP over IPv4 over four queues", rule, "Receive Side Scaling", RECEIVES | RSS,
+        .setup = {.queues = 4}, .begin = come_of_type, .takes = true, .type = NIC_RSS_TCP_IPV4, .end = judge_queues,
+        .reaches = {"queue 0", "queue 1", "queue 2", "queue 3"}),
+    ROW("rss-four-vectors", "flows of UDP over IPv4 over four queues, with messages",
+        "Queues 2 and 3 have their bytes in the second word of IVAR", "Interrupt Vector Allocation",
+        RECEIVES | RSS | INTERRUPTS, .setup = {.queues = 4, .interrupts = true}, .begin = come_of_type, .takes = true,
+        .type = NIC_RSS_UDP_IPV4, .end = judge_queues, .reaches = {"queue 0", "queue 1", "queue 2", "queue 3"}),
+    ROW("rss-changed", "another key and table while frames come",
+        "A write of RETA takes effect at no particular frame: each is handed up by the queue that it came by",
+        "Redirection Table", RECEIVES | RSS, .setup = {.queues = 2, .slots = 16}, .control = change_table,
+        .begin = come_of_type, .takes = true, .type = NIC_RSS_TCP_IPV4),
     {0}};

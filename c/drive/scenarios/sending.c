@@ -61,18 +61,17 @@ static void see_descriptor(const struct step *step, bool is_drivers)
         judge_end(slot);
 }
 
+static void forget_frame(void)
+{
+    frame.is_amid = false;
+}
+
 static void send_short_and_long(void)
 {
     nicd_send_surely(0, 60);
     nicd_send_surely(0, nicd.setup.frame);
     nicd_send_surely(0, 61);
     nicd_wait_until_out(0);
-}
-
-static void send_lengths(void)
-{
-    frame.is_amid = false;
-    nicd_control(send_short_and_long);
 }
 
 /* --- the write-back: DD of a slot, or the head where TDWBAL asks for it --- */
@@ -115,40 +114,23 @@ static void send_and_reclaim(void)
     }
 }
 
-static void reclaim_by_write_back(void)
-{
-    nicd_control(send_and_reclaim);
-}
+const struct scenario nicd_descriptors[] = {
+    ROW("send-descriptor", "what stands in transmit descriptors",
+        "PAYLEN is the length of the whole frame, in its first descriptor, and IFCS has the card append the check "
+        "sequence; the bench reads neither",
+        "Advanced Transmit Data Descriptor", SENDS | PHYSICAL, .setup = {.frame = 1514}, .control = send_short_and_long,
+        .begin = forget_frame, .see = see_descriptor),
+    ROW("send-descriptor-chain", "the same of frames in several buffers",
+        "PAYLEN is the length of the whole frame, in its first descriptor, and IFCS has the card append the check "
+        "sequence; the bench reads neither",
+        "Advanced Transmit Data Descriptor", SENDS | PHYSICAL, .setup = {.frame = 9014}, .control = send_short_and_long,
+        .begin = forget_frame, .see = see_descriptor),
+    {0}};
 
-const struct scenario nicd_sending[] = {
-    {.name = "send-descriptor",
-     .family = "frames",
-     .title = "what stands in transmit descriptors",
-     .rule = "PAYLEN is the length of the whole frame, in its first descriptor, and IFCS has the card append the check "
-             "sequence; the bench reads neither",
-     .source = "Advanced Transmit Data Descriptor",
-     .needs = SENDS | PHYSICAL,
-     .setup = {.frame = 1514},
-     .begin = send_lengths,
-     .see = see_descriptor},
-    {.name = "send-descriptor-chain",
-     .family = "frames",
-     .title = "the same of frames in several buffers",
-     .rule = "PAYLEN is the length of the whole frame, in its first descriptor, and IFCS has the card append the check "
-             "sequence; the bench reads neither",
-     .source = "Advanced Transmit Data Descriptor",
-     .needs = SENDS | PHYSICAL,
-     .setup = {.frame = 9014},
-     .begin = send_lengths,
-     .see = see_descriptor},
-    {.name = "send-write-back",
-     .family = "rings",
-     .title = "by what reclaim knows that a frame went out",
-     .rule =
-         "TDH moves as descriptors are fetched, before their buffers are read: only DD, or the head that the device "
-         "writes, says that a buffer is software's again; on the bench TDH moves in the same step",
-     .source = "Transmit Descriptor Write-Back",
-     .needs = SENDS | RECLAIMS | PHYSICAL,
-     .begin = reclaim_by_write_back,
-     .see = see_write_back},
+const struct scenario nicd_write_back[] = {
+    ROW("send-write-back", "by what reclaim knows that a frame went out",
+        "TDH moves as descriptors are fetched, before their buffers are read: only DD, or the head that the device "
+        "writes, says that a buffer is software's again; on the bench TDH moves in the same step",
+        "Transmit Descriptor Write-Back", SENDS | RECLAIMS | PHYSICAL, .control = send_and_reclaim,
+        .see = see_write_back),
     {0}};

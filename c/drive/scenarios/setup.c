@@ -292,75 +292,24 @@ static void check_drop(void)
             nicd_failed("SRRCTL(%u).DROP_EN is 0: once that queue is full, no other gets a frame", queue);
 }
 
-static void (*check)(void);
-
 static void open_and_check(void)
 {
     nicx_check(nicd_open(), "open answered false");
-    if (check)
-        check();
+    if (nicd.scenario->opened)
+        nicd.scenario->opened();
 }
 
-static void open_with(void (*function)(void))
+static void forget(void)
 {
     seen.is_masked = seen.was_reset = false;
-    check = function;
-    nicd_control(open_and_check);
-}
-
-static void open_alone(void)
-{
-    open_with(NULL);
-}
-
-#define OPEN_WITH(function)                                                                                            \
-    static void open_##function(void)                                                                                  \
-    {                                                                                                                  \
-        open_with(function);                                                                                           \
-    }
-OPEN_WITH(check_crc)
-OPEN_WITH(check_fixes)
-OPEN_WITH(check_mode)
-OPEN_WITH(check_vectors)
-OPEN_WITH(check_enables)
-OPEN_WITH(check_length)
-OPEN_WITH(check_masks)
-OPEN_WITH(check_after_reset)
-OPEN_WITH(check_loaded)
-OPEN_WITH(check_hash)
-OPEN_WITH(check_drop)
-
-static void open_moderated(void)
-{
     eitr_vectors = 0;
-    open_with(check_moderation);
-}
-
-static void come_with_messages(void)
-{
-    nicd_take_frames();
-    nicd_come_plain(3, 60);
-}
-
-static void use_rings(void)
-{
-    nicd_take_frames();
-    nicd_send_frames(0, nicd.driver->send ? 10 : 0, 60);
-    nicd_come_plain(10, 60);
 }
 
 #define SEES(row, need, what, function, words, section)                                                                \
-    {                                                                                                                  \
-        .name = row, .family = "setup", .title = what, .rule = words, .source = section, .needs = need, .ways = OPENS, \
-        .begin = open_alone, .see = function                                                                           \
-    }
+    ROW(row, what, words, section, need, .ways = OPENS, .control = open_and_check, .begin = forget, .see = function)
 #define CHECKS(row, need, what, function, words, section, ...)                                                         \
-    {                                                                                                                  \
-        .name = row, .family = "setup", .title = what, .rule = words, .source = section, .needs = need, .ways = OPENS, \
-        .begin = open_##function, .setup = {                                                                           \
-            __VA_ARGS__                                                                                                \
-        }                                                                                                              \
-    }
+    ROW(row, what, words, section, need, .ways = OPENS, .setup = {__VA_ARGS__}, .control = open_and_check,             \
+        .begin = forget, .opened = function)
 
 const struct scenario nicd_setup_rows[] = {
     SEES("setup-transmit-order", SENDS | PHYSICAL, "the device's transmit enable comes before a queue's",
@@ -409,34 +358,18 @@ const struct scenario nicd_setup_rows[] = {
            "General Purpose Interrupt Enable", .interrupts = true),
     CHECKS("setup-vectors", INTERRUPTS | RECEIVES | PHYSICAL, "each receive queue has a vector", check_vectors,
            "A byte of IVAR counts where its valid bit is 1", "Interrupt Vector Allocation", .interrupts = true),
-    {.name = "setup-moderation",
-     .family = "setup",
-     .title = "what is written as the interval of a vector",
-     .rule = "EITR has the interval in bits 11:3, for a vector; on the bench it has no effect",
-     .source = "Extended Interrupt Throttle",
-     .needs = INTERRUPTS | PHYSICAL,
-     .ways = OPENS,
-     .setup = {.queues = 1, .interrupts = true},
-     .begin = open_moderated,
-     .see = see_moderation,
-     .reaches = {"EITR was written"}},
-    {.name = "setup-cause-read",
-     .family = "setup",
-     .title = "causes of queues aren't taken by reads",
-     .rule = "With MSI-X a queue's cause is cleared by EIAC or by a write of EICR; the bench clears it by a read too",
-     .source = "Extended Interrupt Cause",
-     .needs = RECEIVES | INTERRUPTS | PHYSICAL,
-     .setup = {.interrupts = true},
-     .begin = come_with_messages,
-     .see = see_cause_read},
-    {.name = "setup-tails-in-use",
-     .family = "setup",
-     .title = "tails stay within the ring, also over a wrap",
-     .rule = "A tail is a slot of the ring; behind the last comes slot 0",
-     .source = "Receive Descriptor Tail",
-     .needs = RECEIVES | PHYSICAL,
-     .begin = use_rings,
-     .see = see_ring},
+    ROW("setup-moderation", "what is written as the interval of a vector",
+        "EITR has the interval in bits 11:3, for a vector; on the bench it has no effect",
+        "Extended Interrupt Throttle", INTERRUPTS | PHYSICAL, .ways = OPENS, .setup = {.queues = 1, .interrupts = true},
+        .control = open_and_check, .begin = forget, .opened = check_moderation, .see = see_moderation,
+        .reaches = {"EITR was written"}),
+    ROW("setup-cause-read", "causes of queues aren't taken by reads",
+        "With MSI-X a queue's cause is cleared by EIAC or by a write of EICR; the bench clears it by a read too",
+        "Extended Interrupt Cause", RECEIVES | INTERRUPTS | PHYSICAL, .setup = {.interrupts = true}, .takes = true,
+        .comes = 3, .see = see_cause_read),
+    ROW("setup-tails-in-use", "tails stay within the ring, also over a wrap",
+        "A tail is a slot of the ring; behind the last comes slot 0", "Receive Descriptor Tail", RECEIVES | PHYSICAL,
+        .takes = true, .sends = 10, .comes = 10, .see = see_ring),
     CHECKS("setup-long-frames", PHYSICAL, "the limit for longer frames", check_length,
            "Frames above 1,518 bytes on the wire want HLREG0.JUMBOEN, and MAXFRS counts the check sequence",
            "Maximum Frame Size", .frame = 4096),

@@ -1,7 +1,7 @@
 /* A driver as an author has it, plugged into the card: physical function or virtual, up to four queues, chained
    frames, interrupts by MSI-X, filters, RSS, MTU, rings of another size, resets, suspend, link and mailbox.
 
-   It is right. With -DBUG=NAME, a name of enum bug, it has one mistake: the ones of c/explore's corpus and examples,
+   It is right. With -DBUG=NAME, a name of bugs.h, it has one mistake: the ones of c/explore's corpus and examples,
    and more of their kind, each as an author would make it. docs/report-card.md has the row that finds each. */
 #include <string.h>
 
@@ -9,52 +9,9 @@
 
 enum bug {
     NONE,
-    BUFFER_AGAIN_BEFORE_DD,
-    EICR_CLEARED_BEHIND_POLL,
-    ENABLE_NOT_POLLED,
-    LENGTH_BEFORE_DD,
-    LINK_CHANGE_LOST,
-    LOCK_IN_HANDLER_AND_POLL,
-    MAILBOX_NOT_TAKEN,
-    MESSAGE_BEFORE_ACK,
-    RS_ON_EVERY_FOURTH,
-    RSTD_TOLD_ONCE,
-    STOP_THAT_DOES_NOT_WAIT,
-    TAIL_BEFORE_DESCRIPTOR,
-    TAIL_MEETS_HEAD,
-    TWO_THREADS_ONE_RING,
-    UNMASKED_BEFORE_LAST_LOOK,
-    WRITTEN_HEAD_STALE,
-    INTERRUPT_MODERATION,
-    MAILBOX_WITHDRAWN_REQUEST,
-    RING_RESIZE_JUMBO,
-    TRANSMIT_WATCHDOG,
-    SLOT_WITHOUT_DD,
-    SLOT_TAKEN_TWICE,
-    ACCEPTED_AND_DROPPED,
-    IDLE_TOLD_EARLY,
-    CAUSE_READ_AWAY,
-    EIMS_OF_ALL_QUEUES,
-    IVAR_BYTE_LOST,
-    FIRST_DD_OF_A_CHAIN,
-    HEAD_CACHED_OVER_A_WRAP,
-    DOUBLE_CLEANER,
-    LOCK_ORDER,
-    MISSING_WMB,
-    MISSING_RMB,
-    ENABLE_NOT_AWAITED,
-    PAYLEN_OF_BUFFER,
-    IFCS_MISSING,
-    RECLAIM_BY_HEAD,
-    MEMORY_LOST_BY_RESET,
-    SUSPEND_LEAVES_LINK_CAUSE,
-    SUSPEND_LEAVES_QUEUES_ON,
-    INTERVAL_UNSHIFTED,
-    INTERVAL_OF_QUEUE,
-    INTERVAL_FOR_LOCK,
-    BUDGET_WITHOUT_POLL,
-    RETA_OF_TWO_QUEUES,
-    IVAR_OF_TWO_QUEUES
+#define WRONG(name, ...) name,
+#include "bugs.h"
+#undef WRONG
 };
 
 #ifndef BUG

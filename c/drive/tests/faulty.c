@@ -8,27 +8,9 @@
 
 enum mode {
     RIGHT,
-    CRASH_IN_RECEIVE,
-    CRASH_IN_OPEN,
-    HANG_IN_RECEIVE,
-    HANG_IN_OPEN,
-    WAIT_IN_OPEN,
-    EXIT_IN_RECEIVE,
-    ABORT_IN_CLOSE,
-    OUTSIDE_DMA,
-    OTHERS_DMA,
-    BEHIND_THE_FRAME,
-    NO_LENGTH,
-    OTHER_QUEUE,
-    FREE_TWICE,
-    FREE_OTHERS,
-    OPEN_FALSE,
-    FROM_A_THREAD,
-    THREAD_LEFT,
-    LOCK_LEFT,
-    MEMORY_LEFT,
-    LENDS_IN_PLACE,
-    STATE_LEFT
+#define WRONG(name, ...) name,
+#include "faults.h"
+#undef WRONG
 };
 
 #ifndef MODE

@@ -18,11 +18,8 @@ from typing import Any
 
 HERE = Path(__file__).resolve().parent
 C = HERE.parent
-STRICT = ["-std=c99", "-Wall", "-Wextra", "-pedantic", "-Werror"]
-
-
-class Wrong(Exception):
-    """Something isn't as it should be."""
+sys.path.insert(0, str(C))
+from explore.check import STRICT, Wrong, ran  # noqa: E402
 
 
 @dataclass(frozen=True)
@@ -87,13 +84,7 @@ ADAPTERS = {
 def nicdrive(folder: Path, words: list[object], wanted: int | None) -> str:
     """What the command prints; Wrong where it ends with another status."""
     called = [sys.executable, HERE / "nicdrive", *words] + ([] if "--compare" in words else ["-o", folder])
-    made = subprocess.run(
-        [str(word) for word in called], stdout=subprocess.PIPE, stderr=subprocess.STDOUT, text=True, check=False
-    )
-    if wanted is not None and made.returncode != wanted:
-        shown = " ".join(str(word) for word in called)
-        raise Wrong(f"status {made.returncode} and not {wanted} of: {shown}\n{made.stdout}".rstrip())
-    return made.stdout
+    return ran(called, wanted)
 
 
 def rows_of(folder: Path) -> dict[str, dict[str, Any]]:
@@ -116,15 +107,7 @@ class Kit:
         archives = [self.engine / f"libnic82599{part}.a" for part in ("_drive", "_explore")]
         archives.append(C / "out/libnic82599.a")
         words = [self.compiler, *STRICT, *self.flags, f"-I{C}/include", *(f"-D{one}" for one in defines), source]
-        made = subprocess.run(
-            [str(word) for word in [*words, *archives, "-lpthread", "-o", program]],
-            stdout=subprocess.PIPE,
-            stderr=subprocess.STDOUT,
-            text=True,
-            check=False,
-        )
-        if made.returncode:
-            raise Wrong(f"{source} {' '.join(defines)} doesn't compile:\n{made.stdout}")
+        ran([*words, *archives, "-lpthread", "-o", program])
         return program
 
     def card(self, program: Path, wanted: int | None, *words: object) -> dict[str, dict[str, Any]]:
@@ -162,10 +145,7 @@ def check_bugs(kit: Kit, runs: int, each: int = 1) -> str:
         rows = kit.card(program, 1, "--rows", bug.row, "--runs", runs, "--memory", bug.memory)
         expect(rows[bug.row], bug.cause, bug.name)
         schedule = kit.folder / f"card-{program.name}" / f"{bug.row}.schedule"
-        words = [program, "--row", bug.row, "--memory", bug.memory, "--replay", schedule]
-        again = subprocess.run(words, stdout=subprocess.PIPE, text=True, check=False)
-        if again.returncode != 1:
-            raise Wrong(f"{bug.name}: the schedule of {bug.row} doesn't fail again: {again.stdout[-300:]}")
+        ran([program, "--row", bug.row, "--memory", bug.memory, "--replay", schedule], 1)
     return f"{len(BUGS[::each])} bugs, each found in the row that names it"
 
 
@@ -288,15 +268,7 @@ def check_sanitized(kit: Kit, flags: list[str]) -> str:
     folder.mkdir(exist_ok=True)
     parts = [folder / f"out/libnic82599{part}.a" for part in ("_drive", "_explore")]
     words = " ".join(flags)
-    made = subprocess.run(
-        ["make", "-s", "-C", C, f"OUT={folder}/out", f"EXPLORE_FLAGS={words}", f"DRIVE_FLAGS={words}", *parts],
-        stdout=subprocess.PIPE,
-        stderr=subprocess.STDOUT,
-        text=True,
-        check=False,
-    )
-    if made.returncode:
-        raise Wrong(f"the sanitized engine isn't made:\n{made.stdout}")
+    ran(["make", "-s", "-C", C, f"OUT={folder}/out", f"EXPLORE_FLAGS={words}", f"DRIVE_FLAGS={words}", *parts])
     own = replace(kit, folder=folder, flags=flags, engine=folder / "out")
     rows = own.card(own.build(HERE / "corpus/driver.c"), 0, "--runs", 5, "--every", 5)
     return f"sanitized, {sum(row['state'] == 'passed' for row in rows.values())} rows; {check_bugs(own, 2000, 12)}"

@@ -2,6 +2,7 @@
    one: the controller's own, which waits in the table until the caller's is given back. */
 #include "lent.h"
 
+#include "../recorder/proved.h"
 #include "table.h"
 
 /* as C sees the archive's Memory and MemoryOut */
@@ -14,11 +15,6 @@ struct range {
 };
 
 uint8_t nicd_exchange(nic *n, uint32_t block, struct memory memory, struct memory *former);
-void nicd_free(nic n);
-uint8_t nicd_lend(nic *n, uint32_t block);
-uint8_t nicd_take(nic *n, uint32_t block);
-uint8_t nicd_restore(nic *n, const nic_kept *kept);
-uint8_t nicd_dma_read(nic *n, uint64_t bus, uint8_t *bytes, size_t length);
 
 /* Of the explorer, where it is linked (c/explore/engine/device.c): whether a search goes over this controller. */
 __attribute__((weak)) bool nicxi_refuses_memory(const nic *n);

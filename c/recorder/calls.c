@@ -7,40 +7,25 @@
 #include "../memory/lent.h"
 #include "../memory/shadow.h"
 #include "catch_up.h"
+#include "proved.h"
 #include "recording.h"
+#include "reply.h"
 
-enum { MOST_VFS = 63, MOST_BLOCKS = 65536, UNIT = NICD_UNIT, SHOWN = 4, QUEUES = 128, NOTE_BYTES = 200 };
+enum { MOST_VFS = 63, MOST_BLOCKS = 65536, UNIT = NICD_UNIT, SHOWN = 4, QUEUES = 128 };
+enum { NOTE_BYTES = 200, MOST_REPLY = 160 };
 
 #define IS_OFF __builtin_expect(!__atomic_load_n(&nicd_is_recording, __ATOMIC_RELAXED), 1)
 /* A handle that was never opened, or that nic_close ended. */
 #define IS_CLOSED(n) __builtin_expect(!(n)->device, 0)
 #define COLD static __attribute__((noinline, cold))
-
-uint8_t nicd_new(uint8_t vfs, uint16_t fifo, uint32_t blocks, void **device);
-uint8_t nicd_snapshot(nic *n, nic_kept *kept);
-void nicd_free_snapshot(nic_kept kept);
-uint8_t nicd_read32(nic *n, uint32_t address, uint32_t *word);
-uint8_t nicd_write32(nic *n, uint32_t address, uint32_t word);
-uint8_t nicd_vf_read32(nic *n, uint8_t vf, uint32_t offset, uint32_t *word);
-uint8_t nicd_vf_write32(nic *n, uint8_t vf, uint32_t offset, uint32_t word);
-uint8_t nicd_peek32(nic *n, uint32_t address, uint32_t *word);
-uint8_t nicd_vf_peek32(nic *n, uint8_t vf, uint32_t offset, uint32_t *word);
-uint8_t nicd_lend(nic *n, uint32_t block);
-uint8_t nicd_lend_all(nic *n);
-uint8_t nicd_dma_read(nic *n, uint64_t bus, uint8_t *bytes, size_t length);
-uint8_t nicd_dma_write(nic *n, uint64_t bus, const uint8_t *bytes, size_t length);
-uint8_t nicd_arrive(nic *n, const uint8_t *frame, size_t length, nic_told *told);
-size_t nicd_next_out(nic *n);
-uint8_t nicd_collect(nic *n, uint8_t *room, size_t length, nic_told *told);
-uint8_t nicd_link(nic *n, bool up);
-uint8_t nicd_rx_step(nic *n, nic_told *told);
-uint8_t nicd_tx_step(nic *n, uint16_t queue, nic_told *told);
-uint8_t nicd_queue_step(nic *n, bool transmit, uint16_t queue, nic_told *told);
-uint8_t nicd_eeprom_step(nic *n, nic_told *told);
-uint8_t nicd_int_step(nic *n, uint8_t group, nic_told *told);
-uint8_t nicd_settle(nic *n, uint16_t queues, nic_told *told, size_t length, size_t *count);
-uint8_t nicd_install_image(nic *n, const uint8_t *bytes, size_t length);
-uint8_t nicd_install_text(nic *n, const uint8_t *text, size_t length, uint64_t *line);
+/* The call alone, where nothing is recorded; what stands behind it makes it, and its line. */
+#define UNLESS_RECORDED(n, call)                                                                                       \
+    do {                                                                                                               \
+        if (IS_CLOSED(n))                                                                                              \
+            return NIC_CLOSED;                                                                                         \
+        if (IS_OFF)                                                                                                    \
+            return call;                                                                                               \
+    } while (0)
 
 /* --- replies, as `nicbench run` prints them --- */
 
@@ -63,27 +48,9 @@ static void reply_write(struct recording *it, uint8_t status)
 
 static void reply_told(struct recording *it, uint8_t status, const nic_told *told)
 {
-    nicd_add_reply(it);
-    nicd_add(it, "%s", nic_status_name(status));
-    switch (status) {
-    case NIC_DROPPED: nicd_add(it, " %s", nic_why_name(told->why)); break;
-    case NIC_WROTE: nicd_add(it, " queue %u slot %u %s", told->queue, told->slot, told->end ? "end" : "more"); break;
-    case NIC_ADVANCED: nicd_add(it, " queue %u slot %u", told->queue, told->slot); break;
-    case NIC_SENT: nicd_add(it, " queue %u len %" PRIu64, told->queue, told->len); break;
-    case NIC_FAULT:
-        nicd_add(it, " queue %u %s", told->queue, nic_fault_name(told->why));
-        if (told->why == NIC_FAULT_NOT_LENT)
-            nicd_add(it, " 0x%05" PRIx64, told->bus);
-        break;
-    case NIC_MESSAGE:
-        if (told->group)
-            nicd_add(it, " vf %u vector %u", told->group - 1u, told->vector);
-        else
-            nicd_add(it, " pf vector %u", told->vector);
-        break;
-    default: break;
-    }
-    nicd_add(it, "\n");
+    char words[MOST_REPLY];
+    nicd_reply(words, sizeof words, status, told);
+    reply(it, words);
 }
 
 /* A call that a script can't make, and that changed nothing. */
@@ -119,10 +86,7 @@ void nic_free(nic n)
 
 uint8_t nic_snapshot(nic *n, nic_kept *kept)
 {
-    if (IS_CLOSED(n))
-        return NIC_CLOSED;
-    if (IS_OFF)
-        return nicd_snapshot(n, kept);
+    UNLESS_RECORDED(n, nicd_snapshot(n, kept));
     struct recording *it = nicd_enter(n);
     nicd_before_read(it, n, 0, NICD_ALL);
     uint8_t status = nicd_snapshot(n, kept);
@@ -178,9 +142,8 @@ COLD uint8_t read_register(nic *n, uint32_t address, uint32_t *word)
 
 uint8_t nic_read32(nic *n, uint32_t address, uint32_t *word)
 {
-    if (IS_CLOSED(n))
-        return NIC_CLOSED;
-    return IS_OFF ? nicd_read32(n, address, word) : read_register(n, address, word);
+    UNLESS_RECORDED(n, nicd_read32(n, address, word));
+    return read_register(n, address, word);
 }
 
 COLD uint8_t write_register(nic *n, uint32_t address, uint32_t word)
@@ -197,9 +160,8 @@ COLD uint8_t write_register(nic *n, uint32_t address, uint32_t word)
 
 uint8_t nic_write32(nic *n, uint32_t address, uint32_t word)
 {
-    if (IS_CLOSED(n))
-        return NIC_CLOSED;
-    return IS_OFF ? nicd_write32(n, address, word) : write_register(n, address, word);
+    UNLESS_RECORDED(n, nicd_write32(n, address, word));
+    return write_register(n, address, word);
 }
 
 COLD uint8_t read_vf(nic *n, uint8_t vf, uint32_t offset, uint32_t *word)
@@ -218,9 +180,8 @@ COLD uint8_t read_vf(nic *n, uint8_t vf, uint32_t offset, uint32_t *word)
 
 uint8_t nic_vf_read32(nic *n, uint8_t vf, uint32_t offset, uint32_t *word)
 {
-    if (IS_CLOSED(n))
-        return NIC_CLOSED;
-    return IS_OFF ? nicd_vf_read32(n, vf, offset, word) : read_vf(n, vf, offset, word);
+    UNLESS_RECORDED(n, nicd_vf_read32(n, vf, offset, word));
+    return read_vf(n, vf, offset, word);
 }
 
 COLD uint8_t write_vf(nic *n, uint8_t vf, uint32_t offset, uint32_t word)
@@ -239,9 +200,8 @@ COLD uint8_t write_vf(nic *n, uint8_t vf, uint32_t offset, uint32_t word)
 
 uint8_t nic_vf_write32(nic *n, uint8_t vf, uint32_t offset, uint32_t word)
 {
-    if (IS_CLOSED(n))
-        return NIC_CLOSED;
-    return IS_OFF ? nicd_vf_write32(n, vf, offset, word) : write_vf(n, vf, offset, word);
+    UNLESS_RECORDED(n, nicd_vf_write32(n, vf, offset, word));
+    return write_vf(n, vf, offset, word);
 }
 
 /* --- looks, of which a recording has nothing --- */
@@ -284,10 +244,7 @@ static void moved(struct recording *it, const char *call, uint32_t block, uint8_
 
 uint8_t nic_lend(nic *n, uint32_t block)
 {
-    if (IS_CLOSED(n))
-        return NIC_CLOSED;
-    if (IS_OFF)
-        return nicd_lend(n, block);
+    UNLESS_RECORDED(n, nicd_lend(n, block));
     struct recording *it = nicd_enter(n);
     uint8_t status = nicd_lend(n, block);
     if (it)
@@ -298,10 +255,7 @@ uint8_t nic_lend(nic *n, uint32_t block)
 
 uint8_t nic_take(nic *n, uint32_t block)
 {
-    if (IS_CLOSED(n))
-        return NIC_CLOSED;
-    if (IS_OFF)
-        return nicd_take_in_place(n, block);
+    UNLESS_RECORDED(n, nicd_take_in_place(n, block));
     struct recording *it = nicd_enter(n);
     uint8_t status = nicd_take_in_place(n, block);
     if (it)
@@ -322,10 +276,7 @@ static void moved_range(struct recording *it, const char *call, uint64_t bus, si
 
 uint8_t nic_lend_memory(nic *n, uint64_t bus, void *memory, size_t bytes)
 {
-    if (IS_CLOSED(n))
-        return NIC_CLOSED;
-    if (IS_OFF)
-        return nicd_lend_memory(n, bus, memory, bytes);
+    UNLESS_RECORDED(n, nicd_lend_memory(n, bus, memory, bytes));
     struct recording *it = nicd_enter(n);
     uint8_t status = nicd_lend_memory(n, bus, memory, bytes);
     if (it)
@@ -336,10 +287,7 @@ uint8_t nic_lend_memory(nic *n, uint64_t bus, void *memory, size_t bytes)
 
 uint8_t nic_unlend_memory(nic *n, uint64_t bus, size_t bytes)
 {
-    if (IS_CLOSED(n))
-        return NIC_CLOSED;
-    if (IS_OFF)
-        return nicd_unlend_memory(n, bus, bytes);
+    UNLESS_RECORDED(n, nicd_unlend_memory(n, bus, bytes));
     struct recording *it = nicd_enter(n);
     uint8_t status = nicd_unlend_memory(n, bus, bytes);
     if (it)
@@ -366,9 +314,8 @@ COLD uint8_t lend_all(nic *n)
 
 uint8_t nic_lend_all(nic *n)
 {
-    if (IS_CLOSED(n))
-        return NIC_CLOSED;
-    return IS_OFF ? nicd_lend_all(n) : lend_all(n);
+    UNLESS_RECORDED(n, nicd_lend_all(n));
+    return lend_all(n);
 }
 
 /* The first sixteen of a range that isn't lent, or where the range begins. */
@@ -411,9 +358,8 @@ COLD uint8_t read_memory(nic *n, uint64_t bus, uint8_t *bytes, size_t length)
 
 uint8_t nic_dma_read(nic *n, uint64_t bus, uint8_t *bytes, size_t length)
 {
-    if (IS_CLOSED(n))
-        return NIC_CLOSED;
-    return IS_OFF ? nicd_dma_read(n, bus, bytes, length) : read_memory(n, bus, bytes, length);
+    UNLESS_RECORDED(n, nicd_dma_read(n, bus, bytes, length));
+    return read_memory(n, bus, bytes, length);
 }
 
 static void poke(struct recording *it, uint64_t at, const uint8_t unit[UNIT], uint8_t status)
@@ -446,9 +392,8 @@ COLD uint8_t write_memory(nic *n, uint64_t bus, const uint8_t *bytes, size_t len
 
 uint8_t nic_dma_write(nic *n, uint64_t bus, const uint8_t *bytes, size_t length)
 {
-    if (IS_CLOSED(n))
-        return NIC_CLOSED;
-    return IS_OFF ? nicd_dma_write(n, bus, bytes, length) : write_memory(n, bus, bytes, length);
+    UNLESS_RECORDED(n, nicd_dma_write(n, bus, bytes, length));
+    return write_memory(n, bus, bytes, length);
 }
 
 /* --- the link --- */
@@ -469,9 +414,8 @@ COLD uint8_t arrive(nic *n, const uint8_t *frame, size_t length, nic_told *told)
 
 uint8_t nic_arrive(nic *n, const uint8_t *frame, size_t length, nic_told *told)
 {
-    if (IS_CLOSED(n))
-        return NIC_CLOSED;
-    return IS_OFF ? nicd_arrive(n, frame, length, told) : arrive(n, frame, length, told);
+    UNLESS_RECORDED(n, nicd_arrive(n, frame, length, told));
+    return arrive(n, frame, length, told);
 }
 
 COLD uint8_t collect(nic *n, uint8_t *room, size_t length, nic_told *told)
@@ -496,17 +440,13 @@ COLD uint8_t collect(nic *n, uint8_t *room, size_t length, nic_told *told)
 
 uint8_t nic_collect(nic *n, uint8_t *room, size_t length, nic_told *told)
 {
-    if (IS_CLOSED(n))
-        return NIC_CLOSED;
-    return IS_OFF ? nicd_collect(n, room, length, told) : collect(n, room, length, told);
+    UNLESS_RECORDED(n, nicd_collect(n, room, length, told));
+    return collect(n, room, length, told);
 }
 
 uint8_t nic_link(nic *n, bool up)
 {
-    if (IS_CLOSED(n))
-        return NIC_CLOSED;
-    if (IS_OFF)
-        return nicd_link(n, up);
+    UNLESS_RECORDED(n, nicd_link(n, up));
     struct recording *it = nicd_enter(n);
     uint8_t status = nicd_link(n, up);
     if (it) {
@@ -534,10 +474,7 @@ static uint8_t stepped(struct recording *it, uint8_t status, const nic_told *tol
 
 uint8_t nic_rx_step(nic *n, nic_told *told)
 {
-    if (IS_CLOSED(n))
-        return NIC_CLOSED;
-    if (IS_OFF)
-        return nicd_rx_step(n, told);
+    UNLESS_RECORDED(n, nicd_rx_step(n, told));
     struct recording *it = nicd_enter(n);
     nicd_before_receive(it, n);
     uint8_t status = nicd_rx_step(n, told);
@@ -547,10 +484,7 @@ uint8_t nic_rx_step(nic *n, nic_told *told)
 
 uint8_t nic_tx_step(nic *n, uint16_t queue, nic_told *told)
 {
-    if (IS_CLOSED(n))
-        return NIC_CLOSED;
-    if (IS_OFF)
-        return nicd_tx_step(n, queue, told);
+    UNLESS_RECORDED(n, nicd_tx_step(n, queue, told));
     char line[16];
     struct recording *it = nicd_enter(n);
     snprintf(line, sizeof line, "tx %u", queue);
@@ -563,10 +497,7 @@ uint8_t nic_tx_step(nic *n, uint16_t queue, nic_told *told)
 
 uint8_t nic_queue_step(nic *n, bool transmit, uint16_t queue, nic_told *told)
 {
-    if (IS_CLOSED(n))
-        return NIC_CLOSED;
-    if (IS_OFF)
-        return nicd_queue_step(n, transmit, queue, told);
+    UNLESS_RECORDED(n, nicd_queue_step(n, transmit, queue, told));
     char line[24];
     struct recording *it = nicd_enter(n);
     snprintf(line, sizeof line, "qstep %s %u", transmit ? "tx" : "rx", queue);
@@ -575,10 +506,7 @@ uint8_t nic_queue_step(nic *n, bool transmit, uint16_t queue, nic_told *told)
 
 uint8_t nic_eeprom_step(nic *n, nic_told *told)
 {
-    if (IS_CLOSED(n))
-        return NIC_CLOSED;
-    if (IS_OFF)
-        return nicd_eeprom_step(n, told);
+    UNLESS_RECORDED(n, nicd_eeprom_step(n, told));
     struct recording *it = nicd_enter(n);
     return stepped(it, nicd_eeprom_step(n, told), told, "eestep");
 }
@@ -593,10 +521,7 @@ static void group_line(uint16_t group, char line[24])
 
 uint8_t nic_int_step(nic *n, uint8_t group, nic_told *told)
 {
-    if (IS_CLOSED(n))
-        return NIC_CLOSED;
-    if (IS_OFF)
-        return nicd_int_step(n, group, told);
+    UNLESS_RECORDED(n, nicd_int_step(n, group, told));
     char line[24];
     struct recording *it = nicd_enter(n);
     uint8_t status = nicd_int_step(n, group, told);
@@ -741,10 +666,7 @@ COLD void note(struct recording *it, const char *text)
 
 uint8_t nic_note(nic *n, const char *text)
 {
-    if (IS_CLOSED(n))
-        return NIC_CLOSED;
-    if (IS_OFF)
-        return NIC_DONE;
+    UNLESS_RECORDED(n, NIC_DONE);
     struct recording *it = nicd_enter(n);
     if (it)
         note(it, text);
@@ -768,10 +690,7 @@ static void installed(struct recording *it, const char *form, const uint8_t *byt
 
 uint8_t nic_install_image(nic *n, const uint8_t *bytes, size_t length)
 {
-    if (IS_CLOSED(n))
-        return NIC_CLOSED;
-    if (IS_OFF)
-        return nicd_install_image(n, bytes, length);
+    UNLESS_RECORDED(n, nicd_install_image(n, bytes, length));
     struct recording *it = nicd_enter(n);
     uint8_t status = nicd_install_image(n, bytes, length);
     installed(it, "image", bytes, length, status);

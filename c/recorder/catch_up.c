@@ -6,19 +6,13 @@
 
 #include "../memory/shadow.h"
 #include "../memory/table.h"
+#include "look.h"
+#include "proved.h"
 
 enum { QUEUES = 128, HEAD_BYTES = 4 };
 
-uint8_t nicd_peek32(nic *n, uint32_t address, uint32_t *word);
-uint8_t nicd_dma_read(nic *n, uint64_t bus, uint8_t *bytes, size_t length);
-
 /* Which slots a call may read, from the head on. */
 enum reach { FIRST, TO_TAIL };
-
-struct ring {
-    uint64_t base;
-    uint32_t slots, head, tail;
-};
 
 static void poked(void *recording, uint64_t bus, const uint8_t unit[NICD_UNIT])
 {
@@ -35,24 +29,6 @@ static bool is_in_place(const struct recording *it, const nic *n)
     return table && table->count;
 }
 
-static uint32_t word_at(nic *n, uint32_t address)
-{
-    uint32_t word = 0;
-    nicd_peek32(n, address, &word);
-    return word;
-}
-
-static struct ring ring_of(nic *n, bool transmit, uint32_t queue)
-{
-    struct ring ring;
-    ring.base = (uint64_t)word_at(n, transmit ? NIC_TDBAH(queue) : NIC_RDBAH(queue)) << 32 |
-                word_at(n, transmit ? NIC_TDBAL(queue) : NIC_RDBAL(queue));
-    ring.slots = word_at(n, transmit ? NIC_TDLEN(queue) : NIC_RDLEN(queue)) / NIC_DESC_BYTES;
-    ring.head = word_at(n, transmit ? NIC_TDH(queue) : NIC_RDH(queue));
-    ring.tail = word_at(n, transmit ? NIC_TDT(queue) : NIC_RDT(queue));
-    return ring;
-}
-
 /* A descriptor, and on the transmit side the bytes that it points at. */
 static void before_slot(struct recording *it, nic *n, bool transmit, uint64_t at)
 {
@@ -66,7 +42,7 @@ static void before_slot(struct recording *it, nic *n, bool transmit, uint64_t at
 
 static void before_ring(struct recording *it, nic *n, bool transmit, uint32_t queue, enum reach reach)
 {
-    struct ring ring = ring_of(n, transmit, queue);
+    struct nicd_ring ring = nicd_ring_of(n, transmit, queue);
     if (ring.head >= ring.slots || ring.tail >= ring.slots)
         return;
     for (uint32_t slot = ring.head; slot != ring.tail; slot = slot + 1 < ring.slots ? slot + 1 : 0) {
@@ -88,7 +64,7 @@ void nicd_before_receive(struct recording *it, nic *n)
     if (!is_in_place(it, n))
         return;
     for (uint32_t queue = 0; queue < QUEUES; queue++)
-        if (word_at(n, NIC_RXDCTL(queue)) & NIC_RXDCTL_ENABLE)
+        if (nicd_word_at(n, NIC_RXDCTL(queue)) & NIC_RXDCTL_ENABLE)
             before_ring(it, n, false, queue, FIRST);
 }
 
@@ -113,7 +89,7 @@ void nicd_before_settle(struct recording *it, nic *n, uint32_t queues)
 /* Behind a transmit step it was the descriptor, or the head, elsewhere. */
 static void note_write_back(nic *n, const nic_told *told)
 {
-    struct ring ring = ring_of(n, true, told->queue);
+    struct nicd_ring ring = nicd_ring_of(n, true, told->queue);
     bool is_slot = told->at - ring.base < (uint64_t)NIC_DESC_BYTES * ring.slots;
     nicd_shadow_note(n, told->at, is_slot ? NIC_DESC_BYTES : HEAD_BYTES);
 }

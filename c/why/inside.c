@@ -2,37 +2,22 @@
    to be on, and which causes no message has told. All of it is seen by what a copy of the controller does. */
 #include <string.h>
 
+#include "../recorder/look.h"
+#include "../recorder/proved.h"
 #include "why.h"
-
-uint8_t nicd_new(uint8_t vfs, uint16_t fifo, uint32_t blocks, void **device);
-void nicd_free(nic n);
-uint8_t nicd_snapshot(nic *n, nic_kept *kept);
-uint8_t nicd_restore(nic *n, const nic_kept *kept);
-void nicd_free_snapshot(nic_kept kept);
-uint8_t nicd_write32(nic *n, uint32_t address, uint32_t word);
-uint8_t nicd_rx_step(nic *n, nic_told *told);
-uint8_t nicd_queue_step(nic *n, bool transmit, uint16_t queue, nic_told *told);
-uint8_t nicd_int_step(nic *n, uint8_t group, nic_told *told);
-
-static uint32_t word_of(nic *n, uint32_t address)
-{
-    uint32_t word = 0;
-    nic_peek32(n, address, &word);
-    return word;
-}
 
 /* The causes that the next messages of a group tell: with all of them in its auto-clear, these are gone then. */
 static uint32_t due(nic *copy, uint8_t group)
 {
     uint32_t causes = group ? (uint32_t)NIC_PVTEICR(group - 1) : (uint32_t)NIC_EICR;
-    uint32_t before = word_of(copy, causes);
+    uint32_t before = nicd_word_at(copy, causes);
     nic_told told;
     if (!before)
         return 0;
     nicd_write32(copy, group ? (uint32_t)NIC_PVTEIAC(group - 1) : (uint32_t)NIC_EIAC, UINT32_MAX);
     while (nicd_int_step(copy, group, &told) == NIC_MESSAGE)
         ;
-    return before & ~word_of(copy, causes);
+    return before & ~nicd_word_at(copy, causes);
 }
 
 /* What was asked of each side of a queue. Answers whether a receive side went off, and with it maybe a frame. */
@@ -43,7 +28,7 @@ static bool look_at_sides(nic *copy, struct nicd_inside *inside)
     for (uint16_t queue = 0; queue < NICD_QUEUES; queue++) {
         for (int side = NICD_RX; side <= NICD_TX; side++) {
             uint32_t control = side == NICD_TX ? (uint32_t)NIC_TXDCTL(queue) : (uint32_t)NIC_RXDCTL(queue);
-            bool is_on = word_of(copy, control) & NIC_RXDCTL_ENABLE;
+            bool is_on = nicd_word_at(copy, control) & NIC_RXDCTL_ENABLE;
             bool is_switched = nicd_queue_step(copy, side == NICD_TX, queue, &told) == NIC_DONE;
             inside->is_wanted[side][queue] = is_on != is_switched;
             went_off |= side == NICD_RX && is_on && is_switched;

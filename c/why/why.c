@@ -3,13 +3,13 @@
 #include <stdio.h>
 #include <string.h>
 
+#include "../recorder/look.h"
+#include "../recorder/proved.h"
 #include "why.h"
 
 #include "reasons.inc"
 
 enum { SHORTEST = 60, KILOBYTE = 1024, ENTRY_VALID = 0x80, CAUSE_OF_ENTRY = 0x3f };
-
-uint8_t nicd_dma_read(nic *n, uint64_t bus, uint8_t *bytes, size_t length);
 
 /* What the lines from here on are about. */
 static void about(struct nicd_why *it, const char *what, int number)
@@ -29,29 +29,17 @@ static bool is_lent(struct nicd_why *it, uint64_t bus, uint64_t length)
     return !length || (last >= bus && nicd_dma_read(it->of, last, &byte, 1) == NIC_DONE);
 }
 
-/* A ring with its head and its tail inside. */
-struct ring {
-    uint64_t base;
-    uint32_t slots, head, tail;
-};
-
-static struct ring ring_of(struct nicd_why *it, int side, uint16_t queue)
+static struct nicd_ring ring_of(struct nicd_why *it, int side, uint16_t queue)
 {
-    bool tx = side == NICD_TX;
-    struct ring ring;
-    ring.base = WORD(tx ? NIC_TDBAH(queue) : NIC_RDBAH(queue)) << 32 | WORD(tx ? NIC_TDBAL(queue) : NIC_RDBAL(queue));
-    ring.slots = (uint32_t)WORD(tx ? NIC_TDLEN(queue) : NIC_RDLEN(queue)) / NIC_DESC_BYTES;
-    ring.head = (uint32_t)WORD(tx ? NIC_TDH(queue) : NIC_RDH(queue));
-    ring.tail = (uint32_t)WORD(tx ? NIC_TDT(queue) : NIC_RDT(queue));
-    return ring;
+    return nicd_ring_of(it->of, side == NICD_TX, queue);
 }
 
-static uint64_t address_of(const struct ring *ring, uint32_t slot)
+static uint64_t address_of(const struct nicd_ring *ring, uint32_t slot)
 {
     return ring->base + (uint64_t)NIC_DESC_BYTES * slot;
 }
 
-static bool read_slot(struct nicd_why *it, const struct ring *ring, uint32_t slot, nic_desc *d)
+static bool read_slot(struct nicd_why *it, const struct nicd_ring *ring, uint32_t slot, nic_desc *d)
 {
     uint8_t bytes[NIC_DESC_BYTES];
     if (nicd_dma_read(it->of, address_of(ring, slot), bytes, sizeof bytes) != NIC_DONE)
@@ -68,20 +56,20 @@ static bool is_on(struct nicd_why *it, int side, uint16_t queue)
 }
 
 /* Whether a driver set up a ring, or its head moved. */
-static bool has_ring(const struct ring *ring)
+static bool has_ring(const struct nicd_ring *ring)
 {
     return ring->slots || ring->head || ring->tail;
 }
 
 static bool is_in_use(struct nicd_why *it, int side, uint16_t queue)
 {
-    struct ring ring = ring_of(it, side, queue);
+    struct nicd_ring ring = ring_of(it, side, queue);
     bool has_frames = side == NICD_RX && it->inside.waiting[queue];
     return has_ring(&ring) || has_frames || is_on(it, side, queue) || it->inside.is_wanted[side][queue];
 }
 
 /* The first slot of the device's that no frame can be written to, whichever it is. */
-static void rx_slots(struct nicd_why *it, const struct ring *ring, uint16_t queue)
+static void rx_slots(struct nicd_why *it, const struct nicd_ring *ring, uint16_t queue)
 {
     uint64_t size = FIELD(NIC_SRRCTL(queue), NIC_SRRCTL_BSIZEPACKET) * KILOBYTE;
     for (uint32_t slot = ring->head; slot != ring->tail; slot = slot + 1 == ring->slots ? 0 : slot + 1) {
@@ -125,7 +113,7 @@ static void rx_empty(struct nicd_why *it, uint16_t queue)
 /* What is in the way of a receive queue. */
 static void rx_queue(struct nicd_why *it, uint16_t queue)
 {
-    struct ring ring = ring_of(it, NICD_RX, queue);
+    struct nicd_ring ring = ring_of(it, NICD_RX, queue);
     bool is_off = !is_on(it, NICD_RX, queue) && !it->inside.is_wanted[NICD_RX][queue];
     bool is_outside = false;
     about(it, "rx", queue);
@@ -145,7 +133,7 @@ static void rx_queue(struct nicd_why *it, uint16_t queue)
 /* --- a transmit queue --- */
 
 /* What a data descriptor is a fault for, with so many bytes of its frame in front of it. */
-static bool tx_data(struct nicd_why *it, const struct ring *ring, uint32_t slot, nic_desc d, uint64_t frame)
+static bool tx_data(struct nicd_why *it, const struct nicd_ring *ring, uint32_t slot, nic_desc d, uint64_t frame)
 {
     uint64_t length = nic_desc_field(d.second, NIC_TXD_DTALEN);
     if (d.second & (NIC_TXD_VLE | NIC_TXD_TSE | NIC_TXD_POPTS))
@@ -158,7 +146,7 @@ static bool tx_data(struct nicd_why *it, const struct ring *ring, uint32_t slot,
 }
 
 /* Where the head is written back, if it is, and that isn't lent. */
-static bool tx_back(struct nicd_why *it, const struct ring *ring, uint32_t slot, nic_desc d, uint16_t queue)
+static bool tx_back(struct nicd_why *it, const struct nicd_ring *ring, uint32_t slot, nic_desc d, uint16_t queue)
 {
     uint64_t low = WORD(NIC_TDWBAL(queue)), at = WORD(NIC_TDWBAH(queue)) << 32 | (low & ~UINT64_C(3));
     if (!(d.second & NIC_TXD_RS) || !(low & NIC_TDWBAL_HEAD_WB_EN) || is_lent(it, at, 4))
@@ -166,7 +154,7 @@ static bool tx_back(struct nicd_why *it, const struct ring *ring, uint32_t slot,
     return nicd_why_not_lent(it, at, slot, address_of(ring, slot));
 }
 
-static bool tx_slot(struct nicd_why *it, const struct ring *ring, uint32_t slot, uint64_t *frame, uint16_t queue)
+static bool tx_slot(struct nicd_why *it, const struct nicd_ring *ring, uint32_t slot, uint64_t *frame, uint16_t queue)
 {
     nic_desc d;
     uint64_t kind;
@@ -186,7 +174,7 @@ static bool tx_slot(struct nicd_why *it, const struct ring *ring, uint32_t slot,
 }
 
 /* The first slot of the device's that is a fault. */
-static void tx_slots(struct nicd_why *it, const struct ring *ring, uint16_t queue)
+static void tx_slots(struct nicd_why *it, const struct nicd_ring *ring, uint16_t queue)
 {
     uint64_t frame = 0;
     for (uint32_t slot = ring->head; slot != ring->tail; slot = slot + 1 == ring->slots ? 0 : slot + 1)
@@ -215,7 +203,7 @@ static unsigned queues_of_pool(struct nicd_why *it)
 /* What is in the way of a transmit queue. Whether it has slots to send is no reason by itself. */
 static void tx_queue(struct nicd_why *it, uint16_t queue, bool sends)
 {
-    struct ring ring = ring_of(it, NICD_TX, queue);
+    struct nicd_ring ring = ring_of(it, NICD_TX, queue);
     unsigned before = it->lines, pool = queues_of_pool(it);
     bool is_outside = false;
     about(it, "tx", queue);
@@ -353,7 +341,7 @@ static void rx_side(struct nicd_why *it)
 
 static bool has_work(struct nicd_why *it, uint16_t queue)
 {
-    struct ring ring = ring_of(it, NICD_TX, queue);
+    struct nicd_ring ring = ring_of(it, NICD_TX, queue);
     return ring.head != ring.tail;
 }
 

@@ -295,6 +295,9 @@ void nicd_see_held(const struct step *step, bool is_drivers);
 
 /* --- for scenarios: looking at the device without effects --- */
 
-uint32_t nicd_peek(uint32_t address);
+static inline uint32_t nicd_peek(uint32_t address)
+{
+    return nicxi_peek(address);
+}
 
 #endif

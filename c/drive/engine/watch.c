@@ -236,13 +236,11 @@ static void tell_fault(const struct step *step)
     size_t used = strlen(nicxi.result.words);
     if (step->status != NIC_FAULT || nicxi.result.outcome != NICX_FAULT)
         return;
-    uint64_t ring = nicd_peek(sends ? NIC_TDBAL(queue) : NIC_RDBAL(queue)) & ~UINT32_C(127);
-    ring |= (uint64_t)nicd_peek(sends ? NIC_TDBAH(queue) : NIC_RDBAH(queue)) << 32;
-    uint64_t length = nicd_peek(sends ? NIC_TDLEN(queue) : NIC_RDLEN(queue));
-    bool is_buffer = step->told.why == NIC_FAULT_NOT_LENT && step->told.bus - ring >= length;
+    struct nicd_ring ring = nicd_ring_of(nicx_device(), sends, queue);
+    uint64_t length = (uint64_t)NIC_DESC_BYTES * ring.slots;
+    bool is_buffer = step->told.why == NIC_FAULT_NOT_LENT && step->told.bus - ring.base >= length;
     snprintf(nicxi.result.words + used, sizeof nicxi.result.words - used, " (%s slot %u, its %s)",
-             sends ? "transmit" : "receive", (unsigned)nicd_peek(sends ? NIC_TDH(queue) : NIC_RDH(queue)),
-             is_buffer ? "buffer" : "descriptor");
+             sends ? "transmit" : "receive", (unsigned)ring.head, is_buffer ? "buffer" : "descriptor");
 }
 
 /* Calls come on the card's threads, which are stacks of one thread of the process. */
@@ -344,11 +342,4 @@ void nicd_watch_begin(void)
 void nicd_delivered_one(void)
 {
     seen->delivered++;
-}
-
-uint32_t nicd_peek(uint32_t address)
-{
-    uint32_t word = 0;
-    nic_peek32(&nicxi.device, address, &word);
-    return word;
 }

@@ -12,20 +12,16 @@ static struct {
 
 static uint64_t second_of(unsigned queue, unsigned slot)
 {
-    uint64_t half = 0, ring = nicd_peek(NIC_TDBAL(queue)) & ~UINT32_C(127);
-    uint8_t bytes[8];
-    ring |= (uint64_t)nicd_peek(NIC_TDBAH(queue)) << 32;
-    nic_dma_read(nicx_device(), ring + NIC_DESC_BYTES * slot + 8, bytes, sizeof bytes);
-    for (unsigned k = 0; k < 8; k++)
-        half |= (uint64_t)bytes[k] << 8 * k;
+    uint64_t half = 0;
+    nic_get64(nicx_device(), nicd_ring_of(nicx_device(), true, queue).base + NIC_DESC_BYTES * slot + 8, &half);
     return half;
 }
 
 /* The slot that the device has just fetched. */
 static unsigned fetched(unsigned queue)
 {
-    uint32_t slots = nicd_peek(NIC_TDLEN(queue)) / NIC_DESC_BYTES, head = nicd_peek(NIC_TDH(queue));
-    return head ? head - 1 : slots - 1;
+    struct nicd_ring ring = nicd_ring_of(nicx_device(), true, queue);
+    return (ring.head ? ring.head : ring.slots) - 1;
 }
 
 static void judge_end(unsigned slot)
@@ -86,17 +82,17 @@ static bool reaches(const struct step *step, uint64_t at, uint32_t length)
 
 static void see_write_back(const struct step *step, bool is_drivers)
 {
-    uint64_t ring = nicd_peek(NIC_TDBAL(0)) & ~UINT32_C(127), head = nicd_peek(NIC_TDWBAL(0));
+    struct nicd_ring ring = nicd_ring_of(nicx_device(), true, 0);
+    uint64_t head = nicd_peek(NIC_TDWBAL(0));
     if (!is_drivers)
         return;
     has_head |= step->kind == STEP_READ && step->address == NIC_TDH(0);
     if (step->kind != STEP_PEEK)
         return;
-    ring |= (uint64_t)nicd_peek(NIC_TDBAH(0)) << 32;
     if (head & NIC_TDWBAL_HEAD_WB_EN)
         was_read |= reaches(step, ((uint64_t)nicd_peek(NIC_TDWBAH(0)) << 32 | head) & ~UINT64_C(3), 4);
-    for (unsigned slot = 0; slot < nicd_peek(NIC_TDLEN(0)) / NIC_DESC_BYTES; slot++)
-        was_read |= reaches(step, ring + NIC_DESC_BYTES * slot + 12, 1) && second_of(0, slot) & NIC_TXWB_DD;
+    for (unsigned slot = 0; slot < ring.slots; slot++)
+        was_read |= reaches(step, ring.base + NIC_DESC_BYTES * slot + 12, 1) && second_of(0, slot) & NIC_TXWB_DD;
 }
 
 static void send_and_reclaim(void)

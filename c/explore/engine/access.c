@@ -98,9 +98,7 @@ static void note_change(void)
 /* Where a function's access goes, before it is made. */
 static void note_physical(struct step *step)
 {
-    uint32_t mode = 0;
-    nic_peek32(&nicxi.device, NIC_GCR_EXT, &mode);
-    step->physical = nicxi_physical(mode, step->vf, step->address);
+    step->physical = nicxi_physical(nicxi_peek(NIC_GCR_EXT), step->vf, step->address);
 }
 
 /* Whether a step can be seen by others: a read of most registers can't. */

@@ -36,8 +36,7 @@ void nicxi_cover_thread(uint16_t number)
 
 static void look_at_queue(int side, uint16_t queue)
 {
-    uint32_t word = 0;
-    nic_peek32(&nicxi.device, side == RECEIVE ? NIC_RXDCTL(queue) : NIC_TXDCTL(queue), &word);
+    uint32_t word = nicxi_peek(side == RECEIVE ? NIC_RXDCTL(queue) : NIC_TXDCTL(queue));
     nicxi.coverage->is_on[side][queue] |= (word & ENABLE) != 0;
 }
 

@@ -2,6 +2,7 @@
 #ifndef NICX_ENGINE_H
 #define NICX_ENGINE_H
 
+#include "../../recorder/look.h"
 #include "coverage.h"
 #include "fiber.h"
 #include "nic82599_explore.h"
@@ -342,6 +343,12 @@ void nicxi_threads_close(void);
 bool nicxi_lock_is_free(const nicx_mutex *lock);
 /* Whether somebody else acted since the thread last went on. */
 bool nicxi_others_acted(const struct thread *thread);
+
+/* A register of the device, without effects. */
+static inline uint32_t nicxi_peek(uint32_t address)
+{
+    return nicd_word_at(&nicxi.device, address);
+}
 
 /* The device, kept and brought back. */
 const char *nicxi_keep(void);

@@ -158,17 +158,10 @@ void nicx_frames(uint32_t count, size_t length)
 
 /* --- the queue of a flow --- */
 
-static uint32_t peek(uint32_t address)
-{
-    uint32_t word = 0;
-    nic_peek32(&nicxi.device, address, &word);
-    return word;
-}
-
 /* How many bytes of addresses and ports are hashed, as MRQC is now; 0: none. */
 static size_t hashed_bytes(const nicx_flow *flow)
 {
-    uint32_t mrqc = peek(NIC_MRQC);
+    uint32_t mrqc = nicxi_peek(NIC_MRQC);
     if ((flow->protocol == NICX_TCP && mrqc & NIC_MRQC_TCPIPV4) ||
         (flow->protocol == NICX_UDP && mrqc & NIC_MRQC_UDPIPV4))
         return 12;
@@ -180,7 +173,7 @@ uint32_t nicx_rss_hash(const nicx_flow *flow)
     uint8_t key[4 * NIC_RSSRK_COUNT], tuple[12];
     uint32_t hash = 0;
     for (uint32_t k = 0; k < sizeof key; k++)
-        key[k] = (uint8_t)(peek(NIC_RSSRK(k / 4)) >> 8 * (k % 4));
+        key[k] = (uint8_t)(nicxi_peek(NIC_RSSRK(k / 4)) >> 8 * (k % 4));
     put32(tuple, flow->from);
     put32(tuple + 4, flow->to);
     put16(tuple + 8, flow->from_port);
@@ -193,9 +186,9 @@ uint32_t nicx_rss_hash(const nicx_flow *flow)
 uint16_t nicx_rss_queue(const nicx_flow *flow)
 {
     uint32_t entry = hashed_bytes(flow) ? nicx_rss_hash(flow) & 127 : 0;
-    if ((peek(NIC_MRQC) & NIC_MRQC_MRQE) != 1)
+    if ((nicxi_peek(NIC_MRQC) & NIC_MRQC_MRQE) != 1)
         return 0;
-    return peek(NIC_RETA(entry / 4)) >> 8 * (entry % 4) & 15;
+    return nicxi_peek(NIC_RETA(entry / 4)) >> 8 * (entry % 4) & 15;
 }
 
 /* --- a mailbox --- */

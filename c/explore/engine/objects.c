@@ -20,40 +20,18 @@ static void add(struct objects *objects, const char *form, ...)
 
 /* --- memory: the slots of rings, else a block --- */
 
-struct ring {
-    const char *side;
-    uint64_t base;
-    uint32_t length; /* bytes */
-};
-
-static uint32_t word_at(uint32_t address)
-{
-    uint32_t word = 0;
-    nic_peek32(&nicxi.device, address, &word);
-    return word;
-}
-
-static struct ring ring_of(bool sends, uint32_t queue)
-{
-    struct ring ring;
-    uint32_t high = word_at(sends ? NIC_TDBAH(queue) : NIC_RDBAH(queue));
-    ring.side = sends ? "tx" : "rx";
-    ring.base = (uint64_t)high << 32 | word_at(sends ? NIC_TDBAL(queue) : NIC_RDBAL(queue));
-    ring.length = word_at(sends ? NIC_TDLEN(queue) : NIC_RDLEN(queue));
-    return ring;
-}
-
 static void add_memory(struct objects *objects, uint64_t bus, uint32_t length)
 {
     enum { MOST_SLOTS = 3 };
     bool is_in_ring = false;
     for (uint32_t k = 0; k < 2u * nicxi.scenario->queues; k++) {
-        struct ring ring = ring_of(k & 1, k / 2);
-        uint64_t end = bus + length < ring.base + ring.length ? bus + length : ring.base + ring.length;
+        struct nicd_ring ring = nicd_ring_of(&nicxi.device, k & 1, k / 2);
+        uint64_t behind = ring.base + (uint64_t)NIC_DESC_BYTES * ring.slots;
+        uint64_t end = bus + length < behind ? bus + length : behind;
         uint64_t at = bus > ring.base ? bus : ring.base;
         for (uint32_t slots = 0; at < end && slots < MOST_SLOTS; slots++) {
             uint64_t slot = (at - ring.base) / NIC_DESC_BYTES;
-            add(objects, "%s %u slot %u", ring.side, (unsigned)(k / 2), (unsigned)slot);
+            add(objects, "%s %u slot %u", k & 1 ? "tx" : "rx", (unsigned)(k / 2), (unsigned)slot);
             at = ring.base + (slot + 1) * NIC_DESC_BYTES;
             is_in_ring = true;
         }
@@ -128,10 +106,10 @@ static void add_received(struct objects *objects, const struct step *step)
 /* Behind the step the head is at the next slot, but where that can't be processed. */
 static void add_sent(struct objects *objects, const struct step *step)
 {
-    uint32_t slots = word_at(NIC_TDLEN(step->of)) / NIC_DESC_BYTES, head = word_at(NIC_TDH(step->of));
+    struct nicd_ring ring = nicd_ring_of(&nicxi.device, true, step->of);
     uint32_t back = step->status != NIC_FAULT;
-    if (slots)
-        add(objects, "tx %u slot %u", step->of, (unsigned)((head + slots - back) % slots));
+    if (ring.slots)
+        add(objects, "tx %u slot %u", step->of, (unsigned)((ring.head + ring.slots - back) % ring.slots));
     add(objects, "tx %u", step->of);
 }
 

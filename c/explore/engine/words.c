@@ -4,6 +4,7 @@
 #include <stdio.h>
 #include <string.h>
 
+#include "../../recorder/reply.h"
 #include "names.h"
 #include "symbols.h"
 
@@ -18,39 +19,10 @@ const char *nicxi_why(const char *form, ...)
     return memcpy(why, words, sizeof why);
 }
 
-static const char *fault_words(const nic_told *told, char *room)
-{
-    int length = snprintf(room, MOST_WORDS, "fault queue %u %s", told->queue, nic_fault_name(told->why));
-    if (told->why == NIC_FAULT_NOT_LENT)
-        snprintf(room + length, MOST_WORDS - (size_t)length, " 0x%05llx", (unsigned long long)told->bus);
-    return room;
-}
-
-static const char *told_words(const struct step *step, char *room)
-{
-    const nic_told *told = &step->told;
-    switch (step->status) {
-    case NIC_DROPPED: snprintf(room, MOST_WORDS, "dropped %s", nic_why_name(told->why)); break;
-    case NIC_WROTE:
-        snprintf(room, MOST_WORDS, "wrote queue %u slot %u %s", told->queue, told->slot, told->end ? "end" : "more");
-        break;
-    case NIC_ADVANCED: snprintf(room, MOST_WORDS, "advanced queue %u slot %u", told->queue, told->slot); break;
-    case NIC_SENT: snprintf(room, MOST_WORDS, "sent queue %u len %u", told->queue, (unsigned)told->len); break;
-    case NIC_FAULT: return fault_words(told, room);
-    case NIC_MESSAGE:
-        if (told->group)
-            snprintf(room, MOST_WORDS, "message vf %u vector %u", told->group - 1u, told->vector);
-        else
-            snprintf(room, MOST_WORDS, "message pf vector %u", told->vector);
-        break;
-    default: snprintf(room, MOST_WORDS, "%s", nic_status_name(step->status));
-    }
-    return room;
-}
-
 const char *nicxi_reply(const struct step *step, char room[MOST_WORDS])
 {
-    return told_words(step, room);
+    nicd_reply(room, MOST_WORDS, step->status, &step->told);
+    return room;
 }
 
 /* A barrier with the stores that it sent ahead; a timer with its name. */
@@ -140,7 +112,7 @@ const char *nicxi_words(const struct step *step, char room[MOST_WORDS])
     case STEP_LEND: snprintf(room, MOST_WORDS, "lend %u%s", step->address, stray); return room;
     case STEP_TAKE: snprintf(room, MOST_WORDS, "unlend %u%s", step->address, stray); return room;
     case STEP_LINK: return step->word ? "link up" : "link down";
-    default: return told_words(step, room);
+    default: return nicxi_reply(step, room);
     }
 }
 

@@ -532,9 +532,8 @@ static void device_writes(uint64_t bus, uint64_t length, unsigned how)
 /* A head that is written is four bytes, a descriptor sixteen. */
 static void device_writes_back(const struct step *step)
 {
-    uint32_t where = 0;
-    nic_peek32(&nicxi.device, NIC_TDWBAL(step->told.queue), &where);
-    device_writes(step->told.at, where & 1 ? 4 : 16, WRITES | WRITTEN_BACK);
+    bool is_head = nicxi_peek(NIC_TDWBAL(step->told.queue)) & NIC_TDWBAL_HEAD_WB_EN;
+    device_writes(step->told.at, is_head ? 4 : 16, WRITES | WRITTEN_BACK);
 }
 
 /* It did so after what it was told about this side, a message after all that it was told. */

@@ -3,13 +3,12 @@
 #include <stdio.h>
 #include <string.h>
 
+#include "../recorder/look.h"
 #include "why.h"
 
 uint64_t nicd_why_word(const struct nicd_why *it, uint32_t address)
 {
-    uint32_t word = 0;
-    nic_peek32(it->of, address, &word);
-    return word;
+    return nicd_word_at(it->of, address);
 }
 
 uint64_t nicd_why_field(const struct nicd_why *it, uint32_t address, uint32_t field)
@@ -21,9 +20,13 @@ const char *nicd_why_bits(struct nicd_why *it, const char *const names[32], uint
 {
     size_t used = 0;
     it->names[0] = 0;
-    for (int bit = 0; bit < 32 && used < sizeof it->names; bit++)
+    for (int bit = 0; bit < 32 && used < sizeof it->names; bit++) {
+        char number[8];
+        snprintf(number, sizeof number, "bit %d", bit);
         if (word >> bit & 1)
-            used += (size_t)snprintf(it->names + used, sizeof it->names - used, "%s%s", used ? ", " : "", names[bit]);
+            used += (size_t)snprintf(it->names + used, sizeof it->names - used, "%s%s", used ? ", " : "",
+                                     names[bit] ? names[bit] : number);
+    }
     return it->names;
 }
 
@@ -38,13 +41,13 @@ static void append(struct nicd_why *it, const char *line, size_t length)
     it->length += length;
 }
 
-void nicd_why_say(struct nicd_why *it, const char *format, ...)
+bool nicd_why_say(struct nicd_why *it, const char *format, ...)
 {
     char line[1024];
     va_list list;
     it->lines++;
     if (it->is_silent)
-        return;
+        return true;
     int used = snprintf(line, sizeof line, "%s%s", it->subject, *it->subject ? ": " : "");
     va_start(list, format);
     used += vsnprintf(line + used, sizeof line - (size_t)used - 1, format, list);
@@ -53,4 +56,5 @@ void nicd_why_say(struct nicd_why *it, const char *format, ...)
         used = (int)sizeof line - 2;
     line[used] = '\n';
     append(it, line, (size_t)used + 1);
+    return true;
 }

@@ -39,9 +39,9 @@ void nicd_look_inside(nic *of, struct nicd_inside *inside);
 
 uint64_t nicd_why_word(const struct nicd_why *it, uint32_t address);
 uint64_t nicd_why_field(const struct nicd_why *it, uint32_t address, uint32_t field);
-/* The names of the bits that are 1, until the next call. */
+/* The names of the bits that are 1, or their numbers, until the next call. */
 const char *nicd_why_bits(struct nicd_why *it, const char *const names[32], uint64_t word);
-/* One more line. */
-void nicd_why_say(struct nicd_why *it, const char *format, ...) __attribute__((format(printf, 2, 3)));
+/* One more line; true. */
+bool nicd_why_say(struct nicd_why *it, const char *format, ...) __attribute__((format(printf, 2, 3)));
 
 #endif

@@ -4,24 +4,24 @@
 
 #include "nic82599_explore.h"
 
-/* What DRIVER is given overrides what it has of its own. */
+/* A thread that needs no argument calls it `unused`. */
+#pragma GCC diagnostic ignored "-Wunused-parameter"
+/* What SCENARIO is given overrides what it has of its own. */
 #ifdef __clang__
 #pragma clang diagnostic ignored "-Winitializer-overrides"
 #else
 #pragma GCC diagnostic ignored "-Woverride-init"
 #endif
 
-/* The end of each file: its bring_up, begin and end as a program, with what else the scenario says. */
+/* A scenario of a file's bring_up, begin and end, with what else there is to say. */
+#define SCENARIO(...)                                                                                                  \
+    {                                                                                                                  \
+        .fifo = 64, .blocks = 16, .queues = 1, .bring_up = bring_up, .begin = begin, .end = end, __VA_ARGS__,          \
+    }
+
+/* The end of each file: its scenario as a program. */
 #define DRIVER(...)                                                                                                    \
-    static const nicx_scenario scenario = {                                                                            \
-        .fifo = 64,                                                                                                    \
-        .blocks = 16,                                                                                                  \
-        .queues = 1,                                                                                                   \
-        .bring_up = bring_up,                                                                                          \
-        .begin = begin,                                                                                                \
-        .end = end,                                                                                                    \
-        __VA_ARGS__,                                                                                                   \
-    };                                                                                                                 \
+    static const nicx_scenario scenario = SCENARIO(__VA_ARGS__);                                                       \
                                                                                                                        \
     int main(int argc, char **argv)                                                                                    \
     {                                                                                                                  \

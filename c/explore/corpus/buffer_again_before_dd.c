@@ -12,7 +12,6 @@ static const char *bring_up(void)
 
 static void send(void *unused)
 {
-    (void)unused;
     for (unsigned k = 0; k < FRAMES; k++) {
 #ifdef FIXED
         while (k && !is_done(TX_RING, k - 1, TX_DONE))

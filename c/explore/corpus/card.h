@@ -34,19 +34,36 @@ static inline void lend_blocks(unsigned buffers)
         nicx_lend(block);
 }
 
-/* Receive queue 0 with its ring at RX_RING, on, with all frames let in; `posted` slots have a buffer each. */
+/* A receive queue with its ring at a place, on; `posted` slots have a buffer each, from the first one of these on. */
+static inline void bring_up_receive_queue(unsigned queue, uint32_t ring, unsigned first, unsigned posted)
+{
+    nicx_write32(NIC_RDBAL(queue), ring);
+    nicx_write32(NIC_RDLEN(queue), 16 * SLOTS);
+    nicx_write32(NIC_SRRCTL(queue), NIC_SRRCTL_DESCTYPE_IS(1) | NIC_SRRCTL_BSIZEPACKET_IS(2));
+    nicx_write32(NIC_RXDCTL(queue), ENABLE);
+    nicx_settle();
+    for (unsigned slot = 0; slot < posted; slot++)
+        nicx_put64(ring + 16 * slot, buffer(first + slot));
+    nicx_write32(NIC_RDT(queue), posted);
+}
+
+/* Queue 0 with its ring at RX_RING, with all frames let in. */
 static inline void bring_up_receive(unsigned posted)
 {
     nicx_write32(NIC_RXCTRL, NIC_RXCTRL_RXEN);
     nicx_write32(NIC_FCTRL, NIC_FCTRL_UPE);
-    nicx_write32(NIC_RDBAL(0), RX_RING);
-    nicx_write32(NIC_RDLEN(0), 16 * SLOTS);
-    nicx_write32(NIC_SRRCTL(0), NIC_SRRCTL_DESCTYPE_IS(1) | NIC_SRRCTL_BSIZEPACKET_IS(2));
-    nicx_write32(NIC_RXDCTL(0), ENABLE);
-    nicx_settle();
-    for (unsigned slot = 0; slot < posted; slot++)
-        nicx_put64(RX_RING + 16 * slot, buffer(slot));
-    nicx_write32(NIC_RDT(0), posted);
+    bring_up_receive_queue(0, RX_RING, 0, posted);
+}
+
+/* Two queues with seven buffers each, the second one's ring at NEW_RING: a flow of an odd port goes to it. */
+static inline void bring_up_two_queues(void)
+{
+    lend_blocks(2 * 7);
+    nicx_write32(NIC_MRQC, NIC_MRQC_MRQE_IS(1) | NIC_MRQC_TCPIPV4);
+    nicx_write32(NIC_RSSRK(3), 0x0200); /* the lowest bit of the source port is that of the hash */
+    nicx_write32(NIC_RETA(0), NIC_RETA_ENTRY_0_IS(0) | NIC_RETA_ENTRY_1_IS(1));
+    bring_up_receive(7);
+    bring_up_receive_queue(1, NEW_RING, 7, 7);
 }
 
 /* Its interrupt: cause 5, told once for each time that it is raised. */
@@ -93,6 +110,18 @@ static inline void frames_come(unsigned count)
         make_frame(frame, k);
         nicx_frame(frame, FRAME);
     }
+}
+
+/* TCP over IPv4 from this port. */
+static inline void flow_comes(uint8_t port)
+{
+    static const uint8_t head[] = {2, 0, 0,  0, 0, 1, 2,  0, 0, 0, 0, 2, 8, 0,  0x45, 0, 0, 46, 0, 0, 0, 0, 64,   6,
+                                   0, 0, 10, 0, 0, 1, 10, 0, 0, 2, 0, 0, 0, 80, 0,    0, 0, 0,  0, 0, 0, 0, 0x50, 16};
+    enum { PORT_AT = 35 };
+    uint8_t frame[FRAME] = {0};
+    memcpy(frame, head, sizeof head);
+    frame[PORT_AT] = port;
+    nicx_frame(frame, FRAME);
 }
 
 /* A descriptor of a slot of the transmit ring: a frame in a buffer, with these bits from bit 24 on. */

@@ -37,13 +37,11 @@ static void clean(void)
 
 static bool has_buffer(void *unused)
 {
-    (void)unused;
     return driver.free > 0;
 }
 
 static void send(void *unused)
 {
-    (void)unused;
     for (unsigned k = 0; k < FRAMES; k++) {
         clean();
         nicx_wait_until(has_buffer, NULL);
@@ -58,13 +56,11 @@ static void send(void *unused)
 
 static void isr(void *unused)
 {
-    (void)unused;
     driver.scheduled = true;
 }
 
 static void cleaner(void *unused)
 {
-    (void)unused;
     for (;;) {
         nicx_wait_until(nicx_is_set, &driver.scheduled);
         driver.scheduled = false;

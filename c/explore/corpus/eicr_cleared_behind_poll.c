@@ -19,14 +19,12 @@ static const char *bring_up(void)
 
 static void isr(void *unused)
 {
-    (void)unused;
     nicx_write32(NIC_EIMC, CAUSE);
     driver.scheduled = true;
 }
 
 static void poll(void *unused)
 {
-    (void)unused;
     while (driver.got < FRAMES) {
         nicx_wait_until(nicx_is_set, &driver.scheduled);
         driver.scheduled = false;

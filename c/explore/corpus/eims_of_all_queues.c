@@ -2,7 +2,7 @@
    scheduled, and is forgotten; the frame behind it lies in the ring. */
 #include "card.h"
 
-enum { QUEUES = 2, PORT_AT = 35, FRAMES = 3, ALL = 3 };
+enum { QUEUES = 2, FRAMES = 3, ALL = 3 };
 
 static struct {
     bool scheduled[QUEUES];
@@ -12,43 +12,15 @@ static struct {
 static const unsigned queues[QUEUES] = {0, 1};
 static const uint64_t rings[QUEUES] = {RX_RING, NEW_RING};
 
-static void bring_up_second_queue(void)
-{
-    nicx_write32(NIC_RDBAL(1), NEW_RING);
-    nicx_write32(NIC_RDLEN(1), 16 * SLOTS);
-    nicx_write32(NIC_SRRCTL(1), NIC_SRRCTL_DESCTYPE_IS(1) | NIC_SRRCTL_BSIZEPACKET_IS(2));
-    nicx_write32(NIC_RXDCTL(1), ENABLE);
-    nicx_settle();
-    for (unsigned slot = 0; slot < 7; slot++)
-        nicx_put64(NEW_RING + 16 * slot, buffer(7 + slot));
-    nicx_write32(NIC_RDT(1), 7);
-}
-
 static const char *bring_up(void)
 {
-    lend_blocks(2 * 7);
-    nicx_write32(NIC_MRQC, NIC_MRQC_MRQE_IS(1) | NIC_MRQC_TCPIPV4);
-    nicx_write32(NIC_RSSRK(3), 0x0200); /* the lowest bit of the source port is that of the hash */
-    nicx_write32(NIC_RETA(0), NIC_RETA_ENTRY_0_IS(0) | NIC_RETA_ENTRY_1_IS(1));
-    bring_up_receive(7);
-    bring_up_second_queue();
+    bring_up_two_queues();
     nicx_write32(NIC_GPIE, NIC_GPIE_MULTIPLE_MSIX);
     nicx_write32(NIC_IVAR(0), NIC_IVAR_INT_ALLOC_0_IS(0) | NIC_IVAR_INT_ALLOC_VAL_0 | NIC_IVAR_INT_ALLOC_2_IS(1) |
                                   NIC_IVAR_INT_ALLOC_VAL_2);
     nicx_write32(NIC_EIAC, ALL);
     nicx_write32(NIC_EIMS, ALL);
     return NULL;
-}
-
-/* TCP over IPv4 from this port. */
-static void flow_comes(uint8_t port)
-{
-    static const uint8_t head[] = {2, 0, 0,  0, 0, 1, 2,  0, 0, 0, 0, 2, 8, 0,  0x45, 0, 0, 46, 0, 0, 0, 0, 64,   6,
-                                   0, 0, 10, 0, 0, 1, 10, 0, 0, 2, 0, 0, 0, 80, 0,    0, 0, 0,  0, 0, 0, 0, 0x50, 16};
-    uint8_t frame[FRAME] = {0};
-    memcpy(frame, head, sizeof head);
-    frame[PORT_AT] = port;
-    nicx_frame(frame, FRAME);
 }
 
 static void isr(void *argument)

@@ -39,7 +39,6 @@ static void stop(void)
 
 static void start_and_stop(void *unused)
 {
-    (void)unused;
     start();
     stop();
 }

@@ -17,7 +17,6 @@ static void wait_for_enable(uint32_t wanted)
 
 static void move_ring(void *unused)
 {
-    (void)unused;
     nicx_write32(NIC_RXDCTL(0), 0);
 #ifdef FIXED
     wait_for_enable(0);

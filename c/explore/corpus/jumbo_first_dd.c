@@ -28,7 +28,6 @@ static uint8_t byte_of(unsigned slot)
 
 static void poll(void *unused)
 {
-    (void)unused;
     while (driver.got < FRAMES) {
         for (unsigned part = 0; part < PARTS; part++) {
 #ifndef FIXED

@@ -35,7 +35,6 @@ static unsigned take(unsigned slot)
 
 static void poll(void *unused)
 {
-    (void)unused;
     while (driver.next < FRAMES) {
         unsigned taken = take(driver.next);
         if (taken) {

@@ -27,14 +27,12 @@ static void look_at_link(void)
 
 static void isr(void *unused)
 {
-    (void)unused;
     if (nicx_read32(NIC_EICR) & LSC)
         look_at_link();
 }
 
 static void reset(void *unused)
 {
-    (void)unused;
     nicx_write32(NIC_EIMC, LSC);
 #ifndef FIXED
     look_at_link();

@@ -18,7 +18,6 @@ static const char *bring_up(void)
 
 static void isr(void *unused)
 {
-    (void)unused;
     nicx_read32(NIC_EICR);
     nicx_lock(&driver.lock);
     driver.interrupts++;
@@ -27,7 +26,6 @@ static void isr(void *unused)
 
 static void poll(void *unused)
 {
-    (void)unused;
     while (driver.next < FRAMES) {
 #ifdef FIXED
         nicx_interrupts_off();

@@ -11,7 +11,6 @@ static nicx_mutex ring = {.name = "ring"}, statistics = {.name = "statistics"};
 
 static void send_frame(void *unused)
 {
-    (void)unused;
     nicx_lock(&ring);
     put_transmit(driver.tail, 0, EOP_RS);
     driver.tail = (driver.tail + 1) % SLOTS;
@@ -24,7 +23,6 @@ static void send_frame(void *unused)
 
 static void read_statistics(void *unused)
 {
-    (void)unused;
 #ifdef FIXED
     nicx_lock(&ring);
     nicx_lock(&statistics);

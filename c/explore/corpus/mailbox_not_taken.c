@@ -18,7 +18,6 @@ static const char *bring_up(void)
 /* The function sends two words that belong together. */
 static void function(void *unused)
 {
-    (void)unused;
 #ifndef FIXED
     nicx_vf_write32(0, VFMBMEM, 0x11);
     nicx_vf_write32(0, VFMBMEM + 4, 0x12);
@@ -34,7 +33,6 @@ static void function(void *unused)
 /* The host tells the function of its link, whenever. */
 static void tell_link(void *unused)
 {
-    (void)unused;
     nicx_write32(NIC_PFMAILBOX(0), PFU);
     if (!(nicx_read32(NIC_PFMAILBOX(0)) & PFU))
         return;
@@ -45,19 +43,16 @@ static void tell_link(void *unused)
 
 static void isr(void *unused)
 {
-    (void)unused;
     driver.asked = is_asked();
 }
 
 static bool has_asked(void *unused)
 {
-    (void)unused;
     return driver.asked;
 }
 
 static void serve(void *unused)
 {
-    (void)unused;
     nicx_wait_until(has_asked, NULL);
     uint32_t first = nicx_read32(NIC_PFMBMEM(0)), second = nicx_read32(NIC_PFMBMEM(1));
     driver.read = true;

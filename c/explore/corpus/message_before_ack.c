@@ -24,7 +24,6 @@ static void wait_for_ack(void)
 
 static void function(void *unused)
 {
-    (void)unused;
     for (uint32_t k = 0; k < MESSAGES; k++) {
         take_mailbox();
         nicx_vf_write32(0, VFMBMEM, k + 1);
@@ -40,7 +39,6 @@ static void function(void *unused)
 
 static void serve(void *unused)
 {
-    (void)unused;
     while (driver.count < MESSAGES) {
         if (is_asked()) {
             driver.got[driver.count++] = nicx_read32(NIC_PFMBMEM(0));

@@ -20,7 +20,6 @@ static const char *bring_up(void)
 
 static void poll(void *unused)
 {
-    (void)unused;
     while (driver.next < FRAMES) {
         if (!is_done(RX_RING, driver.next, RX_DONE)) {
             nicx_wait();

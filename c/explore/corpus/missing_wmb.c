@@ -15,7 +15,6 @@ static const char *bring_up(void)
 
 static void send(void *unused)
 {
-    (void)unused;
     for (unsigned k = 0; k < FRAMES; k++) {
         put_transmit(k, k, EOP_RS);
 #ifdef FIXED

@@ -36,7 +36,6 @@ static unsigned get_head(void)
 
 static void receive(void *unused)
 {
-    (void)unused;
     for (unsigned head = 0; head < FRAMES; head++) {
         while (!is_done(RX_RING, driver.next, RX_DONE))
             nicx_wait();
@@ -48,7 +47,6 @@ static void receive(void *unused)
 
 static void work(void *unused)
 {
-    (void)unused;
     while (driver.worked < FRAMES) {
         while (driver.ring.tail == get_head())
             nicx_wait();

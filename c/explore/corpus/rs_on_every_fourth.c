@@ -26,7 +26,6 @@ static void wait_for_the_four_before(unsigned first)
 
 static void send(void *unused)
 {
-    (void)unused;
     for (unsigned first = 0; first < FRAMES; first += FOUR) {
         wait_for_the_four_before(first);
         for (unsigned k = first; k < first + FOUR; k++) {

@@ -14,7 +14,6 @@ static const char *bring_up(void)
 
 static void host(void *unused)
 {
-    (void)unused;
     nicx_write32(NIC_CTRL_EXT, DEVICE_READY);
 }
 
@@ -32,7 +31,6 @@ static uint32_t read_mailbox(void)
 
 static void watch(void *unused)
 {
-    (void)unused;
     for (int k = 0; k < 2; k++) {
         if (read_mailbox() & PFSTS)
             return;
@@ -42,7 +40,6 @@ static void watch(void *unused)
 
 static void start(void *unused)
 {
-    (void)unused;
     while (!(read_mailbox() & RSTD))
         nicx_wait();
 }

@@ -13,7 +13,6 @@ static const char *bring_up(void)
 
 static void stop(void *unused)
 {
-    (void)unused;
     nicx_write32(NIC_RXDCTL(0), 0);
 #ifdef FIXED
     while (nicx_read32(NIC_RXDCTL(0)) & ENABLE)

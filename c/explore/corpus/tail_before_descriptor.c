@@ -29,7 +29,6 @@ static void repost(unsigned slot)
 
 static void poll(void *unused)
 {
-    (void)unused;
     while (driver.got < FRAMES) {
         if (!is_done(RX_RING, driver.next, RX_DONE)) {
             nicx_wait();

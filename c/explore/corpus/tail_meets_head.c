@@ -31,7 +31,6 @@ static void refill(void)
 
 static void poll(void *unused)
 {
-    (void)unused;
     while (driver.got < FRAMES) {
         if (!is_done(RX_RING, driver.next, RX_DONE)) {
             nicx_wait();

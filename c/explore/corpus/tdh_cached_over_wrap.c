@@ -41,14 +41,12 @@ static void clean(void)
 
 static bool has_room(void *unused)
 {
-    (void)unused;
     return driver.free > 0;
 }
 
 /* Buffers are used in turn: one is used again once it was given back. */
 static void send(void *unused)
 {
-    (void)unused;
     for (unsigned k = 0; k < FRAMES; k++) {
         clean();
         nicx_wait_until(has_room, NULL);
@@ -64,13 +62,11 @@ static void send(void *unused)
 
 static void isr(void *unused)
 {
-    (void)unused;
     driver.scheduled = true;
 }
 
 static void cleaner(void *unused)
 {
-    (void)unused;
     for (;;) {
         nicx_wait_until(nicx_is_set, &driver.scheduled);
         driver.scheduled = false;

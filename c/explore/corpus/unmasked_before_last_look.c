@@ -19,7 +19,6 @@ static const char *bring_up(void)
 
 static void isr(void *unused)
 {
-    (void)unused;
     nicx_write32(NIC_EIMC, CAUSE);
     nicx_read32(NIC_EICR);
     driver.scheduled = true;
@@ -35,7 +34,6 @@ static void take_all(void)
 
 static void poll(void *unused)
 {
-    (void)unused;
     for (;;) {
         nicx_wait_until(nicx_is_set, &driver.scheduled);
         driver.scheduled = false;

@@ -43,7 +43,6 @@ static void start_anew(void)
 /* It looks once, when time is up. */
 static void watch(void *unused)
 {
-    (void)unused;
 #ifdef FIXED
     nicx_lock(&driver.lock);
 #endif
@@ -58,7 +57,6 @@ static void watch(void *unused)
 
 static void send(void *unused)
 {
-    (void)unused;
     for (unsigned k = 0; k < FRAMES; k++) {
         nicx_lock(&driver.lock);
         unsigned slot = driver.tail;

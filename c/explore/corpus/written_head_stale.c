@@ -20,7 +20,6 @@ static unsigned written_head(void)
 
 static void send(void *unused)
 {
-    (void)unused;
 #ifdef FIXED
     nicx_put64(WRITTEN_HEAD, 0);
 #endif

@@ -89,7 +89,6 @@ static void see_whether_idle(void)
 
 static void work(void *unused)
 {
-    (void)unused;
     while (pmd.handed < FRAMES) {
         struct packet packet;
         if (!rx(&packet)) {
@@ -129,17 +128,4 @@ static const char *end(void)
     return pmd.idle_early ? "idle is told, and a packet is outstanding" : went_out(FRAMES);
 }
 
-static const nicx_scenario scenario = {
-    .name = "pmd",
-    .fifo = 64,
-    .blocks = 16,
-    .queues = 1,
-    .bring_up = bring_up,
-    .begin = begin,
-    .end = end,
-};
-
-int main(int argc, char **argv)
-{
-    return nicx_main(argc, argv, &scenario);
-}
+DRIVER(.name = "pmd")

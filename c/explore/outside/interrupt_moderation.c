@@ -33,7 +33,6 @@ static void make_frame(uint8_t frame[FRAME], unsigned number)
 
 static void isr(void *unused)
 {
-    (void)unused;
     driver.interrupts++;
     driver.scheduled = true;
 }
@@ -63,7 +62,6 @@ static bool take(void)
 
 static void poll(void *unused)
 {
-    (void)unused;
     for (;;) {
         nicx_wait_until(nicx_is_set, &driver.scheduled);
 #ifdef FIXED
@@ -81,13 +79,11 @@ static void poll(void *unused)
 
 static bool are_many(void *unused)
 {
-    (void)unused;
     return driver.interrupts - driver.looked >= MANY;
 }
 
 static void moderate(void *unused)
 {
-    (void)unused;
     for (unsigned interval = 0; interval < INTERVALS; interval++) {
         nicx_wait_until(are_many, NULL);
         driver.looked = driver.interrupts;

@@ -20,14 +20,12 @@ static struct {
 
 static void isr(void *unused)
 {
-    (void)unused;
     nicx_write32(NIC_EICR, NIC_EICR_MAILBOX);
     driver.asked = true;
 }
 
 static bool is_asked(void *unused)
 {
-    (void)unused;
     return driver.asked;
 }
 
@@ -64,7 +62,6 @@ static uint32_t host_finds(uint32_t request)
 static void host(void *unused)
 {
     uint32_t request;
-    (void)unused;
     for (;;) {
         nicx_wait_until(is_asked, NULL);
         driver.asked = false;
@@ -108,7 +105,6 @@ static bool is_answered(void)
 static void function(void *unused)
 {
     bool told = false;
-    (void)unused;
     function_asks(GET_QUEUES);
     for (unsigned k = 0; k < PATIENCE && !told; k++) {
         nicx_pause();

@@ -68,13 +68,11 @@ static bool take(void)
 
 static void isr(void *unused)
 {
-    (void)unused;
     driver.scheduled = true;
 }
 
 static void poll(void *unused)
 {
-    (void)unused;
     for (;;) {
         nicx_wait_until(nicx_is_set, &driver.scheduled);
         driver.scheduled = false;
@@ -112,7 +110,6 @@ static void start(uint64_t ring, unsigned slots)
 
 static void resize(void *unused)
 {
-    (void)unused;
     nicx_lock(&driver.lock);
     set_enable(0);
     while (take())

@@ -110,14 +110,12 @@ static void isr(void *argument)
 
 static bool is_busy(void *unused)
 {
-    (void)unused;
     return driver.count[BULK] > 0;
 }
 
 /* The old worker hands out what its ring has before the new one begins. */
 static void balance(void *unused)
 {
-    (void)unused;
     nicx_wait_until(is_busy, NULL);
     nicx_write32(NIC_RETA(0), NIC_RETA_ENTRY_0_IS(TO) | NIC_RETA_ENTRY_1_IS(TO));
 #ifdef FIXED

@@ -52,14 +52,12 @@ static void reclaim(void)
 
 static bool has_buffer(void *unused)
 {
-    (void)unused;
     return driver.free > 0;
 }
 
 static void transmit(void *unused)
 {
     uint8_t frame[FRAME];
-    (void)unused;
     for (unsigned k = 0; k < FRAMES; k++) {
         nicx_wait_until(has_buffer, NULL);
         nicx_lock(&driver.lock);
@@ -73,13 +71,11 @@ static void transmit(void *unused)
 
 static void isr(void *unused)
 {
-    (void)unused;
     driver.scheduled = true;
 }
 
 static void cleaner(void *unused)
 {
-    (void)unused;
     for (;;) {
         nicx_wait_until(nicx_is_set, &driver.scheduled);
         driver.scheduled = false;
@@ -119,13 +115,11 @@ static void reset_queue(void)
 
 static bool is_outstanding(void *unused)
 {
-    (void)unused;
     return driver.clean != driver.tail;
 }
 
 static void watchdog(void *unused)
 {
-    (void)unused;
     for (unsigned tick = 0; tick < TICKS; tick++) {
         nicx_wait_until(is_outstanding, NULL);
         unsigned first = driver.clean;

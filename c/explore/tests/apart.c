@@ -59,18 +59,4 @@ static const char *end(void)
     return count == QUEUES ? NULL : "a count is lost";
 }
 
-int main(int argc, char **argv)
-{
-    mode = argc > 1 ? argv[1] : "fine";
-    const nicx_scenario scenario = {
-        .name = "apart",
-        .fifo = 4,
-        .blocks = 8,
-        .queues = QUEUES,
-        .race_free = strstr(mode, "free") != NULL,
-        .bring_up = bring_up,
-        .begin = begin,
-        .end = end,
-    };
-    return search_in_mode(argc, argv, &scenario);
-}
+MODES("fine", .name = "apart", .fifo = 4, .blocks = 8, .queues = QUEUES, .race_free = strstr(mode, "free") != NULL)

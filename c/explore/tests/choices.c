@@ -24,7 +24,6 @@ static const char *bring_up(void)
 
 static void choose_two(void *unused)
 {
-    (void)unused;
     chosen[0] = nicx_choose(5);
     nicx_read32(NIC_STATUS);
     chosen[1] = nicx_choose(3);
@@ -34,7 +33,6 @@ static void choose_two(void *unused)
 
 static void choose_much(void *unused)
 {
-    (void)unused;
     while (is("endless"))
         nicx_choose(2);
     if (is("none"))
@@ -52,7 +50,6 @@ static void choose_much(void *unused)
 
 static void read_often(void *unused)
 {
-    (void)unused;
     for (unsigned k = 0; k < 3; k++)
         nicx_read32(NIC_RDH(0));
 }
@@ -61,7 +58,6 @@ static void read_often(void *unused)
 
 static void fire(void *unused)
 {
-    (void)unused;
     fired++;
     at_point = points;
     nicx_check(!is("rest") || !is_running, "a timer at rest fires while a task can go on");
@@ -75,7 +71,6 @@ static void fire(void *unused)
 
 static void arm(void *unused)
 {
-    (void)unused;
     is_running = true;
     nicx_arm(timer);
     if (is("disarm") || is("disarmed"))
@@ -148,18 +143,4 @@ static const char *end(void)
     return is("inputs") && chosen[0] == 3 ? "three frames came" : NULL;
 }
 
-int main(int argc, char **argv)
-{
-    mode = argc > 1 ? argv[1] : "fine";
-    const nicx_scenario scenario = {
-        .name = "choices",
-        .fifo = 4,
-        .blocks = 4,
-        .queues = 1,
-        .points = 200,
-        .bring_up = bring_up,
-        .begin = begin,
-        .end = end,
-    };
-    return search_in_mode(argc, argv, &scenario);
-}
+MODES("fine", .name = "choices", .fifo = 4, .blocks = 4, .points = 200)

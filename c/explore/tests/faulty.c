@@ -64,7 +64,6 @@ static const char *bring_up(void)
 
 static void quiet(void *unused)
 {
-    (void)unused;
     nicx_write32(NIC_EIMC, CAUSE);
     nicx_read32(NIC_EICR);
 }
@@ -72,20 +71,17 @@ static void quiet(void *unused)
 /* Two handlers of one vector: the first of them waits. */
 static void first_handler(void *unused)
 {
-    (void)unused;
     nicx_wait_until(nicx_is_set, &head_moved);
     first_ran = true;
 }
 
 static void second_handler(void *unused)
 {
-    (void)unused;
     second_ran = true;
 }
 
 static void returning_service(void *unused)
 {
-    (void)unused;
     while (nicx_read32(NIC_RDH(0)) != 1)
         nicx_wait();
     head_moved = service_ran = true;
@@ -112,7 +108,6 @@ static void locker(void *argument)
 
 static bool reads(void *unused)
 {
-    (void)unused;
     return nicx_read32(NIC_RDH(0)) < SLOTS;
 }
 
@@ -153,7 +148,6 @@ static void spin(void)
 
 static void fault(void *unused)
 {
-    (void)unused;
     misuse();
     spin();
     nicx_read32(NIC_RDH(0));
@@ -185,7 +179,6 @@ static int ticker;
 /* A timer that arms itself each time. */
 static void tick(void *unused)
 {
-    (void)unused;
     nicx_write32(NIC_EIMC, CAUSE);
     nicx_arm(ticker);
 }
@@ -240,35 +233,7 @@ static const char *end(void)
     return is("end") ? "it ended <here> & \"now\"" : NULL;
 }
 
-int main(int argc, char **argv)
-{
-    mode = argc > 1 ? argv[1] : "fine";
-    nicx_scenario scenario = {
-        .name = "faulty",
-        .fifo = 64,
-        .blocks = 16,
-        .queues = 1,
-        .points = 200,
-        .bring_up = bring_up,
-        .begin = begin,
-        .always = always,
-        .end = end,
-    };
-    if (is("fifo"))
-        scenario.fifo = 0;
-    if (is("queues"))
-        scenario.queues = 0;
-    if (is("stack"))
-        scenario.stack = 4096;
-    if (is("memory_kind"))
-        scenario.memory = 8;
-    if (is("vfs"))
-        scenario.vfs = 64;
-    if (is("points"))
-        scenario.points = 1000001;
-    if (is("no_end"))
-        scenario.end = NULL;
-    if (is("scenario"))
-        scenario.name = "a scenario";
-    return search_in_mode(argc, argv, &scenario);
-}
+MODES("fine", .name = is("scenario") ? "a scenario" : "faulty", .fifo = is("fifo") ? 0 : 64,
+      .queues = is("queues") ? 0 : 1, .stack = is("stack") ? 4096 : 0, .memory = is("memory_kind") ? 8 : 0,
+      .vfs = is("vfs") ? 64 : 0, .points = is("points") ? 1000001 : 200, .always = always,
+      .end = is("no_end") ? NULL : end)

@@ -12,14 +12,9 @@ static unsigned got;
 static nicx_mailbox mailbox;
 static bool asked, answered;
 
-static uint64_t ring(unsigned queue)
+static uint32_t ring(unsigned queue)
 {
-    return 0x0800 + 0x80 * (uint64_t)queue;
-}
-
-static uint64_t buffer_of(unsigned queue, unsigned slot)
-{
-    return NIC_BLOCK_BYTES * (uint64_t)(2 + SLOTS * queue + slot);
+    return RX_RING + NIC_DESC_BYTES * SLOTS * queue;
 }
 
 /* Some of TCP, of UDP and of neither, each with numbers of its own. */
@@ -30,18 +25,6 @@ static void name_flows(void)
         nicx_flow flow = {0x0A000001 + 77 * k, 0x0A0000FF, (uint16_t)(1000 + 13 * k), 80, protocols[k % 3]};
         flows[k] = flow;
     }
-}
-
-static void bring_up_queue(unsigned queue)
-{
-    nicx_write32(NIC_RDBAL(queue), (uint32_t)ring(queue));
-    nicx_write32(NIC_RDLEN(queue), 16 * SLOTS);
-    nicx_write32(NIC_SRRCTL(queue), NIC_SRRCTL_DESCTYPE_IS(1) | NIC_SRRCTL_BSIZEPACKET_IS(2));
-    nicx_write32(NIC_RXDCTL(queue), ENABLE);
-    nicx_settle();
-    for (unsigned slot = 0; slot < SLOTS - 1; slot++)
-        nicx_put_desc(ring(queue), slot, nic_rx_desc(buffer_of(queue, slot)));
-    nicx_write32(NIC_RDT(queue), SLOTS - 1);
 }
 
 static const char *bring_up(void)
@@ -59,7 +42,7 @@ static const char *bring_up(void)
     for (uint32_t k = 0; k < NIC_RETA_COUNT; k++)
         nicx_write32(NIC_RETA(k), 0x03020100);
     for (unsigned queue = 0; queue < QUEUES; queue++)
-        bring_up_queue(queue);
+        bring_up_receive_queue(queue, ring(queue), SLOTS * queue, SLOTS - 1);
     name_flows();
     return NULL;
 }
@@ -67,7 +50,6 @@ static const char *bring_up(void)
 /* Of each frame that lies in a ring: its number, its queue, its hash. */
 static void take_all(void *unused)
 {
-    (void)unused;
     while (got < FLOWS) {
         bool any = false;
         for (unsigned queue = 0, slot = 0; queue < QUEUES; slot = (slot + 1) % SLOTS, queue += !slot) {
@@ -76,7 +58,7 @@ static void take_all(void *unused)
             if (!nic_rx_is_done(d))
                 continue;
             uint32_t length = nic_rx_length(d);
-            nicx_dma_read(buffer_of(queue, slot), frame, length);
+            nicx_dma_read(buffer(SLOTS * queue + slot), frame, length);
             uint32_t number = nicx_frame_number(frame, length);
             nicx_check(number < FLOWS, "a frame has no number");
             nicx_check(nicx_rss_queue(&flows[number]) == queue, "a frame came into another queue");
@@ -96,7 +78,6 @@ static void function(void *unused)
 {
     static const uint32_t question[WORDS] = {1, 2, 3};
     uint32_t answer[WORDS] = {0};
-    (void)unused;
     nicx_function_sends(&mailbox, question, WORDS);
     while (!nicx_function_is_acked(&mailbox))
         nicx_wait();
@@ -108,7 +89,6 @@ static void function(void *unused)
 static void host(void *unused)
 {
     uint32_t words[WORDS] = {0};
-    (void)unused;
     while (!nicx_host_receives(0, words, WORDS))
         nicx_wait();
     asked = words[0] == 1 && words[1] == 2 && words[2] == 3;
@@ -162,17 +142,8 @@ static int check_numbers(void)
 
 int main(int argc, char **argv)
 {
-    const nicx_scenario scenario = {
-        .name = "kit",
-        .vfs = 1,
-        .fifo = 64,
-        .blocks = 2 + QUEUES * SLOTS,
-        .queues = QUEUES,
-        .points = 20000,
-        .bring_up = bring_up,
-        .begin = begin,
-        .end = end,
-    };
+    const nicx_scenario scenario =
+        SCENARIO(.name = "kit", .vfs = 1, .blocks = 2 + QUEUES * SLOTS, .queues = QUEUES, .points = 20000);
     int fault = check_numbers();
     if (fault)
         printf("kit: check %d of numbered frames\n", fault);

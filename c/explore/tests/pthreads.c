@@ -311,7 +311,6 @@ static void keys(void)
 
 static void *leave(void *unused)
 {
-    (void)unused;
     pthread_exit(&count);
 }
 
@@ -532,10 +531,7 @@ static void overflow(void)
 
 /* --- */
 
-static const struct {
-    const char *name;
-    void (*run)(void);
-} modes[] = {
+static const struct mode modes[] = {
     {"mutex", mutex},
     {"recursive", recursive},
     {"checked", checked},
@@ -572,14 +568,9 @@ static const struct {
     {"early", NULL},
 };
 
-enum { MODES = sizeof modes / sizeof *modes };
-
 static void run(void *unused)
 {
-    (void)unused;
-    for (unsigned k = 0; k < MODES; k++)
-        if (is(modes[k].name))
-            modes[k].run();
+    run_mode(modes, sizeof modes / sizeof *modes);
 }
 
 static const char *bring_up(void)
@@ -600,10 +591,4 @@ static const char *end(void)
     return NULL;
 }
 
-int main(int argc, char **argv)
-{
-    static const nicx_scenario scenario = {
-        .name = "pthreads", .fifo = 8, .blocks = 4, .queues = 1, .bring_up = bring_up, .begin = begin, .end = end};
-    mode = argc > 1 ? argv[1] : "";
-    return nicx_main(argc - 1, argv + 1, &scenario);
-}
+MODES("", .name = "pthreads", .fifo = 8, .blocks = 4)

@@ -234,7 +234,6 @@ static void late(void)
 /* A handler comes behind what was before its message, and on a task between two steps of that. */
 static void isr(void *unused)
 {
-    (void)unused;
     data.value++;
     nicx_write32(NIC_EIMC, CAUSE);
 }
@@ -250,10 +249,7 @@ static void message(void)
 
 /* --- */
 
-static const struct {
-    const char *name;
-    void (*run)(void);
-} modes[] = {
+static const struct mode modes[] = {
     {"mutex", two_write},     {"no_lock", two_write},  {"own_lock", two_write},   {"rwlock", two_write},
     {"no_writer", two_write}, {"release", one_tells},  {"no_release", one_tells}, {"no_acquire", one_tells},
     {"fences", one_tells},    {"exchange", one_tells}, {"semaphore", one_tells},  {"barrier", one_tells},
@@ -263,14 +259,9 @@ static const struct {
     {"no_message", message},
 };
 
-enum { MODES = sizeof modes / sizeof *modes };
-
 static void run(void *unused)
 {
-    (void)unused;
-    for (unsigned k = 0; k < MODES; k++)
-        if (is(modes[k].name))
-            modes[k].run();
+    run_mode(modes, sizeof modes / sizeof *modes);
 }
 
 static const char *bring_up(void)
@@ -297,10 +288,4 @@ static const char *end(void)
     return NULL;
 }
 
-int main(int argc, char **argv)
-{
-    static const nicx_scenario scenario = {
-        .name = "races", .fifo = 8, .blocks = 8, .queues = 1, .bring_up = bring_up, .begin = begin, .end = end};
-    mode = argc > 1 ? argv[1] : "";
-    return nicx_main(argc - 1, argv + 1, &scenario);
-}
+MODES("", .name = "races", .fifo = 8, .blocks = 8)

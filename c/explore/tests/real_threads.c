@@ -5,14 +5,9 @@
 #include <stdlib.h>
 
 #include "card.h"
+#include "modes.h"
 
-static const char *mode;
 static pthread_mutex_t lock = PTHREAD_MUTEX_INITIALIZER;
-
-static bool is(const char *name)
-{
-    return !strcmp(mode, name);
-}
 
 static void *access_card(void *unused)
 {
@@ -29,7 +24,6 @@ static void make_thread(void)
 
 static void run(void *unused)
 {
-    (void)unused;
     if (is("thread"))
         make_thread();
     if (!is("lock"))
@@ -72,16 +66,4 @@ static const char *end(void)
     return NULL;
 }
 
-int main(int argc, char **argv)
-{
-    static const nicx_scenario scenario = {.name = "real_threads",
-                                           .fifo = 8,
-                                           .blocks = 4,
-                                           .queues = 1,
-                                           .stack = 20480,
-                                           .bring_up = bring_up,
-                                           .begin = begin,
-                                           .end = end};
-    mode = argc > 1 ? argv[1] : "";
-    return nicx_main(argc - 1, argv + 1, &scenario);
-}
+MODES("", .name = "real_threads", .fifo = 8, .blocks = 4, .stack = 20480)

@@ -93,7 +93,6 @@ static void task(void *argument)
 
 static void handler(void *unused)
 {
-    (void)unused;
     tell(&seen[TWO], sizeof *seen, true);
     seen[TWO] = chance_mixed(seen[TWO], has_function ? nicx_vf_read32(0, NIC_VTEICR) : nicx_read32(NIC_EICR));
 }
@@ -218,16 +217,7 @@ static bool has_mode(int argc, char **argv, const char *mode)
 int main(int argc, char **argv)
 {
     static const uint32_t bounds[] = {0, 1, 2, UNBOUNDED};
-    static nicx_scenario scenario = {
-        .name = "sleeping",
-        .fifo = 64,
-        .blocks = 16,
-        .queues = 1,
-        .allowed = NICX_FAULTS,
-        .bring_up = bring_up,
-        .begin = begin,
-        .end = end,
-    };
+    static nicx_scenario scenario = SCENARIO(.name = "sleeping", .allowed = NICX_FAULTS);
     unsigned scenarios = argc > 1 ? (unsigned)strtoul(argv[1], NULL, 10) : 100, compared = 0;
     uint64_t seed = argc > 2 ? strtoull(argv[2], NULL, 10) : 1, all = 0, fewer = 0;
     is_told = has_mode(argc, argv, "told");

@@ -102,7 +102,6 @@ static void *open_it(void *n)
 
 static uint32_t first_of(void *unused, const uint16_t *can, uint32_t count)
 {
-    (void)unused;
     (void)can;
     (void)count;
     return 0;

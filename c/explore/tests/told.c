@@ -25,7 +25,6 @@ static const char *bring_up(void)
 
 static void take(void *unused)
 {
-    (void)unused;
     for (unsigned slot = 0; slot < 7;) {
         nicx_wait();
         for (; slot < 7 && is_done(RX_RING, slot, RX_DONE); slot++)
@@ -36,7 +35,6 @@ static void take(void *unused)
 /* It forgets a frame that comes as it takes another. */
 static void take_badly(void *unused)
 {
-    (void)unused;
     for (unsigned slot = 0; slot < 7;) {
         nicx_wait();
         for (; slot < 7 && is_done(RX_RING, slot, RX_DONE); slot++) {
@@ -50,7 +48,6 @@ static void take_badly(void *unused)
 
 static void watch(void *unused)
 {
-    (void)unused;
     for (unsigned k = 0; k < 4; k++) {
         nicx_read32(NIC_STATUS);
         nicx_pause();
@@ -59,7 +56,6 @@ static void watch(void *unused)
 
 static void count_up(void *unused)
 {
-    (void)unused;
     unsigned old = count;
     nicx_point();
     count = old + 1;
@@ -67,7 +63,6 @@ static void count_up(void *unused)
 
 static void isr(void *unused)
 {
-    (void)unused;
     nicx_read32(NIC_EICR);
 }
 
@@ -120,7 +115,6 @@ static bool is_ready(void *argument)
 
 static void name(void *unused)
 {
-    (void)unused;
     nicx_lock(&named);                 /* here: locks the ring */
     nicx_lock(&plain_lock);            /* here: locks plain_lock */
     nicx_lock(far_lock);               /* here: locks far_lock */
@@ -137,7 +131,6 @@ static void name(void *unused)
 
 static void make_ready(void *unused)
 {
-    (void)unused;
     nicx_point();
     ready = true;
 }
@@ -154,7 +147,6 @@ static void begin_names(void)
 
 static void reads_twice(void *unused)
 {
-    (void)unused;
     seen = nicx_read32(NIC_RDH(0));
     if (is("mended"))
         nicx_write32(NIC_EIMC, CAUSE);
@@ -190,18 +182,4 @@ static const char *end(void)
     return is("counted") && got != FRAMES ? "a frame is lost" : NULL;
 }
 
-int main(int argc, char **argv)
-{
-    mode = argc > 1 ? argv[1] : "much";
-    nicx_scenario scenario = {
-        .name = "told",
-        .fifo = 64,
-        .blocks = 16,
-        .queues = 1,
-        .points = 400,
-        .bring_up = bring_up,
-        .begin = begin,
-        .end = end,
-    };
-    return search_in_mode(argc, argv, &scenario);
-}
+MODES("much", .name = "told", .points = 400)

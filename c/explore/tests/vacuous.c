@@ -27,7 +27,6 @@ static const char *bring_up(void)
 
 static void poll(void *unused)
 {
-    (void)unused;
     for (;;) {
         if (is("waits"))
             while (!never)
@@ -40,13 +39,11 @@ static void poll(void *unused)
 
 static void other(void *unused)
 {
-    (void)unused;
     nicx_read32(NIC_STATUS);
 }
 
 static void isr(void *unused)
 {
-    (void)unused;
     scheduled = true;
 }
 
@@ -66,18 +63,4 @@ static const char *end(void)
     return NULL;
 }
 
-int main(int argc, char **argv)
-{
-    mode = argc > 1 ? argv[1] : "fine";
-    const nicx_scenario scenario = {
-        .name = "vacuous",
-        .fifo = 64,
-        .blocks = 16,
-        .queues = 1,
-        .bring_up = bring_up,
-        .begin = begin,
-        .end = end,
-        .allowed = is("faults") ? NICX_FAULTS : 0,
-    };
-    return search_in_mode(argc, argv, &scenario);
-}
+MODES("fine", .name = "vacuous", .allowed = is("faults") ? NICX_FAULTS : 0)

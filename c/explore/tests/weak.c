@@ -290,13 +290,11 @@ static const char *bring_up(void)
 
 static void one(void *unused)
 {
-    (void)unused;
     it->one();
 }
 
 static void other(void *unused)
 {
-    (void)unused;
     it->other();
 }
 
@@ -341,16 +339,8 @@ static unsigned search(const nicx_scenario *scenario, uint32_t preemptions, bool
 
 static void try_one(bool is_weak, bool sleeps, bool tells, unsigned *runs)
 {
-    nicx_scenario scenario = {
-        .name = "weak",
-        .fifo = 4,
-        .blocks = 8,
-        .queues = 1,
-        .memory = it->memory | (is_weak ? NICX_WEAK : 0),
-        .bring_up = bring_up,
-        .begin = begin,
-        .end = end,
-    };
+    nicx_scenario scenario =
+        SCENARIO(.name = "weak", .fifo = 4, .blocks = 8, .memory = it->memory | (is_weak ? NICX_WEAK : 0));
     unsigned made = search(&scenario, UNBOUNDED, sleeps), wanted = is_weak ? it->weak : it->strong;
     *runs += made;
     if (tells || seen != wanted) {
@@ -368,16 +358,7 @@ static void try_one(bool is_weak, bool sleeps, bool tells, unsigned *runs)
 static void try_many(unsigned *runs)
 {
     static const struct litmus many = {"nine stores", nine, until_flag_any, 0, 0, 0};
-    nicx_scenario scenario = {
-        .name = "weak",
-        .fifo = 4,
-        .blocks = 8,
-        .queues = 1,
-        .memory = NICX_WEAK,
-        .bring_up = bring_up,
-        .begin = begin,
-        .end = end,
-    };
+    nicx_scenario scenario = SCENARIO(.name = "weak", .fifo = 4, .blocks = 8, .memory = NICX_WEAK);
     it = &many;
     *runs += search(&scenario, 1, true);
     if (seen != GIVES(1, 0)) {

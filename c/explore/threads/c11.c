@@ -35,30 +35,24 @@ static int as_c11(int status)
     }
 }
 
-#define TURNED(name, parameters, arguments, call)                                                                      \
-    int __real_##name parameters;                                                                                      \
-    int __wrap_##name parameters                                                                                       \
-    {                                                                                                                  \
-        return nicxi_is_ours() ? as_c11(call) : __real_##name arguments;                                               \
-    }
-
+#define C11(name, parameters, arguments, call) TURNED(int, name, parameters, arguments, as_c11(call))
 #define MUTEX ((pthread_mutex_t *)(void *)mutex)
 #define COND ((pthread_cond_t *)(void *)cond)
 
-TURNED(mtx_lock, (mtx_t * mutex), (mutex), __wrap_pthread_mutex_lock(MUTEX))
-TURNED(mtx_trylock, (mtx_t * mutex), (mutex), __wrap_pthread_mutex_trylock(MUTEX))
-TURNED(mtx_timedlock, (mtx_t * mutex, const struct timespec *until), (mutex, until),
-       __wrap_pthread_mutex_timedlock(MUTEX, until))
-TURNED(mtx_unlock, (mtx_t * mutex), (mutex), __wrap_pthread_mutex_unlock(MUTEX))
-TURNED(cnd_init, (cnd_t * cond), (cond), __wrap_pthread_cond_init(COND, NULL))
-TURNED(cnd_wait, (cnd_t * cond, mtx_t *mutex), (cond, mutex), __wrap_pthread_cond_wait(COND, MUTEX))
-TURNED(cnd_timedwait, (cnd_t * cond, mtx_t *mutex, const struct timespec *until), (cond, mutex, until),
-       __wrap_pthread_cond_timedwait(COND, MUTEX, until))
-TURNED(cnd_signal, (cnd_t * cond), (cond), __wrap_pthread_cond_signal(COND))
-TURNED(cnd_broadcast, (cnd_t * cond), (cond), __wrap_pthread_cond_broadcast(COND))
-TURNED(thrd_detach, (thrd_t thread), (thread), __wrap_pthread_detach(thread))
-TURNED(tss_create, (tss_t * key, tss_dtor_t destructor), (key, destructor), nicxi_make_key(key, destructor))
-TURNED(tss_set, (tss_t key, void *value), (key, value), __wrap_pthread_setspecific(key, value))
+C11(mtx_lock, (mtx_t * mutex), (mutex), __wrap_pthread_mutex_lock(MUTEX))
+C11(mtx_trylock, (mtx_t * mutex), (mutex), __wrap_pthread_mutex_trylock(MUTEX))
+C11(mtx_timedlock, (mtx_t * mutex, const struct timespec *until), (mutex, until),
+    __wrap_pthread_mutex_timedlock(MUTEX, until))
+C11(mtx_unlock, (mtx_t * mutex), (mutex), __wrap_pthread_mutex_unlock(MUTEX))
+C11(cnd_init, (cnd_t * cond), (cond), __wrap_pthread_cond_init(COND, NULL))
+C11(cnd_wait, (cnd_t * cond, mtx_t *mutex), (cond, mutex), __wrap_pthread_cond_wait(COND, MUTEX))
+C11(cnd_timedwait, (cnd_t * cond, mtx_t *mutex, const struct timespec *until), (cond, mutex, until),
+    __wrap_pthread_cond_timedwait(COND, MUTEX, until))
+C11(cnd_signal, (cnd_t * cond), (cond), __wrap_pthread_cond_signal(COND))
+C11(cnd_broadcast, (cnd_t * cond), (cond), __wrap_pthread_cond_broadcast(COND))
+C11(thrd_detach, (thrd_t thread), (thread), __wrap_pthread_detach(thread))
+C11(tss_create, (tss_t * key, tss_dtor_t destructor), (key, destructor), nicxi_make_key(key, destructor))
+C11(tss_set, (tss_t key, void *value), (key, value), __wrap_pthread_setspecific(key, value))
 
 void __real_mtx_destroy(mtx_t *mutex);
 void __wrap_mtx_destroy(mtx_t *mutex)
@@ -85,11 +79,7 @@ void __wrap_tss_delete(tss_t key)
         __real_tss_delete(key);
 }
 
-void *__real_tss_get(tss_t key);
-void *__wrap_tss_get(tss_t key)
-{
-    return nicxi_is_ours() ? __wrap_pthread_getspecific(key) : __real_tss_get(key);
-}
+TURNED(void *, tss_get, (tss_t key), (key), __wrap_pthread_getspecific(key))
 
 void __real_call_once(once_flag *flag, void (*function)(void));
 void __wrap_call_once(once_flag *flag, void (*function)(void))

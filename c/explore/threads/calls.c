@@ -23,12 +23,6 @@ uint8_t __wrap_nic_read32(nic *n, uint32_t address, uint32_t *word)
     return status_of(nic_peek32(n, address, &unused));
 }
 
-uint8_t __real_nic_write32(nic *n, uint32_t address, uint32_t word);
-uint8_t __wrap_nic_write32(nic *n, uint32_t address, uint32_t word)
-{
-    return is_the_device(n) ? nicx_write32(address, word) : __real_nic_write32(n, address, word);
-}
-
 uint8_t __real_nic_vf_read32(nic *n, uint8_t vf, uint32_t offset, uint32_t *word);
 uint8_t __wrap_nic_vf_read32(nic *n, uint8_t vf, uint32_t offset, uint32_t *word)
 {
@@ -39,41 +33,19 @@ uint8_t __wrap_nic_vf_read32(nic *n, uint8_t vf, uint32_t offset, uint32_t *word
     return status_of(nic_vf_peek32(n, vf, offset, &unused));
 }
 
-uint8_t __real_nic_vf_write32(nic *n, uint8_t vf, uint32_t offset, uint32_t word);
-uint8_t __wrap_nic_vf_write32(nic *n, uint8_t vf, uint32_t offset, uint32_t word)
-{
-    return is_the_device(n) ? nicx_vf_write32(vf, offset, word) : __real_nic_vf_write32(n, vf, offset, word);
-}
+#define CALL(name, parameters, arguments, ours)                                                                        \
+    TURNED_WHERE(is_the_device(n), uint8_t, name, parameters, arguments, ours)
 
-uint8_t __real_nic_dma_read(nic *n, uint64_t bus, uint8_t *bytes, size_t length);
-uint8_t __wrap_nic_dma_read(nic *n, uint64_t bus, uint8_t *bytes, size_t length)
-{
-    return is_the_device(n) ? nicx_dma_read(bus, bytes, length) : __real_nic_dma_read(n, bus, bytes, length);
-}
-
-uint8_t __real_nic_dma_write(nic *n, uint64_t bus, const uint8_t *bytes, size_t length);
-uint8_t __wrap_nic_dma_write(nic *n, uint64_t bus, const uint8_t *bytes, size_t length)
-{
-    return is_the_device(n) ? nicx_dma_write(bus, bytes, length) : __real_nic_dma_write(n, bus, bytes, length);
-}
-
-uint8_t __real_nic_lend(nic *n, uint32_t block);
-uint8_t __wrap_nic_lend(nic *n, uint32_t block)
-{
-    return is_the_device(n) ? nicx_lend(block) : __real_nic_lend(n, block);
-}
-
-uint8_t __real_nic_take(nic *n, uint32_t block);
-uint8_t __wrap_nic_take(nic *n, uint32_t block)
-{
-    return is_the_device(n) ? nicx_take(block) : __real_nic_take(n, block);
-}
-
-uint8_t __real_nic_lend_all(nic *n);
-uint8_t __wrap_nic_lend_all(nic *n)
-{
-    return is_the_device(n) ? nicx_lend_all() : __real_nic_lend_all(n);
-}
+CALL(nic_write32, (nic * n, uint32_t address, uint32_t word), (n, address, word), nicx_write32(address, word))
+CALL(nic_vf_write32, (nic * n, uint8_t vf, uint32_t offset, uint32_t word), (n, vf, offset, word),
+     nicx_vf_write32(vf, offset, word))
+CALL(nic_dma_read, (nic * n, uint64_t bus, uint8_t *bytes, size_t length), (n, bus, bytes, length),
+     nicx_dma_read(bus, bytes, length))
+CALL(nic_dma_write, (nic * n, uint64_t bus, const uint8_t *bytes, size_t length), (n, bus, bytes, length),
+     nicx_dma_write(bus, bytes, length))
+CALL(nic_lend, (nic * n, uint32_t block), (n, block), nicx_lend(block))
+CALL(nic_take, (nic * n, uint32_t block), (n, block), nicx_take(block))
+CALL(nic_lend_all, (nic * n), (n), nicx_lend_all())
 
 /* --- steps: a whole program makes them itself; beside a scenario the explorer does --- */
 

@@ -11,26 +11,15 @@ static void may_end(int status)
         nicxi_program_ends(status);
 }
 
-void __real_exit(int status) __attribute__((noreturn));
-void __wrap_exit(int status) __attribute__((noreturn));
-void __wrap_exit(int status)
-{
-    may_end(status);
-    __real_exit(status);
-}
+#define ENDS(name)                                                                                                     \
+    void __real_##name(int status) __attribute__((noreturn));                                                          \
+    void __wrap_##name(int status) __attribute__((noreturn));                                                          \
+    void __wrap_##name(int status)                                                                                     \
+    {                                                                                                                  \
+        may_end(status);                                                                                               \
+        __real_##name(status);                                                                                         \
+    }
 
-void __real__exit(int status) __attribute__((noreturn));
-void __wrap__exit(int status) __attribute__((noreturn));
-void __wrap__exit(int status)
-{
-    may_end(status);
-    __real__exit(status);
-}
-
-void __real_quick_exit(int status) __attribute__((noreturn));
-void __wrap_quick_exit(int status) __attribute__((noreturn));
-void __wrap_quick_exit(int status)
-{
-    may_end(status);
-    __real_quick_exit(status);
-}
+ENDS(exit)
+ENDS(_exit)
+ENDS(quick_exit)

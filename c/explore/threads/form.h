@@ -44,6 +44,16 @@ static inline bool nicxi_is_ours(void)
     return nicxi.phase != CLOSED && nicxi_is_maker();
 }
 
+/* A call of a library, turned: where a condition holds, this in its place; else it is what it always was. */
+#define TURNED_WHERE(holds, type, name, parameters, arguments, ours)                                                   \
+    type __real_##name parameters;                                                                                     \
+    type __wrap_##name parameters                                                                                      \
+    {                                                                                                                  \
+        return (holds) ? (ours) : __real_##name arguments;                                                             \
+    }
+#define TURNED(type, name, parameters, arguments, ours)                                                                \
+    TURNED_WHERE(nicxi_is_ours(), type, name, parameters, arguments, ours)
+
 static inline unsigned nicxi_number(const struct thread *thread)
 {
     return (unsigned)(thread - nicxi.threads);

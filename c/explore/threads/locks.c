@@ -139,31 +139,13 @@ static int lock(pthread_mutex_t *mutex, enum how how, const char *call, const vo
     return 0;
 }
 
-int __real_pthread_mutex_lock(pthread_mutex_t *mutex);
-int __wrap_pthread_mutex_lock(pthread_mutex_t *mutex)
-{
-    return nicxi_is_ours() ? lock(mutex, BLOCKING, "pthread_mutex_lock", HERE) : __real_pthread_mutex_lock(mutex);
-}
-
-int __real_pthread_mutex_trylock(pthread_mutex_t *mutex);
-int __wrap_pthread_mutex_trylock(pthread_mutex_t *mutex)
-{
-    return nicxi_is_ours() ? lock(mutex, TRYING, "pthread_mutex_trylock", HERE) : __real_pthread_mutex_trylock(mutex);
-}
-
-int __real_pthread_mutex_timedlock(pthread_mutex_t *mutex, const struct timespec *until);
-int __wrap_pthread_mutex_timedlock(pthread_mutex_t *mutex, const struct timespec *until)
-{
-    return nicxi_is_ours() ? lock(mutex, TIMED, "pthread_mutex_timedlock", HERE)
-                           : __real_pthread_mutex_timedlock(mutex, until);
-}
-
-int __real_pthread_mutex_clocklock(pthread_mutex_t *mutex, clockid_t clock, const struct timespec *until);
-int __wrap_pthread_mutex_clocklock(pthread_mutex_t *mutex, clockid_t clock, const struct timespec *until)
-{
-    return nicxi_is_ours() ? lock(mutex, TIMED, "pthread_mutex_clocklock", HERE)
-                           : __real_pthread_mutex_clocklock(mutex, clock, until);
-}
+TURNED(int, pthread_mutex_lock, (pthread_mutex_t * mutex), (mutex), lock(mutex, BLOCKING, "pthread_mutex_lock", HERE))
+TURNED(int, pthread_mutex_trylock, (pthread_mutex_t * mutex), (mutex),
+       lock(mutex, TRYING, "pthread_mutex_trylock", HERE))
+TURNED(int, pthread_mutex_timedlock, (pthread_mutex_t * mutex, const struct timespec *until), (mutex, until),
+       lock(mutex, TIMED, "pthread_mutex_timedlock", HERE))
+TURNED(int, pthread_mutex_clocklock, (pthread_mutex_t * mutex, clockid_t clock, const struct timespec *until),
+       (mutex, clock, until), lock(mutex, TIMED, "pthread_mutex_clocklock", HERE))
 
 static int unlock(pthread_mutex_t *mutex, const void *at)
 {
@@ -181,11 +163,7 @@ static int unlock(pthread_mutex_t *mutex, const void *at)
     return 0;
 }
 
-int __real_pthread_mutex_unlock(pthread_mutex_t *mutex);
-int __wrap_pthread_mutex_unlock(pthread_mutex_t *mutex)
-{
-    return nicxi_is_ours() ? unlock(mutex, HERE) : __real_pthread_mutex_unlock(mutex);
-}
+TURNED(int, pthread_mutex_unlock, (pthread_mutex_t * mutex), (mutex), unlock(mutex, HERE))
 
 /* The C library's own call makes a mutex that is free, of its kind. */
 int __real_pthread_mutex_destroy(pthread_mutex_t *mutex);
@@ -232,17 +210,8 @@ int __wrap_pthread_spin_init(pthread_spinlock_t *lock, int is_shared)
     return 0;
 }
 
-int __real_pthread_spin_lock(pthread_spinlock_t *lock);
-int __wrap_pthread_spin_lock(pthread_spinlock_t *lock)
-{
-    return nicxi_is_ours() ? spin(lock, BLOCKING, "pthread_spin_lock", HERE) : __real_pthread_spin_lock(lock);
-}
-
-int __real_pthread_spin_trylock(pthread_spinlock_t *lock);
-int __wrap_pthread_spin_trylock(pthread_spinlock_t *lock)
-{
-    return nicxi_is_ours() ? spin(lock, TRYING, "pthread_spin_trylock", HERE) : __real_pthread_spin_trylock(lock);
-}
+TURNED(int, pthread_spin_lock, (pthread_spinlock_t * lock), (lock), spin(lock, BLOCKING, "pthread_spin_lock", HERE))
+TURNED(int, pthread_spin_trylock, (pthread_spinlock_t * lock), (lock), spin(lock, TRYING, "pthread_spin_trylock", HERE))
 
 int __real_pthread_spin_unlock(pthread_spinlock_t *lock);
 int __wrap_pthread_spin_unlock(pthread_spinlock_t *lock)
@@ -315,12 +284,7 @@ static int share(pthread_rwlock_t *lock, bool writes, enum how how, const char *
 }
 
 #define SHARED(name, writes, how, parameters, arguments)                                                               \
-    int __real_pthread_rwlock_##name parameters;                                                                       \
-    int __wrap_pthread_rwlock_##name parameters                                                                        \
-    {                                                                                                                  \
-        return nicxi_is_ours() ? share(lock, writes, how, "pthread_rwlock_" #name, HERE)                               \
-                               : __real_pthread_rwlock_##name arguments;                                               \
-    }
+    TURNED(int, pthread_rwlock_##name, parameters, arguments, share(lock, writes, how, "pthread_rwlock_" #name, HERE))
 
 SHARED(rdlock, false, BLOCKING, (pthread_rwlock_t * lock), (lock))
 SHARED(tryrdlock, false, TRYING, (pthread_rwlock_t * lock), (lock))

@@ -235,11 +235,8 @@ int __wrap_posix_memalign(void **taken, size_t alignment, size_t size)
     return *taken ? 0 : ENOMEM;
 }
 
-void *__real_aligned_alloc(size_t alignment, size_t size);
-void *__wrap_aligned_alloc(size_t alignment, size_t size)
-{
-    return is_of_heap() ? aligned(alignment, size) : __real_aligned_alloc(alignment, size);
-}
+TURNED_WHERE(is_of_heap(), void *, aligned_alloc, (size_t alignment, size_t size), (alignment, size),
+             aligned(alignment, size))
 
 /* --- the whole --- */
 

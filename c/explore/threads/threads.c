@@ -40,11 +40,8 @@ int nicxi_make_key(pthread_key_t *key, void (*destructor)(void *))
     return EAGAIN;
 }
 
-int __real_pthread_key_create(pthread_key_t *key, void (*destructor)(void *));
-int __wrap_pthread_key_create(pthread_key_t *key, void (*destructor)(void *))
-{
-    return nicxi_is_ours() ? nicxi_make_key(key, destructor) : __real_pthread_key_create(key, destructor);
-}
+TURNED(int, pthread_key_create, (pthread_key_t * key, void (*destructor)(void *)), (key, destructor),
+       nicxi_make_key(key, destructor))
 
 int __real_pthread_key_delete(pthread_key_t key);
 int __wrap_pthread_key_delete(pthread_key_t key)
@@ -189,26 +186,12 @@ int nicxi_join(pthread_t number, void **result, const char *call, const void *at
     return join(number, result, false, false, call, at);
 }
 
-int __real_pthread_join(pthread_t number, void **result);
-int __wrap_pthread_join(pthread_t number, void **result)
-{
-    return nicxi_is_ours() ? join(number, result, false, false, "pthread_join", HERE)
-                           : __real_pthread_join(number, result);
-}
-
-int __real_pthread_tryjoin_np(pthread_t number, void **result);
-int __wrap_pthread_tryjoin_np(pthread_t number, void **result)
-{
-    return nicxi_is_ours() ? join(number, result, true, false, "pthread_tryjoin_np", HERE)
-                           : __real_pthread_tryjoin_np(number, result);
-}
-
-int __real_pthread_timedjoin_np(pthread_t number, void **result, const struct timespec *until);
-int __wrap_pthread_timedjoin_np(pthread_t number, void **result, const struct timespec *until)
-{
-    return nicxi_is_ours() ? join(number, result, false, true, "pthread_timedjoin_np", HERE)
-                           : __real_pthread_timedjoin_np(number, result, until);
-}
+TURNED(int, pthread_join, (pthread_t number, void **result), (number, result),
+       join(number, result, false, false, "pthread_join", HERE))
+TURNED(int, pthread_tryjoin_np, (pthread_t number, void **result), (number, result),
+       join(number, result, true, false, "pthread_tryjoin_np", HERE))
+TURNED(int, pthread_timedjoin_np, (pthread_t number, void **result, const struct timespec *until),
+       (number, result, until), join(number, result, false, true, "pthread_timedjoin_np", HERE))
 
 int __real_pthread_detach(pthread_t number);
 int __wrap_pthread_detach(pthread_t number)
@@ -258,17 +241,11 @@ void __wrap_pthread_exit(void *result)
 
 /* --- what has no meaning where time and processors aren't modelled --- */
 
-#define IDLE(name, parameters, arguments)                                                                              \
-    int __real_##name parameters;                                                                                      \
-    int __wrap_##name parameters                                                                                       \
-    {                                                                                                                  \
-        return nicxi_is_ours() ? 0 : __real_##name arguments;                                                          \
-    }
-
-IDLE(pthread_setname_np, (pthread_t number, const char *name), (number, name))
-IDLE(pthread_setschedparam, (pthread_t number, int policy, const struct sched_param *how), (number, policy, how))
-IDLE(pthread_setschedprio, (pthread_t number, int priority), (number, priority))
-IDLE(pthread_setaffinity_np, (pthread_t number, size_t size, const cpu_set_t *set), (number, size, set))
+TURNED(int, pthread_setname_np, (pthread_t number, const char *name), (number, name), 0)
+TURNED(int, pthread_setschedparam, (pthread_t number, int policy, const struct sched_param *how), (number, policy, how),
+       0)
+TURNED(int, pthread_setschedprio, (pthread_t number, int priority), (number, priority), 0)
+TURNED(int, pthread_setaffinity_np, (pthread_t number, size_t size, const cpu_set_t *set), (number, size, set), 0)
 
 void nicxi_stack_of(const pthread_attr_t *how, size_t *room)
 {

@@ -39,29 +39,11 @@ static uint64_t of(const struct timespec *time)
     return (uint64_t)time->tv_sec * SECOND + (uint64_t)time->tv_nsec;
 }
 
-int __real_sched_yield(void);
-int __wrap_sched_yield(void)
-{
-    return pause_for("sched_yield", 0) ? 0 : __real_sched_yield();
-}
-
-int __real_usleep(useconds_t time);
-int __wrap_usleep(useconds_t time)
-{
-    return pause_for("usleep", (uint64_t)time * 1000) ? 0 : __real_usleep(time);
-}
-
-unsigned __real_sleep(unsigned seconds);
-unsigned __wrap_sleep(unsigned seconds)
-{
-    return pause_for("sleep", (uint64_t)seconds * SECOND) ? 0 : __real_sleep(seconds);
-}
-
-int __real_nanosleep(const struct timespec *time, struct timespec *left);
-int __wrap_nanosleep(const struct timespec *time, struct timespec *left)
-{
-    return pause_for("nanosleep", of(time)) ? 0 : __real_nanosleep(time, left);
-}
+TURNED_WHERE(pause_for("sched_yield", 0), int, sched_yield, (void), (), 0)
+TURNED_WHERE(pause_for("usleep", (uint64_t)time * 1000), int, usleep, (useconds_t time), (time), 0)
+TURNED_WHERE(pause_for("sleep", (uint64_t)seconds *SECOND), unsigned, sleep, (unsigned seconds), (seconds), 0)
+TURNED_WHERE(pause_for("nanosleep", of(time)), int, nanosleep, (const struct timespec *time, struct timespec *left),
+             (time, left), 0)
 
 int __real_clock_nanosleep(clockid_t clock, int flags, const struct timespec *time, struct timespec *left);
 int __wrap_clock_nanosleep(clockid_t clock, int flags, const struct timespec *time, struct timespec *left)
@@ -80,11 +62,8 @@ void __wrap_thrd_yield(void)
         __real_thrd_yield();
 }
 
-int __real_thrd_sleep(const struct timespec *time, struct timespec *left);
-int __wrap_thrd_sleep(const struct timespec *time, struct timespec *left)
-{
-    return pause_for("thrd_sleep", of(time)) ? 0 : __real_thrd_sleep(time, left);
-}
+TURNED_WHERE(pause_for("thrd_sleep", of(time)), int, thrd_sleep, (const struct timespec *time, struct timespec *left),
+             (time, left), 0)
 
 /* --- clocks --- */
 

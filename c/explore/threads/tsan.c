@@ -18,7 +18,6 @@ static inline void access(const void *at, size_t length, unsigned how, const voi
 }
 
 #define ACCESS(name, how, size)                                                                                        \
-    void __tsan_##name(void *at);                                                                                      \
     void __tsan_##name(void *at)                                                                                       \
     {                                                                                                                  \
         access(at, size, how, HERE);                                                                                   \
@@ -56,26 +55,22 @@ BOTH_WAYS(4)
 BOTH_WAYS(8)
 BOTH_WAYS(16)
 
-void __tsan_read_range(void *at, size_t length);
 void __tsan_read_range(void *at, size_t length)
 {
     access(at, length, READS, HERE);
 }
 
-void __tsan_write_range(void *at, size_t length);
 void __tsan_write_range(void *at, size_t length)
 {
     access(at, length, WRITES, HERE);
 }
 
-void __tsan_vptr_read(void **at);
 void __tsan_vptr_read(void **at)
 {
     access(at, sizeof *at, READS, HERE);
 }
 
 /* The same value again changes nothing: a destructor does so. */
-void __tsan_vptr_update(void **at, void *value);
 void __tsan_vptr_update(void **at, void *value)
 {
     if (*at != value)
@@ -96,50 +91,27 @@ static void copies(void *to, const void *from, size_t length, const void *call)
     access(to, length, WRITES, call);
 }
 
-void *__tsan_memcpy(void *to, const void *from, size_t length);
-void *__tsan_memcpy(void *to, const void *from, size_t length)
-{
-    copies(to, from, length, HERE);
-    return __real_memcpy(to, from, length);
-}
+#define COPIES(place)                                                                                                  \
+    void *place##_memcpy(void *to, const void *from, size_t length)                                                    \
+    {                                                                                                                  \
+        copies(to, from, length, HERE);                                                                                \
+        return __real_memcpy(to, from, length);                                                                        \
+    }                                                                                                                  \
+    void *place##_memmove(void *to, const void *from, size_t length)                                                   \
+    {                                                                                                                  \
+        copies(to, from, length, HERE);                                                                                \
+        return __real_memmove(to, from, length);                                                                       \
+    }                                                                                                                  \
+    void *place##_memset(void *to, int value, size_t length)                                                           \
+    {                                                                                                                  \
+        if (length)                                                                                                    \
+            access(to, length, WRITES, HERE);                                                                          \
+        return __real_memset(to, value, length);                                                                       \
+    }
 
-void *__tsan_memmove(void *to, const void *from, size_t length);
-void *__tsan_memmove(void *to, const void *from, size_t length)
-{
-    copies(to, from, length, HERE);
-    return __real_memmove(to, from, length);
-}
-
-void *__tsan_memset(void *to, int value, size_t length);
-void *__tsan_memset(void *to, int value, size_t length)
-{
-    if (length)
-        access(to, length, WRITES, HERE);
-    return __real_memset(to, value, length);
-}
-
+COPIES(__tsan)
 /* gcc leaves the longer ones to the C library's functions. */
-void *__wrap_memcpy(void *to, const void *from, size_t length);
-void *__wrap_memcpy(void *to, const void *from, size_t length)
-{
-    copies(to, from, length, HERE);
-    return __real_memcpy(to, from, length);
-}
-
-void *__wrap_memmove(void *to, const void *from, size_t length);
-void *__wrap_memmove(void *to, const void *from, size_t length)
-{
-    copies(to, from, length, HERE);
-    return __real_memmove(to, from, length);
-}
-
-void *__wrap_memset(void *to, int value, size_t length);
-void *__wrap_memset(void *to, int value, size_t length)
-{
-    if (length)
-        access(to, length, WRITES, HERE);
-    return __real_memset(to, value, length);
-}
+COPIES(__wrap)
 
 /* --- atomic operations --- */
 
@@ -162,7 +134,6 @@ static void atomic_done(const volatile void *at, uint64_t old, bool changed)
 }
 
 #define ATOMIC_EXCHANGE(bits, type, name, operation)                                                                   \
-    type __tsan_atomic##bits##_##name(volatile type *at, type value, int order);                                       \
     type __tsan_atomic##bits##_##name(volatile type *at, type value, int order)                                        \
     {                                                                                                                  \
         atomic_point(at, sizeof *at, WRITES, HERE);                                                                    \
@@ -175,8 +146,6 @@ static void atomic_done(const volatile void *at, uint64_t old, bool changed)
 
 /* Where it isn't what was expected it is a load. */
 #define ATOMIC_COMPARE(bits, type, name)                                                                               \
-    int __tsan_atomic##bits##_compare_exchange_##name(volatile type *at, type *expected, type value, int order,        \
-                                                      int otherwise);                                                  \
     int __tsan_atomic##bits##_compare_exchange_##name(volatile type *at, type *expected, type value, int order,        \
                                                       int otherwise)                                                   \
     {                                                                                                                  \
@@ -195,7 +164,6 @@ static void atomic_done(const volatile void *at, uint64_t old, bool changed)
     }
 
 #define ATOMIC_OF(bits, type)                                                                                          \
-    type __tsan_atomic##bits##_load(const volatile type *at, int order);                                               \
     type __tsan_atomic##bits##_load(const volatile type *at, int order)                                                \
     {                                                                                                                  \
         atomic_point(at, sizeof *at, READS, HERE);                                                                     \
@@ -204,7 +172,6 @@ static void atomic_done(const volatile void *at, uint64_t old, bool changed)
         atomic_done(at, (uint64_t)value, false);                                                                       \
         return value;                                                                                                  \
     }                                                                                                                  \
-    void __tsan_atomic##bits##_store(volatile type *at, type value, int order);                                        \
     void __tsan_atomic##bits##_store(volatile type *at, type value, int order)                                         \
     {                                                                                                                  \
         atomic_point(at, sizeof *at, WRITES, HERE);                                                                    \
@@ -223,8 +190,6 @@ static void atomic_done(const volatile void *at, uint64_t old, bool changed)
     ATOMIC_COMPARE(bits, type, strong)                                                                                 \
     ATOMIC_COMPARE(bits, type, weak)                                                                                   \
     type __tsan_atomic##bits##_compare_exchange_val(volatile type *at, type expected, type value, int order,           \
-                                                    int otherwise);                                                    \
-    type __tsan_atomic##bits##_compare_exchange_val(volatile type *at, type expected, type value, int order,           \
                                                     int otherwise)                                                     \
     {                                                                                                                  \
         __tsan_atomic##bits##_compare_exchange_strong(at, &expected, value, order, otherwise);                         \
@@ -240,7 +205,6 @@ __extension__ typedef unsigned __int128 uint128;
 ATOMIC_OF(128, uint128)
 #endif
 
-void __tsan_atomic_thread_fence(int order);
 void __tsan_atomic_thread_fence(int order)
 {
     if (nicxi_is_in_thread())
@@ -248,7 +212,6 @@ void __tsan_atomic_thread_fence(int order)
     nicxi_race_fence(order);
 }
 
-void __tsan_atomic_signal_fence(int order);
 void __tsan_atomic_signal_fence(int order)
 {
     (void)order;
@@ -256,30 +219,25 @@ void __tsan_atomic_signal_fence(int order)
 
 /* --- the rest --- */
 
-void __tsan_init(void);
 void __tsan_init(void)
 {
     nicxi_race_open();
     nicxi_memory_open();
 }
 
-void __tsan_func_entry(void *call);
 void __tsan_func_entry(void *call)
 {
     (void)call;
 }
 
-void __tsan_func_exit(void);
 void __tsan_func_exit(void)
 {
 }
 
-void __tsan_ignore_thread_begin(void);
 void __tsan_ignore_thread_begin(void)
 {
 }
 
-void __tsan_ignore_thread_end(void);
 void __tsan_ignore_thread_end(void)
 {
 }

@@ -96,28 +96,13 @@ static int wait_for_signal(pthread_cond_t *cond, pthread_mutex_t *mutex, bool is
     return is_woken ? 0 : ETIMEDOUT;
 }
 
-int __real_pthread_cond_wait(pthread_cond_t *cond, pthread_mutex_t *mutex);
-int __wrap_pthread_cond_wait(pthread_cond_t *cond, pthread_mutex_t *mutex)
-{
-    return nicxi_is_ours() ? wait_for_signal(cond, mutex, false, "pthread_cond_wait", HERE)
-                           : __real_pthread_cond_wait(cond, mutex);
-}
-
-int __real_pthread_cond_timedwait(pthread_cond_t *cond, pthread_mutex_t *mutex, const struct timespec *until);
-int __wrap_pthread_cond_timedwait(pthread_cond_t *cond, pthread_mutex_t *mutex, const struct timespec *until)
-{
-    return nicxi_is_ours() ? wait_for_signal(cond, mutex, true, "pthread_cond_timedwait", HERE)
-                           : __real_pthread_cond_timedwait(cond, mutex, until);
-}
-
-int __real_pthread_cond_clockwait(pthread_cond_t *cond, pthread_mutex_t *mutex, clockid_t clock,
-                                  const struct timespec *until);
-int __wrap_pthread_cond_clockwait(pthread_cond_t *cond, pthread_mutex_t *mutex, clockid_t clock,
-                                  const struct timespec *until)
-{
-    return nicxi_is_ours() ? wait_for_signal(cond, mutex, true, "pthread_cond_clockwait", HERE)
-                           : __real_pthread_cond_clockwait(cond, mutex, clock, until);
-}
+TURNED(int, pthread_cond_wait, (pthread_cond_t * cond, pthread_mutex_t *mutex), (cond, mutex),
+       wait_for_signal(cond, mutex, false, "pthread_cond_wait", HERE))
+TURNED(int, pthread_cond_timedwait, (pthread_cond_t * cond, pthread_mutex_t *mutex, const struct timespec *until),
+       (cond, mutex, until), wait_for_signal(cond, mutex, true, "pthread_cond_timedwait", HERE))
+TURNED(int, pthread_cond_clockwait,
+       (pthread_cond_t * cond, pthread_mutex_t *mutex, clockid_t clock, const struct timespec *until),
+       (cond, mutex, clock, until), wait_for_signal(cond, mutex, true, "pthread_cond_clockwait", HERE))
 
 /* So many of those that wait are woken. */
 static int signal(pthread_cond_t *cond, bool is_all, const char *call)
@@ -140,17 +125,8 @@ static int signal(pthread_cond_t *cond, bool is_all, const char *call)
     return 0;
 }
 
-int __real_pthread_cond_signal(pthread_cond_t *cond);
-int __wrap_pthread_cond_signal(pthread_cond_t *cond)
-{
-    return nicxi_is_ours() ? signal(cond, false, "pthread_cond_signal") : __real_pthread_cond_signal(cond);
-}
-
-int __real_pthread_cond_broadcast(pthread_cond_t *cond);
-int __wrap_pthread_cond_broadcast(pthread_cond_t *cond)
-{
-    return nicxi_is_ours() ? signal(cond, true, "pthread_cond_broadcast") : __real_pthread_cond_broadcast(cond);
-}
+TURNED(int, pthread_cond_signal, (pthread_cond_t * cond), (cond), signal(cond, false, "pthread_cond_signal"))
+TURNED(int, pthread_cond_broadcast, (pthread_cond_t * cond), (cond), signal(cond, true, "pthread_cond_broadcast"))
 
 int __real_pthread_cond_init(pthread_cond_t *cond, const pthread_condattr_t *how);
 int __wrap_pthread_cond_init(pthread_cond_t *cond, const pthread_condattr_t *how)
@@ -161,11 +137,7 @@ int __wrap_pthread_cond_init(pthread_cond_t *cond, const pthread_condattr_t *how
     return 0;
 }
 
-int __real_pthread_cond_destroy(pthread_cond_t *cond);
-int __wrap_pthread_cond_destroy(pthread_cond_t *cond)
-{
-    return nicxi_is_ours() ? 0 : __real_pthread_cond_destroy(cond);
-}
+TURNED(int, pthread_cond_destroy, (pthread_cond_t * cond), (cond), 0)
 
 /* --- semaphores --- */
 
@@ -189,11 +161,7 @@ int __wrap_sem_init(sem_t *semaphore, int is_shared, unsigned value)
     return 0;
 }
 
-int __real_sem_destroy(sem_t *semaphore);
-int __wrap_sem_destroy(sem_t *semaphore)
-{
-    return nicxi_is_ours() ? 0 : __real_sem_destroy(semaphore);
-}
+TURNED(int, sem_destroy, (sem_t * semaphore), (semaphore), 0)
 
 int __real_sem_getvalue(sem_t *semaphore, int *value);
 int __wrap_sem_getvalue(sem_t *semaphore, int *value)
@@ -261,18 +229,10 @@ static int wait_for_a_time(sem_t *semaphore, const char *call, const void *at)
     return taken(semaphore, ETIMEDOUT);
 }
 
-int __real_sem_timedwait(sem_t *semaphore, const struct timespec *until);
-int __wrap_sem_timedwait(sem_t *semaphore, const struct timespec *until)
-{
-    return nicxi_is_ours() ? wait_for_a_time(semaphore, "sem_timedwait", HERE) : __real_sem_timedwait(semaphore, until);
-}
-
-int __real_sem_clockwait(sem_t *semaphore, clockid_t clock, const struct timespec *until);
-int __wrap_sem_clockwait(sem_t *semaphore, clockid_t clock, const struct timespec *until)
-{
-    return nicxi_is_ours() ? wait_for_a_time(semaphore, "sem_clockwait", HERE)
-                           : __real_sem_clockwait(semaphore, clock, until);
-}
+TURNED(int, sem_timedwait, (sem_t * semaphore, const struct timespec *until), (semaphore, until),
+       wait_for_a_time(semaphore, "sem_timedwait", HERE))
+TURNED(int, sem_clockwait, (sem_t * semaphore, clockid_t clock, const struct timespec *until),
+       (semaphore, clock, until), wait_for_a_time(semaphore, "sem_clockwait", HERE))
 
 /* --- barriers --- */
 
@@ -308,11 +268,7 @@ int __wrap_pthread_barrier_init(pthread_barrier_t *barrier, const pthread_barrie
     return 0;
 }
 
-int __real_pthread_barrier_destroy(pthread_barrier_t *barrier);
-int __wrap_pthread_barrier_destroy(pthread_barrier_t *barrier)
-{
-    return nicxi_is_ours() ? 0 : __real_pthread_barrier_destroy(barrier);
-}
+TURNED(int, pthread_barrier_destroy, (pthread_barrier_t * barrier), (barrier), 0)
 
 int __real_pthread_barrier_wait(pthread_barrier_t *barrier);
 int __wrap_pthread_barrier_wait(pthread_barrier_t *barrier)

@@ -22,7 +22,7 @@ from typing import NoReturn
 
 HERE = Path(__file__).resolve().parents[1]
 ROOT = HERE.parent
-SUFFIXES = (".py", ".html", ".js", ".css", ".typed")
+SUFFIXES = (".py", ".html", ".js", ".css", ".txt", ".typed")
 SONAME = "libnic82599.so.0"
 EARLIEST = 315_532_800
 # What pip was told by --config-settings: nothing here asks for it.

@@ -8,9 +8,9 @@ from __future__ import annotations
 from collections.abc import Iterator
 from dataclasses import dataclass
 
-from . import reason_table as table
 from . import regs
 from .known import ABSENT
+from .reason_table import reason, rows
 from .regs import ENABLE, Register
 from .script import Instruction, Op, Script
 
@@ -201,10 +201,7 @@ class Advice:
         """Messages that the card wouldn't send so."""
         steps = [pc for pc, one in self._instructions(Op.INT) if not one.sub]
         if steps and not [one for one in self._of("GPIE") if one.word & 0x10]:
-            yield self._at(
-                steps[0],
-                f"GPIE.Multiple_MSIX isn't set: {table.WHY['no_msix']}",
-            )
+            yield self._at(steps[0], f"GPIE.Multiple_MSIX isn't set: {rows()['no_msix'].why}")
 
     def _causes(self) -> Iterator[Warning]:
         """Causes without a vector, without a mask, or that nothing raises."""
@@ -224,7 +221,7 @@ class Advice:
         for one in masks:
             silent = one.word & 0xFFFF & ~raised
             if silent:
-                yield self._at(one.pc, table.pf_unraised({}, silent).text)
+                yield self._at(one.pc, reason("pf_unraised", {}, silent).text)
 
     def _without_vector(self, masks: list[Access]) -> Iterator[Warning]:
         """Causes of no queue that are unmasked, and to which IVAR_MISC gives no vector."""
@@ -241,9 +238,9 @@ class Advice:
         queue, side = 2 * one.register.index + byte // 2, "tx" if byte & 1 else "rx"
         named = one.register.index, byte, side, queue
         if not entry & 0x80:
-            yield self._at(one.pc, table.pf_entry_off({}, *named).text)
+            yield self._at(one.pc, reason("pf_entry_off", {}, *named).text)
         elif entry & 63 > 15:
-            yield self._at(one.pc, table.pf_entry_high({}, *named, entry & 63).text)
+            yield self._at(one.pc, reason("pf_entry_high", {}, *named, entry & 63).text)
         elif not masked >> (entry & 63) & 1:
             yield self._at(
                 one.pc,

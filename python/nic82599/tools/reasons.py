@@ -7,11 +7,10 @@ program's. The conditions and what is told of them are those of reason_table.py.
 
 from __future__ import annotations
 
-from . import reason_table as table
 from . import regs
 from .frames import address
 from .memory import Frame, Seen, ring_of
-from .reason_table import Reason, Words
+from .reason_table import Reason, Words, number, reason
 from .regs import ENABLE, queues_of_pool
 from .script import Op
 from .trace import Step, Trace, number_after, word_of
@@ -59,6 +58,10 @@ class Reasons:
                 self.lent.discard(instruction.x)
         return found
 
+    def _why(self, name: str, *given: int | str) -> Reason:
+        """A row of the table, by the words before the step."""
+        return reason(name, self.words, *given)
+
     def _of(self, step: Step) -> list[Reason]:
         one, reply = self.trace.instruction(step), step.reply
         if step.kind == "failed":
@@ -70,7 +73,7 @@ class Reasons:
         if one.op == Op.RX and reply in ("idle", "dropped queue off", "dropped no slot"):
             return self._receive(step)
         if reply == "no queue":
-            return [table.no_queue(self.words, one.x)]
+            return [self._why("no_queue", one.x)]
         if reply == "no group":
             return self._group(one.x)
         if reply.startswith("stray"):
@@ -84,13 +87,13 @@ class Reasons:
         if one.op == Op.INT:
             return self._message(one.x if one.sub else None)
         if one.op == Op.QSTEP:
-            as_asked = table.tx_as_asked if one.sub else table.rx_as_asked
-            return [table.disabled(self.words), as_asked(self.words, one.x)]
+            side = "tx" if one.sub else "rx"
+            return [self._why("disabled"), self._why(f"{side}_as_asked", one.x)]
         if one.op == Op.EESTEP:
-            return [table.disabled(self.words), table.no_word_asked(self.words)]
+            return [self._why("disabled"), self._why("no_word_asked")]
         if one.op == Op.LINK:
-            return [table.link_already(self.words)]
-        return [table.none_out(self.words)]
+            return [self._why("link_already")]
+        return [self._why("none_out")]
 
     def _expected(self, step: Step) -> str:
         """Of an expect that failed: the word that it found, and where that comes from."""
@@ -108,28 +111,28 @@ class Reasons:
 
     def _receive(self, step: Step) -> list[Reason]:
         """Of a receive step that wrote nothing."""
-        frame, words, disabled = self._front(), self.words, table.disabled(self.words)
+        frame, words, disabled = self._front(), self.words, self._why("disabled")
         earlier = self.seen.earlier[step.number] if self.seen.earlier else 0
         if earlier:
-            told = table.waiting_since_before(words, earlier + len(self.waiting))
+            told = self._why("waiting_since_before", earlier + len(self.waiting))
             return [disabled, Reason(not disabled.held, told.text)]
         if frame is None:
-            return [disabled, table.none_waits(words)]
+            return [disabled, self._why("none_waits")]
         if frame.queue is None:
-            told = table.waiting_somewhere(words, len(self.waiting))
-            return [disabled, Reason(False, told.text), table.rx_frame_without_queue(words)]
+            told = self._why("waiting_somewhere", len(self.waiting))
+            return [disabled, Reason(False, told.text), self._why("rx_frame_without_queue")]
         queue = frame.queue
-        waiting = Reason(False, table.waiting(words, len(self.waiting), queue).text)
+        waiting = Reason(False, self._why("waiting", len(self.waiting), queue).text)
         reasons = [disabled, waiting, self._queue_off(step, "rx", queue)]
         if step.reply == "dropped queue off":
             return reasons
-        reasons.append(table.rx_no_slot(words, queue))
+        reasons.append(self._why("rx_no_slot", queue))
         if step.reply == "dropped no slot":
-            reasons.append(table.rx_drops(words, queue))
+            reasons.append(self._why("rx_drops", queue))
         elif not _value(words, "SRRCTL", "Drop_En", queue):
-            reasons.append(table.rx_waits(words, queue))
+            reasons.append(self._why("rx_waits", queue))
         elif frame.slots:
-            reasons.append(table.rx_part_waits(words, queue))
+            reasons.append(self._why("rx_part_waits", queue))
         return reasons
 
     def _queue_off(self, step: Step, side: str, queue: int) -> Reason:
@@ -137,9 +140,8 @@ class Reasons:
         row = "RXDCTL" if side == "rx" else "TXDCTL"
         asked = None if _value(self.words, row, "ENABLE", queue) else self._asked(step, row, queue)
         if asked:
-            not_switched = table.rx_not_switched if side == "rx" else table.tx_not_switched
-            return not_switched(self.words, queue, f" at step {asked.number}")
-        return (table.rx_queue_off if side == "rx" else table.tx_queue_off)(self.words, queue)
+            return self._why(f"{side}_not_switched", queue, f" at step {asked.number}")
+        return self._why(f"{side}_queue_off", queue)
 
     def _asked(self, step: Step, row: str, queue: int) -> Step | None:
         """The step before that asked for a queue's enable, if it wasn't switched since."""
@@ -158,86 +160,82 @@ class Reasons:
         words = self.words
         at = Step(len(self.trace.steps), 0)
         reasons = [
-            table.disabled(words),
-            table.link_down(words),
-            table.tx_off(words),
+            self._why("disabled"),
+            self._why("link_down"),
+            self._why("tx_off"),
             self._queue_off(at, "tx", queue),
         ]
         k = queues_of_pool(word_of(words, "GCR_EXT"))
         if _value(words, "VT_CTL", "VT_Ena") and k:
-            reasons.append(table.tx_pool_off(words, queue // k))
-        return [*reasons, table.tx_empty(words, queue)]
+            reasons.append(self._why("tx_pool_off", queue // k))
+        return [*reasons, self._why("tx_empty", queue)]
 
     def _message(self, function: int | None) -> list[Reason]:
         """Of a group that has no message."""
-        words, reasons = self.words, [table.disabled(self.words)]
-        pf, index = function is None, function or 0
-        names = ("EICR", "EIMS") if pf else ("PVTEICR", "PVTEIMS")
-        causes, masks = (word_of(words, name, index) for name in names)
+        words, reasons = self.words, [self._why("disabled")]
+        group, of = ("pf", []) if function is None else ("vf", [function])
+        names = ("EICR", "EIMS") if group == "pf" else ("PVTEICR", "PVTEIMS")
+        causes, masks = (word_of(words, name, *of) for name in names)
         if not causes:
-            return [*reasons, table.pf_no_cause(words) if pf else table.vf_no_cause(words, index)]
+            return [*reasons, self._why(f"{group}_no_cause", *of)]
         due = causes & masks
-        reasons.append(table.pf_masked(words) if pf else table.vf_masked(words, index))
+        reasons.append(self._why(f"{group}_masked", *of))
         if not due:
             return reasons
-        hidden = table.pf_hidden(words) if pf else table.vf_hidden(words, index)
-        lost = table.without_vector(words, due) if pf else 0
-        reasons += [one for one in (hidden, table.no_vector(words, lost)) if one.held]
+        lost = number("without_vector", words, due) if group == "pf" else 0
+        reasons += [one for one in (self._why(f"{group}_hidden", *of), self._why("no_vector", lost)) if one.held]
         if due & ~lost:
-            reasons.append((table.pf_told if pf else table.vf_told)(words, due & ~lost))
+            reasons.append(self._why(f"{group}_told", due & ~lost))
         return reasons
 
     def _group(self, function: int) -> list[Reason]:
         k = queues_of_pool(word_of(self.words, "GCR_EXT"))
         return [
-            table.no_function(self.words, function, self.trace.bench.vfs),
-            table.no_pool_of_function(self.words, function, 128 // k if k else 0),
+            self._why("no_function", function, self.trace.bench.vfs),
+            self._why("no_pool_of_function", function, 128 // k if k else 0),
         ]
 
     def _stray(self, step: Step) -> list[Reason]:
         one = self.trace.instruction(step)
         if one.op in (Op.VF_READ, Op.VF_WRITE):
-            group = [reason.text for reason in self._group(one.x) if reason.held]
-            return [Reason(True, "; ".join(group)) if group else table.stray_offset(self.words, one.a)]
-        return [table.stray_address(self.words, one.a)]
+            group = [it.text for it in self._group(one.x) if it.held]
+            return [Reason(True, "; ".join(group)) if group else self._why("stray_offset", one.a)]
+        return [self._why("stray_address", one.a)]
 
     def _memory(self, step: Step) -> Reason:
         one = self.trace.instruction(step)
         if step.reply == "misaligned":
-            return table.misaligned(self.words, one.a)
+            return self._why("misaligned", one.a)
         if one.op in (Op.LEND, Op.UNLEND):
             state = "is lent already" if one.x in self.lent else "is none of 0 to 255" if one.x > 255 else "isn't lent"
-            return table.block_is(self.words, one.x, state)
-        return table.block_not_lent(self.words, one.a)
+            return self._why("block_is", one.x, state)
+        return self._why("block_not_lent", one.a)
 
     def _fault(self, step: Step, side: str) -> list[Reason]:
         """Of a slot that can't be processed."""
         queue = number_after(step.reply, "queue") or 0
         words, why = self.words, step.reply.split(maxsplit=3)[3]
         ring = ring_of(words, side, queue)
-        if why == "outside" and side == "rx":
-            return [table.rx_head_outside(words, queue), table.rx_tail_outside(words, queue)]
         if why == "outside":
-            return [table.tx_head_outside(words, queue), table.tx_tail_outside(words, queue)]
+            return [self._why(f"{side}_head_outside", queue), self._why(f"{side}_tail_outside", queue)]
         if why.startswith("not lent"):
             bus = int(why.split()[-1], 16)
-            return [table.not_lent(words, bus, ring.head, ring.base + 16 * ring.head)]
+            return [self._why("not_lent", bus, ring.head, ring.base + 16 * ring.head)]
         if why in ("type", "no buffer size"):
-            return [(table.rx_type if why == "type" else table.rx_no_size)(words, queue)]
-        told = {"offload": table.tx_offload, "legacy": table.tx_legacy, "unknown type": table.tx_unknown_type}
-        if why in told:
-            return [told[why](words, ring.head)]
-        too_long = table.tx_too_long(words, ring.head), table.tx_too_long_for_jumbo(words, ring.head)
+            return [self._why("rx_type" if why == "type" else "rx_no_size", queue)]
+        if why in ("offload", "legacy", "unknown type"):
+            return [self._why(f"tx_{why.replace(' ', '_')}", ring.head)]
+        too_long = self._why("tx_too_long", ring.head), self._why("tx_too_long_for_jumbo", ring.head)
         return [_by_jumbo(words, *too_long)]
 
     def _arrival(self, step: Step, why: str) -> list[Reason]:
         """Of a frame that isn't let in."""
         words, frame = self.words, self.trace.script.data[self.trace.instruction(step).x]
         reasons = [
-            table.link_down(words),
-            table.rx_off(words),
-            table.short(words, len(frame)),
-            _by_jumbo(words, table.long(words, len(frame)), table.long_for_jumbo(words, len(frame))),
+            self._why("link_down"),
+            self._why("rx_off"),
+            self._why("short", len(frame)),
+            _by_jumbo(words, self._why("long", len(frame)), self._why("long_for_jumbo", len(frame))),
         ]
         order = ["link down", "off", "short", "long"]
         if why in order:
@@ -247,7 +245,7 @@ class Reasons:
             return passed + self._filter(frame[:6])
         if why in ("no pool", "pool off"):
             return passed + self._pool(frame[:6], why)
-        return [*passed, table.full(words, len(self.waiting), self.trace.bench.fifo)]
+        return [*passed, self._why("full", len(self.waiting), self.trace.bench.fifo)]
 
     def _matches(self, to: bytes) -> list[int]:
         """The receive addresses that are a destination."""
@@ -265,14 +263,14 @@ class Reasons:
         """Why the filter has no place for a destination."""
         words, shown = self.words, address(to)
         if to == b"\xff" * 6:
-            return [table.broadcast(words, shown)]
+            return [self._why("broadcast", shown)]
         count = sum(word_of(words, "RAH", i) >> 31 for i in range(128))
-        none = table.no_address(words, shown, count)
+        none = self._why("no_address", shown, count)
         if not to[0] & 1:
-            return [table.unicast(words, shown), none]
+            return [self._why("unicast", shown), none]
         shift = (4, 3, 2, 0)[word_of(words, "MCSTCTRL") & 3]
         vector = (to[4] | to[5] << 8) >> shift & 0xFFF
-        return [table.multicast(words, shown), none, table.multicast_table(words, vector)]
+        return [self._why("multicast", shown), none, self._why("multicast_table", vector)]
 
     def _pool(self, to: bytes, why: str) -> list[Reason]:
         """Why there is no pool for a destination, or why its pool takes no frames."""
@@ -287,16 +285,16 @@ class Reasons:
             pool = _value(words, "VT_CTL", "DEF_PL")
             whence = f"VT_CTL.DEF_PL {pool}"
         if why == "pool off":
-            return [table.frame_pool_off(words, pool, whence)]
+            return [self._why("frame_pool_off", pool, whence)]
         sixteen = _value(words, "GCR_EXT", "VT_Mode") == 1 and _value(words, "MRQC", "MRQE") in (8, 10, 11)
         where = "an address that MPSAR gives no pool" if found else "no receive address"
         return [
-            table.no_default_pool(words, address(to), where, pair),
-            table.pool_of_16(words, pool, whence, sixteen),
-            table.pool_of_32(words, pool, whence, sixteen),
+            self._why("no_default_pool", address(to), where, pair),
+            self._why("pool_of_16", pool, whence, sixteen),
+            self._why("pool_of_32", pool, whence, sixteen),
         ]
 
 
 def sentence(reasons: list[Reason]) -> str:
     """The conditions that held, in one line."""
-    return "; ".join(reason.text for reason in reasons if reason.held)
+    return "; ".join(it.text for it in reasons if it.held)

@@ -6,8 +6,7 @@ python/nic82599/descriptor_fields.py and rust/nic82599/src/desc/fields.rs.
     dev/descriptor_fields.py --check    says which files are stale, and ends with status 1 if any is
 
 What the device reads and writes back is that of dev/descriptor_tables.py, which reads the definitions; the fields that
-have no effect in the bench, and that drivers for the card set, are listed here by the datasheet. The functions in front
-of and behind the macros of the header stand in dev/descriptor_functions.h.
+have no effect in the bench, and that drivers for the card set, are listed here by the datasheet.
 """
 
 from __future__ import annotations
@@ -18,11 +17,12 @@ from typing import NamedTuple
 
 sys.dont_write_bytecode = True
 from descriptor_tables import FRAMES, receive_fields, rss_types, transmit_fields  # noqa: E402
-from generated import ROOT, keep, text_of, with_each_macro_once  # noqa: E402
+from generated import ROOT, keep, replaced, with_each_macro_once  # noqa: E402
 
 HEADER, MODULE = ROOT / "c/include/nic82599_desc.h", ROOT / "python/nic82599/descriptor_fields.py"
 RUST = ROOT / "rust/nic82599/src/desc/fields.rs"
-FUNCTIONS, MARK = "dev/descriptor_functions.h", "/* THE FIELDS */\n"
+# What stands in the header around the fields.
+BEFORE, BEHIND = "} nic_desc;\n\n", "\n/* The bits of TXD's second half"
 # These are addresses in place, which aren't shifted.
 ADDRESSES = ("BUFFER", "HEADER")
 HEAD_PYTHON = '''\
@@ -132,9 +132,9 @@ def rss_enum() -> str:
 
 
 def header() -> str:
-    """c/include/nic82599_desc.h."""
-    before, after = text_of(FUNCTIONS).split(MARK)
-    return with_each_macro_once(before + "".join(macros(form) for form in forms()) + rss_enum() + after)
+    """c/include/nic82599_desc.h, in which the fields stand between a type and functions."""
+    fields = "".join(macros(form) for form in forms()) + rss_enum()
+    return with_each_macro_once(replaced(HEADER.read_text(), BEFORE, fields, BEHIND))
 
 
 def module() -> str:

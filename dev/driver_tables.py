@@ -92,8 +92,7 @@ def c_names() -> str:
             at = f"0x{run.first:05X}, 0x{run.stride:02X}, {run.count}, {run.first_index}"
             registers += f'    {{"{row.name}", {at}, {many}}},\n'
     for it in places():
-        count = 1 if not it.stride else it.count(QUEUES) if it.of == "16" else QUEUES
-        places_of_names += f'    {{"{it.name}", 0x{it.offset:04X}, 0x{it.stride:02X}, {count}}},\n'
+        places_of_names += f'    {{"{it.name}", 0x{it.offset:04X}, 0x{it.stride:02X}, {it.count(QUEUES)}}},\n'
     text = replaced(NAMES.read_text(), "} registers[] = {\n", registers, "};\n")
     return replaced(text, "} places[] = {\n", places_of_names, "};\n")
 

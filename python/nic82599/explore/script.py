@@ -11,8 +11,8 @@ from functools import cache
 from typing import TYPE_CHECKING
 
 from .. import Nic, NotLent
-from ..registers import OFFSETS
-from ..tools.regs import REGISTERS
+from ..tools.regs import POOL_SIZES, REGISTERS
+from ..tools.tables import FUNCTION
 
 if TYPE_CHECKING:
     from . import Scenario
@@ -29,11 +29,11 @@ def name_of(address: int) -> str:
 
 @cache
 def _offset_names() -> dict[int, str]:
-    found: dict[int, str] = {}
-    for name, (offset, stride) in OFFSETS.items():
-        for k in range((16 if name == "VFMBMEM" else 8) if stride else 1):
-            found.setdefault(offset + stride * k, f"{name}[{k}]" if stride else name)
-    return found
+    return {
+        it.offset + it.stride * k: f"{it.name}[{k}]" if it.stride else it.name
+        for it in FUNCTION
+        for k in range(it.count(max(POOL_SIZES)))
+    }
 
 
 def offset_name_of(offset: int) -> str:

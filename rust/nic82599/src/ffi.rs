@@ -65,28 +65,11 @@ extern "C" {
     fn nic_snapshot(n: *mut RawNic, kept: *mut RawKept) -> u8;
     fn nic_restore(n: *mut RawNic, kept: *const RawKept) -> u8;
     fn nic_free_snapshot(kept: RawKept);
-    fn nic_read32(n: *mut RawNic, address: u32, word: *mut u32) -> u8;
-    fn nic_write32(n: *mut RawNic, address: u32, word: u32) -> u8;
-    fn nic_vf_read32(n: *mut RawNic, vf: u8, offset: u32, word: *mut u32) -> u8;
-    fn nic_vf_write32(n: *mut RawNic, vf: u8, offset: u32, word: u32) -> u8;
-    fn nic_peek32(n: *mut RawNic, address: u32, word: *mut u32) -> u8;
-    fn nic_vf_peek32(n: *mut RawNic, vf: u8, offset: u32, word: *mut u32) -> u8;
-    fn nic_lend(n: *mut RawNic, block: u32) -> u8;
-    fn nic_take(n: *mut RawNic, block: u32) -> u8;
-    fn nic_lend_all(n: *mut RawNic) -> u8;
     fn nic_lend_memory(n: *mut RawNic, bus: u64, memory: *mut c_void, bytes: usize) -> u8;
-    fn nic_unlend_memory(n: *mut RawNic, bus: u64, bytes: usize) -> u8;
     fn nic_dma_read(n: *mut RawNic, bus: u64, bytes: *mut u8, length: usize) -> u8;
     fn nic_dma_write(n: *mut RawNic, bus: u64, bytes: *const u8, length: usize) -> u8;
     fn nic_arrive(n: *mut RawNic, frame: *const u8, length: usize, told: *mut Told) -> u8;
-    fn nic_next_out(n: *mut RawNic) -> usize;
     fn nic_collect(n: *mut RawNic, room: *mut u8, length: usize, told: *mut Told) -> u8;
-    fn nic_link(n: *mut RawNic, up: bool) -> u8;
-    fn nic_rx_step(n: *mut RawNic, told: *mut Told) -> u8;
-    fn nic_tx_step(n: *mut RawNic, queue: u16, told: *mut Told) -> u8;
-    fn nic_queue_step(n: *mut RawNic, transmit: bool, queue: u16, told: *mut Told) -> u8;
-    fn nic_eeprom_step(n: *mut RawNic, told: *mut Told) -> u8;
-    fn nic_int_step(n: *mut RawNic, group: u8, told: *mut Told) -> u8;
     fn nic_settle(n: *mut RawNic, queues: u16, told: *mut Told, length: usize, count: *mut usize) -> u8;
     fn nic_next_step(n: *mut RawNic, place: *mut Settling, told: *mut Told) -> u8;
     fn nic_why(n: *mut RawNic, text: *mut u8, size: usize) -> usize;
@@ -94,6 +77,60 @@ extern "C" {
     fn nic_install_image(n: *mut RawNic, bytes: *const u8, length: usize) -> u8;
     fn nic_install_text(n: *mut RawNic, text: *const u8, length: usize, line: *mut u64) -> u8;
     fn nic_hash(key: *const u8, input: *const u8, length: usize, hash: *mut u32) -> u8;
+}
+
+/// Calls on a controller that are given numbers alone: the declaration of each, and a method of the handle that makes
+/// it. Those of `answering` also have a place for an answer, which comes behind the status.
+macro_rules! plain_calls {
+    (
+        plain { $($call:ident as $name:ident($($word:ident: $kind:ty),*) -> $told:ty;)+ }
+        answering { $($filling:ident as $filled:ident($($part:ident: $type:ty),*) -> $place:ty;)+ }
+    ) => {
+        extern "C" {
+            $(fn $call(n: *mut RawNic, $($word: $kind),*) -> $told;)+
+            $(fn $filling(n: *mut RawNic, $($part: $type,)* place: *mut $place) -> u8;)+
+        }
+
+        impl Handle {
+            $(
+                pub(crate) fn $name(&self, $($word: $kind),*) -> $told {
+                    // SAFETY: the controller is open.
+                    unsafe { $call(self.n(), $($word),*) }
+                }
+            )+
+            $(
+                pub(crate) fn $filled(&self, $($part: $type),*) -> (u8, $place) {
+                    let mut place = <$place>::default();
+                    // SAFETY: the controller is open; `place` is one for what the call answers.
+                    (unsafe { $filling(self.n(), $($part,)* &mut place) }, place)
+                }
+            )+
+        }
+    };
+}
+
+plain_calls! {
+    plain {
+        nic_write32 as write32(address: u32, word: u32) -> u8;
+        nic_vf_write32 as vf_write32(vf: u8, offset: u32, word: u32) -> u8;
+        nic_lend as lend(block: u32) -> u8;
+        nic_take as take(block: u32) -> u8;
+        nic_lend_all as lend_all() -> u8;
+        nic_unlend_memory as unlend_memory(bus: u64, bytes: usize) -> u8;
+        nic_next_out as next_out() -> usize;
+        nic_link as link(up: bool) -> u8;
+    }
+    answering {
+        nic_read32 as read32(address: u32) -> u32;
+        nic_peek32 as peek32(address: u32) -> u32;
+        nic_vf_read32 as vf_read32(vf: u8, offset: u32) -> u32;
+        nic_vf_peek32 as vf_peek32(vf: u8, offset: u32) -> u32;
+        nic_rx_step as rx_step() -> Told;
+        nic_tx_step as tx_step(queue: u16) -> Told;
+        nic_int_step as int_step(group: u8) -> Told;
+        nic_queue_step as queue_step(transmit: bool, queue: u16) -> Told;
+        nic_eeprom_step as eeprom_step() -> Told;
+    }
 }
 
 /// The version of the library.
@@ -205,66 +242,12 @@ impl Handle {
         unsafe { nic_restore(self.n(), &kept.raw) }
     }
 
-    pub(crate) fn read32(&self, address: u32) -> (u8, u32) {
-        let mut word = 0;
-        // SAFETY: the controller is open; `word` is a place for a word.
-        (unsafe { nic_read32(self.n(), address, &mut word) }, word)
-    }
-
-    pub(crate) fn write32(&self, address: u32, word: u32) -> u8 {
-        // SAFETY: the controller is open.
-        unsafe { nic_write32(self.n(), address, word) }
-    }
-
-    pub(crate) fn peek32(&self, address: u32) -> (u8, u32) {
-        let mut word = 0;
-        // SAFETY: the controller is open; `word` is a place for a word.
-        (unsafe { nic_peek32(self.n(), address, &mut word) }, word)
-    }
-
-    pub(crate) fn vf_read32(&self, vf: u8, offset: u32) -> (u8, u32) {
-        let mut word = 0;
-        // SAFETY: the controller is open; `word` is a place for a word.
-        (unsafe { nic_vf_read32(self.n(), vf, offset, &mut word) }, word)
-    }
-
-    pub(crate) fn vf_write32(&self, vf: u8, offset: u32, word: u32) -> u8 {
-        // SAFETY: the controller is open.
-        unsafe { nic_vf_write32(self.n(), vf, offset, word) }
-    }
-
-    pub(crate) fn vf_peek32(&self, vf: u8, offset: u32) -> (u8, u32) {
-        let mut word = 0;
-        // SAFETY: the controller is open; `word` is a place for a word.
-        (unsafe { nic_vf_peek32(self.n(), vf, offset, &mut word) }, word)
-    }
-
-    pub(crate) fn lend(&self, block: u32) -> u8 {
-        // SAFETY: the controller is open.
-        unsafe { nic_lend(self.n(), block) }
-    }
-
-    pub(crate) fn take(&self, block: u32) -> u8 {
-        // SAFETY: the controller is open.
-        unsafe { nic_take(self.n(), block) }
-    }
-
-    pub(crate) fn lend_all(&self) -> u8 {
-        // SAFETY: the controller is open.
-        unsafe { nic_lend_all(self.n()) }
-    }
-
     /// # Safety
     ///
     /// As [`Memory::lend`](crate::Memory::lend) says.
     pub(crate) unsafe fn lend_memory(&self, bus: u64, memory: *mut u8, bytes: usize) -> u8 {
         // SAFETY: the controller is open; the caller sees to the memory as long as it is lent.
         unsafe { nic_lend_memory(self.n(), bus, memory.cast(), bytes) }
-    }
-
-    pub(crate) fn unlend_memory(&self, bus: u64, bytes: usize) -> u8 {
-        // SAFETY: the controller is open.
-        unsafe { nic_unlend_memory(self.n(), bus, bytes) }
     }
 
     pub(crate) fn dma_read(&self, bus: u64, bytes: &mut [u8]) -> u8 {
@@ -283,50 +266,10 @@ impl Handle {
         (unsafe { nic_arrive(self.n(), frame.as_ptr(), frame.len(), &mut told) }, told)
     }
 
-    pub(crate) fn next_out(&self) -> usize {
-        // SAFETY: the controller is open.
-        unsafe { nic_next_out(self.n()) }
-    }
-
     pub(crate) fn collect(&self, room: &mut [u8]) -> (u8, Told) {
         let mut told = Told::default();
         // SAFETY: the controller is open; the room has as many bytes as its length; `told` is a place for an event.
         (unsafe { nic_collect(self.n(), room.as_mut_ptr(), room.len(), &mut told) }, told)
-    }
-
-    pub(crate) fn link(&self, up: bool) -> u8 {
-        // SAFETY: the controller is open.
-        unsafe { nic_link(self.n(), up) }
-    }
-
-    pub(crate) fn rx_step(&self) -> (u8, Told) {
-        let mut told = Told::default();
-        // SAFETY: the controller is open; `told` is a place for an event.
-        (unsafe { nic_rx_step(self.n(), &mut told) }, told)
-    }
-
-    pub(crate) fn tx_step(&self, queue: u16) -> (u8, Told) {
-        let mut told = Told::default();
-        // SAFETY: the controller is open; `told` is a place for an event.
-        (unsafe { nic_tx_step(self.n(), queue, &mut told) }, told)
-    }
-
-    pub(crate) fn queue_step(&self, transmit: bool, queue: u16) -> u8 {
-        let mut told = Told::default();
-        // SAFETY: the controller is open; `told` is a place for an event.
-        unsafe { nic_queue_step(self.n(), transmit, queue, &mut told) }
-    }
-
-    pub(crate) fn eeprom_step(&self) -> u8 {
-        let mut told = Told::default();
-        // SAFETY: the controller is open; `told` is a place for an event.
-        unsafe { nic_eeprom_step(self.n(), &mut told) }
-    }
-
-    pub(crate) fn int_step(&self, group: u8) -> (u8, Told) {
-        let mut told = Told::default();
-        // SAFETY: the controller is open; `told` is a place for an event.
-        (unsafe { nic_int_step(self.n(), group, &mut told) }, told)
     }
 
     /// Steps until none has anything to do, or the room is full: the status, and how many events are in the room.

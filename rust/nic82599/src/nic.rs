@@ -351,7 +351,7 @@ impl Nic {
     ///
     /// [`Error::NoQueue`].
     pub fn queue_step(&self, side: Side, queue: u16) -> Result<bool, Error> {
-        match self.handle.queue_step(side == Side::Tx, queue) {
+        match self.handle.queue_step(side == Side::Tx, queue).0 {
             status::DONE => Ok(true),
             status::IDLE => Ok(false),
             status => Err(Error::of(status)),
@@ -360,7 +360,7 @@ impl Nic {
 
     /// The EEPROM answers EERD; false where there is nothing to do.
     pub fn eeprom_step(&self) -> bool {
-        self.handle.eeprom_step() == status::DONE
+        self.handle.eeprom_step().0 == status::DONE
     }
 
     /// Sends the next message of the physical function; `None` where there is nothing to do. Those of a virtual

@@ -13,7 +13,7 @@ use std::rc::Rc;
 use std::slice;
 
 use super::{Driver, Filter, Frame, Platform, Rss, Setup, MAILBOX_WORDS, MOST_FRAME};
-use crate::explore::raw::{arguments, caught, fail, is_running, text, told, within, Driven};
+use crate::explore::raw::{arguments, caught, fail, is_running, plain_calls, text, told, within, Driven};
 use crate::explore::{hook_panics, Bus};
 use crate::nic::Sizes;
 
@@ -90,8 +90,6 @@ struct RawDriver {
 
 extern "C" {
     fn nicd_main(argc: c_int, argv: *mut *mut c_char, driver: *const RawDriver) -> c_int;
-    fn nicd_dma_alloc(bytes: usize) -> u64;
-    fn nicd_dma_free(bus: u64);
     fn nicd_alloc(bytes: usize) -> *mut c_void;
     fn nicd_free(memory: *mut c_void);
     fn nicd_deliver(queue: u16, bytes: *const u8, length: u32);
@@ -175,18 +173,6 @@ extern "C" fn send<D: Driver>(queue: u16, bytes: *const u8, length: u32) -> bool
     called::<D, _>(false, |driver, platform| of(D::SEND)(driver, platform, queue, bytes))
 }
 
-extern "C" fn reclaim<D: Driver>(queue: u16) -> u32 {
-    called::<D, _>(0, |driver, platform| of(D::RECLAIM)(driver, platform, queue))
-}
-
-extern "C" fn interrupt<D: Driver>(vector: u8) -> u32 {
-    called::<D, _>(0, |driver, platform| of(D::INTERRUPT)(driver, platform, vector))
-}
-
-extern "C" fn rearm<D: Driver>(queue: u16) {
-    called::<D, _>((), |driver, platform| of(D::REARM)(driver, platform, queue));
-}
-
 extern "C" fn thread<D: Driver>(number: u32) {
     called::<D, _>((), |driver, platform| D::THREADS[number as usize](driver, platform));
 }
@@ -204,26 +190,6 @@ extern "C" fn rss<D: Driver>(rss: *const RawRss) -> bool {
     // SAFETY: the card gives it, and it stays while the function runs.
     let RawRss { key, table, types } = *unsafe { &*rss };
     called::<D, _>(false, |driver, platform| of(D::RSS)(driver, platform, &Rss { key, table, types }))
-}
-
-extern "C" fn mtu<D: Driver>(frame: u32) -> bool {
-    called::<D, _>(false, |driver, platform| of(D::MTU)(driver, platform, frame))
-}
-
-extern "C" fn resize<D: Driver>(slots: u16) -> bool {
-    called::<D, _>(false, |driver, platform| of(D::RESIZE)(driver, platform, slots))
-}
-
-extern "C" fn reset<D: Driver>() -> bool {
-    called::<D, _>(false, |driver, platform| of(D::RESET)(driver, platform))
-}
-
-extern "C" fn suspend<D: Driver>() -> bool {
-    called::<D, _>(false, |driver, platform| of(D::SUSPEND)(driver, platform))
-}
-
-extern "C" fn resume<D: Driver>() -> bool {
-    called::<D, _>(false, |driver, platform| of(D::RESUME)(driver, platform))
 }
 
 extern "C" fn link<D: Driver>() -> bool {
@@ -247,8 +213,28 @@ extern "C" fn mailbox_receive<D: Driver>(vf: u8, words: *mut u32) -> bool {
     })
 }
 
-extern "C" fn mailbox_ready<D: Driver>() -> bool {
-    called::<D, _>(false, |driver, platform| of(D::MAILBOX_READY)(driver, platform))
+/// Functions that are given numbers alone.
+macro_rules! plain_functions {
+    ($($constant:ident as $name:ident($($word:ident: $kind:ty),*) -> $told:ty;)+) => {
+        $(
+            extern "C" fn $name<D: Driver>($($word: $kind),*) -> $told {
+                let failed = <$told>::default();
+                called::<D, _>(failed, |driver, platform| of(D::$constant)(driver, platform $(, $word)*))
+            }
+        )+
+    };
+}
+
+plain_functions! {
+    RECLAIM as reclaim(queue: u16) -> u32;
+    INTERRUPT as interrupt(vector: u8) -> u32;
+    REARM as rearm(queue: u16) -> ();
+    MTU as mtu(frame: u32) -> bool;
+    RESIZE as resize(slots: u16) -> bool;
+    RESET as reset() -> bool;
+    SUSPEND as suspend() -> bool;
+    RESUME as resume() -> bool;
+    MAILBOX_READY as mailbox_ready() -> bool;
 }
 
 /// The driver as C has it: a function's pointer is there where the driver has the function.
@@ -313,14 +299,9 @@ pub(super) fn run<D: Driver>(words: Vec<String>) -> u8 {
 
 // --- in the driver's functions; a `Platform` is only in their hands ---
 
-pub(super) fn dma_alloc(bytes: usize) -> u64 {
-    // SAFETY: it takes no pointer.
-    unsafe { nicd_dma_alloc(bytes) }
-}
-
-pub(super) fn dma_free(bus: u64) {
-    // SAFETY: it takes no pointer.
-    unsafe { nicd_dma_free(bus) }
+plain_calls! {
+    nicd_dma_alloc as dma_alloc(bytes: usize) -> u64;
+    nicd_dma_free as dma_free(bus: u64);
 }
 
 pub(super) fn deliver(queue: u16, bytes: &[u8]) {

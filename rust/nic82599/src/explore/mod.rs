@@ -498,17 +498,17 @@ impl Bus {
     /// A barrier of weak memory: when it returns all stores of the task's processor before it have reached memory.
     /// Where memory isn't weak this and the others do nothing, and are no points.
     pub fn wmb(&self) {
-        raw::barrier(true, false);
+        raw::wmb();
     }
 
     /// A load behind it isn't older than it.
     pub fn rmb(&self) {
-        raw::barrier(false, true);
+        raw::rmb();
     }
 
     /// Both.
     pub fn mb(&self) {
-        raw::barrier(true, true);
+        raw::mb();
     }
 
     /// A value below the bound, 1 to 256, that is part of the schedule: whether an allocation fails, which input comes.
@@ -529,9 +529,9 @@ impl Bus {
 
     /// Does something while no handler starts on this task.
     pub fn without_interrupts<T>(&self, action: impl FnOnce() -> T) -> T {
-        raw::interrupts(false);
+        raw::interrupts_off();
         let done = action();
-        raw::interrupts(true);
+        raw::interrupts_on();
         done
     }
 

@@ -25,6 +25,23 @@ pub(super) const BESIDE: c_int = -2;
 
 type Function = extern "C" fn(*mut c_void);
 
+/// Calls that take no pointer: the declaration of each, and a function that makes it.
+macro_rules! plain_calls {
+    ($($call:ident as $name:ident($($word:ident: $kind:ty),*) $(-> $told:ty)?;)+) => {
+        extern "C" {
+            $(fn $call($($word: $kind),*) $(-> $told)?;)+
+        }
+        $(
+            pub(super) fn $name($($word: $kind),*) $(-> $told)? {
+                // SAFETY: it takes no pointer.
+                unsafe { $call($($word),*) }
+            }
+        )+
+    };
+}
+
+pub(crate) use plain_calls;
+
 /// `struct nicx_scenario`.
 #[repr(C)]
 struct RawScenario {
@@ -74,12 +91,6 @@ extern "C" {
     fn nicx_service(name: *const c_char, function: Function, argument: *mut c_void) -> c_int;
     fn nicx_handler(name: *const c_char, group: u16, vector: u8, function: Function, argument: *mut c_void, at: c_int);
     fn nicx_timer(name: *const c_char, function: Function, argument: *mut c_void, within: u32) -> c_int;
-    fn nicx_arm(timer: c_int);
-    fn nicx_disarm(timer: c_int) -> bool;
-    fn nicx_choose(bound: u32) -> u32;
-    fn nicx_wmb();
-    fn nicx_rmb();
-    fn nicx_mb();
     fn nicx_numbered_frame(frame: *mut u8, length: usize, number: u32) -> bool;
     fn nicx_flow_frame(frame: *mut u8, length: usize, flow: *const RawFlow, number: u32) -> bool;
     fn nicx_frame_number(frame: *const u8, length: usize) -> u32;
@@ -90,31 +101,41 @@ extern "C" {
     fn nicx_function_is_acked(mailbox: *mut RawMailbox) -> bool;
     fn nicx_host_sends(vf: u8, words: *const u32, count: u32);
     fn nicx_host_receives(vf: u8, words: *mut u32, count: u32) -> bool;
-    fn nicx_host_is_acked(vf: u8) -> bool;
     fn nicx_frame(frame: *const u8, length: usize);
-    fn nicx_link_change(up: bool);
-    fn nicx_came() -> u32;
-    fn nicx_read32(address: u32) -> u32;
-    fn nicx_write32(address: u32, word: u32) -> u8;
-    fn nicx_vf_read32(vf: u8, offset: u32) -> u32;
-    fn nicx_vf_write32(vf: u8, offset: u32, word: u32) -> u8;
     fn nicx_dma_read(bus: u64, bytes: *mut u8, length: usize) -> u8;
     fn nicx_dma_write(bus: u64, bytes: *const u8, length: usize) -> u8;
-    fn nicx_lend(block: u32) -> u8;
-    fn nicx_take(block: u32) -> u8;
-    fn nicx_point();
-    fn nicx_wait();
     fn nicx_wait_until(condition: extern "C" fn(*mut c_void) -> bool, argument: *mut c_void);
-    fn nicx_pause();
     fn nicx_lock(lock: *mut RawLock);
     fn nicx_unlock(lock: *mut RawLock);
-    fn nicx_interrupts_off();
-    fn nicx_interrupts_on();
     fn nicx_fail(words: *const c_char);
     fn nicx_device() -> *mut RawNic;
-    fn nicx_lend_all() -> u8;
-    fn nicx_settle();
     fn nicx_close();
+}
+
+// In `begin`, in tasks and handlers; a `Bus` is only in their hands, and in those of `bring_up`.
+plain_calls! {
+    nicx_arm as arm(timer: c_int);
+    nicx_disarm as disarm(timer: c_int) -> bool;
+    nicx_choose as choose(bound: u32) -> u32;
+    nicx_link_change as link_change(up: bool);
+    nicx_came as came() -> u32;
+    nicx_read32 as read32(address: u32) -> u32;
+    nicx_write32 as write32(address: u32, word: u32) -> u8;
+    nicx_vf_read32 as vf_read32(vf: u8, offset: u32) -> u32;
+    nicx_vf_write32 as vf_write32(vf: u8, offset: u32, word: u32) -> u8;
+    nicx_lend as lend(block: u32) -> u8;
+    nicx_take as take(block: u32) -> u8;
+    nicx_point as point();
+    nicx_wait as wait();
+    nicx_pause as pause();
+    nicx_lend_all as lend_all() -> u8;
+    nicx_settle as settle();
+    nicx_host_is_acked as host_is_acked(vf: u8) -> bool;
+    nicx_interrupts_off as interrupts_off();
+    nicx_interrupts_on as interrupts_on();
+    nicx_wmb as wmb();
+    nicx_rmb as rmb();
+    nicx_mb as mb();
 }
 
 /// What a scenario does when the explorer asks: why something is wrong, or `None`. The scenarios of a report card are
@@ -274,19 +295,14 @@ extern "C" fn end() -> *const c_char {
 }
 
 fn with_device(action: impl FnOnce(&dyn Driven, &Nic) -> Option<String>) -> *const c_char {
-    // SAFETY: the explorer's controller is open while it calls these. A copy of the struct is the same controller, and
-    // this one isn't dropped; a `Look` only looks at it, so the struct itself isn't changed.
-    let device = ManuallyDrop::new(unsafe { Handle::another(nicx_device()) });
-    driven(|it| {
-        let nic = ManuallyDrop::new(Nic::of(ManuallyDrop::into_inner(device), it.sizes()));
-        action(it, &nic)
-    })
+    driven(|it| looked(|device| action(it, device)))
 }
 
-/// The device as a task looks at it, to say why a call of it was refused.
+/// The device as the scenario looks at it, and a task, to say why a call of it was refused.
 pub(super) fn looked<T>(action: impl FnOnce(&Nic) -> T) -> T {
-    // SAFETY: the explorer's controller is open while tasks run. A copy of the struct is the same controller, and this
-    // one isn't dropped.
+    // SAFETY: the explorer's controller is open while it calls a function of the scenario, and while tasks run. A copy
+    // of the struct is the same controller, and this one isn't dropped; it is only looked at, so the struct itself
+    // isn't changed.
     let device = ManuallyDrop::new(unsafe { Handle::another(nicx_device()) });
     // SAFETY: `run` has the scenario by reference as long as the search runs.
     let sizes = running(|it| unsafe { &*it.driven }.sizes());
@@ -391,57 +407,12 @@ pub(super) fn timer(name: &str, within: u32, function: Box<dyn Fn()>) -> c_int {
     unsafe { nicx_timer(name, go, argument, within) }
 }
 
-pub(super) fn arm(timer: c_int) {
-    // SAFETY: it takes no pointer.
-    unsafe { nicx_arm(timer) }
-}
-
-pub(super) fn disarm(timer: c_int) -> bool {
-    // SAFETY: it takes no pointer.
-    unsafe { nicx_disarm(timer) }
-}
-
-pub(super) fn choose(bound: u32) -> u32 {
-    // SAFETY: it takes no pointer.
-    unsafe { nicx_choose(bound) }
-}
-
 pub(super) fn frame(frame: &[u8]) {
     // SAFETY: the frame has as many bytes as its length, and they are copied.
     unsafe { nicx_frame(frame.as_ptr(), frame.len()) }
 }
 
-pub(super) fn link_change(up: bool) {
-    // SAFETY: it takes no pointer.
-    unsafe { nicx_link_change(up) }
-}
-
-pub(super) fn came() -> u32 {
-    // SAFETY: it takes no pointer.
-    unsafe { nicx_came() }
-}
-
 // --- in tasks and handlers; a `Bus` is only in their hands, and in those of `bring_up` ---
-
-pub(super) fn read32(address: u32) -> u32 {
-    // SAFETY: it takes no pointer.
-    unsafe { nicx_read32(address) }
-}
-
-pub(super) fn write32(address: u32, word: u32) -> u8 {
-    // SAFETY: it takes no pointer.
-    unsafe { nicx_write32(address, word) }
-}
-
-pub(super) fn vf_read32(vf: u8, offset: u32) -> u32 {
-    // SAFETY: it takes no pointer.
-    unsafe { nicx_vf_read32(vf, offset) }
-}
-
-pub(super) fn vf_write32(vf: u8, offset: u32, word: u32) -> u8 {
-    // SAFETY: it takes no pointer.
-    unsafe { nicx_vf_write32(vf, offset, word) }
-}
 
 pub(super) fn dma_read(bus: u64, bytes: &mut [u8]) -> u8 {
     // SAFETY: the buffer has as many bytes as its length.
@@ -453,65 +424,9 @@ pub(super) fn dma_write(bus: u64, bytes: &[u8]) -> u8 {
     unsafe { nicx_dma_write(bus, bytes.as_ptr(), bytes.len()) }
 }
 
-pub(super) fn lend(block: u32) -> u8 {
-    // SAFETY: it takes no pointer.
-    unsafe { nicx_lend(block) }
-}
-
-pub(super) fn take(block: u32) -> u8 {
-    // SAFETY: it takes no pointer.
-    unsafe { nicx_take(block) }
-}
-
-pub(super) fn point() {
-    // SAFETY: it takes no pointer.
-    unsafe { nicx_point() }
-}
-
-pub(super) fn wait() {
-    // SAFETY: it takes no pointer.
-    unsafe { nicx_wait() }
-}
-
 pub(super) fn wait_until<F: Fn() -> bool>(condition: &F) {
     // SAFETY: the condition stays on this stack while the task waits, and `holds` takes it for what it is.
     unsafe { nicx_wait_until(holds::<F>, condition as *const F as *mut c_void) }
-}
-
-pub(super) fn pause() {
-    // SAFETY: it takes no pointer.
-    unsafe { nicx_pause() }
-}
-
-pub(super) fn interrupts(on: bool) {
-    // SAFETY: they take no pointer.
-    unsafe {
-        match on {
-            true => nicx_interrupts_on(),
-            false => nicx_interrupts_off(),
-        }
-    }
-}
-
-pub(super) fn lend_all() -> u8 {
-    // SAFETY: it takes no pointer.
-    unsafe { nicx_lend_all() }
-}
-
-pub(super) fn settle() {
-    // SAFETY: it takes no pointer.
-    unsafe { nicx_settle() }
-}
-
-pub(super) fn barrier(of_stores: bool, of_loads: bool) {
-    // SAFETY: they take no pointer.
-    unsafe {
-        match (of_stores, of_loads) {
-            (true, false) => nicx_wmb(),
-            (false, true) => nicx_rmb(),
-            _ => nicx_mb(),
-        }
-    }
 }
 
 // --- the kit ---
@@ -559,11 +474,6 @@ pub(super) fn host_sends(vf: u8, words: &[u32]) {
 pub(super) fn host_receives(vf: u8, words: &mut [u32]) -> bool {
     // SAFETY: as above.
     unsafe { nicx_host_receives(vf, words.as_mut_ptr(), words.len() as u32) }
-}
-
-pub(super) fn host_is_acked(vf: u8) -> bool {
-    // SAFETY: it takes no pointer.
-    unsafe { nicx_host_is_acked(vf) }
 }
 
 /// A lock, with its name for reports. It isn't `Sync`, since it has a cell.

@@ -28,10 +28,18 @@ from typing import TYPE_CHECKING, NoReturn
 
 from .. import address_of, offset_of
 from ..statuses import DONE
-from .calls import CARD, Failed, Lock
+from .calls import ANY_WORD, CARD, Failed, Lock
 from .values import MAILBOX_WORDS, MOST_FRAME, MOST_QUEUES, Can, Filter, Rss, Setup
 
 __all__ = ["Can", "Driver", "Filter", "MAILBOX_WORDS", "MOST_FRAME", "MOST_QUEUES", "Mutex", "Rss", "Setup"]
+
+
+def _word(word: int) -> int:
+    """A word of a register; ValueError."""
+    if not 0 <= word < ANY_WORD:
+        raise ValueError(f"{word} is no word of a register, which has 32 bits")
+    return word
+
 
 class Mutex:
     """A lock of the driver's own, which every schedule finds free: `with self.holding(mutex):`."""
@@ -133,18 +141,18 @@ class Driver:
 
     def read32(self, at: int | str) -> int:
         """The word that a driver sees, by address or name."""
-        return CARD.read32(at if isinstance(at, int) else address_of(at))
+        return CARD.call("read32", at if isinstance(at, int) else address_of(at))
 
     def write32(self, at: int | str, word: int) -> bool:
         """Whether a register was there."""
-        return CARD.write32(at if isinstance(at, int) else address_of(at), word) == DONE
+        return CARD.call("write32", at if isinstance(at, int) else address_of(at), _word(word)) == DONE
 
     def vf_read32(self, vf: int, at: int | str) -> int:
         """The same of a virtual function, by offset or name."""
-        return CARD.vf_read32(vf, at if isinstance(at, int) else offset_of(at))
+        return CARD.call("vf_read32", vf, at if isinstance(at, int) else offset_of(at))
 
     def vf_write32(self, vf: int, at: int | str, word: int) -> bool:
-        return CARD.vf_write32(vf, at if isinstance(at, int) else offset_of(at), word) == DONE
+        return CARD.call("vf_write32", vf, at if isinstance(at, int) else offset_of(at), _word(word)) == DONE
 
     # --- memory ---
 
@@ -152,20 +160,20 @@ class Driver:
         """DMA memory of 1 to 524,288 bytes: the bus address of its first byte, a multiple of 128, and its bytes are 0.
         Behind it nothing is lent, so an access of the driver or the device there is told. None: it is refused, by a
         scenario that tries that or since all is taken (nic82599_drive.h)."""
-        return CARD.dma_alloc(size) or None
+        return CARD.call("dma_alloc", size) or None
 
     def dma_free(self, bus: int) -> None:
         """Gives it back, by its first address. The device must not touch it any more."""
-        CARD.dma_free(bus)
+        CARD.call("dma_free", bus)
 
     def alloc(self, size: int) -> int | None:
         """A piece of the driver's own memory, by its number: it counts what the driver takes beside DMA memory. None
         where a scenario refuses it."""
-        return CARD.alloc(size) or None
+        return CARD.call("alloc", size) or None
 
     def free(self, piece: int) -> None:
         """Gives it back."""
-        CARD.free(piece)
+        CARD.call("free", piece)
 
     def dma_read(self, bus: int, length: int) -> bytes:
         """Bytes of DMA memory; one that isn't lent is a failure."""
@@ -173,7 +181,7 @@ class Driver:
 
     def dma_write(self, bus: int, data: bytes) -> bool:
         """Whether all of it is lent, and so written; else that is a failure."""
-        return CARD.dma_write(bus, bytes(data), len(data)) == DONE
+        return CARD.call("dma_write", bus, bytes(data), len(data)) == DONE
 
     def get64(self, bus: int) -> int:
         return int.from_bytes(self.dma_read(bus, 8), "little")
@@ -193,25 +201,25 @@ class Driver:
 
     def point(self) -> None:
         """A point and nothing else: between two accesses of the driver's own memory."""
-        CARD.point()
+        CARD.call("point")
 
     def wait(self) -> None:
         """Waits until somebody else has acted since this thread last went on: `while not ready(): self.wait()`."""
-        CARD.wait()
+        CARD.call("wait")
 
     def pause(self) -> None:
         """Lets others act; where nobody can, it goes on. For loops that poll a bounded number of times."""
-        CARD.pause()
+        CARD.call("pause")
 
     def wait_until(self, condition: Callable[[], object]) -> None:
         """Waits until a condition on the driver's own memory holds, which makes none of these calls."""
         CARD.wait_until(condition)
 
     def lock(self, mutex: Mutex) -> None:
-        CARD.lock(mutex._lock)
+        CARD.call("lock", mutex._lock)
 
     def unlock(self, mutex: Mutex) -> None:
-        CARD.unlock(mutex._lock)
+        CARD.call("unlock", mutex._lock)
 
     @contextmanager
     def holding(self, mutex: Mutex) -> Iterator[None]:
@@ -225,35 +233,35 @@ class Driver:
     @contextmanager
     def interrupts_off(self) -> Iterator[None]:
         """No handler starts on this thread meanwhile."""
-        CARD.interrupts(False)
+        CARD.call("interrupts", False)
         try:
             yield
         finally:
-            CARD.interrupts(True)
+            CARD.call("interrupts", True)
 
     # --- barriers of weak memory: where memory is strong they do nothing, and are no points ---
 
     def wmb(self) -> None:
         """When it returns all stores of the thread before it have reached memory."""
-        CARD.wmb()
+        CARD.call("wmb")
 
     def rmb(self) -> None:
         """A load behind it isn't older than it."""
-        CARD.rmb()
+        CARD.call("rmb")
 
     def mb(self) -> None:
         """Both."""
-        CARD.mb()
+        CARD.call("mb")
 
     # --- else ---
 
     def choose(self, bound: int) -> int:
         """A value below the bound, 1 to 256, that is part of the schedule."""
-        return CARD.choose(bound)
+        return CARD.call("choose", bound)
 
     def deliver(self, queue: int, frame: bytes) -> None:
         """Hands a frame up that came in a queue, from a thread of the driver's own, where there is no `receive`."""
-        CARD.deliver(queue, bytes(frame), len(frame))
+        CARD.call("deliver", queue, bytes(frame), len(frame))
 
     def fail(self, words: str) -> NoReturn:
         """The schedule fails here, with these words."""

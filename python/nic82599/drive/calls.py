@@ -14,6 +14,7 @@ import os
 import sys
 import traceback
 from collections.abc import Callable, Iterator
+from functools import partial
 from pathlib import Path
 from types import FrameType, TracebackType
 from typing import TYPE_CHECKING, Any
@@ -40,30 +41,6 @@ OPTIONAL = FUNCTIONS[3:-1]
 
 _U8, _U16, _U32, _U64, _SIZE = ctypes.c_uint8, ctypes.c_uint16, ctypes.c_uint32, ctypes.c_uint64, ctypes.c_size_t
 _AT, _BOOL = ctypes.c_void_p, ctypes.c_bool
-_CALLS: dict[str, list[Any]] = {
-    "read32": [_U32],
-    "write32": [_U32, _U32],
-    "vf_read32": [_U8, _U32],
-    "vf_write32": [_U8, _U32, _U32],
-    "dma_read": [_U64, _AT, _SIZE],
-    "dma_write": [_U64, ctypes.c_char_p, _SIZE],
-    "dma_alloc": [_SIZE],
-    "dma_free": [_U64],
-    "alloc": [_SIZE],
-    "free": [_U64],
-    "deliver": [_U16, ctypes.c_char_p, _U32],
-    "point": [],
-    "wait": [],
-    "pause": [],
-    "wait_until": [_U64],
-    "lock": [_AT],
-    "unlock": [_AT],
-    "interrupts": [_BOOL],
-    "wmb": [],
-    "rmb": [],
-    "mb": [],
-    "choose": [_U32],
-}
 
 
 class Over(BaseException):
@@ -86,6 +63,32 @@ class Lock(ctypes.Structure):
     @staticmethod
     def of(name: str) -> Lock:
         return Lock(name.encode(), 0)
+
+
+_CALLS: dict[str, list[Any]] = {
+    "read32": [_U32],
+    "write32": [_U32, _U32],
+    "vf_read32": [_U8, _U32],
+    "vf_write32": [_U8, _U32, _U32],
+    "dma_read": [_U64, _AT, _SIZE],
+    "dma_write": [_U64, ctypes.c_char_p, _SIZE],
+    "dma_alloc": [_SIZE],
+    "dma_free": [_U64],
+    "alloc": [_SIZE],
+    "free": [_U64],
+    "deliver": [_U16, ctypes.c_char_p, _U32],
+    "point": [],
+    "wait": [],
+    "pause": [],
+    "wait_until": [_U64],
+    "lock": [ctypes.POINTER(Lock)],
+    "unlock": [ctypes.POINTER(Lock)],
+    "interrupts": [_BOOL],
+    "wmb": [],
+    "rmb": [],
+    "mb": [],
+    "choose": [_U32],
+}
 
 
 class _Setup(ctypes.Structure):
@@ -170,6 +173,23 @@ def _put_words(told: object, place: int) -> int:
     return 1
 
 
+# The functions that are given numbers alone: how many, and how their answer is taken.
+_PLAIN: dict[str, tuple[int, Callable[[str, object], int]]] = {
+    "close": (0, _nothing),
+    "reclaim": (1, _number),
+    "interrupt": (1, _number),
+    "rearm": (1, _nothing),
+    "thread": (1, _nothing),
+    "mtu": (1, _bool),
+    "resize": (1, _bool),
+    "reset": (0, _bool),
+    "suspend": (0, _bool),
+    "resume": (0, _bool),
+    "link": (0, _bool),
+    "mailbox_ready": (0, _bool),
+}
+
+
 # --- where it is in the driver's source ---
 
 
@@ -240,12 +260,14 @@ class Card:
         self._conditions: dict[int, Callable[[], object]] = {}
         self._numbers = 0
         self._traceback: mmap.mmap | None = None
-        self._asked: list[Callable[[int, int, int], int]] = [getattr(self, f"_{name}") for name in FUNCTIONS]
+        self._asked: list[Callable[[int, int, int], int]] = [
+            partial(self._plain, name) if name in _PLAIN else getattr(self, f"_{name}") for name in FUNCTIONS
+        ]
 
     # --- what a driver calls ---
 
-    def _done(self, name: str, *words: object) -> int:
-        """A call; the driver is left where the schedule is over."""
+    def call(self, name: str, *words: object) -> int:
+        """A call, by its name in _CALLS; the driver is left where the schedule is over."""
         call = self._calls.get(name)
         if call is None:
             raise RuntimeError(f"{name} is called by a driver on its card: python3 -m nic82599.drive --help")
@@ -254,85 +276,25 @@ class Card:
             raise Over
         return told
 
-    def read32(self, address: int) -> int:
-        return self._done("read32", address)
-
-    def write32(self, address: int, word: int) -> int:
-        if not 0 <= word < ANY_WORD:
-            raise ValueError(f"{word} is no word of a register, which has 32 bits")
-        return self._done("write32", address, word)
-
-    def vf_read32(self, vf: int, offset: int) -> int:
-        return self._done("vf_read32", vf, offset)
-
-    def vf_write32(self, vf: int, offset: int, word: int) -> int:
-        if not 0 <= word < ANY_WORD:
-            raise ValueError(f"{word} is no word of a register, which has 32 bits")
-        return self._done("vf_write32", vf, offset, word)
-
     def dma_read(self, bus: int, length: int) -> bytes:
         room = ctypes.create_string_buffer(length)
-        self._done("dma_read", bus, room, length)
+        self.call("dma_read", bus, room, length)
         return room.raw
-
-    def dma_write(self, bus: int, data: bytes, length: int) -> int:
-        return self._done("dma_write", bus, data, length)
-
-    def dma_alloc(self, size: int) -> int:
-        return self._done("dma_alloc", size)
-
-    def dma_free(self, bus: int) -> None:
-        self._done("dma_free", bus)
-
-    def alloc(self, size: int) -> int:
-        return self._done("alloc", size)
-
-    def free(self, piece: int) -> None:
-        self._done("free", piece)
-
-    def deliver(self, queue: int, data: bytes, length: int) -> None:
-        self._done("deliver", queue, data, length)
-
-    def point(self) -> None:
-        self._done("point")
-
-    def wait(self) -> None:
-        self._done("wait")
-
-    def pause(self) -> None:
-        self._done("pause")
 
     def wait_until(self, condition: Callable[[], object]) -> None:
         self._numbers += 1
         number = self._numbers
         self._conditions[number] = condition
         try:
-            self._done("wait_until", number)
+            self.call("wait_until", number)
         finally:
             del self._conditions[number]
 
-    def lock(self, lock: Lock) -> None:
-        self._done("lock", ctypes.byref(lock))
-
-    def unlock(self, lock: Lock) -> None:
-        self._done("unlock", ctypes.byref(lock))
-
-    def interrupts(self, on: bool) -> None:
-        self._done("interrupts", on)
-
-    def wmb(self) -> None:
-        self._done("wmb")
-
-    def rmb(self) -> None:
-        self._done("rmb")
-
-    def mb(self) -> None:
-        self._done("mb")
-
-    def choose(self, bound: int) -> int:
-        return self._done("choose", bound)
-
     # --- what the card asks ---
+
+    def _plain(self, name: str, *numbers: int) -> int:
+        count, answer = _PLAIN[name]
+        return answer(name, getattr(self._driver, name)(*numbers[:count]))
 
     def _begin(self, _a: int, _b: int, _c: int) -> int:
         assert self._make, "a driver is on the card"
@@ -346,26 +308,11 @@ class Card:
         setup = Setup(it.port, it.queues, it.slots, it.frame, it.interrupts, address, it.functions)
         return _bool("open", self._driver.open(setup))
 
-    def _close(self, _a: int, _b: int, _c: int) -> int:
-        return _nothing("close", self._driver.close())
-
     def _receive(self, queue: int, place: int, _c: int) -> int:
         return _put_frame(self._driver.receive(queue), place)
 
     def _send(self, queue: int, place: int, length: int) -> int:
         return _bool("send", self._driver.send(queue, ctypes.string_at(place, length)))
-
-    def _reclaim(self, queue: int, _b: int, _c: int) -> int:
-        return _number("reclaim", self._driver.reclaim(queue))
-
-    def _interrupt(self, vector: int, _b: int, _c: int) -> int:
-        return _number("interrupt", self._driver.interrupt(vector))
-
-    def _rearm(self, queue: int, _b: int, _c: int) -> int:
-        return _nothing("rearm", self._driver.rearm(queue))
-
-    def _thread(self, number: int, _b: int, _c: int) -> int:
-        return _nothing("thread", self._driver.thread(number))
 
     def _filter(self, place: int, _b: int, _c: int) -> int:
         it = _Filter.from_address(place)
@@ -377,33 +324,12 @@ class Card:
         it = _Rss.from_address(place)
         return _bool("rss", self._driver.rss(Rss(bytes(it.key), bytes(it.table), it.types)))
 
-    def _mtu(self, frame: int, _b: int, _c: int) -> int:
-        return _bool("mtu", self._driver.mtu(frame))
-
-    def _resize(self, slots: int, _b: int, _c: int) -> int:
-        return _bool("resize", self._driver.resize(slots))
-
-    def _reset(self, _a: int, _b: int, _c: int) -> int:
-        return _bool("reset", self._driver.reset())
-
-    def _suspend(self, _a: int, _b: int, _c: int) -> int:
-        return _bool("suspend", self._driver.suspend())
-
-    def _resume(self, _a: int, _b: int, _c: int) -> int:
-        return _bool("resume", self._driver.resume())
-
-    def _link(self, _a: int, _b: int, _c: int) -> int:
-        return _bool("link", self._driver.link())
-
     def _mailbox_send(self, vf: int, place: int, count: int) -> int:
         words = tuple((_U32 * count).from_address(place))
         return _bool("mailbox_send", self._driver.mailbox_send(vf, words))
 
     def _mailbox_receive(self, vf: int, place: int, _c: int) -> int:
         return _put_words(self._driver.mailbox_receive(vf), place)
-
-    def _mailbox_ready(self, _a: int, _b: int, _c: int) -> int:
-        return _bool("mailbox_ready", self._driver.mailbox_ready())
 
     def _condition(self, number: int, _b: int, _c: int) -> int:
         return int(bool(self._conditions[number]()))

@@ -440,9 +440,9 @@ def offset_of(name: str) -> int:
     found = _NAME.fullmatch(name.strip())
     if not found or found[1] not in OFFSETS:
         raise _no_name(name, OFFSETS)
-    offset, stride = OFFSETS[found[1]]
-    index, last = int(found[2] or 0), 15 if found[1] == "VFMBMEM" else 7
-    if index and not stride or index > last:
+    offset, stride, count = OFFSETS[found[1]]
+    index = int(found[2] or 0)
+    if index >= count:
         raise NoSuchRegister(
             f"no register {name}: a function has at most eight queues, 16 words of memory, and some registers once"
         )

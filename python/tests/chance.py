@@ -74,7 +74,7 @@ class Run:
 
     def access_of_a_function(self) -> None:
         number = self.chance.randrange(63) if self.chance.random() < 0.2 else self.chance.randrange(3)
-        offset, stride = self.chance.choice(list(OFFSETS.values()))
+        offset, stride, _ = self.chance.choice(list(OFFSETS.values()))
         offset += stride * self.chance.randrange(2)
         function = self.nic.vf(number)
         if offset and self.chance.random() < 0.6:

@@ -11,8 +11,8 @@ from functools import cache
 from typing import TYPE_CHECKING
 
 from .. import Nic, NotLent
-from ..tools.regs import POOL_SIZES, REGISTERS
-from ..tools.tables import FUNCTION
+from ..tools.regs import REGISTERS
+from ..tools.tables import FUNCTION, POOL_SIZES
 
 if TYPE_CHECKING:
     from . import Scenario

@@ -5,7 +5,7 @@ from __future__ import annotations
 from dataclasses import dataclass
 
 from .fields import FIELDS, OPEN
-from .tables import FUNCTION, TABLE, Row
+from .tables import FUNCTION, POOL_SIZES, TABLE, Row
 
 ENABLE = 1 << 25
 
@@ -85,10 +85,6 @@ def bits(row: str, word: int) -> list[str]:
             name = fields[0].name if fields else f"bit {bit}"
             names.append(f"{name}[{bit}]" if fields and fields[0].form == "bits" else name)
     return names
-
-
-POOL_SIZES = (2, 4, 8)
-"""How many queues pools have, in one mode or another."""
 
 
 def queues_of_pool(gcr_ext: int) -> int:

@@ -178,6 +178,10 @@ TABLE: tuple[Row, ...] = (
 # fmt: on
 
 
+# How many queues pools have, in one mode or another.
+POOL_SIZES = (2, 4, 8)
+
+
 @dataclass(frozen=True)
 class Place:
     """Registers of virtual function v: register x, at offset + stride * x, is the one of a row whose index is

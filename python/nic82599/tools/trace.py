@@ -16,6 +16,7 @@ from dataclasses import dataclass, field
 from . import regs
 from .regs import REGISTERS, Register, first
 from .script import Bench, Instruction, Op, Script, of_text
+from .tables import POOL_SIZES
 
 CHUNK = 9_000
 RESET_BITS = 1 << 3 | 1 << 26
@@ -172,7 +173,7 @@ class Plan:
 
     def functions(self, queue: int) -> list[int]:
         """The functions whose pool may have a queue."""
-        return sorted({v for v in (queue // k for k in regs.POOL_SIZES) if v < self.vfs})
+        return sorted({v for v in (queue // k for k in POOL_SIZES) if v < self.vfs})
 
     def moved(self, reply: str, queue: int, rx: bool) -> list[int]:
         """What a receive or transmit step can change, by its reply."""
@@ -193,7 +194,7 @@ class Plan:
         if one.op in (Op.WRITE, Op.READ):
             asked = self.access(regs.register_at(one.a), one.b if one.op == Op.WRITE else None)
         elif one.op in (Op.VF_WRITE, Op.VF_READ):
-            for k in regs.POOL_SIZES:
+            for k in POOL_SIZES:
                 asked += self.access(
                     regs.function_register(k, one.x, one.a), one.b if one.op == Op.VF_WRITE else None
                 )

@@ -4,7 +4,8 @@ from __future__ import annotations
 
 import random
 import subprocess
-from collections.abc import Callable
+from collections.abc import Callable, Iterator
+from contextlib import contextmanager
 from pathlib import Path
 
 import nic82599
@@ -55,15 +56,22 @@ def of_library(script: Path, vfs: int | None, folder: Path) -> Path:
     return made
 
 
+@contextmanager
+def recorded(file: Path, vfs: int = 0, blocks: int = 256) -> Iterator[nic82599.Nic]:
+    """A controller whose events are recorded in a file."""
+    nic82599.record(file)
+    with nic82599.Nic(vfs, blocks=blocks) as nic:
+        yield nic
+    nic82599.record(None)
+
+
 def record(script: Path, vfs: int | None, recording: Path) -> None:
     """Records the events of a script without jumps, made over the library."""
     read = load(Bench(vfs), str(script))
-    nic82599.record(recording)
-    with nic82599.Nic(vfs or 0) as nic:
+    with recorded(recording, vfs or 0) as nic:
         for one in read.instructions:
             if not one.is_local:
                 played(nic, one, read.data)
-    nic82599.record(None)
 
 
 def facts(step: Step) -> list[object]:
@@ -191,14 +199,12 @@ def check_refused(folder: Path, expect: Expect) -> None:
 def check_restored(folder: Path, expect: Expect) -> None:
     """Behind a restored snapshot the steps begin anew, with what was there then."""
     file = folder / "restored.recording"
-    nic82599.record(file)
-    with nic82599.Nic() as nic:
+    with recorded(file) as nic:
         nic["RXCTRL"] = 1
         with nic.snapshot() as kept:
             nic["RXCTRL"] = 0
             nic.restore(kept)
             nic.arrive(bytes([2]) + bytes(59))
-    nic82599.record(None)
     run = of_recording(str(file))
     expect([step.reply for step in run.steps[1:]] == ["dropped filter"], f"a restored snapshot: {run.steps}")
     expect(last(run)[0].get(0x3000) == 1, "a restored snapshot: RXCTRL isn't as it was kept")
@@ -222,15 +228,13 @@ def check_tool(words: list[object], text: str, status: int, parts: list[str], ex
 def check_long(folder: Path, expect: Expect) -> None:
     """All tools take a recording that is longer than a script may be, and show its last events."""
     file = folder / "long.recording"
-    nic82599.record(file)
-    with nic82599.Nic() as nic:
+    with recorded(file) as nic:
         nic["RXCTRL"], nic["FCTRL"] = 1, 1 << 9
         for _ in range(6_000):
             nic.read32(0x04074)
         nic.write32(0x10140, 1)
         nic.arrive(bytes([2]) + bytes(59))
         nic.rx_step()
-    nic82599.record(None)
     lines = len(file.read_text().splitlines())
     check_tool(["niclint", file], "", 1, [f"{file}:{lines - 3}: warning: 0x10140 is SWSM"], expect)
     dropped = f"{file}:{lines}: step 3: rx -> dropped queue off: RXDCTL[0].ENABLE 0: the queue is off"
@@ -251,15 +255,13 @@ def check_long(folder: Path, expect: Expect) -> None:
 def check_lent(folder: Path, expect: Expect) -> None:
     """Blocks that are lent in a row are a line and a step, and a script has a line for each that it can name."""
     file, made = folder / "lent.recording", folder / "lent.nic"
-    nic82599.record(file)
-    with nic82599.Nic(0, 64, 600) as nic:
+    with recorded(file, blocks=600) as nic:
         for block in range(8):
             nic.lend(block)
         nic.lend()
         nic.memory.write(0x8000, b"x" * 16)
         nic.take(3)
         nic.memory.read(600 * 2_048 - 16, 16)
-    nic82599.record(None)
     text = file.read_text()
     expect("#: lend 0 to 599             # done\n" in text, f"600 blocks are lent as {text[:400]}")
     run = of_recording(str(file))
@@ -282,13 +284,11 @@ def check_lent(folder: Path, expect: Expect) -> None:
 def check_no_bytes(folder: Path, expect: Expect) -> None:
     """A frame without bytes is one that a script takes, and to the tools it has none."""
     file = folder / "empty.recording"
-    nic82599.record(file)
-    with nic82599.Nic() as nic:
+    with recorded(file) as nic:
         nic.link(True)
         nic["RXCTRL"] = 1
         nic.arrive(b"")
         nic.arrive(bytes([2]) + bytes(59))
-    nic82599.record(None)
     text = file.read_text()
     answers = [line.split(" ", 1)[1] for line in Bench().run(text, 100)]
     expect(answers[-3:] == ["dropped short", "dropped filter", "4"], f"a frame without bytes is answered {answers}")
@@ -302,15 +302,13 @@ def check_no_bytes(folder: Path, expect: Expect) -> None:
 def check_notes(folder: Path, expect: Expect) -> None:
     """What a program says of its events stands beside them: in the page, in a part of it, and in the trace."""
     file = folder / "notes.rec"
-    nic82599.record(file)
-    with nic82599.Nic(0) as nic:
+    with recorded(file) as nic:
         nic.lend(1)
         nic.note("guest: the ring of rx 0 is at 0x12340000, 8 slots")
         nic.write32(0x01000, 0x800)
         nic.note("first")
         nic.note("second \u00fc")
         nic.write32(0x01008, 0x100)
-    nic82599.record(None)
     for limit in (4_096, 1):
         run = of_recording(str(file), limit)
         said = [run.comment(step.pc) for step in run.steps]
@@ -325,8 +323,7 @@ def check_notes(folder: Path, expect: Expect) -> None:
 def check_history(folder: Path, expect: Expect) -> None:
     """A script of a recording with snapshots has what led to its end, and ends before an installed image."""
     file = folder / "history.recording"
-    nic82599.record(file)
-    with nic82599.Nic() as nic:
+    with recorded(file) as nic:
         nic["RXCTRL"] = 1
         with nic.snapshot() as first_one:
             nic["FCTRL"] = 1 << 9
@@ -336,7 +333,6 @@ def check_history(folder: Path, expect: Expect) -> None:
                 nic["FCTRL"] = 1 << 8
                 nic.restore(second)
                 nic.arrive(bytes([2]) + bytes(59))
-    nic82599.record(None)
     status, out, _ = told(["nicview", file, "--script"])
     kept = [line.split("#")[0].split()[0:3:2] for line in out.splitlines() if line.startswith(("w", "arrive"))]
     is_it = status == 0 and kept == [["w", "0x00000001"], ["w", "0x00000200"], ["arrive"]]
@@ -351,17 +347,15 @@ def cut_recording(folder: Path) -> Path | None:
     library."""
     file = folder / "cut.recording"
     try:
-        nic82599.record(file)
+        with recorded(file) as nic:
+            nic["GPIE"], nic["IVAR_MISC"], nic["IVAR[1]"], nic["EIMS"] = 0x10, 0x8200, 0x83, 1 << 20
+            nic["RDLEN[2]"] = 128
+            for _ in range(5):
+                nic.read32(0x00008)
+            nic.link(False)
+            nic.int_step()
     except places.Missing:
         return None
-    with nic82599.Nic() as nic:
-        nic["GPIE"], nic["IVAR_MISC"], nic["IVAR[1]"], nic["EIMS"] = 0x10, 0x8200, 0x83, 1 << 20
-        nic["RDLEN[2]"] = 128
-        for _ in range(5):
-            nic.read32(0x00008)
-        nic.link(False)
-        nic.int_step()
-    nic82599.record(None)
     return file
 
 

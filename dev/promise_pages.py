@@ -19,6 +19,7 @@ import argparse
 import re
 import sys
 from collections.abc import Iterator
+from itertools import groupby
 from pathlib import Path
 
 sys.dont_write_bytecode = True
@@ -27,8 +28,11 @@ from contracts import Contract, Crate, sentence  # noqa: E402
 from generated import ROOT, renewed, table, told  # noqa: E402
 
 CITED = re.compile(r" *Intel 82599 datasheet, sections? on [^.]*\.")
-# A comment of which so much stands in another one isn't repeated beside that.
-SAME = 0.7
+# A comment of which so much stands in another one, or so much in one of its statements, isn't repeated beside that.
+SAME, AGAIN = 0.7, 0.75
+# So much, where the contract has one clause, of which both comments are.
+OF_ONE = 0.67
+SMALL = set("a an and by in is of or that the to was where which".split())
 FOLDER = ROOT / "docs/promises"
 MARK = "<!-- Below this line dev/promise_pages.py writes, from the comments of the sources. -->\n"
 
@@ -177,24 +181,67 @@ def cell(text: str) -> str:
     return "".join(parts).replace("|", "\\|")
 
 
-def own_sentences(crate: Crate, it: Contract, shared: set[str]) -> Iterator[str]:
-    """The sentences that the clauses of a contract have by themselves, each with the clauses that have it."""
-    found: dict[str, list[str]] = {}
+def sentences_of(crate: Crate, it: Contract, shared: set[str]) -> Iterator[str]:
+    """The doc comment of a contract, and the sentences that its clauses have by themselves, each with the clauses that
+    have it. A definition's comment that the sentences before it say isn't repeated, nor is a doc comment that the
+    definition of the one clause says in other words."""
+    own: dict[str, list[str]] = {}
     for clause in it.clauses:
         by = crate.definition(it, clause)
         if clause.comment:
-            found.setdefault(sentence(clause.comment), []).append(clause.name)
-        elif by and by[0] not in shared and is_more(by[1], it):
-            found.setdefault(by[1], []).append(clause.name)
-    for said, names in found.items():
-        label = ", ".join(f"`{name}`" for name in names if name)
-        yield (f"{label}: " if label else "") + cell(said)
+            own.setdefault(sentence(clause.comment), []).append(clause.name)
+        elif by and by[0] not in shared and (by[1] in own or is_more(by[1], it, [it.sentences, *own])):
+            own.setdefault(by[1], []).append(clause.name)
+    if not (len(it.clauses) == len(own) == 1 and is_within(it.sentences, *own)):
+        yield cell(it.sentences)
+    labelled = [(", ".join(f"`{name}`" for name in names if name), cell(said)) for said, names in own.items()]
+    for _, some in groupby(labelled, lambda it: content(it[1])[-3:]):
+        yield from together(list(some))
 
 
-def is_more(said: str, it: Contract) -> bool:
-    """Whether a definition's comment says more than the doc comment of the contract that names it."""
-    there, words = set(re.findall(r"\w+", it.sentences.lower())), re.findall(r"\w+", said.lower())
-    return sum(word in there for word in words) < SAME * len(words)
+def together(some: list[tuple[str, str]]) -> Iterator[str]:
+    """Sentences with their labels. Several that end alike tell that once, and what each is about."""
+    if len(some) < 3:
+        yield from ((f"{label}: " if label else "") + said for label, said in some)
+        return
+    texts = [said.rstrip(".").split() for _, said in some]
+    same = 3
+    while len({" ".join(content(" ".join(text[-same - 1 :]))) for text in texts}) == 1 and same < min(map(len, texts)):
+        same += 1
+    about = [" ".join(text[:-same]).rstrip(",") for text in texts]
+    each = "; ".join(f"{it[:1].lower()}{it[1:]} ({label})" for it, (label, _) in zip(about, some))
+    yield f"Each of these {' '.join(texts[0][-same:])}: {each}."
+
+
+def is_more(said: str, it: Contract, there: list[str]) -> bool:
+    """Whether a definition's comment says more than the contract's doc comment, which it has words of, than one of the
+    statements there, and than that it is as the doc comment says."""
+    is_one = len(it.clauses) == 1
+    points_back = is_one and re.fullmatch(r"[^,;:]*\b(?:so|such)\b[^,;:]*", said)
+    again = max(share(content(said), content(one)) for one in re.split(r"[.;:]", " ".join(there)))
+    same = share(words(said), words(it.sentences))
+    return not points_back and same < (OF_ONE if is_one else SAME) and again <= AGAIN
+
+
+def is_within(said: str, whole: str) -> bool:
+    """Whether a longer text says all that a sentence says, with each of its names and numbers."""
+    names = [set(re.findall(r"\w*(?:[A-Z]{2}|\d)\w*", text)) for text in (said, whole)]
+    is_sentence = ". " not in said and len(whole) > 1.25 * len(said)
+    return is_sentence and names[0] <= names[1] and share(content(said), content(whole)) > SAME
+
+
+def words(text: str) -> list[str]:
+    return re.findall(r"\w+", text.lower())
+
+
+def content(text: str) -> list[str]:
+    """The words that tell something, without the ending of a plural or a verb."""
+    return [it.removesuffix("s").removesuffix("e") for it in words(text) if it not in SMALL]
+
+
+def share(some: list[str], others: list[str]) -> float:
+    """Which share of some words is among others."""
+    return sum(it in others for it in some) / max(1, len(some))
 
 
 def common(sections: list[Section]) -> dict[str, tuple[str, dict[str, list[str]]]]:
@@ -212,8 +259,7 @@ def row(crate: Crate, it: Contract, shared: set[str]) -> list[str]:
     """A contract that leads to its file, with its clauses, and its sentences."""
     names = [f"`{clause.name}`" for clause in it.clauses if clause.name]
     contract = f"[`{it.path}`]({Path('../..') / it.file.relative_to(ROOT)})"
-    sentences = [cell(it.sentences), *own_sentences(crate, it, shared)]
-    return [contract + (": " if names else "") + ", ".join(names), " ".join(sentences)]
+    return [contract + (": " if names else "") + ", ".join(names), " ".join(sentences_of(crate, it, shared))]
 
 
 def section_text(section: Section, shared: set[str]) -> str:

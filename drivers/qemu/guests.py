@@ -21,7 +21,7 @@ import sys
 import tempfile
 import threading
 import time
-from collections.abc import Callable, Iterator, Sequence
+from collections.abc import Callable, Iterable, Iterator, Sequence
 from contextlib import contextmanager
 from dataclasses import dataclass, field
 from pathlib import Path
@@ -118,6 +118,16 @@ def begin(place: Place) -> None:
 LOADER = "ld-linux-x86-64.so.2"
 
 
+def answer_of(lines: Iterable[str]) -> list[str]:
+    """The lines of an answer of a control socket, without the "ok"."""
+    found: list[str] = []
+    for line in lines:
+        found.append(line.rstrip())
+        if found[-1] == "ok" or found[-1].startswith("error"):
+            break
+    return [it for it in found if it != "ok"]
+
+
 class Server:
     """A server with its sockets in a folder of its own."""
 
@@ -139,14 +149,8 @@ class Server:
         self.answers = self.socket.makefile("r")
 
     def ask(self, words: str) -> list[str]:
-        """The lines of an answer, without the "ok"."""
         self.socket.sendall(f"{words}\n".encode())
-        lines: list[str] = []
-        for line in self.answers:
-            lines.append(line.rstrip())
-            if lines[-1] == "ok" or lines[-1].startswith("error"):
-                break
-        return [it for it in lines if it != "ok"]
+        return answer_of(self.answers)
 
     def end(self) -> str:
         """Ends it; what it told."""
@@ -169,10 +173,12 @@ class Peer(Protocol):
 class Guest:
     """A running guest. Its lines are kept with their times, and those that are requests are passed on."""
 
+    stdin = subprocess.DEVNULL
+
     def __init__(self, words: Sequence[str], server: Peer, log: Path) -> None:
         self.server, self.lines, self.began, self.log = server, list[str](), time.time(), log
         self.times: list[float] = []
-        self.process = started(words, stdin=subprocess.DEVNULL, stdout=subprocess.PIPE, stderr=subprocess.STDOUT)
+        self.process = started(words, stdin=self.stdin, stdout=subprocess.PIPE, stderr=subprocess.STDOUT)
         self.reader = threading.Thread(target=self.read, daemon=True)
         self.reader.start()
 
@@ -193,13 +199,16 @@ class Guest:
         return answer
 
     def read(self) -> None:
+        """Takes what the guest prints, without what steers a terminal."""
         assert self.process.stdout
         for raw in self.process.stdout:
-            line = re.sub(r"\x1b\[[0-9;?]*[A-Za-z]|\x1bc", "", raw.decode("latin-1")).strip()
-            self.add(line)
-            if line.startswith("@control "):
-                for answer in self.asked(line.removeprefix("@control ")):
-                    self.add(f"control: {answer}")
+            self.take(re.sub(r"\x1b\[[0-9;?]*[A-Za-z]|\x1bc", "", raw.decode("latin-1")).strip())
+
+    def take(self, line: str) -> None:
+        self.add(line)
+        if line.startswith("@control "):
+            for answer in self.asked(line.removeprefix("@control ")):
+                self.add(f"control: {answer}")
 
     def wait_for(self, text: str, seconds: float = SECONDS) -> None:
         """Waits for a line with this text: what came until the guest was over is looked at once more."""

@@ -21,7 +21,9 @@ from dataclasses import dataclass
 from pathlib import Path
 
 sys.dont_write_bytecode = True
-from guests import HERE, Guest, Machine, Place, Server, Wrong, begin, device, has, running, started  # noqa: E402
+from guests import (  # noqa: E402
+    HERE, Guest, Machine, Place, Server, Wrong, answer_of, begin, device, has, running, started,
+)  # fmt: skip
 
 READS, WRITES, FRAMES = 20_000, 100_000, 20_000  # of a register, and each way
 MEGABYTES = 32  # that go from one guest to the other
@@ -74,12 +76,7 @@ class OtherEnd:
         assert self.process.stdin and self.process.stdout
         self.process.stdin.write(f"{words}\n".encode())
         self.process.stdin.flush()
-        lines: list[str] = []
-        for raw in self.process.stdout:
-            lines.append(raw.decode().rstrip())
-            if lines[-1] == "ok" or lines[-1].startswith("error"):
-                break
-        return [it for it in lines if it != "ok"]
+        return answer_of(raw.decode() for raw in self.process.stdout)
 
     def end(self) -> None:
         self.process.terminate()

@@ -13,7 +13,7 @@ from pathlib import Path
 
 HERE = Path(__file__).resolve().parent
 sys.path.insert(0, str(HERE.parent))
-from guests import LIBRARY, QUIET, Guest, Place, Server, Wrong, device, memory, port, started  # noqa: E402
+from guests import LIBRARY, Guest, Place, Server, Wrong, device, machine_words, port  # noqa: E402
 from initrd import Initrd  # noqa: E402
 from verdict import FATAL, NOTES, Finding, checked, counted, numbers, spoken, went_on, worst_first  # noqa: E402
 from workload import Plan, script  # noqa: E402
@@ -87,12 +87,11 @@ class Outcome:
 class Relay(Guest):
     """A guest that is sent words on its serial line, and whose requests go to the server or to the host's guest."""
 
+    stdin = subprocess.PIPE
+
     def __init__(self, words: Sequence[str], server: Server, log: Path, host: Relay | None = None) -> None:
-        self.server, self.lines, self.began, self.log = server, list[str](), time.time(), log
-        self.times, self.host, self.last = list[float](), host, time.time()
-        self.process = started(words, stdin=subprocess.PIPE, stdout=subprocess.PIPE, stderr=subprocess.STDOUT)
-        self.reader = threading.Thread(target=self.read, daemon=True)
-        self.reader.start()
+        self.host, self.last = host, time.time()
+        super().__init__(words, server, log)
 
     def send(self, words: str) -> None:
         assert self.process.stdin
@@ -102,19 +101,16 @@ class Relay(Guest):
         except OSError:
             pass
 
-    def read(self) -> None:
-        assert self.process.stdout
-        for raw in self.process.stdout:
-            line = re.sub(r"\x1b\[[0-9;?]*[A-Za-z]|\x1bc", "", raw.decode("latin-1")).strip()
-            self.last = time.time()
-            found = REQUEST.search(line)
-            self.add(found[0] if found else line)
-            if found and found[1] in ("control", "await"):
-                self.relay(found[2])
-            if found and found[1] == "await":
-                self.send(": answered")
-            if found and found[1] == "host" and self.host:
-                self.host.send(found[2])
+    def take(self, line: str) -> None:
+        self.last = time.time()
+        found = REQUEST.search(line)
+        self.add(found[0] if found else line)
+        if found and found[1] in ("control", "await"):
+            self.relay(found[2])
+        if found and found[1] == "await":
+            self.send(": answered")
+        if found and found[1] == "host" and self.host:
+            self.host.send(found[2])
 
     def relay(self, words: str) -> None:
         try:
@@ -191,10 +187,8 @@ class Bench:
         file = self.server.folder / f"{name}.initrd"
         self.initrd(start).write(file)
         words = [
-            *self.place.qemu("qemu-system-x86_64"), "-machine", "q35,accel=tcg,memory-backend=ram", *QUIET,
-            *memory("384M"), "-cpu", "max", "-smp", str(processors), "-kernel", str(self.kernel.image), "-initrd",
-            str(file), "-append", "console=ttyS0 quiet loglevel=5 panic=-1 no_timer_check watchdog_thresh=5",
-            *port(), *devices,
+            *machine_words(self.place, "384M", processors), "-kernel", str(self.kernel.image), "-initrd", str(file),
+            "-append", "console=ttyS0 quiet loglevel=5 panic=-1 no_timer_check watchdog_thresh=5", *port(), *devices,
         ]  # fmt: skip
         guest = Relay(words, self.server, self.server.folder / f"{name}.log", host)
         try:

@@ -5,8 +5,7 @@
     dev/descriptor_tables.py --check    says whether the page is stale, and ends with status 1 if it is
 
 The bits of descriptors are the constants of crates/dma_ring/src, the types of hashes and the bits of MRQC those of
-crates/rss_hash/specs, and the offsets of virtual functions those of dev/vf_map_table.py. The text around them is the
-page's own.
+crates/rss_hash/specs. The text around them is the page's own.
 """
 
 from __future__ import annotations
@@ -16,7 +15,6 @@ import sys
 
 sys.dont_write_bytecode = True
 from generated import ROOT, keep, replaced, table, text_of  # noqa: E402
-from vf_map_table import places, told  # noqa: E402
 
 PAGE = "docs/DESCRIPTORS.md"
 END = "<!-- end of the generated table -->\n"
@@ -126,20 +124,10 @@ def type_table() -> str:
     return table(["RSS type", "Frame", "MRQC bit", "Hashed, in network order"], rows)
 
 
-def offset_table() -> str:
-    """A function's registers: offset, the name in its drivers, the register of the device."""
-    rows = []
-    for place in places():
-        offset, register = told(place)
-        rows.append([offset, place.name + ("(x)" if place.stride else ""), register])
-    return table(["Offset", "Name", "Register"], rows)
-
-
 TABLES = {
     "receive descriptors": receive_table,
     "transmit descriptors": transmit_table,
     "types of hashes": type_table,
-    "offsets of a function": offset_table,
 }
 
 

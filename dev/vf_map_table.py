@@ -32,11 +32,11 @@ def own_rows() -> list[tuple[int, str, bool]]:
     return [(int(offset, 16), names[row], index == "vf") for offset, row, index in entries]
 
 
-def told(place: Place) -> tuple[str, str]:
-    """Where a function's registers are, and what they are of the device."""
-    steps = f" + 0x{place.stride:02X}*x, x below {place.of}" if place.stride else ""
+def told(place: Place) -> list[str]:
+    """Where a function's registers are, their name in its drivers, and what they are of the device."""
+    steps, count = (f" + 0x{place.stride:02X}*x, x below {place.of}", "(x)") if place.stride else ("", "")
     index = {"0": "", "v": "[v]", "16": "[16*v + x]"}.get(place.of, f"[v*{place.of} + x]")
-    return f"0x{place.offset:04X}{steps}", place.row + index
+    return [f"0x{place.offset:04X}{steps}", place.name + count, place.row + index]
 
 
 def places() -> list[Place]:
@@ -46,7 +46,8 @@ def places() -> list[Place]:
 
 def page() -> str:
     """The page, with its table of offsets replaced."""
-    return replaced(text_of(PAGE), START, table(["Offset", "Register"], [list(told(place)) for place in places()]), END)
+    rows = [told(place) for place in places()]
+    return replaced(text_of(PAGE), START, table(["Offset", "Name", "Register"], rows), END)
 
 
 if __name__ == "__main__":

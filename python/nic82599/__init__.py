@@ -537,7 +537,7 @@ class _Registers:
 
 
 class Function(_Registers):
-    """A virtual function of a controller, with its own registers by the names of docs/DESCRIPTORS.md."""
+    """A virtual function of a controller, with its own registers by the names of docs/REGISTERS.md."""
 
     _names = OFFSETS
 

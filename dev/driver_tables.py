@@ -90,9 +90,11 @@ def c_names() -> str:
             at = f"0x{run.first:05X}, 0x{run.stride:02X}, {run.count}, {run.first_index}"
             registers += f'    {{"{row.name}", {at}, {many}}},\n'
     for it in places():
-        places_of_names += f'    {{"{it.name}", 0x{it.offset:04X}, 0x{it.stride:02X}, {it.count(max(POOL_SIZES))}}},\n'
-    text = replaced(NAMES.read_text(), "} registers[] = {\n", registers, "};\n")
-    return replaced(text, "} places[] = {\n", places_of_names, "};\n")
+        many = "true" if it.stride else "false"
+        at = f"0x{it.offset:04X}, 0x{it.stride or 4:02X}, {it.count(max(POOL_SIZES))}, 0, {many}"
+        places_of_names += f'    {{"{it.name}", {at}}},\n'
+    text = replaced(NAMES.read_text(), "registers[] = {\n", registers, "};\n")
+    return replaced(text, "offsets[] = {\n", places_of_names, "};\n")
 
 
 def rust_registers() -> str:

@@ -34,36 +34,29 @@ static bool split(const char *text, char name[NAME_BYTES], uint32_t *index)
     return true;
 }
 
-bool register_named(const char *text, uint32_t *address)
+/* A place below `bytes`, or who has this name in a list. */
+static bool find(const char *text, uint32_t bytes, const struct run *list, size_t count, uint32_t *at)
 {
     char name[NAME_BYTES];
     uint32_t index;
-    if (is_address(text, BUS_SPACE, address))
+    if (is_address(text, bytes, at))
         return true;
     if (!split(text, name, &index))
         return false;
-    for (size_t i = 0; i < COUNT(registers); i++) {
-        const struct run *run = &registers[i];
+    for (const struct run *run = list; run < list + count; run++)
         if (strcmp(run->name, name) == 0 && index >= run->index && index - run->index < run->count) {
-            *address = run->first + run->stride * (index - run->index);
+            *at = run->first + run->stride * (index - run->index);
             return true;
         }
-    }
     return false;
+}
+
+bool register_named(const char *text, uint32_t *address)
+{
+    return find(text, BUS_SPACE, registers, COUNT(registers), address);
 }
 
 bool function_register_named(const char *text, uint32_t *offset)
 {
-    char name[NAME_BYTES];
-    uint32_t index;
-    if (is_address(text, BUS_FUNCTION_SPACE, offset))
-        return true;
-    if (!split(text, name, &index))
-        return false;
-    for (size_t i = 0; i < COUNT(places); i++)
-        if (strcmp(places[i].name, name) == 0 && index < places[i].count) {
-            *offset = places[i].offset + places[i].stride * index;
-            return true;
-        }
-    return false;
+    return find(text, BUS_FUNCTION_SPACE, offsets, COUNT(offsets), offset);
 }

@@ -8,37 +8,30 @@
 
 #include "names.inc"
 
-static const char *named(char *room, const char *name, bool many, uint32_t index)
+/* The name of who is at a place, or the place by a form. */
+static const char *named(const struct run *list, size_t count, uint32_t at, const char *form, char *room)
 {
-    if (many)
-        snprintf(room, MOST_NAME, "%s[%" PRIu32 "]", name, index);
-    else
-        snprintf(room, MOST_NAME, "%s", name);
+    for (size_t k = 0; k < count; k++) {
+        const struct run *run = &list[k];
+        uint32_t from = at - run->first;
+        if (from % run->stride || from / run->stride >= run->count)
+            continue;
+        if (run->many)
+            snprintf(room, MOST_NAME, "%s[%" PRIu32 "]", run->name, run->index + from / run->stride);
+        else
+            snprintf(room, MOST_NAME, "%s", run->name);
+        return room;
+    }
+    snprintf(room, MOST_NAME, form, at);
     return room;
 }
 
 const char *nicxi_register(uint32_t address, char room[MOST_NAME])
 {
-    for (size_t k = 0; k < COUNT(registers); k++) {
-        const struct run *run = &registers[k];
-        uint32_t from = address - run->first;
-        if (from % run->stride == 0 && from / run->stride < run->count)
-            return named(room, run->name, run->many, run->index + from / run->stride);
-    }
-    snprintf(room, MOST_NAME, "0x%05" PRIx32, address);
-    return room;
+    return named(registers, COUNT(registers), address, "0x%05" PRIx32, room);
 }
 
 const char *nicxi_offset(uint32_t offset, char room[MOST_NAME])
 {
-    for (size_t k = 0; k < COUNT(places); k++) {
-        const struct place *place = &places[k];
-        uint32_t from = offset - place->offset;
-        if (!from)
-            return named(room, place->name, place->stride != 0, 0);
-        if (place->stride && from % place->stride == 0 && from / place->stride < place->count)
-            return named(room, place->name, true, from / place->stride);
-    }
-    snprintf(room, MOST_NAME, "0x%04" PRIx32, offset);
-    return room;
+    return named(offsets, COUNT(offsets), offset, "0x%04" PRIx32, room);
 }

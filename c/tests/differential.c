@@ -5,6 +5,7 @@
    ranges of memory that begin and end anywhere, and looks without effects. */
 #include <string.h>
 
+#include "../recorder/reply.h"
 #include "check.h"
 
 enum { QUEUES = 4, BLOCKS = 256, USED = 8, FIFO = 8, MOST_LINES = 3800, MOST_DATA = 1000, MOST_BYTES = 1600 };
@@ -261,28 +262,9 @@ static void check_told(uint8_t status, const nic_told *told)
 /* Writes the answer that `nicbench run` prints of a step. */
 static void answer_told(uint8_t status, const nic_told *told)
 {
-    fprintf(answers, "%u %s", line++, nic_status_name(status));
-    switch (status) {
-    case NIC_DROPPED: fprintf(answers, " %s", nic_why_name(told->why)); break;
-    case NIC_WROTE:
-        fprintf(answers, " queue %u slot %u %s", told->queue, told->slot, told->end ? "end" : "more");
-        break;
-    case NIC_ADVANCED: fprintf(answers, " queue %u slot %u", told->queue, told->slot); break;
-    case NIC_SENT: fprintf(answers, " queue %u len %u", told->queue, (unsigned)told->len); break;
-    case NIC_FAULT:
-        fprintf(answers, " queue %u %s", told->queue, nic_fault_name(told->why));
-        if (told->why == NIC_FAULT_NOT_LENT)
-            fprintf(answers, " 0x%05llx", (unsigned long long)told->bus);
-        break;
-    case NIC_MESSAGE:
-        if (told->group)
-            fprintf(answers, " vf %u vector %u", told->group - 1, told->vector);
-        else
-            fprintf(answers, " pf vector %u", told->vector);
-        break;
-    default: break;
-    }
-    fputc('\n', answers);
+    char words[160];
+    nicd_reply(words, sizeof words, status, told);
+    answer(words);
 }
 
 static void tell(uint8_t status, const nic_told *told)

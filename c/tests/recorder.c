@@ -30,6 +30,19 @@ static bool holds(const char *name, const char *want)
     return strcmp(text, want) == 0;
 }
 
+/* A controller of so many blocks with a recording of its own; and its end. */
+static void begin(nic *n, const char *name, uint32_t blocks)
+{
+    CHECK(nic_record(path_of(name)));
+    ANSWERS(NIC_DONE, nic_open(n, 0, 4, blocks));
+}
+
+static void finish(nic *n)
+{
+    nic_close(n);
+    CHECK(nic_record(NULL));
+}
+
 static bool is_there(const char *name)
 {
     return access(path_of(name), F_OK) == 0;
@@ -79,8 +92,7 @@ static void beyond_scripts(void)
     ANSWERS(NIC_DONE, nic_note(&n, "of a controller that isn't recorded"));
     ANSWERS(NIC_DONE, nic_snapshot(&n, &unknown));
     nic_close(&n);
-    CHECK(nic_record(path_of("beyond")));
-    ANSWERS(NIC_DONE, nic_open(&n, 0, 4, 2));
+    begin(&n, "beyond", 2);
     ANSWERS(NIC_DONE, nic_lend_all(&n));
     ANSWERS(NIC_DONE, nic_snapshot(&n, &kept));
     ANSWERS(NIC_DONE, nic_restore(&n, &kept));
@@ -92,8 +104,7 @@ static void beyond_scripts(void)
     ANSWERS(NIC_DONE, nic_note(&n, long_text));
     ANSWERS(NIC_DONE, nic_restore(&n, &unknown));
     nic_drop_snapshot(&unknown);
-    nic_close(&n);
-    CHECK(nic_record(NULL));
+    finish(&n);
     CHECK(holds("beyond", HEAD "#: lend 0 to 1               # done\n"
                                "#: snapshot 1\n"
                                "#: restore 1\n"
@@ -112,8 +123,7 @@ static void in_place(void)
     static uint8_t memory[2 * NIC_BLOCK_BYTES];
     uint8_t bytes[4];
     nic n;
-    CHECK(nic_record(path_of("place")));
-    ANSWERS(NIC_DONE, nic_open(&n, 0, 4, 2));
+    begin(&n, "place", 2);
     ANSWERS(NIC_DONE, nic_lend_memory(&n, 0, memory, sizeof memory));
     memory[17] = 5;
     memory[40] = 6;
@@ -121,8 +131,7 @@ static void in_place(void)
         ANSWERS(NIC_DONE, nic_dma_read(&n, 20, bytes, sizeof bytes));
     ANSWERS(NIC_DONE, nic_unlend_memory(&n, NIC_BLOCK_BYTES, NIC_BLOCK_BYTES));
     ANSWERS(NIC_BAD_MEMORY, nic_lend_memory(&n, 1, memory, NIC_BLOCK_BYTES));
-    nic_close(&n);
-    CHECK(nic_record(NULL));
+    finish(&n);
     CHECK(holds("place", HEAD "#: lend 0 to 1               # done\n"
                               "data d0 00050000000000000000000000000000\n"
                               "poke 0x00010 d0              # done\n"
@@ -137,12 +146,10 @@ static void no_bytes(void)
 {
     nic n;
     nic_told told;
-    CHECK(nic_record(path_of("empty")));
-    ANSWERS(NIC_DONE, nic_open(&n, 0, 4, 8));
+    begin(&n, "empty", 8);
     ANSWERS(NIC_DROPPED, nic_arrive(&n, NULL, 0, &told));
     ANSWERS(NIC_DROPPED, nic_arrive(&n, (const uint8_t *)"", 1, &told));
-    nic_close(&n);
-    CHECK(nic_record(NULL));
+    finish(&n);
     CHECK(holds("empty", LENT_HEAD "data d0 00  #: no bytes\n"
                                    "arrive d0                    # dropped off\n"
                                    "data d1 00\n"
@@ -161,8 +168,7 @@ static void lent_to_pipe(void)
     ANSWERS(NIC_DONE, nic_open(&n, 0, 4, 2));
     ANSWERS(NIC_DONE, nic_lend(&n, 0));
     ANSWERS(NIC_DONE, nic_lend(&n, 1));
-    nic_close(&n);
-    CHECK(nic_record(NULL));
+    finish(&n);
     ssize_t length = read(ends[0], text, sizeof text - 1);
     CHECK(length > 0 && close(ends[0]) == 0);
     text[length] = 0;
@@ -173,8 +179,7 @@ static void lent_to_pipe(void)
 static void lent_ranges(void)
 {
     nic n;
-    CHECK(nic_record(path_of("lent")));
-    ANSWERS(NIC_DONE, nic_open(&n, 0, 4, 8));
+    begin(&n, "lent", 8);
     ANSWERS(NIC_DONE, nic_lend(&n, 0));
     CHECK(holds("lent", LENT_HEAD "lend 0                       # done\n"));
     ANSWERS(NIC_DONE, nic_lend(&n, 1));
@@ -187,8 +192,7 @@ static void lent_ranges(void)
     ANSWERS(NIC_DONE, nic_lend_all(&n)); /* nothing is left */
     ANSWERS(NIC_DONE, nic_take(&n, 7));
     ANSWERS(NIC_DONE, nic_lend(&n, 7));
-    nic_close(&n);
-    CHECK(nic_record(NULL));
+    finish(&n);
     CHECK(holds("lent", LENT_HEAD "#: lend 0 to 2               # done\n"
                                   "lend 5                       # done\n"
                                   "lend 5                       # no block\n"
@@ -206,8 +210,7 @@ static void children(void)
     nic n;
     int status = 0;
     char name[64];
-    CHECK(nic_record(path_of("child.%p")));
-    ANSWERS(NIC_DONE, nic_open(&n, 0, 4, 2));
+    begin(&n, "child.%p", 2);
     pid_t child = fork();
     if (child == 0) {
         nic mine;
@@ -222,8 +225,7 @@ static void children(void)
     CHECK(holds(name, HEAD "lend 1                       # done\n"));
     snprintf(name, sizeof name, "child.%ld", (long)getpid());
     CHECK(holds(name, HEAD));
-    nic_close(&n);
-    CHECK(nic_record(NULL));
+    finish(&n);
 }
 
 /* A place that can't be written is told, and all goes on. */

@@ -92,34 +92,33 @@ static void begin(void)
         nicx_fail(words);
 }
 
-static bool open_port(const nicd_setup *setup)
-{
-    return call(ASK_OPEN, at(setup), 0, 0) != 0;
-}
+#define ASKS(type, name, parameters, ...)                                                                              \
+    static type name parameters                                                                                        \
+    {                                                                                                                  \
+        return (type)call(__VA_ARGS__);                                                                                \
+    }
+
+ASKS(bool, open_port, (const nicd_setup *setup), ASK_OPEN, at(setup), 0, 0)
+ASKS(bool, receive, (uint16_t queue, nicd_frame *frame), ASK_RECEIVE, queue, at(frame), 0)
+ASKS(bool, send_frame, (uint16_t queue, const uint8_t *bytes, uint32_t length), ASK_SEND, queue, at(bytes), length)
+ASKS(uint32_t, reclaim, (uint16_t queue), ASK_RECLAIM, queue, 0, 0)
+ASKS(uint32_t, interrupt, (uint8_t vector), ASK_INTERRUPT, vector, 0, 0)
+ASKS(bool, filter, (const nicd_filter *wanted), ASK_FILTER, at(wanted), 0, 0)
+ASKS(bool, rss, (const nicd_rss *wanted), ASK_RSS, at(wanted), 0, 0)
+ASKS(bool, mtu, (uint32_t frame), ASK_MTU, frame, 0, 0)
+ASKS(bool, resize, (uint16_t slots), ASK_RESIZE, slots, 0, 0)
+ASKS(bool, reset, (void), ASK_RESET, 0, 0, 0)
+ASKS(bool, suspend, (void), ASK_SUSPEND, 0, 0, 0)
+ASKS(bool, resume, (void), ASK_RESUME, 0, 0, 0)
+ASKS(bool, link_is_up, (void), ASK_LINK, 0, 0, 0)
+ASKS(bool, mailbox_send, (uint8_t vf, const uint32_t *message, uint32_t count), ASK_MAILBOX_SEND, vf, at(message),
+     count)
+ASKS(bool, mailbox_receive, (uint8_t vf, uint32_t message[NICD_WORDS]), ASK_MAILBOX_RECEIVE, vf, at(message), 0)
+ASKS(bool, mailbox_ready, (void), ASK_MAILBOX_READY, 0, 0, 0)
 
 static void close_port(void)
 {
     call(ASK_CLOSE, 0, 0, 0);
-}
-
-static bool receive(uint16_t queue, nicd_frame *frame)
-{
-    return call(ASK_RECEIVE, queue, at(frame), 0) != 0;
-}
-
-static bool send_frame(uint16_t queue, const uint8_t *bytes, uint32_t length)
-{
-    return call(ASK_SEND, queue, at(bytes), length) != 0;
-}
-
-static uint32_t reclaim(uint16_t queue)
-{
-    return (uint32_t)call(ASK_RECLAIM, queue, 0, 0);
-}
-
-static uint32_t interrupt(uint8_t vector)
-{
-    return (uint32_t)call(ASK_INTERRUPT, vector, 0, 0);
 }
 
 static void rearm(uint16_t queue)
@@ -130,61 +129,6 @@ static void rearm(uint16_t queue)
 static void thread(uint32_t number)
 {
     call(ASK_THREAD, number, 0, 0);
-}
-
-static bool filter(const nicd_filter *wanted)
-{
-    return call(ASK_FILTER, at(wanted), 0, 0) != 0;
-}
-
-static bool rss(const nicd_rss *wanted)
-{
-    return call(ASK_RSS, at(wanted), 0, 0) != 0;
-}
-
-static bool mtu(uint32_t frame)
-{
-    return call(ASK_MTU, frame, 0, 0) != 0;
-}
-
-static bool resize(uint16_t slots)
-{
-    return call(ASK_RESIZE, slots, 0, 0) != 0;
-}
-
-static bool reset(void)
-{
-    return call(ASK_RESET, 0, 0, 0) != 0;
-}
-
-static bool suspend(void)
-{
-    return call(ASK_SUSPEND, 0, 0, 0) != 0;
-}
-
-static bool resume(void)
-{
-    return call(ASK_RESUME, 0, 0, 0) != 0;
-}
-
-static bool link_is_up(void)
-{
-    return call(ASK_LINK, 0, 0, 0) != 0;
-}
-
-static bool mailbox_send(uint8_t vf, const uint32_t *message, uint32_t count)
-{
-    return call(ASK_MAILBOX_SEND, vf, at(message), count) != 0;
-}
-
-static bool mailbox_receive(uint8_t vf, uint32_t message[NICD_WORDS])
-{
-    return call(ASK_MAILBOX_RECEIVE, vf, at(message), 0) != 0;
-}
-
-static bool mailbox_ready(void)
-{
-    return call(ASK_MAILBOX_READY, 0, 0, 0) != 0;
 }
 
 /* --- a whole program --- */

@@ -62,8 +62,8 @@ struct scenario {
     uint32_t needs, ways;
     nicd_setup setup; /* 0 in queues, slots or frame stands for 1, 8 and 1,514 */
     uint32_t points;
-    /* What there is beside the card's own tasks, in the order in which it is named. Frames that are sent or come are so
-       many more than the slots of so many `rings`; those that come late do so once the flow goes on. */
+    /* What there is beside the card's own handlers, in the order in which it is named. Of `sends` and `comes` one that
+       isn't 0 is how many frames more than `rings` rings have slots; `late` ones come once the flow goes on. */
     void (*control)(void); /* a thread of the scenario's own that calls the driver, or null */
     void (*opened)(void);  /* what that looks at once the driver is open, or null */
     void (*begin)(void);   /* names more, or null */

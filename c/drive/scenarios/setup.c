@@ -9,32 +9,11 @@ static struct {
     uint32_t causes; /* in EICR before the driver's access */
 } seen;
 
-static bool is_queue_register(uint32_t address, uint32_t (*of)(unsigned), unsigned *queue)
+/* Whether an address is the register of a queue whose first one this is. */
+static bool is_of_queue(uint32_t address, uint32_t first, unsigned *queue)
 {
-    for (*queue = 0; *queue < NICD_QUEUES; (*queue)++)
-        if (address == of(*queue))
-            return true;
-    return false;
-}
-
-static uint32_t rdt(unsigned queue)
-{
-    return NIC_RDT(queue);
-}
-
-static uint32_t rdh(unsigned queue)
-{
-    return NIC_RDH(queue);
-}
-
-static uint32_t tdh(unsigned queue)
-{
-    return NIC_TDH(queue);
-}
-
-static uint32_t txdctl(unsigned queue)
-{
-    return NIC_TXDCTL(queue);
+    *queue = (address - first) / 0x40;
+    return (address - first) % 0x40 == 0 && *queue < NICD_QUEUES;
 }
 
 static bool is_write(const struct step *step, bool is_drivers)
@@ -47,7 +26,7 @@ static bool is_write(const struct step *step, bool is_drivers)
 static void see_transmit_enable(const struct step *step, bool is_drivers)
 {
     unsigned queue;
-    if (is_write(step, is_drivers) && is_queue_register(step->address, txdctl, &queue) &&
+    if (is_write(step, is_drivers) && is_of_queue(step->address, NIC_TXDCTL(0), &queue) &&
         step->word & NIC_TXDCTL_ENABLE && !(nicd_peek(NIC_DMATXCTL) & NIC_DMATXCTL_TE))
         nicd_note("TXDCTL(%u) asks for the queue while DMATXCTL.TE is 0", queue);
 }
@@ -55,7 +34,7 @@ static void see_transmit_enable(const struct step *step, bool is_drivers)
 static void see_tail(const struct step *step, bool is_drivers)
 {
     unsigned queue;
-    if (is_write(step, is_drivers) && is_queue_register(step->address, rdt, &queue) && step->word &&
+    if (is_write(step, is_drivers) && is_of_queue(step->address, NIC_RDT(0), &queue) && step->word &&
         !(nicd_peek(NIC_RXDCTL(queue)) & NIC_RXDCTL_ENABLE))
         nicd_note("RDT(%u) is moved to %u while RXDCTL.ENABLE reads 0", queue, (unsigned)step->word);
 }
@@ -65,9 +44,9 @@ static void see_head(const struct step *step, bool is_drivers)
     unsigned queue;
     if (!is_write(step, is_drivers))
         return;
-    if (is_queue_register(step->address, rdh, &queue) && nicd_peek(NIC_RXDCTL(queue)) & NIC_RXDCTL_ENABLE)
+    if (is_of_queue(step->address, NIC_RDH(0), &queue) && nicd_peek(NIC_RXDCTL(queue)) & NIC_RXDCTL_ENABLE)
         nicd_note("RDH(%u) is written while the queue is on", queue);
-    else if (is_queue_register(step->address, tdh, &queue) && nicd_peek(NIC_TXDCTL(queue)) & NIC_TXDCTL_ENABLE)
+    else if (is_of_queue(step->address, NIC_TDH(0), &queue) && nicd_peek(NIC_TXDCTL(queue)) & NIC_TXDCTL_ENABLE)
         nicd_note("TDH(%u) is written while the queue is on", queue);
 }
 
@@ -113,28 +92,26 @@ static void see_cause_read(const struct step *step, bool is_drivers)
 
 /* --- values, each with the access --- */
 
-static bool is_one_of(uint32_t address, uint32_t first, uint32_t at)
-{
-    return address >= first && address < first + NICD_QUEUES * 0x40 && address % 0x40 == at;
-}
-
 static void see_ring(const struct step *step, bool is_drivers)
 {
+    unsigned queue;
     uint32_t address = step->address, word = step->word;
     if (!is_write(step, is_drivers))
         return;
-    if ((is_one_of(address, NIC_RDBAL(0), 0) || is_one_of(address, NIC_TDBAL(0), 0)) && word % 128)
+    if ((is_of_queue(address, NIC_RDBAL(0), &queue) || is_of_queue(address, NIC_TDBAL(0), &queue)) && word % 128)
         nicd_note("a ring begins at 0x%x, which is no multiple of 128", (unsigned)word);
-    if ((is_one_of(address, NIC_RDLEN(0), 8) || is_one_of(address, NIC_TDLEN(0), 8)) &&
+    if ((is_of_queue(address, NIC_RDLEN(0), &queue) || is_of_queue(address, NIC_TDLEN(0), &queue)) &&
         (word % 128 || word != NIC_DESC_BYTES * (uint32_t)nicd.setup.slots))
         nicd_note("a ring has %u bytes, and %u slots were asked for", (unsigned)word, nicd.setup.slots);
-    if ((is_one_of(address, NIC_RDT(0), 0x18) || is_one_of(address, NIC_TDT(0), 0x18)) && word >= nicd.setup.slots)
+    if ((is_of_queue(address, NIC_RDT(0), &queue) || is_of_queue(address, NIC_TDT(0), &queue)) &&
+        word >= nicd.setup.slots)
         nicd_note("a tail is moved to %u, and the ring has %u slots", (unsigned)word, nicd.setup.slots);
 }
 
 static void see_buffers(const struct step *step, bool is_drivers)
 {
-    if (!is_write(step, is_drivers) || !is_one_of(step->address, NIC_SRRCTL(0), 0x14))
+    unsigned queue;
+    if (!is_write(step, is_drivers) || !is_of_queue(step->address, NIC_SRRCTL(0), &queue))
         return;
     if (nic_field(step->word, NIC_SRRCTL_DESCTYPE) != 1)
         nicd_note("SRRCTL.DESCTYPE is %u, and 1 is the advanced one with one buffer",
@@ -156,7 +133,8 @@ static void see_thresholds(const struct step *step, bool is_drivers)
 {
     unsigned queue;
     uint32_t word = step->word;
-    if (!is_write(step, is_drivers) || !is_queue_register(step->address, txdctl, &queue) || !(word & NIC_TXDCTL_ENABLE))
+    if (!is_write(step, is_drivers) || !is_of_queue(step->address, NIC_TXDCTL(0), &queue) ||
+        !(word & NIC_TXDCTL_ENABLE))
         return;
     if (nic_field(word, NIC_TXDCTL_PTHRESH) && !nic_field(word, NIC_TXDCTL_HTHRESH))
         nicd_note("TXDCTL(%u) has PTHRESH %u and HTHRESH 0: the card wants 1 at least", queue,

@@ -33,6 +33,18 @@ def ran(words: list[object], wanted: int | None = 0, **how: object) -> str:
     return made.stdout
 
 
+def links(compiler: str, flags: list[str], folder: Path) -> bool:
+    """Whether a program with these flags is linked and runs here."""
+    source, program = folder / "empty.c", folder / "empty"
+    source.write_text("int main(void) { return 0; }\n")
+    try:
+        ran([compiler, *flags, source, "-o", program])
+        ran([program])
+    except (Wrong, OSError):
+        return False
+    return True
+
+
 @dataclass
 class Kit:
     """Where programs go, and how they are made."""
@@ -42,6 +54,12 @@ class Kit:
     flags: list[str]
     explorer: Path
     nicbench: str
+
+    def out(self, name: str) -> Path:
+        """A folder for what programs write."""
+        folder = self.folder / name
+        folder.mkdir(exist_ok=True)
+        return folder
 
     def build(self, source: Path, *defines: str) -> Path:
         """A program of one source, with the explorer in it."""
@@ -122,8 +140,7 @@ def check_names(kit: Kit) -> str:
 
 def check_pair(kit: Kit, source: Path, runs: int) -> tuple[str, Path, Path]:
     """A bug is found, and its twin passes so many schedules: what was told, the twin, and where files went."""
-    out = kit.folder / "found"
-    out.mkdir(exist_ok=True)
+    out = kit.out("found")
     wrong, right = kit.build(source), kit.build(source, "FIXED")
     found = ran([wrong, "--quiet", "--jobs", 2, "--out", out], 1)
     check_files(kit, source, wrong, out)
@@ -174,8 +191,7 @@ PMD_BUGS = {
 
 def check_examples(kit: Kit, runs: int) -> str:
     """The guide's example fails and its fixed twin passes; `pmd` retold passes, and each wrong one is found."""
-    out = kit.folder / "examples"
-    out.mkdir(exist_ok=True)
+    out = kit.out("examples")
     words = ["--quiet", "--jobs", 2, "--out", out]
     race, pmd = HERE / "examples/race.c", HERE / "examples/pmd.c"
     told(ran([kit.build(race), *words], 1), "FAILED end: a frame lies in the ring", "race")
@@ -332,8 +348,7 @@ def told(text: str, wanted: str, what: str) -> None:
 
 def check_faults(kit: Kit) -> str:
     """Each fault is told by itself, with a schedule and as JUnit."""
-    program, out = kit.build(HERE / "tests/faulty.c"), kit.folder / "faults"
-    out.mkdir(exist_ok=True)
+    program, out = kit.build(HERE / "tests/faulty.c"), kit.out("faults")
     for mode, wanted in FAULTS.items():
         junit = out / "result.xml"
         words = [program, mode, "--quiet", "--jobs", 2, "--out", out, "--junit", junit]
@@ -362,8 +377,7 @@ def check_faults(kit: Kit) -> str:
 
 def check_never(kit: Kit) -> str:
     """What of a scenario never ran is told, in JUnit too; by --strict the search has a status of its own."""
-    program, out = kit.build(HERE / "tests/vacuous.c"), kit.folder / "never"
-    out.mkdir(exist_ok=True)
+    program, out = kit.build(HERE / "tests/vacuous.c"), kit.out("never")
     ways: list[list[object]] = [["--runs", 200], ["--strategy", "exhaustive", "--preemptions", 1]]
     for mode, wanted in NEVER.items():
         for way in ways:
@@ -419,8 +433,7 @@ LOWEST = {"values": ["value 2", "value 1"], "all": ["value 4", "value 2"], "inpu
 
 def check_choices(kit: Kit) -> str:
     """Values and timers by each strategy: what is found, how it is shrunk, and that its schedule fails again."""
-    program, out = kit.build(HERE / "tests/choices.c"), kit.folder / "chosen"
-    out.mkdir(exist_ok=True)
+    program, out = kit.build(HERE / "tests/choices.c"), kit.out("chosen")
     for mode, (status, wanted) in CHOICES.items():
         for strategy in STRATEGIES:
             words = [program, mode, "--quiet", "--jobs", 2, "--hang", 2, "--out", out, "--strategy", strategy]
@@ -445,8 +458,7 @@ def check_choices(kit: Kit) -> str:
 
 def check_weak(kit: Kit) -> str:
     """Litmus tests; a schedule of weak memory says so, and --memory changes it for a scenario."""
-    out = kit.folder / "weakly"
-    out.mkdir(exist_ok=True)
+    out = kit.out("weakly")
     said = ran([kit.build(HERE / "tests/weak.c")], timeout=300).strip()
     program = kit.build(HERE / "corpus/missing_wmb.c")
     words = [program, "--quiet", "--jobs", 2, "--out", out]
@@ -473,8 +485,7 @@ SIMPLE = ("length_before_dd", "link_change_lost", "tail_before_descriptor")
 
 def check_bounds(kit: Kit) -> str:
     """The exhaustive search finds a failure with as few preemptions as any."""
-    out, found = kit.folder / "bounds", 0
-    out.mkdir(exist_ok=True)
+    out, found = kit.out("bounds"), 0
     for source in (one for one in corpus() if one.stem in SIMPLE):
         program, schedules = kit.build(source), []
         for bound in (1, 2, 4, "any"):
@@ -490,8 +501,7 @@ def check_bounds(kit: Kit) -> str:
 def check_shards(kit: Kit) -> str:
     """Shards make together what one search makes, and each of it once but the first schedule of a bound."""
     fixed, race = kit.build(HERE / "examples/race.c", "FIXED"), kit.build(HERE / "examples/race.c")
-    out, shards = kit.folder / "shards", 3
-    out.mkdir(exist_ok=True)
+    out, shards = kit.out("shards"), 3
 
     def made(*words: object, jobs: int = 1) -> int:
         said = ran([fixed, "--quiet", "--jobs", jobs, "--out", out, *words])
@@ -584,8 +594,7 @@ def check_sleeping(kit: Kit, scenarios: int) -> str:
 
 def check_apart(kit: Kit) -> str:
     """Of a scenario that says that it is race-free fewer schedules are made, with the same verdict."""
-    program, out = kit.build(HERE / "tests/apart.c"), kit.folder / "apart-found"
-    out.mkdir(exist_ok=True)
+    program, out = kit.build(HERE / "tests/apart.c"), kit.out("apart-found")
     counts = []
     words = ["--quiet", "--jobs", 1, "--strategy", "exhaustive", "--preemptions", "any", "--out", out]
     for mode in ("fine", "free"):
@@ -600,8 +609,7 @@ def check_apart(kit: Kit) -> str:
 
 def check_kit(kit: Kit) -> str:
     """The kit's flows, frames and mailboxes."""
-    out = kit.folder / "kit-found"
-    out.mkdir(exist_ok=True)
+    out = kit.out("kit-found")
     ran([kit.build(HERE / "tests/kit.c"), "--quiet", "--jobs", 2, "--runs", 300, "--strict", "--out", out])
     return "the kit's flows and mailboxes"
 
@@ -641,8 +649,7 @@ def modes_of(source: Path) -> list[str]:
 
 def check_form(kit: Kit) -> str:
     """Each call of threads that is turned does what it should in every schedule tried, and each fault is told."""
-    source, out = HERE / "tests/pthreads.c", kit.folder / "form"
-    out.mkdir(exist_ok=True)
+    source, out = HERE / "tests/pthreads.c", kit.out("form")
     program, modes = kit.build_form(source), modes_of(source)
     words = ["--quiet", "--jobs", 2, "--out", out]
     for mode in modes:
@@ -698,13 +705,10 @@ def check_points_line(program: Path, schedule: Path) -> None:
 
 def check_races(kit: Kit) -> str:
     """What orders two accesses isn't told as a race, and what doesn't is, by each compiler."""
-    source, out = HERE / "tests/races.c", kit.folder / "races"
-    out.mkdir(exist_ok=True)
+    source, out = HERE / "tests/races.c", kit.out("races")
     words, modes = ["--quiet", "--jobs", 2, "--out", out, "--no-shrink"], modes_of(source)
     for compiler in filter(shutil.which, ("gcc", "clang")):
-        folder = kit.folder / compiler
-        folder.mkdir(exist_ok=True)
-        program = replace(kit, folder=folder, compiler=compiler).build_form(source, of_memory=True)
+        program = replace(kit, folder=kit.out(compiler), compiler=compiler).build_form(source, of_memory=True)
         for mode in modes:
             said = ran([program, mode, *words, "--runs", 500], 1 if mode.startswith("no_") else 0)
             if mode.startswith("no_"):
@@ -725,8 +729,7 @@ UNSEEN = "note: plain accesses and atomics weren't seen: build with -fsanitize=t
 
 def check_program(kit: Kit, runs: int) -> str:
     """A whole program is searched as it stands: its bug is found by its end, and as a race; and its twin passes."""
-    source, out = HERE / "examples/forwarder.c", kit.folder / "program"
-    out.mkdir(exist_ok=True)
+    source, out = HERE / "examples/forwarder.c", kit.out("program")
     words = ["--quiet", "--jobs", 2, "--out", out]
     for of_memory, wanted in ((False, "end: main returns 1"), (True, r"race: transmit.*: thread-\d at forwarder")):
         program = kit.build_form(source, form="program", of_memory=of_memory)
@@ -750,26 +753,12 @@ def check_program(kit: Kit, runs: int) -> str:
 THREAD = ["-g", "-O1", "-fsanitize=thread"]
 
 
-def has_thread_sanitizer(kit: Kit) -> bool:
-    """Whether a program with it is linked and runs here."""
-    source, program = kit.folder / "empty.c", kit.folder / "empty"
-    source.write_text("int main(void) { return 0; }\n")
-    words: list[list[object]] = [[kit.compiler, *THREAD, source, "-o", program], [program]]
-    try:
-        for line in words:
-            ran(line)
-    except (Wrong, OSError):
-        return False
-    return True
-
-
 def check_threads(kit: Kit, searches: int) -> str:
     """Searches, and another thread's devices beside them; plain also under the thread sanitizer."""
     kits, more = [kit], ""
     if "-fsanitize=address,undefined" not in kit.flags:
-        if has_thread_sanitizer(kit):
-            folder = kit.folder / "thread"
-            folder.mkdir(exist_ok=True)
+        if links(kit.compiler, THREAD, kit.folder):
+            folder = kit.out("thread")
             explorer = sanitized_explorer(folder, kit.compiler, THREAD)
             kits.append(replace(kit, folder=folder, flags=THREAD, explorer=explorer))
         else:

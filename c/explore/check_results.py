@@ -14,12 +14,6 @@ from explore.check import HERE, Kit, Wrong, ran, told
 RACE = HERE / "examples/race.c"
 
 
-def folder_of(kit: Kit) -> Path:
-    out = kit.folder / "results"
-    out.mkdir(exist_ok=True)
-    return out
-
-
 def numbers(said: str) -> dict[str, int]:
     """How many schedules, points and distinct schedules are told."""
     found = re.search(r"(\d+) schedules, (\d+) points", said)
@@ -31,7 +25,7 @@ def numbers(said: str) -> dict[str, int]:
 
 def check_sums(kit: Kit) -> str:
     """The results of shards are that of one search; which are missing is told, and one isn't taken twice."""
-    program, out = kit.build(RACE, "FIXED"), folder_of(kit)
+    program, out = kit.build(RACE, "FIXED"), kit.out("results")
     ways: list[list[object]] = [["--runs", 500], ["--strategy", "exhaustive", "--preemptions", 1, "--no-sleep"]]
     for way in ways:
         words = [program, "--quiet", "--out", out, *way]
@@ -62,7 +56,7 @@ def check_sums(kit: Kit) -> str:
 
 def check_causes(kit: Kit) -> str:
     """Each cause is told once, of the lowest run, with its schedule, in JUnit too."""
-    race, out = kit.build(RACE), folder_of(kit)
+    race, out = kit.build(RACE), kit.out("results")
     files = [out / f"race-{k}" for k in range(4)]
     for k, file in enumerate(files[:3]):
         ran([race, "--quiet", "--jobs", 1, "--shard", f"{k + 1}/3", "--out", out, "--result", file], 1)
@@ -126,7 +120,7 @@ FIELDS = {
 
 def check_refused(kit: Kit, tries: int) -> str:
     """Each field is checked as it is read; changed files are refused, or are results of other numbers."""
-    race, out = kit.build(RACE), folder_of(kit)
+    race, out = kit.build(RACE), kit.out("results")
     file, bad = out / "race-0", out / "bad"
     lines = file.read_text().splitlines(keepends=True)[:-1]
     if summed(lines) != file.read_text():

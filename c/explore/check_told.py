@@ -19,8 +19,7 @@ RESOLVERS = ("addr2line", "llvm-symbolizer")
 
 def found_by(kit: Kit, program: Path, mode: str, *words: object) -> tuple[str, str]:
     """What a search that finds a failure tells, and its schedule, which fails again to the letter."""
-    out = kit.folder / "told-out"
-    out.mkdir(exist_ok=True)
+    out = kit.out("told-out")
     said = ran([program, mode, "--quiet", "--jobs", 1, "--out", out, *words], 1)
     again = ran([program, mode, "--replay", out / "told.schedule"], 1)
     if re.findall(r"FAILED .*", said) != re.findall(r"FAILED .*", again):

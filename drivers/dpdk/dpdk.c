@@ -11,12 +11,14 @@
 #include "ixgbe_ethdev.h" /* the driver's own: its functions' names */
 #include "ixgbe_rxtx.h"
 #include "memory.h"
+#include "strays.h"
 #include "verdict.h"
 #include "window.h"
 
 #define ARGUMENTS 16
 #define PACKETS_KEPT 64 /* by a core, of those that are free */
 #define SEED 82599      /* of DPDK's random numbers, of which the host makes its functions' addresses */
+#define TURNED 10       /* the frame of which --turn has a byte turned */
 
 struct rte_mempool *pool;
 const uint8_t card_mac[6] = {0x02, 0x00, 0x00, 0x00, 0x82, 0x99};
@@ -27,7 +29,7 @@ const uint8_t rss_key[RSS_KEY_BYTES] = {
     0x45, 0x32, 0xdb, 0x09, 0x78, 0xac, 0x56, 0xf1, 0x0e, 0xc3, /**/
     0x9a, 0x27, 0xb4, 0x6d, 0x80, 0x15, 0xea, 0x5f, 0xd9, 0x42,
 };
-static bool is_up;
+static bool is_up, is_open;
 
 /* Memory below 128 MiB, where the bench's bus memory is; no huge pages, no PCI, no files. */
 static int start_layer(const struct dpdk_options *options)
@@ -74,6 +76,8 @@ static bool make_pool(const struct dpdk_options *options)
 bool dpdk_start(const struct dpdk_options *options)
 {
     size_t lent = 0;
+    struct bus_options bus = options->bus;
+    memcpy(bus.mac, card_mac, sizeof card_mac);
     if (start_layer(options) < 0) {
         problem("DPDK's start-up: %s", rte_strerror(rte_errno));
         return false;
@@ -81,7 +85,7 @@ bool dpdk_start(const struct dpdk_options *options)
     is_up = true;
     rte_srand(SEED);
     rte_delay_us_callback_register(bus_wait);
-    if (!bus_open(&options->bus) || !window_open(options->bus.functions)) {
+    if (!bus_open(&bus) || !window_open(bus.functions)) {
         problem("no bench: memory is short, or its EEPROM text was refused");
         return false;
     }
@@ -90,11 +94,17 @@ bool dpdk_start(const struct dpdk_options *options)
         return false;
     }
     printf("%zu MiB of DPDK's memory are lent to the device\n", lent >> 20);
-    return make_pool(options);
+    return is_open = make_pool(options);
 }
 
-int dpdk_end(void)
+int dpdk_end(const struct dpdk_options *options)
 {
+    if (is_open) {
+        if (options->strays)
+            strays_save(options->strays);
+        bus_close();
+        window_close();
+    }
     int status = verdict();
     if (is_up)
         rte_eal_cleanup();
@@ -116,6 +126,26 @@ bool failed(const char *what, int status)
     return true;
 }
 
+/* ---- words ---- */
+
+bool dpdk_word(const char *word, struct dpdk_options *options)
+{
+    options->scalar |= strcmp(word, "--scalar") == 0;
+    options->loud |= strcmp(word, "--loud") == 0;
+    return strcmp(word, "--scalar") == 0 || strcmp(word, "--loud") == 0;
+}
+
+bool dpdk_pair(const char *word, const char *next, struct dpdk_options *options)
+{
+    bool is_in = strcmp(next, "in") == 0;
+    if (strcmp(word, "--strays") == 0)
+        return *(options->strays = next) != 0;
+    if (strcmp(word, "--turn") != 0 || (!is_in && strcmp(next, "out") != 0))
+        return false;
+    *(is_in ? &options->bus.turn_in : &options->bus.turn_out) = TURNED;
+    return true;
+}
+
 /* ---- ports ---- */
 
 int port_configure(uint16_t port, const struct rte_eth_conf *configuration, unsigned int queues, unsigned int slots,
@@ -132,6 +162,20 @@ int port_configure(uint16_t port, const struct rte_eth_conf *configuration, unsi
         status = rte_eth_tx_queue_setup(port, queue, (uint16_t)slots, SOCKET_ID_ANY, NULL);
     }
     return status;
+}
+
+unsigned int take_packets(uint16_t port, uint16_t queue, look_at *look, void *argument)
+{
+    struct rte_mbuf *packets[BURST];
+    unsigned int all = 0;
+    uint16_t count;
+    while ((count = rte_eth_rx_burst(port, queue, packets, BURST)) > 0) {
+        for (uint16_t i = 0; look && i < count; i++)
+            look(packets[i], queue, argument);
+        rte_pktmbuf_free_bulk(packets, count);
+        all += count;
+    }
+    return all;
 }
 
 void ask_for_rss(struct rte_eth_conf *configuration)

@@ -16,16 +16,13 @@
 
 #include "card.h"
 #include "frames.h"
-#include "strays.h"
 #include "verdict.h"
-#include "window.h"
 
 #define DEVICE 0x10F7 /* 82599EB, KX4 */
 #define MEBIBYTES 48
 #define PACKETS 4095
 #define PLAIN_BUFFER 2048
 #define FIFO 64
-#define TURNED 10 /* the frame of which --turn has a byte turned */
 #define FRAMES_MOST 10000000
 
 enum phase { IN_PROBE, IN_START, IN_TRAFFIC, IN_COUNTERS, IN_FILTERS, IN_RESTART, IN_STOP, IN_CLOSE };
@@ -35,11 +32,8 @@ static const char *const phases[] = {
 };
 
 struct words {
-    bool scalar, speed, loud;
-    unsigned int answers;
-    uint64_t turn_in, turn_out;
+    struct dpdk_options options; /* with the null driver: the measurement */
     uint16_t device;
-    const char *strays;
 };
 
 bool in_segments;
@@ -156,74 +150,44 @@ static bool measured(uint16_t device)
 
 /* ---- the words ---- */
 
-static bool read_turn(const char *way, struct words *it)
-{
-    if (strcmp(way, "in") == 0)
-        it->turn_in = TURNED;
-    else if (strcmp(way, "out") == 0)
-        it->turn_out = TURNED;
-    else
-        return false;
-    return true;
-}
-
 /* A word that has another behind it: false where either isn't known. */
 static bool read_pair(const char *word, const char *next, struct words *it)
 {
+    unsigned int answer = bus_answer_named(next), *answers = &it->options.bus.answers;
     if (strcmp(word, "--frames") == 0)
         return read_number(next, 1, FRAMES_MOST, &frames_of_pass);
     if (strcmp(word, "--device") == 0)
         return read_device(next, &it->device);
-    if (strcmp(word, "--turn") == 0)
-        return read_turn(next, it);
-    if (strcmp(word, "--strays") == 0)
-        return *(it->strays = next) != 0;
     if (strcmp(word, "--with") == 0)
-        return (it->answers |= bus_answer_named(next)) && bus_answer_named(next);
-    if (strcmp(word, "--without") != 0 || !(bus_answer_named(next) & it->answers))
-        return false;
-    it->answers &= ~bus_answer_named(next);
-    return true;
+        return (*answers |= answer) && answer;
+    if (strcmp(word, "--without") != 0)
+        return dpdk_pair(word, next, &it->options);
+    bool is_given = answer & *answers;
+    *answers &= ~answer;
+    return is_given;
 }
 
 static bool read_words(int count, char **words, struct words *it)
 {
-    *it = (struct words){.answers = BUS_SWSM | BUS_ANLP1, .device = DEVICE};
+    *it = (struct words){
+        .options = {.bus = {.fifo = FIFO, .answers = BUS_SWSM | BUS_ANLP1, .phases = phases},
+                    .name = "exchange",
+                    .mebibytes = MEBIBYTES,
+                    .packets = PACKETS},
+        .device = DEVICE,
+    };
     for (int i = 1; i < count; i++) {
-        if (strcmp(words[i], "--scalar") == 0)
-            it->scalar = true;
-        else if (strcmp(words[i], "--segments") == 0)
+        if (strcmp(words[i], "--segments") == 0)
             in_segments = true;
         else if (strcmp(words[i], "--speed") == 0)
-            it->speed = true;
-        else if (strcmp(words[i], "--loud") == 0)
-            it->loud = true;
+            it->options.has_null_driver = true;
         else if (i + 1 < count && read_pair(words[i], words[i + 1], it))
             i++;
-        else
+        else if (!dpdk_word(words[i], &it->options))
             return false;
     }
+    it->options.buffer = in_segments ? SMALL_BUFFER : PLAIN_BUFFER;
     return true;
-}
-
-static struct dpdk_options options_of(const struct words *words)
-{
-    struct dpdk_options options = {
-        .bus = {.fifo = FIFO,
-                .answers = words->answers,
-                .phases = phases,
-                .turn_in = words->turn_in,
-                .turn_out = words->turn_out},
-        .name = "exchange",
-        .mebibytes = MEBIBYTES,
-        .packets = PACKETS,
-        .buffer = in_segments ? SMALL_BUFFER : PLAIN_BUFFER,
-        .scalar = words->scalar,
-        .loud = words->loud,
-        .has_null_driver = words->speed,
-    };
-    memcpy(options.bus.mac, card_mac, sizeof card_mac);
-    return options;
 }
 
 int main(int count, char **arguments)
@@ -234,17 +198,12 @@ int main(int count, char **arguments)
                         "[--with EICS | EERD] [--strays FILE] [--loud] [--turn in | out]\nexchange --speed\n");
         return 3;
     }
-    struct dpdk_options options = options_of(&words);
-    if (dpdk_start(&options)) {
-        bus_tell_answers(words.answers);
-        if (words.speed ? measured(words.device) : run(words.device)) {
+    if (dpdk_start(&words.options)) {
+        bus_tell_answers(words.options.bus.answers);
+        if (words.options.has_null_driver ? measured(words.device) : run(words.device)) {
             bus_tell_counts();
             bus_check_counts(0, 0);
         }
-        if (words.strays)
-            strays_save(words.strays);
-        bus_close();
-        window_close();
     }
-    return dpdk_end();
+    return dpdk_end(&words.options);
 }

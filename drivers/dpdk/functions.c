@@ -22,9 +22,7 @@
 #include "passes.h"
 #include "ports.h"
 #include "requests.h"
-#include "strays.h"
 #include "verdict.h"
-#include "window.h"
 
 #define FIFO 64
 #define MEBIBYTES 48
@@ -33,18 +31,15 @@
 #define PACKETS 8191
 #define PACKETS_MANY 16383
 #define BUFFER 2048
-#define TURNED 10
 #define RESET 1         /* a function's first request */
 #define POLLS_MOST 1999 /* of the driver's own 2,000 */
 #define FRAMES_MOST 1000000
 #define DIFFERENT 1000 /* frames, where the bench and the card differ */
 
 struct words {
-    const char *course, *strays, *trace;
+    struct dpdk_options options;
+    const char *course, *trace;
     struct handlers_way way;
-    unsigned int answers;
-    uint64_t turn_in, turn_out;
-    bool scalar, loud;
 };
 
 static uint64_t known_drops;
@@ -278,13 +273,6 @@ static bool read_answer(const char *name, bool is_given, unsigned int *answers)
     return answer != 0;
 }
 
-static bool read_turn(const char *word, struct words *it)
-{
-    it->turn_in = strcmp(word, "in") == 0 ? TURNED : it->turn_in;
-    it->turn_out = strcmp(word, "out") == 0 ? TURNED : it->turn_out;
-    return strcmp(word, "in") == 0 || strcmp(word, "out") == 0;
-}
-
 static bool read_pair(const char *word, const char *next, struct words *it)
 {
     const struct {
@@ -305,60 +293,50 @@ static bool read_pair(const char *word, const char *next, struct words *it)
     if (strcmp(word, "--handlers") == 0)
         return read_handlers(next, &it->way);
     if (strcmp(word, "--with") == 0 || strcmp(word, "--without") == 0)
-        return read_answer(next, strcmp(word, "--with") == 0, &it->answers);
+        return read_answer(next, strcmp(word, "--with") == 0, &it->options.bus.answers);
     if (strcmp(word, "--course") == 0)
         return read_course(next, &it->course);
-    if (strcmp(word, "--turn") == 0)
-        return read_turn(next, it);
-    if (strcmp(word, "--strays") == 0)
-        return *(it->strays = next) != 0;
-    return strcmp(word, "--trace") == 0 && *(it->trace = next) != 0;
+    if (strcmp(word, "--trace") == 0)
+        return *(it->trace = next) != 0;
+    return dpdk_pair(word, next, &it->options);
+}
+
+/* What DPDK and the bus are opened with, as far as the words decide it. */
+static void size(struct dpdk_options *options)
+{
+    bool many = setting.functions > FEW;
+    options->bus.functions = (uint8_t)setting.max_vfs;
+    options->mebibytes = many ? MEBIBYTES_MANY : MEBIBYTES;
+    options->packets = many ? PACKETS_MANY : PACKETS;
 }
 
 static bool read_words(int count, char **words, struct words *it)
 {
-    *it = (struct words){.course = "whole", .answers = BUS_SWSM | BUS_ANLP1, .way = {.by_line = true}};
+    *it = (struct words){
+        .options = {.bus = {.fifo = FIFO,
+                            .answers = BUS_SWSM | BUS_ANLP1,
+                            .phases = phase_names,
+                            .hooks = {.reading = handlers_reading, .written = handlers_written}},
+                    .name = "functions",
+                    .buffer = BUFFER},
+        .course = "whole",
+        .way = {.by_line = true},
+    };
     setting = (struct setting){
         .max_vfs = 2, .functions = 2, .queues = 2, .vf_queues = 2, .slots = SLOTS, .frames = 1000, .has_rss = true};
     for (int i = 1; i < count; i++) {
         if (strcmp(words[i], "--no-rss") == 0)
             setting.has_rss = false;
-        else if (strcmp(words[i], "--scalar") == 0)
-            it->scalar = true;
-        else if (strcmp(words[i], "--loud") == 0)
-            it->loud = true;
         else if (i + 1 < count && read_pair(words[i], words[i + 1], it))
             i++;
-        else
+        else if (!dpdk_word(words[i], &it->options))
             return false;
     }
+    size(&it->options);
     return setting.functions <= setting.max_vfs && (setting.functions == 2 || strcmp(it->course, "whole") != 0);
 }
 
 /* ---- the whole ---- */
-
-static struct dpdk_options options_of(const struct words *words, FILE *trace)
-{
-    bool many = setting.functions > FEW;
-    struct dpdk_options options = {
-        .bus = {.functions = (uint8_t)setting.max_vfs,
-                .fifo = FIFO,
-                .answers = words->answers,
-                .phases = phase_names,
-                .hooks = {.reading = handlers_reading, .written = handlers_written},
-                .trace = trace,
-                .turn_in = words->turn_in,
-                .turn_out = words->turn_out},
-        .name = "functions",
-        .mebibytes = many ? MEBIBYTES_MANY : MEBIBYTES,
-        .packets = many ? PACKETS_MANY : PACKETS,
-        .buffer = BUFFER,
-        .scalar = words->scalar,
-        .loud = words->loud,
-    };
-    memcpy(options.bus.mac, card_mac, sizeof card_mac);
-    return options;
-}
 
 static void tell_handlers(const struct handlers_way *way)
 {
@@ -377,7 +355,7 @@ static void tell_handlers(const struct handlers_way *way)
 
 static void run(const struct words *words)
 {
-    bus_tell_answers(words->answers);
+    bus_tell_answers(words->options.bus.answers);
     handlers_begin(words->way);
     if (!run_course(words->course)) {
         problem("the run ends before its end");
@@ -402,15 +380,11 @@ int main(int count, char **arguments)
         fprintf(stderr, "functions: %s: %s\n", words.trace, strerror(errno));
         return 2;
     }
-    struct dpdk_options options = options_of(&words, trace);
-    if (dpdk_start(&options)) {
+    words.options.bus.trace = trace;
+    if (dpdk_start(&words.options))
         run(&words);
-        if (words.strays)
-            strays_save(words.strays);
-        bus_close();
-        window_close();
-    }
+    int status = dpdk_end(&words.options);
     if (trace)
         fclose(trace);
-    return dpdk_end();
+    return status;
 }

@@ -66,8 +66,9 @@ static void arrive(unsigned int which, unsigned int frame_number)
         problem("%s: frame %u isn't let in", port_name(which), frame_number);
 }
 
-static void compare_in(unsigned int which, uint16_t queue, const struct rte_mbuf *packet)
+static void compare_in(const struct rte_mbuf *packet, uint16_t queue, void *port_number)
 {
+    unsigned int which = *(unsigned int *)port_number;
     struct frame frame;
     tallies[which].by_queue_in[queue]++;
     all_in[which]++;
@@ -86,19 +87,6 @@ static void compare_in(unsigned int which, uint16_t queue, const struct rte_mbuf
         problem("%s, queue %u: the hash of a frame of %u bytes", port_name(which), queue, frame.length);
 }
 
-static void take(unsigned int which)
-{
-    struct rte_mbuf *packets[BURST];
-    for (uint16_t queue = 0; queue < port_queues(which); queue++) {
-        uint16_t count;
-        while ((count = rte_eth_rx_burst(ports[which].number, queue, packets, BURST)) > 0)
-            for (uint16_t i = 0; i < count; i++) {
-                compare_in(which, queue, packets[i]);
-                rte_pktmbuf_free(packets[i]);
-            }
-    }
-}
-
 static void frames_in(unsigned int first, unsigned int last)
 {
     unsigned int many = last - first + 1, total = many * setting.frames;
@@ -109,7 +97,7 @@ static void frames_in(unsigned int first, unsigned int last)
         bus_receive();
         handlers_run();
         for (unsigned int which = first; which <= last; which++)
-            take(which);
+            port_take(which, compare_in, &which);
     }
 }
 
@@ -284,22 +272,34 @@ static void make_one(struct frame *frame, const uint8_t to[6], uint16_t tag)
     frame->length += TAG_BYTES;
 }
 
-/* Takes what came to a port: how many frames, of which one that is unlike is a problem. */
-static unsigned int take_alike(unsigned int which, const struct frame *frame)
+/* Frames of which each that comes to a port must be one. */
+struct known {
+    unsigned int which, many;
+    const struct frame *frames;
+};
+
+static bool is_known(const struct known *known, const struct rte_mbuf *packet)
 {
-    struct rte_mbuf *packets[BURST];
-    unsigned int all = 0;
-    for (uint16_t queue = 0; ports[which].is_started && queue < port_queues(which); queue++) {
-        uint16_t count;
-        while ((count = rte_eth_rx_burst(ports[which].number, queue, packets, BURST)) > 0) {
-            for (uint16_t i = 0; i < count; i++)
-                if (!frame_is(frame, rte_pktmbuf_mtod(packets[i], const void *), rte_pktmbuf_pkt_len(packets[i])))
-                    problem("%s gets another frame than was sent", port_name(which));
-            rte_pktmbuf_free_bulk(packets, count);
-            all += count;
-        }
-    }
-    return all;
+    unsigned int at = 0;
+    while (at < known->many &&
+           !frame_is(&known->frames[at], rte_pktmbuf_mtod(packet, const void *), rte_pktmbuf_pkt_len(packet)))
+        at++;
+    return at < known->many;
+}
+
+static void expect_the_one(const struct rte_mbuf *packet, uint16_t queue, void *known)
+{
+    (void)queue;
+    if (!is_known(known, packet))
+        problem("%s gets another frame than was sent", port_name(((struct known *)known)->which));
+}
+
+static void expect_one_of_them(const struct rte_mbuf *packet, uint16_t queue, void *known)
+{
+    (void)queue;
+    if (!is_known(known, packet))
+        problem("%s gets a frame of %u bytes that nobody sent", port_name(((struct known *)known)->which),
+                rte_pktmbuf_pkt_len(packet));
 }
 
 int who_gets(const uint8_t to[6], uint16_t tag)
@@ -310,7 +310,8 @@ int who_gets(const uint8_t to[6], uint16_t tag)
     bus_arrive(frame.bytes, frame.length);
     bus_receive();
     for (unsigned int which = 0; which <= setting.functions; which++) {
-        unsigned int count = take_alike(which, &frame);
+        struct known one = {which, 1, &frame};
+        unsigned int count = port_take(which, expect_the_one, &one);
         if (count > 1 || (count == 1 && who >= 0))
             problem("one frame comes more than once, to %s", port_name(which));
         if (count)
@@ -348,30 +349,6 @@ void flood(unsigned int which, unsigned int first, unsigned int step, unsigned i
     }
 }
 
-/* Takes what came to a port: how many frames, of which each must be one of these. */
-static unsigned int take_any(unsigned int which, const struct frame *frames, unsigned int many)
-{
-    struct rte_mbuf *packets[BURST];
-    unsigned int all = 0;
-    for (uint16_t queue = 0; queue < port_queues(which); queue++) {
-        uint16_t count;
-        while ((count = rte_eth_rx_burst(ports[which].number, queue, packets, BURST)) > 0) {
-            for (uint16_t i = 0; i < count; i++) {
-                unsigned int at = 0;
-                while (at < many && !frame_is(&frames[at], rte_pktmbuf_mtod(packets[i], const void *),
-                                              rte_pktmbuf_pkt_len(packets[i])))
-                    at++;
-                if (at == many)
-                    problem("%s gets a frame of %u bytes that nobody sent", port_name(which),
-                            rte_pktmbuf_pkt_len(packets[i]));
-            }
-            rte_pktmbuf_free_bulk(packets, count);
-            all += count;
-        }
-    }
-    return all;
-}
-
 void frames_of_two(unsigned int frames, unsigned int got[2])
 {
     static struct frame some[2 * SOME];
@@ -384,7 +361,9 @@ void frames_of_two(unsigned int frames, unsigned int got[2])
                 many++;
             }
         bus_receive();
-        for (unsigned int which = 0; which < 2; which++)
-            got[which] += take_any(which, some, many);
+        for (unsigned int which = 0; which < 2; which++) {
+            struct known all = {which, many, some};
+            got[which] += port_take(which, expect_one_of_them, &all);
+        }
     }
 }

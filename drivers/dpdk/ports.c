@@ -167,16 +167,15 @@ bool port_remove(unsigned int which)
     return !failed("the driver's remove", card_remove(which));
 }
 
+unsigned int port_take(unsigned int which, look_at *look, void *argument)
+{
+    unsigned int all = 0;
+    for (uint16_t queue = 0; ports[which].is_started && queue < port_queues(which); queue++)
+        all += take_packets(ports[which].number, queue, look, argument);
+    return all;
+}
+
 unsigned int port_drain(unsigned int which)
 {
-    struct rte_mbuf *packets[BURST];
-    unsigned int all = 0;
-    for (uint16_t queue = 0; ports[which].is_started && queue < port_queues(which); queue++) {
-        uint16_t count;
-        while ((count = rte_eth_rx_burst(ports[which].number, queue, packets, BURST)) > 0) {
-            rte_pktmbuf_free_bulk(packets, count);
-            all += count;
-        }
-    }
-    return all;
+    return port_take(which, NULL, NULL);
 }

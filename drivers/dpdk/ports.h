@@ -67,7 +67,8 @@ int port_try_probe(unsigned int which);
 /* A function is probed while the host isn't started: its driver gives up, unless the shim answers it. */
 void port_probe_early(unsigned int which);
 
-/* Frees what waits in a port's queues: how many frames they were. */
-unsigned int port_drain(unsigned int which);
+/* Takes what waits in a port's queues, as take_packets does, if the port is started: how many frames they were. */
+unsigned int port_take(unsigned int which, look_at *look, void *argument);
+unsigned int port_drain(unsigned int which); /* without a look */
 
 #endif

@@ -79,8 +79,9 @@ static bool is_alike(const struct rte_mbuf *packet, const struct frame *frame)
     return bytes && frame_is(frame, bytes, frame->length);
 }
 
-static void compare(const struct rte_mbuf *packet, uint16_t queue)
+static void compare(const struct rte_mbuf *packet, uint16_t queue, void *unused)
 {
+    (void)unused;
     struct frame frame;
     make_next(&in[queue], &frame, card_mac, peer_mac);
     if (is_alike(packet, &frame))
@@ -92,16 +93,7 @@ static void compare(const struct rte_mbuf *packet, uint16_t queue)
 
 static unsigned int take(uint16_t port, uint16_t queue)
 {
-    struct rte_mbuf *packets[BURST];
-    unsigned int all = 0;
-    uint16_t count;
-    while ((count = rte_eth_rx_burst(port, queue, packets, BURST)) > 0) {
-        for (uint16_t i = 0; i < count; i++) {
-            compare(packets[i], queue);
-            rte_pktmbuf_free(packets[i]);
-        }
-        all += count;
-    }
+    unsigned int all = take_packets(port, queue, compare, NULL);
     received[queue] += all;
     return all;
 }

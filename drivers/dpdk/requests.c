@@ -29,146 +29,118 @@ static unsigned int known_refusals;
 
 /* ---- what is asked ---- */
 
-static int nothing(void)
+static int nothing(uint16_t port)
 {
+    (void)port;
     return 0;
 }
 
-static int add(void)
+static int add(uint16_t port)
 {
-    return rte_eth_dev_mac_addr_add(ports[F0].number, &further, 0);
+    return rte_eth_dev_mac_addr_add(port, &further, 0);
 }
 
-static int take_away(void)
+static int take_away(uint16_t port)
 {
-    return rte_eth_dev_mac_addr_remove(ports[F0].number, &further);
+    return rte_eth_dev_mac_addr_remove(port, &further);
 }
 
-static int change(void)
+static int change(uint16_t port)
 {
-    return rte_eth_dev_default_mac_addr_set(ports[F0].number, &another);
+    return rte_eth_dev_default_mac_addr_set(port, &another);
 }
 
-static int change_back(void)
+static int change_back(uint16_t port)
 {
-    return rte_eth_dev_default_mac_addr_set(ports[F0].number, &former);
+    return rte_eth_dev_default_mac_addr_set(port, &former);
 }
 
-static int list(void)
+static int list(uint16_t port)
 {
-    return rte_eth_dev_set_mc_addr_list(ports[F0].number, &group, 1);
+    return rte_eth_dev_set_mc_addr_list(port, &group, 1);
 }
 
-static int all_multicast(void)
+static int vlan(uint16_t port)
 {
-    return rte_eth_allmulticast_enable(ports[F0].number);
+    return rte_eth_dev_vlan_filter(port, VLAN, 1);
 }
 
-static int promiscuous(void)
+static int vlan_off(uint16_t port)
 {
-    return rte_eth_promiscuous_enable(ports[F0].number);
+    return rte_eth_dev_vlan_filter(port, VLAN, 0);
 }
 
-static int vlan(void)
+static int shorter(uint16_t port)
 {
-    return rte_eth_dev_vlan_filter(ports[F0].number, VLAN, 1);
+    return rte_eth_dev_set_mtu(port, 1400);
 }
 
-static int vlan_off(void)
+static int longer(uint16_t port)
 {
-    return rte_eth_dev_vlan_filter(ports[F0].number, VLAN, 0);
+    return rte_eth_dev_set_mtu(port, 1500);
 }
 
-static int shorter(void)
+static int host_gives(uint16_t port)
 {
-    return rte_eth_dev_set_mtu(ports[F0].number, 1400);
+    return rte_pmd_ixgbe_set_vf_mac_addr(port, 0, &another);
 }
 
-static int longer(void)
+static int host_gives_back(uint16_t port)
 {
-    return rte_eth_dev_set_mtu(ports[F0].number, 1500);
+    return rte_pmd_ixgbe_set_vf_mac_addr(port, 0, &former);
 }
 
-static int host_gives(void)
+static int host_broadcast(uint16_t port)
 {
-    return rte_pmd_ixgbe_set_vf_mac_addr(ports[HOST].number, 0, &another);
+    return rte_pmd_ixgbe_set_vf_rxmode(port, 0, RTE_ETH_VMDQ_ACCEPT_BROADCAST, 1);
 }
 
-static int host_gives_back(void)
+static int host_stops_receive(uint16_t port)
 {
-    return rte_pmd_ixgbe_set_vf_mac_addr(ports[HOST].number, 0, &former);
+    return rte_pmd_ixgbe_set_vf_rx(port, 0, 0);
 }
 
-static int host_broadcast(void)
+static int host_starts_receive(uint16_t port)
 {
-    return rte_pmd_ixgbe_set_vf_rxmode(ports[HOST].number, 0, RTE_ETH_VMDQ_ACCEPT_BROADCAST, 1);
+    return rte_pmd_ixgbe_set_vf_rx(port, 0, 1);
 }
 
-static int host_all_multicast(void)
+static int host_pings(uint16_t port)
 {
-    return rte_eth_allmulticast_enable(ports[HOST].number);
+    return rte_pmd_ixgbe_ping_vf(port, 0);
 }
 
-static int host_no_multicast(void)
-{
-    return rte_eth_allmulticast_disable(ports[HOST].number);
-}
-
-static int host_promiscuous(void)
-{
-    return rte_eth_promiscuous_enable(ports[HOST].number);
-}
-
-static int host_no_longer(void)
-{
-    return rte_eth_promiscuous_disable(ports[HOST].number);
-}
-
-static int host_stops_receive(void)
-{
-    return rte_pmd_ixgbe_set_vf_rx(ports[HOST].number, 0, 0);
-}
-
-static int host_starts_receive(void)
-{
-    return rte_pmd_ixgbe_set_vf_rx(ports[HOST].number, 0, 1);
-}
-
-static int host_pings(void)
-{
-    return rte_pmd_ixgbe_ping_vf(ports[HOST].number, 0);
-}
-
-/* What is asked, what the driver answers, and who then gets a frame to each address: the host (H), a function by its
-   number, nobody (-). The addresses are the columns of tell_head. */
+/* What is asked of a port, what its driver answers, and who then gets a frame to each address: the host (H), a function
+   by its number, nobody (-). The addresses are the columns of tell_head. */
 static const struct {
     const char *what;
-    int (*ask)(void);
+    unsigned int port;
+    int (*ask)(uint16_t port);
     int answer;
     char who[COLUMNS + 1];
 } rows[] = {
-    {"as they start", nothing, 0, "H01---H00"},
-    {"VF0: a further address", add, 0, "H010--H00"},
-    {"VF0: no longer", take_away, 0, "H01---H00"},
-    {"VF0: another address", change, 0, "H-1-0-H--"},
-    {"VF0: its former one", change_back, 0, "H01---H00"},
-    {"VF0: a multicast address", list, 0, "H01---H00"},
-    {"VF0: all multicast", all_multicast, 0, "H01---H00"},
-    {"VF0: promiscuous", promiscuous, -ENOTSUP, "H01---H00"},
-    {"VF0: VLAN 100", vlan, 0, "H01---H00"},
-    {"VF0: no longer", vlan_off, 0, "H01---H00"},
-    {"VF0: MTU 1,400", shorter, 0, "H01---H00"},
-    {"VF0: MTU 1,500", longer, 0, "H01---H00"},
-    {"host: gives VF0 another address", host_gives, 0, "H-1-0-H--"},
-    {"host: the former one", host_gives_back, 0, "H01---H00"},
-    {"host: VF0 takes broadcasts", host_broadcast, 0, "H01---H00"},
-    {"host: all multicast", host_all_multicast, 0, "H01--HH00"},
-    {"host: no longer", host_no_multicast, 0, "H01---H00"},
-    {"host: promiscuous", host_promiscuous, 0, "H01HHHH00"},
-    {"host: no longer", host_no_longer, 0, "H01---H00"},
-    {"host: VF0 doesn't receive", host_stops_receive, 0, "H-1---H--"},
-    {"host: VF0 receives", host_starts_receive, 0, "H01---H00"},
-    {"host: pings VF0", host_pings, 0, "H01---H00"},
+    {"as they start", F0, nothing, 0, "H01---H00"},
+    {"VF0: a further address", F0, add, 0, "H010--H00"},
+    {"VF0: no longer", F0, take_away, 0, "H01---H00"},
+    {"VF0: another address", F0, change, 0, "H-1-0-H--"},
+    {"VF0: its former one", F0, change_back, 0, "H01---H00"},
+    {"VF0: a multicast address", F0, list, 0, "H01---H00"},
+    {"VF0: all multicast", F0, rte_eth_allmulticast_enable, 0, "H01---H00"},
+    {"VF0: promiscuous", F0, rte_eth_promiscuous_enable, -ENOTSUP, "H01---H00"},
+    {"VF0: VLAN 100", F0, vlan, 0, "H01---H00"},
+    {"VF0: no longer", F0, vlan_off, 0, "H01---H00"},
+    {"VF0: MTU 1,400", F0, shorter, 0, "H01---H00"},
+    {"VF0: MTU 1,500", F0, longer, 0, "H01---H00"},
+    {"host: gives VF0 another address", HOST, host_gives, 0, "H-1-0-H--"},
+    {"host: the former one", HOST, host_gives_back, 0, "H01---H00"},
+    {"host: VF0 takes broadcasts", HOST, host_broadcast, 0, "H01---H00"},
+    {"host: all multicast", HOST, rte_eth_allmulticast_enable, 0, "H01--HH00"},
+    {"host: no longer", HOST, rte_eth_allmulticast_disable, 0, "H01---H00"},
+    {"host: promiscuous", HOST, rte_eth_promiscuous_enable, 0, "H01HHHH00"},
+    {"host: no longer", HOST, rte_eth_promiscuous_disable, 0, "H01---H00"},
+    {"host: VF0 doesn't receive", HOST, host_stops_receive, 0, "H-1---H--"},
+    {"host: VF0 receives", HOST, host_starts_receive, 0, "H01---H00"},
+    {"host: pings VF0", HOST, host_pings, 0, "H01---H00"},
 };
 
 static const char *const heads[COLUMNS] = {"host", "VF0", "VF1", ":77", ":78", "group", "all", "V100", "V200"};
@@ -198,7 +170,7 @@ static void try_row(size_t row)
     const struct rte_ether_addr *to[COLUMNS] = {&ports[HOST].mac, &former,   &ports[F1].mac, &further, &another,
                                                 &group,           &everyone, &former,        &former};
     char who[COLUMNS + 1] = {0};
-    int answer = rows[row].ask();
+    int answer = rows[row].ask(ports[rows[row].port].number);
     for (unsigned int i = 0; i < COLUMNS; i++)
         who[i] = letter(who_gets(to[i]->addr_bytes, i == COLUMNS - 2 ? VLAN : i == COLUMNS - 1 ? OTHER_VLAN : 0));
     printf("  %-32s", rows[row].what);

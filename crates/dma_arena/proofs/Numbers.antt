@@ -1,8 +1,9 @@
-use Rattle.std.proofs.Common.{◌≡◌, ℕ, zero, suc, ◌-◌, ◌&&◌, Bool, true, false, cond, Option, List, [], ◌∷◌, map, length, get_or, replicate, refl, sym, ap, arith}
+use Rattle.std.proofs.Common.{◌≡◌, ℕ, zero, suc, ◌+◌, ◌-◌, ◌&&◌, Bool, true, false, cond, Option, List, [], ◌∷◌, map, length, get_or, replicate, eqb, refl, ap, ◌∙◌, arith}
 use Rattle.std.specs.Prelude.{count_by, is_some}
 use Rattle.std.specs.List.{list_all}
-use Rattle.std.proofs.lemmas.List.Folds.{list_all-map}
-use Rattle.std.proofs.lemmas.List.Sums.{sum_by-cons}
+use Rattle.std.proofs.lemmas.Bool.{ne_eqb}
+use Rattle.std.proofs.lemmas.Bool.Decides.{nat_tests}
+use Rattle.std.proofs.lemmas.List.Sums.{sum_by-cons, count_by-le-length}
 use Rattle.dma_arena.specs.Numbers.{Numbers, free_count, is_free}
 
 -- lists of marks
@@ -12,6 +13,15 @@ pub all_set-is : (xs : List Bool) → list_all (λ x. x) xs ≡ true → xs ≡ 
 all_set-is [] h = refl
 all_set-is (true ∷ xs) h = ap (λ ys. true ∷ ys) (all_set-is xs h)
 all_set-is (false ∷ xs) h = cc
+
+one_more : (a b c : ℕ) → a ≡ 1 + b → eqb a (suc c) ≡ eqb b c
+one_more a b c e = grind (arith, nat_tests)
+
+-- all are set where as many are counted as there are
+pub all_counted : (xs : List Bool) → eqb (count_by (λ x. x) xs) (length xs) ≡ list_all (λ x. x) xs
+all_counted [] = refl
+all_counted (true ∷ xs) = one_more _ _ _ (sum_by-cons (λ (x : Bool). cond x 1 0) true xs) ∙ all_counted xs
+all_counted (false ∷ xs) = ne_eqb _ _ (omega (arith, count_by-le-length (λ x. x) xs))
 
 -- none is set where none is counted
 pub get_or-of_no_count : (xs : List Bool) (k : ℕ) → count_by (λ x. x) xs ≡ 0 → get_or xs k false ≡ false
@@ -31,10 +41,6 @@ module _ {A : Type 0} where
   -- the numbers that slots show
   abbrev pub marks : ℕ → List (Option A) → Numbers
   marks first slots = record { first = first; free = map is_some slots }
-
-  pub list_all-marks : (slots : List (Option A))
-      → list_all (λ slot. is_some slot) slots ≡ list_all (λ x. x) (map is_some slots)
-  list_all-marks slots = sym (list_all-map (λ x. x) is_some slots)
 
 -- a place of an arena is a number of it
 

@@ -104,7 +104,7 @@ impl FreeList {
     pub(crate) fn all_free(&self) -> bool
         ensures { result ≡ list_all (λ free. free) self.now }
     {
-        all_are_free(&self.slots)
+        self.count_free() as usize == self.len()
     }
 
     /// The index of the first free block. `None` where no block is free.
@@ -295,11 +295,4 @@ fn unlink(ends: &mut Links, slots: &mut [Option<FreeBlock>], place: u32) -> RawB
         unreachable!();
     };
     block.into_memory()
-}
-
-/// Whether each slot has a free block.
-fn all_are_free(slots: &[Option<FreeBlock>]) -> bool
-    ensures { result ≡ list_all (λ slot. is_some slot) slots.now }
-{
-    slots.iter().all(|slot| slot.is_some())
 }

@@ -1,4 +1,4 @@
-ghost use Rattle.std.specs.Prelude.{◌≡◌, ◌≤◌, ◌↔◌, IsTrue, [], length};
+ghost use Rattle.std.specs.Prelude.{◌≡◌, ◌≤◌, [], length};
 ghost use Rattle.std.specs.Vec.{vec_capacity};
 
 use std::marker::Model;
@@ -37,13 +37,6 @@ impl Octets {
         }
     }
 
-    /// Whether both have equal bytes.
-    pub fn same(&self, other: &Octets) -> bool
-        ensures { IsTrue result ↔ (self.now ≡ other.now) }
-    {
-        self.bytes() == other.bytes()
-    }
-
     /// The bytes, in order.
     pub fn bytes(&self) -> &[u8]
         ensures { result.now ≡ self.now }
@@ -57,5 +50,21 @@ impl Octets {
     {
         let Octets { bytes: vector } = self;
         vector
+    }
+}
+
+/// Equal where all bytes are.
+impl PartialEq for Octets {
+    ghost use Rattle.std.specs.Prelude.{◌==◌};
+    ghost use Rattle.std.specs.Cmp.Rules.{comparing};
+    ghost use Rattle.std.proofs.Common.{rules};
+    ghost use lib.Pointwise.{pointwise};
+
+    ghost eq = { pointwise ◌==◌ };
+
+    ghost laws = { Prim.search (comparing, rules) };
+
+    fn eq(&self, other: &Octets) -> bool {
+        self.bytes() == other.bytes()
     }
 }

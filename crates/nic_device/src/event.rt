@@ -38,7 +38,7 @@ impl Port {
 /// CTRL bit 2 disables bus mastering, the device's own steps are `Idle`.
 ///
 /// `B` is the type of a packet buffer: the buffer itself, which can't be dropped, or in a note a copy of what it holds.
-#[derive(Debug, Drop)]
+#[derive(PartialEq, Debug, Drop)]
 pub enum Event<B = Buf> {
     /// A read of a register, by its number at the port. The reply is `Word`, or `Stray` where there is no register.
     Read(Port, u32),
@@ -175,7 +175,7 @@ pub enum Why {
 }
 
 /// What the device replies to an event.
-#[derive(Debug, Drop)]
+#[derive(PartialEq, Debug, Drop)]
 pub enum Reply<B = Buf> {
     /// The word of 32 bits that a read returned.
     Word(u32),
@@ -317,6 +317,23 @@ impl Note {
         ensures { IsTrue result ↔ (self.now ≡ other.now) }
     {
         self.holding.same(&other.holding)
+    }
+}
+
+/// Equal where the blocks are, by number and bytes.
+impl PartialEq for Note {
+    ghost use Rattle.std.specs.Prelude.{◌==◌};
+    ghost use Rattle.std.specs.Cmp.Rules.{comparing};
+    ghost use Rattle.std.specs.Ordering.{on, eq_of_both};
+    ghost use Rattle.std.proofs.Common.{rules};
+    ghost use lib.Pointwise.{pointwise};
+
+    ghost eq = { eq_of_both (on (λ b. b.number) ◌==◌) (on (λ b. b.bytes) (pointwise ◌==◌)) };
+
+    ghost laws = { Prim.search (comparing, rules) };
+
+    fn eq(&self, other: &Note) -> bool {
+        self.same(other)
     }
 }
 

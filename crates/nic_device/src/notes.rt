@@ -115,32 +115,7 @@ impl Event<Note> {
     pub fn same(&self, other: &EventNote) -> bool
         ensures { IsTrue result ↔ (self.now ≡ other.now) }
     {
-        match (self, other) {
-            (Event::Read(port, address), Event::Read(other_port, other_address)) => {
-                *port == *other_port && *address == *other_address
-            }
-            (
-                Event::Write(port, address, word),
-                Event::Write(other_port, other_address, other_word),
-            ) => { *port == *other_port && *address == *other_address && *word == *other_word }
-            (Event::Lend(block), Event::Lend(other)) => block.same(other),
-            (Event::Take(number), Event::Take(other)) => *number == *other,
-            (Event::Peek16(address), Event::Peek16(other)) => *address == *other,
-            (Event::Poke16(address, bytes), Event::Poke16(other_address, other_bytes)) => {
-                *address == *other_address && *bytes == *other_bytes
-            }
-            (Event::Arrive(frame), Event::Arrive(other)) => frame.same(other),
-            (Event::RxStep, Event::RxStep) => true,
-            (Event::TxStep(queue), Event::TxStep(other)) => *queue == *other,
-            (Event::IntStep(group), Event::IntStep(other)) => *group == *other,
-            (Event::QueueStep(dir, queue), Event::QueueStep(other_dir, other_queue)) => {
-                *dir == *other_dir && *queue == *other_queue
-            }
-            (Event::EepromStep, Event::EepromStep) => true,
-            (Event::Link(up), Event::Link(other)) => *up == *other,
-            (Event::Collect, Event::Collect) => true,
-            _ => false,
-        }
+        *self == *other
     }
 }
 
@@ -288,82 +263,6 @@ impl Reply<Note> {
     pub fn same(&self, other: &ReplyNote) -> bool
         ensures { IsTrue result ↔ (self.now ≡ other.now) }
     {
-        match (self, other) {
-            (Reply::Word(word), Reply::Word(other)) => *word == *other,
-            (Reply::Stray(word), Reply::Stray(other)) => *word == *other,
-            (Reply::Done, Reply::Done) => true,
-            (Reply::Bytes(bytes), Reply::Bytes(other)) => *bytes == *other,
-            (Reply::Buf(block), Reply::Buf(other)) => block.same(other),
-            (Reply::Twice(block), Reply::Twice(other)) => block.same(other),
-            (Reply::NotLent, Reply::NotLent) => true,
-            (Reply::Misaligned, Reply::Misaligned) => true,
-            (Reply::NoQueue, Reply::NoQueue) => true,
-            (Reply::NoGroup, Reply::NoGroup) => true,
-            (Reply::Idle, Reply::Idle) => true,
-            (Reply::Dropped(why), Reply::Dropped(other)) => *why == *other,
-            (
-                Reply::Wrote {
-                    queue,
-                    slot,
-                    end,
-                    desc,
-                    at,
-                    len,
-                },
-                Reply::Wrote {
-                    queue: other_queue,
-                    slot: other_slot,
-                    end: other_end,
-                    desc: other_desc,
-                    at: other_at,
-                    len: other_len,
-                },
-            ) => {
-                *queue == *other_queue
-                    && *slot == *other_slot
-                    && *end == *other_end
-                    && *desc == *other_desc
-                    && *at == *other_at
-                    && *len == *other_len
-            }
-            (
-                Reply::Advanced { queue, slot, back },
-                Reply::Advanced {
-                    queue: other_queue,
-                    slot: other_slot,
-                    back: other_back,
-                },
-            ) => *queue == *other_queue && *slot == *other_slot && *back == *other_back,
-            (
-                Reply::Sent { queue, len, back },
-                Reply::Sent {
-                    queue: other_queue,
-                    len: other_len,
-                    back: other_back,
-                },
-            ) => *queue == *other_queue && *len == *other_len && *back == *other_back,
-            (
-                Reply::Fault { queue, fault },
-                Reply::Fault {
-                    queue: other_queue,
-                    fault: other_fault,
-                },
-            ) => *queue == *other_queue && *fault == *other_fault,
-            (
-                Reply::Message { group, vector },
-                Reply::Message {
-                    group: other_group,
-                    vector: other_vector,
-                },
-            ) => *group == *other_group && *vector == *other_vector,
-            (
-                Reply::Frame { queue, bytes },
-                Reply::Frame {
-                    queue: other_queue,
-                    bytes: other_bytes,
-                },
-            ) => *queue == *other_queue && bytes.same(other_bytes),
-            _ => false,
-        }
+        *self == *other
     }
 }

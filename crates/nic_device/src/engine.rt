@@ -72,26 +72,9 @@ impl Engine {
     }
 
     #[tactic(auto, unfolding(crate::specs::Step::step_of))]
-    /// Makes one event. Register accesses, which are the most frequent, are handled first.
+    /// Makes one event.
     #[inline(always)]
     pub(crate) fn step(&mut self, event: Event) -> Result<Reply, OutOfMemory<Event>>
-        ensures reply { IfOk result (λ reply. reply ≡ (step_of self.old event).reply) }
-        ensures state { OnOk result (self.new ≡ (step_of self.old event).state) }
-        ensures back { IfErr result (λ refused. refused.0 ≡ event) }
-        ensures unchanged { OnErr result (self.new ≡ self.old) }
-        ensures memory { OnErr result (TakesMemory self.old event) }
-    {
-        match event {
-            Event::Read(port, number) => Ok(self.read(port, number)),
-            Event::Write(port, number, word) => Ok(self.write(port, number, word)),
-            other => self.step_any(other),
-        }
-    }
-
-    #[tactic(auto, unfolding(crate::specs::Step::step_of))]
-    /// Makes an event of any kind.
-    #[inline(always)]
-    fn step_any(&mut self, event: Event) -> Result<Reply, OutOfMemory<Event>>
         ensures reply { IfOk result (λ reply. reply ≡ (step_of self.old event).reply) }
         ensures state { OnOk result (self.new ≡ (step_of self.old event).state) }
         ensures back { IfErr result (λ refused. refused.0 ≡ event) }

@@ -327,7 +327,7 @@ impl RegisterFile {
         ensures { self.new ≡ stored self.old place view word }
     {
         let mask = mask_of(place.row) & view;
-        let old = self.row_word(place.row, place.index);
+        let old = self.cell(place.row, place.index);
         self.set_word(place.row, place.index, (old & !mask) | (word & mask));
     }
 }

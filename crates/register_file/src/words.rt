@@ -14,11 +14,13 @@ use intr_unit::Group;
 use reg_table::RowId;
 
 impl RegisterFile {
-    /// The stored word of a row at an index below the row's count.
+    /// The stored word of a row at an index below the row's count. It is one that the row can hold: a group's auto-clear
+    /// and auto-mask have only bits of the group.
     #[inline(always)]
     pub(crate) fn cell(&self, row: RowId, index: u16) -> u32
         requires { index < (row_of row).count }
-        ensures { result ≡ word_of self.now row index }
+        ensures word { result ≡ word_of self.now row index }
+        ensures holds { IsWordOf row index result }
     {
         let at = usize::from(index);
         match row {
@@ -66,23 +68,6 @@ impl RegisterFile {
             | RowId::Links
             | RowId::Eec => 0,
             _ => cell_word(&self.cells, row, index),
-        }
-    }
-
-    /// The stored word, and that it is one that the row can hold: a group's auto-clear and auto-mask have only bits of
-    /// the group.
-    #[inline(always)]
-    pub(crate) fn row_word(&self, row: RowId, index: u16) -> u32
-        requires { index < (row_of row).count }
-        ensures word { result ≡ word_of self.now row index }
-        ensures holds { IsWordOf row index result }
-    {
-        match row {
-            RowId::Eiac => self.groups.of(Group::Pf).auto_clear(),
-            RowId::Eiam => self.groups.of(Group::Pf).auto_mask(),
-            RowId::Pvteiac => self.groups.of(Group::Vf(index as u8)).auto_clear(),
-            RowId::Pvteiam => self.groups.of(Group::Vf(index as u8)).auto_mask(),
-            _ => self.cell(row, index),
         }
     }
 

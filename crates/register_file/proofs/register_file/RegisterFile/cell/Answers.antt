@@ -2,16 +2,17 @@ use Rattle.std.proofs.Common.{sym, ap, ◌∙◌, get_or}
 use Rattle.std.proofs.lemmas.List.{get_or-replicate}
 use Rattle.reg_table.specs.Rows.{row_of}
 use Rattle.register_file.proofs.AmongCells.{cell_of, cell_row, zero_row}
+use Rattle.register_file.proofs.Storing.{free_word}
 use Rattle.register_file.proofs.register_file.RegisterFile.cell.Goals as goal
 
-pub returns-in-Status : goal.returns-in-Status
-returns-in-Status c =
+pub returns-in-Status-clause-word : goal.returns-in-Status-clause-word
+returns-in-Status-clause-word c =
     rw (← c.self.view_is)
     (sym (ap (λ ws. get_or ws c.args.index 0) (zero_row c.self.inside c.args.row c.in-Status.is)
     ∙ get_or-replicate (row_of c.args.row).count c.args.index 0 0 c.requires))
 
-pub returns-in_default : goal.returns-in_default
-returns-in_default c =
+pub returns-in_default-clause-word : goal.returns-in_default-clause-word
+returns-in_default-clause-word c =
     let d = c.in_default in
     let cell = cell_of c.args.row
     d.not-Status d.not-Pvfctrl d.not-Pfmbimr d.not-Eicr d.not-Eics d.not-Eiac d.not-Eims d.not-Eimc d.not-Eiam
@@ -22,3 +23,8 @@ returns-in_default c =
     d.not-Eec in
     rw (← c.self.view_is)
     (c.cell_word.ensures ∙ sym (ap (λ ws. get_or ws c.args.index 0) (cell_row c.self.inside c.args.row cell)))
+
+pub returns-in_default-clause-holds : goal.returns-in_default-clause-holds
+returns-in_default-clause-holds c =
+    let d = c.in_default in
+    free_word c.args.row c.args.index _ d.not-Eiac d.not-Eiam d.not-Pvteiac d.not-Pvteiam

@@ -36,25 +36,8 @@ const EEPROM_SIZE: u32 = 0x0000_0800;
 pub fn asks_reset(place: Place, word: u32) -> bool
     ensures { result ≡ asks_reset (row_of place.row).kind word }
 {
-    match kind_of(place.row) {
-        Kind::Ctrl => has_flag(word, Ctrl::LRST) || has_flag(word, Ctrl::RST),
-        Kind::Rw
-        | Kind::Ro
-        | Kind::Calc
-        | Kind::Rc
-        | Kind::Cause
-        | Kind::Ones
-        | Kind::Set
-        | Kind::Clear
-        | Kind::Held
-        | Kind::Enable
-        | Kind::Vreset
-        | Kind::Eerd
-        | Kind::W1c
-        | Kind::Vfmail
-        | Kind::Pfmail
-        | Kind::Ctrlext => false,
-    }
+    matches!(kind_of(place.row), Kind::Ctrl)
+        && (has_flag(word, Ctrl::LRST) || has_flag(word, Ctrl::RST))
 }
 
 /// Whether a write of this word to a place asks for a reset of the pool with the place's index, and so does nothing
@@ -63,25 +46,7 @@ pub fn asks_reset(place: Place, word: u32) -> bool
 pub fn asks_pool_reset(place: Place, word: u32) -> bool
     ensures { result ≡ asks_pool_reset (row_of place.row).kind word }
 {
-    match kind_of(place.row) {
-        Kind::Vreset => has_flag(word, Pvfctrl::RST),
-        Kind::Rw
-        | Kind::Ro
-        | Kind::Calc
-        | Kind::Rc
-        | Kind::Cause
-        | Kind::Ones
-        | Kind::Set
-        | Kind::Clear
-        | Kind::Held
-        | Kind::Enable
-        | Kind::Ctrl
-        | Kind::Eerd
-        | Kind::W1c
-        | Kind::Vfmail
-        | Kind::Pfmail
-        | Kind::Ctrlext => false,
-    }
+    matches!(kind_of(place.row), Kind::Vreset) && has_flag(word, Pvfctrl::RST)
 }
 
 /// The interrupt group that a place belongs to, if any.

@@ -53,13 +53,13 @@ impl Octets {
     }
 }
 
-/// Equal where all bytes are.
 impl PartialEq for Octets {
     ghost use Rattle.std.specs.Prelude.{◌==◌};
     ghost use Rattle.std.specs.Cmp.Rules.{comparing};
     ghost use Rattle.std.proofs.Common.{rules};
     ghost use lib.Pointwise.{pointwise};
 
+    // two are equal where all their bytes are
     ghost eq = { pointwise ◌==◌ };
 
     ghost laws = { Prim.search (comparing, rules) };

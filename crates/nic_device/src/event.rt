@@ -320,7 +320,6 @@ impl Note {
     }
 }
 
-/// Equal where the blocks are, by number and bytes.
 impl PartialEq for Note {
     ghost use Rattle.std.specs.Prelude.{◌==◌};
     ghost use Rattle.std.specs.Cmp.Rules.{comparing};
@@ -328,6 +327,7 @@ impl PartialEq for Note {
     ghost use Rattle.std.proofs.Common.{rules};
     ghost use lib.Pointwise.{pointwise};
 
+    // two are equal where the blocks are, by number and bytes
     ghost eq = { eq_of_both (on (λ b. b.number) ◌==◌) (on (λ b. b.bytes) (pointwise ◌==◌)) };
 
     ghost laws = { Prim.search (comparing, rules) };

@@ -57,12 +57,7 @@ fn group_of(place: Place) -> Option<Group>
 {
     match owner_of(place) {
         Owner::Group(group) => Some(group),
-        Owner::Device
-        | Owner::Counters
-        | Owner::Side(_, _)
-        | Owner::Pool(_)
-        | Owner::VfCounters(_)
-        | Owner::Vectors(_) => None,
+        _ => None,
     }
 }
 
@@ -79,18 +74,7 @@ impl RegisterFile {
             Kind::Calc => self.calculated(around, place.row),
             Kind::Set | Kind::Clear | Kind::Vreset => 0,
             Kind::Pfmail => self.holders(place.index),
-            Kind::Rw
-            | Kind::Ro
-            | Kind::Rc
-            | Kind::Cause
-            | Kind::Ones
-            | Kind::Held
-            | Kind::Enable
-            | Kind::Ctrl
-            | Kind::Eerd
-            | Kind::W1c
-            | Kind::Vfmail
-            | Kind::Ctrlext => { self.word(place.row, place.index) }
+            _ => self.word(place.row, place.index),
         }
     }
 
@@ -129,15 +113,7 @@ impl RegisterFile {
             Kind::Calc => self.calculated(around, row),
             Kind::Set | Kind::Clear | Kind::Vreset => 0,
             Kind::Pfmail => self.holders(index),
-            Kind::Rw
-            | Kind::Ro
-            | Kind::Ones
-            | Kind::Held
-            | Kind::Enable
-            | Kind::Ctrl
-            | Kind::Eerd
-            | Kind::W1c
-            | Kind::Ctrlext => self.word(row, index),
+            _ => self.word(row, index),
         }
     }
 
@@ -247,12 +223,7 @@ impl RegisterFile {
     {
         match owner {
             Owner::Side(dir, queue) => self.is_on(dir, queue),
-            Owner::Device
-            | Owner::Counters
-            | Owner::Group(_)
-            | Owner::Pool(_)
-            | Owner::VfCounters(_)
-            | Owner::Vectors(_) => false,
+            _ => false,
         }
     }
 
@@ -261,14 +232,8 @@ impl RegisterFile {
         requires { IsThere owner }
         ensures { self.new ≡ asked self.old owner wanted }
     {
-        match owner {
-            Owner::Side(dir, queue) => self.want(dir, queue, wanted),
-            Owner::Device
-            | Owner::Counters
-            | Owner::Group(_)
-            | Owner::Pool(_)
-            | Owner::VfCounters(_)
-            | Owner::Vectors(_) => {}
+        if let Owner::Side(dir, queue) = owner {
+            self.want(dir, queue, wanted);
         }
     }
 

@@ -162,10 +162,7 @@ impl Device {
         match event {
             Event::Lend(_) | Event::Take(_) => BLOCK_BYTES,
             Event::Collect => self.next_out(),
-            Event::Read(_, _) | Event::Write(_, _, _) => 0,
-            Event::Peek16(_) | Event::Poke16(_, _) | Event::Arrive(_) => 0,
-            Event::RxStep | Event::TxStep(_) | Event::IntStep(_) | Event::QueueStep(_, _) => 0,
-            Event::EepromStep | Event::Link(_) => 0,
+            _ => 0,
         }
     }
 

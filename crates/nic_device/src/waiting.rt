@@ -108,26 +108,12 @@ impl Waiting {
     }
 
     /// The frame after `len` more of its bytes are written.
-    pub(crate) fn written(self, len: usize) -> Waiting
+    pub(crate) fn written(mut self, len: usize) -> Waiting
         requires { self.offset + len ≤ length self.frame }
         ensures { result ≡ record self { offset = self.offset + len } }
     {
-        let Waiting {
-            frame,
-            queue,
-            hash,
-            rss,
-            offset,
-            first,
-        } = self;
-        Waiting {
-            frame,
-            queue,
-            hash,
-            rss,
-            offset: offset + len,
-            first,
-        }
+        self.offset += len;
+        self
     }
 }
 

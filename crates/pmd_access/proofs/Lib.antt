@@ -1,6 +1,7 @@
 pub use Rattle.device_lock.proofs as DeviceLock
 pub use Rattle.device_lock.proofs.NicDevice
 pub mod Amid
+pub mod Asking
 pub mod Begun
 pub mod Bringing
 pub mod Copying

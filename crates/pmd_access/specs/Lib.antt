@@ -2,6 +2,7 @@ pub use Rattle.device_lock.specs as DeviceLock
 pub use Rattle.device_lock.specs.Events
 pub use Rattle.device_lock.specs.NicDevice
 pub mod Accesses
+pub mod Asks
 pub mod Begun
 pub mod Both
 pub mod Bufs

@@ -1,6 +1,5 @@
 pub use Rattle.device_lock.proofs as DeviceLock
 pub use Rattle.device_lock.proofs.NicDevice
-pub mod Amid
 pub mod Asking
 pub mod Begun
 pub mod Bringing

@@ -1,9 +1,14 @@
 -- Why calls are refused.
-use Rattle.std.proofs.Common.{◌≡◌, Bool, true, IsTrue, refl, sym, ap, subst, Result, Ok, Err, IfErr}
+use Rattle.std.proofs.Common.{◌≡◌, Bool, true, IsTrue, refl, sym, ap, subst, Result, Ok, Err, IfErr, OnErr}
 use Rattle.device_lock.specs.declared.fault.CallFault.{CallFault}
 use Rattle.device_lock.specs.declared.fault.CallFault.TheVariants.{ForeignPass, HistoryFull, OutOfMemory}
 use Rattle.device_lock.specs.Fault.{event_of, fault_with}
 use Rattle.pmd_access.specs.Refusals.{Refusals, CanRefuse}
+
+-- what holds in any case, holds of an error
+pub on_err : {T E P : Type 0} (r : Result T E) → P → OnErr r P
+on_err (Ok x) p = tt
+on_err (Err e) p = p
 
 -- want of memory may be reported by each way
 pub memory_refuses : {A E : Type 0} (e : E) (r : Result A (CallFault E)) (way : Refusals)

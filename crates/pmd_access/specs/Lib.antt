@@ -12,6 +12,7 @@ pub mod Home
 pub mod Made
 pub mod Named
 pub mod Packet
+pub mod Parts
 pub mod QueueMade
 pub mod Refusals
 pub mod Scheduled

@@ -74,13 +74,6 @@ pools_word Pools16 = 1
 pools_word Pools32 = 1
 pools_word Pools64 = 1
 
--- the pools: the mode, and each pool receives and sends
-abbrev pub pool_settings : Mode → List Setting
-pool_settings mode =
-    setting GcrExt 0 (mode_word mode) ∷ setting VtCtl 0 (pools_word mode)
-    ∷ setting Vfre 0 0xFFFFFFFF ∷ setting Vfre 1 0xFFFFFFFF
-    ∷ setting Vfte 0 0xFFFFFFFF ∷ setting Vfte 1 0xFFFFFFFF ∷ []
-
 -- the word of four bytes, the lowest first
 abbrev pub word_in : List ℕ → ℕ → ℕ
 word_in bytes index = from_le_bytes w32 (slice_range bytes (4 * index) (4 * index + 4))
@@ -90,27 +83,26 @@ unfoldable pub packed : RowId → List ℕ → ℕ → List Setting
 packed row bytes zero = []
 packed row bytes (suc count) = packed row bytes count ++ setting row count (word_in bytes count) ∷ []
 
--- what passes, how long a frame may be, and that receiving and transmitting are on: by HLREG0 frames of 1,518 bytes
--- pass, and where longer ones are to, it has its bit 2, and MAXFRS the length
+-- FCTRL: which frames pass
 abbrev pub fctrl_word : Bool → ℕ
 fctrl_word promiscuous = if promiscuous then 0x700 else 0x400
 
-abbrev pub opening_short : Bool → List Setting
-opening_short promiscuous =
-    setting Rxcsum 0 0x2000 ∷ setting Fctrl 0 (fctrl_word promiscuous) ∷ setting Hlreg0 0 0x403
-    ∷ setting Dmatxctl 0 1 ∷ setting Rxctrl 0 1 ∷ []
+-- by HLREG0 frames of 1,518 bytes pass. Where longer ones are to, it has its bit 2, and MAXFRS the length
 
-abbrev pub opening_long : ℕ → Bool → List Setting
-opening_long frame promiscuous =
-    setting Rxcsum 0 0x2000 ∷ setting Fctrl 0 (fctrl_word promiscuous) ∷ setting Maxfrs 0 (65536 * frame)
-    ∷ setting Hlreg0 0 0x407 ∷ setting Dmatxctl 0 1 ∷ setting Rxctrl 0 1 ∷ []
+abbrev pub maxfrs_settings : ℕ → List Setting
+maxfrs_settings frame = if nat_lt shortest_frame frame then setting Maxfrs 0 (65536 * frame) ∷ [] else []
 
-abbrev pub opening : ℕ → Bool → List Setting
-opening frame promiscuous =
-    if nat_lt shortest_frame frame then opening_long frame promiscuous else opening_short promiscuous
+abbrev pub hlreg0_word : ℕ → ℕ
+hlreg0_word frame = if nat_lt shortest_frame frame then 0x407 else 0x403
 
--- all registers of the set-up, in order
+-- all registers of the set-up, in order: the pools, of which each receives and sends; how a frame's queue is chosen;
+-- what passes, how long a frame may be, and that sending and receiving are on
 abbrev pub settings_of : Setup → List Setting
 settings_of s =
-    pool_settings s.mode ++ (setting Mrqc 0 s.mrqc ∷ []) ++ packed Rssrk s.key 10 ++ packed Reta s.reta 32
-    ++ opening s.frame s.promiscuous
+    setting GcrExt 0 (mode_word s.mode) ∷ setting VtCtl 0 (pools_word s.mode)
+    ∷ setting Vfre 0 0xFFFFFFFF ∷ setting Vfre 1 0xFFFFFFFF
+    ∷ setting Vfte 0 0xFFFFFFFF ∷ setting Vfte 1 0xFFFFFFFF
+    ∷ setting Mrqc 0 s.mrqc ∷ packed Rssrk s.key 10 ++ packed Reta s.reta 32
+    ++ setting Rxcsum 0 0x2000 ∷ setting Fctrl 0 (fctrl_word s.promiscuous)
+    ∷ maxfrs_settings s.frame ++ setting Hlreg0 0 (hlreg0_word s.frame)
+    ∷ setting Dmatxctl 0 1 ∷ setting Rxctrl 0 1 ∷ []

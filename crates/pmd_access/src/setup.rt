@@ -1,12 +1,14 @@
 //! The set-up of the whole device, before any queue is started.
 
-ghost use Rattle.std.specs.Prelude.{◌≡◌, ◌+◌, ◌*◌, ◌/◌, ◌<◌, ◌≤◌, [], ◌∷◌, All, length, Err, IsTrue, IsFalse, OnOk, IfErr};
+ghost use Rattle.std.specs.Prelude.{◌≡◌, ◌+◌, ◌*◌, ◌≤◌, [], ◌∷◌, All, length, Err, IsTrue, IsFalse, OnOk, IfErr};
 ghost use Rattle.device_lock.specs.NicDevice.RegTable.Rows.{row_of};
+ghost use Rattle.pmd_access.specs.Asks.{Asks, fault_in};
 ghost use Rattle.pmd_access.specs.Begun.{BeganAs};
 ghost use Rattle.pmd_access.specs.Frames.{is_frame};
-ghost use Rattle.pmd_access.specs.Setup.{AreSet, SettingFails, StopsSetting, IsAddressOf, IsInRow, mode_word};
-ghost use Rattle.pmd_access.specs.Setup.{pools_word, pool_settings, fctrl_word, opening, opening_short, opening_long};
-ghost use Rattle.pmd_access.specs.Setup.{setting, word_in, packed, settings_of};
+ghost use Rattle.pmd_access.specs.Parts.{IsPart, all_settings, settings_in};
+ghost use Rattle.pmd_access.specs.Setup.{AreSet, SettingFails, StopsSetting, IsInRow, mode_word};
+ghost use Rattle.pmd_access.specs.Setup.{pools_word, fctrl_word, hlreg0_word, maxfrs_settings, word_in, packed};
+ghost use Rattle.pmd_access.specs.Setup.{settings_of};
 ghost use Rattle.pmd_access.specs.Refusals.{CanFail};
 
 use crate::accesses::write;
@@ -26,9 +28,6 @@ const PROMISCUOUS: u32 = Fctrl::MPE.0 | Fctrl::UPE.0 | Fctrl::BAM.0;
 
 /// HLREG0: the frame check sequence is added and stripped, and short frames are padded.
 const PAD_AND_CHECK: u32 = Hlreg0::TXCRCEN.0 | Hlreg0::RXCRCSTRP.0 | Hlreg0::TXPADEN.0;
-
-/// The same, and MAXFRS tells how long a frame may be.
-const PAD_CHECK_AND_JUMBO: u32 = PAD_AND_CHECK | Hlreg0::JUMBOEN.0;
 
 /// How the whole device is to be set up.
 #[derive(Clone, Copy)]
@@ -54,6 +53,17 @@ pub struct Setting {
     pub word: u32,
 }
 
+/// A part of the set-up.
+#[derive(Clone, Copy)]
+enum Part<'a> {
+    /// A register of a row is given a word.
+    Word(RowId, u16, u32),
+    /// The first so many registers of a row are given bytes, four each, the lowest first.
+    Bytes(RowId, u16, &'a [u8]),
+    /// No register is written.
+    Nothing,
+}
+
 /// The code of the mode in GCR_EXT.VT_Mode, bits 1 and 0.
 fn mode_word(mode: Mode) -> u32
     ensures { result ≡ mode_word mode }
@@ -76,14 +86,6 @@ fn pools_word(mode: Mode) -> u32
     }
 }
 
-/// A register's first address in the table.
-fn address_of(place: Place) -> u32
-    requires { IsInRow place }
-    ensures { IsAddressOf result place }
-{
-    addr_of(place)
-}
-
 /// Writes one register through the physical function.
 pub fn set<N: Nic>(alloc: Global, nic: &mut N, setting: Setting) -> Result<(), PmdFault>
     requires { IsInRow setting.place }
@@ -93,27 +95,12 @@ pub fn set<N: Nic>(alloc: Global, nic: &mut N, setting: Setting) -> Result<(), P
     ensures refusal { IfErr result (λ f. CanFail (N.refuses nic.new) f) }
     ensures failed { IfErr result (λ f. SettingFails f (N.made nic.old) (N.made nic.new) setting) }
 {
-    let address = address_of(setting.place);
+    let address = addr_of(setting.place);
     match write(alloc, nic, Port::Pf, address, setting.word) {
         Ok(true) => Ok(()),
         Ok(false) => Err(PmdFault::DeviceFault),
         Err(fault) => Err(PmdFault::Call(fault)),
     }
-}
-
-/// Writes registers through the physical function, in order.
-fn set_all<N: Nic>(alloc: Global, nic: &mut N, settings: &[Setting]) -> Result<(), PmdFault>
-    requires { All (λ s. IsInRow s.place) settings.now }
-    ensures set { OnOk result (AreSet (N.made nic.old) (N.made nic.new) settings.now) }
-    ensures began { BeganAs N.began nic.old nic.new }
-    ensures refuses { N.refuses nic.new ≡ N.refuses nic.old }
-    ensures refusal { IfErr result (λ f. CanFail (N.refuses nic.new) f) }
-    ensures failed { IfErr result (λ f. StopsSetting f (N.made nic.old) (N.made nic.new) settings.now) }
-{
-    for setting in settings {
-        set(alloc, nic, *setting)?;
-    }
-    Ok(())
 }
 
 /// The word that four bytes from byte `4 * index` on make, the lowest first.
@@ -136,11 +123,9 @@ fn set_packed<N: Nic>(
     requires row { count ≤ (row_of row).count }
     requires bytes { 4 * count ≤ length bytes.now }
     ensures set { OnOk result (AreSet (N.made nic.old) (N.made nic.new) (packed row bytes.now count)) }
-    ensures began { BeganAs N.began nic.old nic.new }
-    ensures refuses { N.refuses nic.new ≡ N.refuses nic.old }
-    ensures refusal { IfErr result (λ f. CanFail (N.refuses nic.new) f) }
     ensures failed { IfErr result (λ f.
         StopsSetting f (N.made nic.old) (N.made nic.new) (packed row bytes.now count)) }
+    ensures asks { Asks N.began N.refuses (fault_in result) nic.old nic.new }
 {
     for index in 0..count {
         let word = word_in(bytes, usize::from(index));
@@ -148,20 +133,6 @@ fn set_packed<N: Nic>(
         set(alloc, nic, Setting { place, word })?;
     }
     Ok(())
-}
-
-/// The pools: the mode, and each pool receives and sends.
-fn pool_settings(mode: Mode) -> [Setting; 6]
-    ensures { result ≡ pool_settings mode }
-{
-    [
-        setting_of(RowId::GcrExt, 0, mode_word(mode)),
-        setting_of(RowId::VtCtl, 0, pools_word(mode)),
-        setting_of(RowId::Vfre, 0, ALL_POOLS),
-        setting_of(RowId::Vfre, 1, ALL_POOLS),
-        setting_of(RowId::Vfte, 0, ALL_POOLS),
-        setting_of(RowId::Vfte, 1, ALL_POOLS),
-    ]
 }
 
 /// FCTRL: which frames pass.
@@ -175,71 +146,69 @@ fn fctrl_word(promiscuous: bool) -> u32
     }
 }
 
-/// What passes, and that receiving and transmitting are on: frames of 1,518 bytes at most.
-fn opening_short(promiscuous: bool) -> [Setting; 5]
-    ensures { result ≡ opening_short promiscuous }
-{
-    [
-        setting_of(RowId::Rxcsum, 0, Rxcsum::PCSD.0),
-        setting_of(RowId::Fctrl, 0, fctrl_word(promiscuous)),
-        setting_of(RowId::Hlreg0, 0, PAD_AND_CHECK),
-        setting_of(RowId::Dmatxctl, 0, Dmatxctl::TE.0),
-        setting_of(RowId::Rxctrl, 0, Rxctrl::RXEN.0),
-    ]
-}
-
-/// Which frames pass, and that receiving and transmitting are on: frames of `frame` bytes at most.
-fn opening_long(frame: u16, promiscuous: bool) -> [Setting; 6]
-    ensures { result ≡ opening_long frame promiscuous }
-{
-    [
-        setting_of(RowId::Rxcsum, 0, Rxcsum::PCSD.0),
-        setting_of(RowId::Fctrl, 0, fctrl_word(promiscuous)),
-        setting_of(RowId::Maxfrs, 0, 65_536 * u32::from(frame)),
-        setting_of(RowId::Hlreg0, 0, PAD_CHECK_AND_JUMBO),
-        setting_of(RowId::Dmatxctl, 0, Dmatxctl::TE.0),
-        setting_of(RowId::Rxctrl, 0, Rxctrl::RXEN.0),
-    ]
-}
-
-fn setting_of(row: RowId, index: u16, word: u32) -> Setting
-    ensures { result ≡ setting row index word }
-{
-    Setting {
-        place: Place { row, index },
-        word,
-    }
-}
-
-/// Says what passes and how long a frame may be, and opens the device.
-fn open<N: Nic>(alloc: Global, nic: &mut N, frame: u16, promiscuous: bool) -> Result<(), PmdFault>
-    ensures set { OnOk result (AreSet (N.made nic.old) (N.made nic.new) (opening frame promiscuous)) }
-    ensures began { BeganAs N.began nic.old nic.new }
-    ensures refuses { N.refuses nic.new ≡ N.refuses nic.old }
-    ensures refusal { IfErr result (λ f. CanFail (N.refuses nic.new) f) }
-    ensures failed { IfErr result (λ f.
-        StopsSetting f (N.made nic.old) (N.made nic.new) (opening frame promiscuous)) }
+/// HLREG0: by it frames of 1,518 bytes pass, or as many as MAXFRS says.
+fn hlreg0_word(frame: u16) -> u32
+    ensures { result ≡ hlreg0_word frame }
 {
     if frame > SHORTEST_FRAME {
-        return set_all(alloc, nic, &opening_long(frame, promiscuous));
+        PAD_AND_CHECK | Hlreg0::JUMBOEN.0
+    } else {
+        PAD_AND_CHECK
     }
-    set_all(alloc, nic, &opening_short(promiscuous))
 }
 
-/// Sets the whole device up, with frames of a length that may be.
-fn set_up<N: Nic>(alloc: Global, nic: &mut N, setup: &Setup) -> Result<(), PmdFault>
-    ensures set { OnOk result (AreSet (N.made nic.old) (N.made nic.new) (settings_of setup.now)) }
-    ensures began { BeganAs N.began nic.old nic.new }
-    ensures refuses { N.refuses nic.new ≡ N.refuses nic.old }
-    ensures refusal { IfErr result (λ f. CanFail (N.refuses nic.new) f) }
-    ensures failed { IfErr result (λ f. StopsSetting f (N.made nic.old) (N.made nic.new) (settings_of setup.now)) }
+/// MAXFRS: how long a frame may be, where that is more than 1,518 bytes.
+fn maxfrs(frame: u16) -> Part<'static>
+    ensures settings { settings_in result ≡ maxfrs_settings frame }
+    ensures known { IsPart result }
 {
-    set_all(alloc, nic, &pool_settings(setup.mode))?;
-    set_all(alloc, nic, &[setting_of(RowId::Mrqc, 0, setup.mrqc)])?;
-    set_packed(alloc, nic, RowId::Rssrk, &setup.key, 10)?;
-    set_packed(alloc, nic, RowId::Reta, &setup.reta, 32)?;
-    open(alloc, nic, setup.frame, setup.promiscuous)?;
-    Ok(())
+    if frame > SHORTEST_FRAME {
+        Part::Word(RowId::Maxfrs, 0, 65_536 * u32::from(frame))
+    } else {
+        Part::Nothing
+    }
+}
+
+/// The whole set-up, part by part: the pools, of which each receives and sends; how a frame's queue is chosen; what
+/// passes, how long a frame may be, and that sending and receiving are on.
+fn parts_of(setup: &Setup) -> [Part<'_>; 15]
+    ensures settings { all_settings result ≡ settings_of setup.now }
+    ensures known { All IsPart result }
+{
+    [
+        Part::Word(RowId::GcrExt, 0, mode_word(setup.mode)),
+        Part::Word(RowId::VtCtl, 0, pools_word(setup.mode)),
+        Part::Word(RowId::Vfre, 0, ALL_POOLS),
+        Part::Word(RowId::Vfre, 1, ALL_POOLS),
+        Part::Word(RowId::Vfte, 0, ALL_POOLS),
+        Part::Word(RowId::Vfte, 1, ALL_POOLS),
+        Part::Word(RowId::Mrqc, 0, setup.mrqc),
+        Part::Bytes(RowId::Rssrk, 10, &setup.key),
+        Part::Bytes(RowId::Reta, 32, &setup.reta),
+        Part::Word(RowId::Rxcsum, 0, Rxcsum::PCSD.0),
+        Part::Word(RowId::Fctrl, 0, fctrl_word(setup.promiscuous)),
+        maxfrs(setup.frame),
+        Part::Word(RowId::Hlreg0, 0, hlreg0_word(setup.frame)),
+        Part::Word(RowId::Dmatxctl, 0, Dmatxctl::TE.0),
+        Part::Word(RowId::Rxctrl, 0, Rxctrl::RXEN.0),
+    ]
+}
+
+/// Writes the registers of a part.
+fn set_part<N: Nic>(alloc: Global, nic: &mut N, part: Part<'_>) -> Result<(), PmdFault>
+    requires { IsPart part }
+    ensures set { OnOk result (AreSet (N.made nic.old) (N.made nic.new) (settings_in part.entry)) }
+    ensures failed { IfErr result (λ f. StopsSetting f (N.made nic.old) (N.made nic.new) (settings_in part.entry)) }
+    ensures asks { Asks N.began N.refuses (fault_in result) nic.old nic.new }
+{
+    match part {
+        Part::Word(row, index, word) => {
+            let place = Place { row, index };
+            set(alloc, nic, Setting { place, word })
+        }
+        Part::Bytes(row, count, bytes) => set_packed(alloc, nic, row, bytes, count),
+        Part::Nothing => Ok(()),
+    }
 }
 
 /// Sets the whole device up, through the physical function: GCR_EXT, VT_CTL, VFRE, VFTE, MRQC, RSSRK, RETA, RXCSUM,
@@ -260,5 +229,9 @@ pub fn pf_setup<N: Nic>(alloc: Global, nic: &mut N, setup: &Setup) -> Result<(),
     if !is_frame(setup.frame) {
         return Err(PmdFault::BadSize);
     }
-    set_up(alloc, nic, setup)
+    let parts: &[Part<'_>] = &parts_of(setup);
+    for part in parts {
+        set_part(alloc, nic, *part)?;
+    }
+    Ok(())
 }

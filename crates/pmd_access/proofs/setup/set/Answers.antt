@@ -5,8 +5,12 @@ pub returns-in-Ok-true-clause-set : goal.returns-in-Ok-true-clause-set
 returns-in-Ok-true-clause-set g c = (
   g.N.Nic.made c.write.new.nic,
   (
-    c.address_of-address.result,
-    c.address_of-address.ensures,
+    c.addr_of-address.result,
+    record {
+      first = c.addr_of-address.ensures.first;
+      names = c.addr_of-address.ensures.back;
+      whole = c.addr_of-address.ensures.whole;
+    },
     rw c.in-Ok-true.field-0-test at c.in-Ok-true.ensures.made,
   ),
   refl,

@@ -1,6 +1,7 @@
-use Rattle.std.proofs.Common.{◌≡◌, ℕ, ◌∙◌, subst}
-use Rattle.pmd_access.specs.Setup.{word_in}
+use Rattle.std.proofs.Common.{◌≡◌, ℕ, subst}
 use Rattle.std.proofs.lemmas.Result.{err_from_is_err_and}
+use Rattle.pmd_access.specs.Setup.{word_in}
+use Rattle.pmd_access.proofs.Asking.{asks_then}
 use Rattle.pmd_access.proofs.Sequences.{packed_next, packed_stops}
 use Rattle.pmd_access.proofs.setup.set_packed.Goals as goal
 
@@ -16,10 +17,10 @@ returns-in_err-set-clause-failed g c =
 
 pub loop-index-preserved : goal.loop-index-preserved
 loop-index-preserved g c = (
-  λ o is. c.set.ensures.began o (c.loop-index.invariant.0 o is),
+  asks_then c.loop-index.invariant.0
+      (record { began = c.set.ensures.began; refuses = c.set.ensures.refuses; refusal = tt }),
   packed_next (g.N.Nic.made c.args.nic.now) (g.N.Nic.made c.loop-index.nic) (g.N.Nic.made c.set.new.nic) c.args.row
       c.args.bytes.now c.loop-index.index c.word_in-word.result c.loop-index.invariant.1 c.in_ok-set.ensures.set
       (let same : ℕ → Type 0 = λ n. c.word_in-word.result ≡ word_in c.args.bytes.now n in subst same c.from.ensures
       c.word_in-word.ensures),
-  c.set.ensures.refuses ∙ c.loop-index.invariant.2,
 )

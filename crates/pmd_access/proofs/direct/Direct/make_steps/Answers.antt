@@ -1,6 +1,6 @@
 use Rattle.std.proofs.Common.{ap}
 use Rattle.pmd_access.specs.Made.{InHand}
-use Rattle.pmd_access.proofs.Amid.{on_err}
+use Rattle.pmd_access.proofs.Refusals.{on_err}
 use Rattle.pmd_access.proofs.Stepping.{two_made, three_made}
 use Rattle.pmd_access.proofs.direct.Direct.make_steps.Goals as goal
 

@@ -1,6 +1,6 @@
 use Rattle.std.proofs.Common.{◌∙◌, arith}
 use Rattle.pmd_access.specs.Home.{Bringing, StopsBringing}
-use Rattle.pmd_access.proofs.Amid.{on_err}
+use Rattle.pmd_access.proofs.Refusals.{on_err}
 use Rattle.pmd_access.proofs.Bringing.{one_less, brings_more, brings_all}
 use Rattle.pmd_access.proofs.home.Reclaim.bring.Goals as goal
 

@@ -2,10 +2,9 @@
 
 ghost use Rattle.std.specs.Prelude.{◌≡◌, All, IfOk, IfErr, OnOk};
 ghost use Rattle.device_lock.specs.NicDevice.RegisterFile.Bits.{has_bit};
-ghost use Rattle.pmd_access.specs.Begun.{BeganAs};
+ghost use Rattle.pmd_access.specs.Asks.{Asks, fault_in};
 ghost use Rattle.pmd_access.specs.Named.{IsDriven};
 ghost use Rattle.pmd_access.specs.QueueMade.{IsKnown, IsSeen, IsMade, AreMade, ReadFails, FailsBy, StopsBy};
-ghost use Rattle.pmd_access.specs.Refusals.{CanFail};
 
 use crate::accesses::{read, write};
 use crate::fault::PmdFault;
@@ -38,9 +37,7 @@ impl Queue {
         requires { All IsKnown accesses.now }
         ensures made { OnOk result (AreMade self.now (N.made nic.old) (N.made nic.new) accesses.now) }
         ensures failed { IfErr result (λ f. StopsBy f self.now (N.made nic.old) (N.made nic.new) accesses.now) }
-        ensures began { BeganAs N.began nic.old nic.new }
-        ensures refuses { N.refuses nic.new ≡ N.refuses nic.old }
-        ensures refusal { IfErr result (λ f. CanFail (N.refuses nic.new) f) }
+        ensures asks { Asks N.began N.refuses (fault_in result) nic.old nic.new }
     {
         for access in accesses {
             self.make(alloc, nic, *access)?;
@@ -53,9 +50,7 @@ impl Queue {
         requires { IsKnown access }
         ensures made { OnOk result (IsMade self.now (N.made nic.old) (N.made nic.new) access) }
         ensures failed { IfErr result (λ f. FailsBy f self.now (N.made nic.old) (N.made nic.new) access) }
-        ensures began { BeganAs N.began nic.old nic.new }
-        ensures refuses { N.refuses nic.new ≡ N.refuses nic.old }
-        ensures refusal { IfErr result (λ f. CanFail (N.refuses nic.new) f) }
+        ensures asks { Asks N.began N.refuses (fault_in result) nic.old nic.new }
     {
         match access {
             Access::Sees(row, on) => {
@@ -88,9 +83,7 @@ impl Queue {
         requires { IsDriven row }
         ensures seen { IfOk result (λ on. IsSeen self.now (N.made nic.old) (N.made nic.new) row on) }
         ensures failed { IfErr result (λ f. ReadFails f self.now (N.made nic.old) (N.made nic.new) row) }
-        ensures began { BeganAs N.began nic.old nic.new }
-        ensures refuses { N.refuses nic.new ≡ N.refuses nic.old }
-        ensures refusal { IfErr result (λ f. CanFail (N.refuses nic.new) f) }
+        ensures asks { Asks N.began N.refuses (fault_in result) nic.old nic.new }
     {
         let number = self.number_of(row);
         match read(alloc, nic, self.port(), number) {

@@ -1,5 +1,5 @@
-use Rattle.std.proofs.Common.{◌∙◌}
 use Rattle.std.proofs.lemmas.Result.{err_from_is_err_and}
+use Rattle.pmd_access.proofs.Asking.{asks_then}
 use Rattle.pmd_access.proofs.QueueSequences.{made_next, made_stops}
 use Rattle.pmd_access.proofs.names.Queue.make_all.Goals as goal
 
@@ -13,9 +13,8 @@ returns-in_err-make-clause-failed g c =
 
 pub loop-access-preserved : goal.loop-access-preserved
 loop-access-preserved g c = (
-  λ o is. c.make.ensures.began o (c.loop-access.invariant.0 o is),
+  asks_then c.loop-access.invariant.0 c.in_ok-make.ensures.asks,
   made_next c.args.self.now (g.N.Nic.made c.args.nic.now) (g.N.Nic.made c.loop-access.nic)
       (g.N.Nic.made c.make.new.nic) c.args.accesses.now c.loop-access.access-index _ c.loop-access-test.true
       c.loop-access.invariant.1 c.in_ok-make.ensures.made,
-  c.make.ensures.refuses ∙ c.loop-access.invariant.2,
 )

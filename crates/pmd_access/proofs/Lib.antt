@@ -14,7 +14,6 @@ pub mod Polling
 pub mod QueueSequences
 pub mod Reading
 pub mod Refusals
-pub mod Replying
 pub mod Rings
 pub mod Sequences
 pub mod Standing

@@ -2,7 +2,7 @@
 use Rattle.std.proofs.Common.{◌≡◌, Bool, true, IsTrue, refl, sym, ap, subst, Result, Ok, Err, IfErr, OnErr}
 use Rattle.device_lock.specs.declared.fault.CallFault.{CallFault}
 use Rattle.device_lock.specs.declared.fault.CallFault.TheVariants.{ForeignPass, HistoryFull, OutOfMemory}
-use Rattle.device_lock.specs.Fault.{event_of, fault_with}
+use Rattle.device_lock.specs.Fault.{event_of}
 use Rattle.pmd_access.specs.Refusals.{Refusals, CanRefuse}
 
 -- what holds in any case, holds of an error
@@ -25,10 +25,3 @@ lock_refuses {A = A} {E = E} foreign e (Err (ForeignPass x)) only back =
     only (ap (λ (y : E). let r : Result A (CallFault E) = Err (ForeignPass y) in r) back)
 lock_refuses foreign e (Err (HistoryFull x)) only back = refl
 lock_refuses foreign e (Err (OutOfMemory x)) only back = tt
-
--- and so without its event
-pub without_refuses : {E F : Type 0} (f : CallFault E) (other : F) (way : Refusals) → CanRefuse way f
-    → CanRefuse way (fault_with f other)
-without_refuses (ForeignPass event) other way can = can
-without_refuses (HistoryFull event) other way can = can
-without_refuses (OutOfMemory event) other way can = can

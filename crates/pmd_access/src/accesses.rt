@@ -25,11 +25,9 @@ pub fn read<N: Nic>(
     ensures refused { OnErr result (AddsSome (N.made nic.old) (N.made nic.new)) }
 {
     match nic.call(alloc, Event::Read(port, number)) {
-        Ok(reply) => match reply {
-            Reply::Word(word) => Ok(Some(word)),
-            Reply::Stray(_) => Ok(None),
-            _ => unreachable!(),
-        },
+        Ok(Reply::Word(word)) => Ok(Some(word)),
+        Ok(Reply::Stray(_)) => Ok(None),
+        Ok(_reply) => unreachable!(),
         Err(fault) => Err(without_event(fault)),
     }
 }
@@ -49,11 +47,9 @@ pub fn write<N: Nic>(
     ensures refused { OnErr result (AddsSome (N.made nic.old) (N.made nic.new)) }
 {
     match nic.call(alloc, Event::Write(port, number, word)) {
-        Ok(reply) => match reply {
-            Reply::Done => Ok(true),
-            Reply::Stray(_) => Ok(false),
-            _ => unreachable!(),
-        },
+        Ok(Reply::Done) => Ok(true),
+        Ok(Reply::Stray(_)) => Ok(false),
+        Ok(_reply) => unreachable!(),
         Err(fault) => Err(without_event(fault)),
     }
 }
@@ -73,11 +69,9 @@ pub fn lend<N: Nic>(
     ensures refused { OnErr result (AddsSome (N.made nic.old) (N.made nic.new)) }
 {
     match nic.call(alloc, Event::Lend(buf)) {
-        Ok(reply) => match reply {
-            Reply::Done => Ok(None),
-            Reply::Twice(buf) => Ok(Some(buf)),
-            _ => unreachable!(),
-        },
+        Ok(Reply::Done) => Ok(None),
+        Ok(Reply::Twice(buf)) => Ok(Some(buf)),
+        Ok(_reply) => unreachable!(),
         Err(fault) => Err(with_block(fault)),
     }
 }
@@ -92,11 +86,9 @@ pub fn take<N: Nic>(alloc: Global, nic: &mut N, block: u32) -> Result<Option<Buf
     ensures refused { OnErr result (AddsSome (N.made nic.old) (N.made nic.new)) }
 {
     match nic.call(alloc, Event::Take(block)) {
-        Ok(reply) => match reply {
-            Reply::Buf(buf) => Ok(Some(buf)),
-            Reply::NotLent => Ok(None),
-            _ => unreachable!(),
-        },
+        Ok(Reply::Buf(buf)) => Ok(Some(buf)),
+        Ok(Reply::NotLent) => Ok(None),
+        Ok(_reply) => unreachable!(),
         Err(fault) => Err(without_event(fault)),
     }
 }
@@ -114,11 +106,9 @@ pub fn peek<N: Nic>(
     ensures refused { OnErr result (AddsSome (N.made nic.old) (N.made nic.new)) }
 {
     match nic.call(alloc, Event::Peek16(address)) {
-        Ok(reply) => match reply {
-            Reply::Bytes(bytes) => Ok(Some(bytes)),
-            Reply::NotLent | Reply::Misaligned => Ok(None),
-            _ => unreachable!(),
-        },
+        Ok(Reply::Bytes(bytes)) => Ok(Some(bytes)),
+        Ok(Reply::NotLent) | Ok(Reply::Misaligned) => Ok(None),
+        Ok(_reply) => unreachable!(),
         Err(fault) => Err(without_event(fault)),
     }
 }
@@ -137,11 +127,9 @@ pub fn poke<N: Nic>(
     ensures refused { OnErr result (AddsSome (N.made nic.old) (N.made nic.new)) }
 {
     match nic.call(alloc, Event::Poke16(address, bytes)) {
-        Ok(reply) => match reply {
-            Reply::Done => Ok(true),
-            Reply::NotLent | Reply::Misaligned => Ok(false),
-            _ => unreachable!(),
-        },
+        Ok(Reply::Done) => Ok(true),
+        Ok(Reply::NotLent) | Ok(Reply::Misaligned) => Ok(false),
+        Ok(_reply) => unreachable!(),
         Err(fault) => Err(without_event(fault)),
     }
 }

@@ -3,6 +3,7 @@
 ghost use Rattle.std.specs.Prelude.{◌≡◌, true, None, Some, is_some};
 ghost use Rattle.device_lock.specs.Fault.{event_of, fault_with};
 ghost use Rattle.device_lock.specs.NicDevice.Step.{lent_block};
+ghost use Rattle.pmd_access.specs.Refusals.{Refusals, CanRefuse};
 
 use device_lock::{Buf, CallFault, Event, OutOfMemory};
 
@@ -35,7 +36,8 @@ pub(crate) fn no_memory(refused: OutOfMemory<Event>) -> CallFault
 /// A refusal without its event, where the event holds no block.
 pub(crate) fn without_event(fault: CallFault) -> CallFault<()>
     requires { lent_block (event_of fault) ≡ None }
-    ensures { result ≡ fault_with fault tt }
+    ensures fault { result ≡ fault_with fault tt }
+    ensures refusal { (way : Refusals) → CanRefuse way fault → CanRefuse way result }
 {
     let (fault, event) = fault.replace(());
     match event.into_buf() {
@@ -48,6 +50,7 @@ pub(crate) fn without_event(fault: CallFault) -> CallFault<()>
 pub(crate) fn with_block(fault: CallFault) -> (CallFault<()>, Buf)
     requires { is_some (lent_block (event_of fault)) ≡ true }
     ensures fault { result.0 ≡ fault_with fault tt }
+    ensures refusal { (way : Refusals) → CanRefuse way fault → CanRefuse way result.0 }
     ensures block { lent_block (event_of fault) ≡ Some result.1 }
 {
     let (fault, event) = fault.replace(());

@@ -1,5 +1,5 @@
 -- A device in hand that is stepped on.
-use Rattle.std.proofs.Common.{◌≡◌, ℕ, zero, suc, List, [], ◌∷◌, ◌++◌, take, refl, sym, ap, ◌∙◌, append_assoc, Result, Ok, Err, IfOk, IfErr, OnErr}
+use Rattle.std.proofs.Common.{◌≡◌, ℕ, zero, suc, List, [], ◌∷◌, ◌++◌, take, refl, sym, ap, ◌∙◌, append_assoc, Result, Ok, Err, IfOk, IfErr, OnOk, OnErr}
 use Rattle.std.proofs.lemmas.List.{append-nil}
 use Rattle.device_lock.specs.NicDevice.DmaArena.Block.{Block}
 use Rattle.device_lock.specs.NicDevice.Step.{step_of}
@@ -39,7 +39,7 @@ amid_adds old new (made, is) =
     (some.0, ap (λ (h : InHand). h.calls) is ∙ some.1, some.2)
 
 -- the last of some events adds its own call, after steps
-pub last_adds : (es : List (Event Block)) (e : Event Block) (r : Reply Block) (old mid new : InHand) → AllSteps es
+last_adds : (es : List (Event Block)) (e : Event Block) (r : Reply Block) (old mid new : InHand) → AllSteps es
     → mid ≡ after_events old es → Adds mid.calls new.calls e r → Adds old.calls new.calls e r
 last_adds es e r old mid new steps is (before, adds, are) =
     let some = events_add es old steps in
@@ -51,7 +51,7 @@ last_adds es e r old mid new steps is (before, adds, are) =
       steps-append some.0 before some.2 are,
     )
 
-pub one_adds : (old new : InHand) (e : Event Block) (r : Reply Block) → new ≡ after_event old e
+one_adds : (old new : InHand) (e : Event Block) (r : Reply Block) → new ≡ after_event old e
     → r ≡ (step_of old.device e).reply → Adds old.calls new.calls e r
 one_adds old new e r is reply =
     ([], ap (λ (h : InHand). h.calls) is ∙ ap (λ (x : Reply Block). old.calls ++ call_of e x ∷ []) (sym reply), tt)
@@ -62,32 +62,36 @@ pub stops_after : (old mid new : InHand) → mid ≡ after_events old (steps_of_
 stops_after old mid new all same = (4, same ∙ all)
 
 -- two steps were made, or three
-pub two_made : (old a b new : InHand) (queue : ℕ) → queue ≡ old.queue
-    → a ≡ after_event old (event.QueueStep dir.Rx queue)
-    → b ≡ after_event a (event.QueueStep dir.Tx queue) → new ≡ b → StopsAmid old new
-two_made old a b new queue own p q r =
-    let both : ℕ → InHand = λ n. after_event (after_event old (event.QueueStep dir.Rx n)) (event.QueueStep dir.Tx n) in
-    (2, r ∙ q ∙ ap (λ (h : InHand). after_event h (event.QueueStep dir.Tx queue)) p ∙ ap both own)
+module _ (old start a b : InHand) (queue : ℕ) (begun : start ≡ old) (own : queue ≡ old.queue)
+    (first : a ≡ after_event start (event.QueueStep dir.Rx queue))
+    (second : b ≡ after_event a (event.QueueStep dir.Tx queue)) where
+  two_steps : b ≡ after_events old (take 2 (steps_of_queue old.queue))
+  two_steps =
+      let both : ℕ → InHand =
+      λ n. after_event (after_event old (event.QueueStep dir.Rx n)) (event.QueueStep dir.Tx n) in
+      second
+      ∙ ap (λ (h : InHand). after_event h (event.QueueStep dir.Tx queue))
+      (first ∙ ap (λ (h : InHand). after_event h (event.QueueStep dir.Rx queue)) begun)
+      ∙ ap both own
 
-pub three_made : (old a b d new : InHand) (queue : ℕ) → queue ≡ old.queue
-    → a ≡ after_event old (event.QueueStep dir.Rx queue) → b ≡ after_event a (event.QueueStep dir.Tx queue)
-    → d ≡ after_event b (event.TxStep queue) → new ≡ d → StopsAmid old new
-three_made old a b d new queue own p q r s =
-    let all : ℕ → InHand = λ n.
-    after_event (after_event (after_event old (event.QueueStep dir.Rx n)) (event.QueueStep dir.Tx n))
-    (event.TxStep n) in (
-      3,
-      s ∙ r ∙ ap (λ (h : InHand). after_event h (event.TxStep queue)) q
-          ∙ ap (λ (h : InHand). after_event (after_event h (event.QueueStep dir.Tx queue))
-          (event.TxStep queue)) p ∙ ap all own,
-    )
+  pub two_made : (new : InHand) → new ≡ b → StopsAmid old new
+  two_made new same = (2, same ∙ two_steps)
+
+  pub three_made : (d new : InHand) → d ≡ after_event b (event.TxStep queue) → new ≡ d → StopsAmid old new
+  three_made d new third same = (
+    3,
+    same ∙ third ∙ ap (λ (h : InHand). after_event h (event.TxStep queue)) two_steps
+        ∙ ap (λ (n : ℕ). after_event (after_events old (take 2 (steps_of_queue old.queue))) (event.TxStep n)) own,
+  )
 
 -- the reply to the last of some events, or its refusal
+
 pub reply_adds : (es : List (Event Block)) (e : Event Block) (r : Result (Reply Block) (CallFault (Event Block)))
-    (old mid new : InHand) → AllSteps es → mid ≡ after_events old es → IfOk r (λ x. Adds mid.calls new.calls e x)
-    → IfOk r (λ x. Adds old.calls new.calls e x)
-reply_adds es e (Ok x) old mid new steps is adds = last_adds es e x old mid new steps is adds
-reply_adds es e (Err f) old mid new steps is adds = tt
+    (old mid new : InHand) → AllSteps es → mid ≡ after_events old es → OnOk r (new ≡ after_event mid e)
+    → IfOk r (λ x. x ≡ (step_of mid.device e).reply) → IfOk r (λ x. Adds old.calls new.calls e x)
+reply_adds es e (Ok x) old mid new steps is made reply =
+    last_adds es e x old mid new steps is (one_adds mid new e x made reply)
+reply_adds es e (Err f) old mid new steps is made reply = tt
 
 pub refused_amid : (r : Result (Reply Block) (CallFault (Event Block))) (old mid new : InHand)
     → mid ≡ after_events old (steps_of_queue old.queue) → OnErr r (new ≡ mid) → OnErr r (StopsAmid old new)

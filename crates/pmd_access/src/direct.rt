@@ -1,4 +1,4 @@
-ghost use Rattle.std.specs.Prelude.{◌≡◌, ◌<◌, [], true, false, IfOk, IfErr, OnOk, OnErr};
+ghost use Rattle.std.specs.Prelude.{◌≡◌, ◌<◌, [], true, IfOk, IfErr, OnOk, OnErr};
 ghost use Rattle.device_lock.specs.NicDevice.Answering.{may_answer};
 ghost use Rattle.device_lock.specs.NicDevice.Step.{step_of};
 ghost use Rattle.device_lock.specs.Events.{is_step};
@@ -7,7 +7,7 @@ ghost use Rattle.pmd_access.specs.Begun.{BeganAs, From, began_in_hand};
 ghost use Rattle.pmd_access.specs.Made.{Adds, StopsAmid, after_event, after_events};
 ghost use Rattle.pmd_access.specs.Refusals.{memory_alone};
 
-use crate::fault::no_memory;
+use crate::fault::without_event;
 use crate::nic::Nic;
 use device_lock::{CallFault, Calls, Device, Dir, Event, OutOfMemory, Reply};
 use std::alloc::Global;
@@ -67,51 +67,32 @@ impl Direct {
     }
 
     /// Makes one event, and keeps the call.
-    fn make(&mut self, alloc: Global, event: Event) -> Result<Reply, OutOfMemory<Event>>
+    fn make(&mut self, alloc: Global, event: Event) -> Result<Reply, CallFault>
         ensures made { OnOk result (self.new ≡ after_event self.old event) }
         ensures reply { IfOk result (λ reply. reply ≡ (step_of self.old.device event).reply) }
         ensures fits { IfOk result (λ reply. may_answer event reply ≡ true) }
-        ensures back { IfErr result (λ refused. refused.0 ≡ event) }
+        ensures memory { IfErr result (λ fault. fault ≡ CallFault.OutOfMemory event) }
         ensures unchanged { OnErr result (self.new ≡ self.old) }
     {
-        self.calls.make(alloc, &mut self.device, event)
+        match self.calls.make(alloc, &mut self.device, event) {
+            Ok(reply) => Ok(reply),
+            Err(OutOfMemory(event)) => Err(CallFault::OutOfMemory(event)),
+        }
     }
 }
 
 impl Direct {
-    /// The number of the queue is in the range of its type, so that a driver can make its steps. It does nothing.
-    fn steps_are_of_a_driver(&self)
-        ensures { self.now.queue < 65536 }
-    {
-        let _queue = self.queue;
-    }
-
-    /// The device steps that are made before each call.
-    fn step_on(&mut self, alloc: Global) -> Result<(), OutOfMemory<()>>
+    /// Makes the device steps of its queue: at once where the queue is at rest and there is memory, each of them idle,
+    /// else one after the other.
+    fn step_on(&mut self, alloc: Global, queue: u16) -> Result<(), CallFault<()>>
+        requires { queue ≡ self.old.queue }
+        ensures number { self.old.queue < 65536 }
         ensures made { OnOk result (self.new ≡ after_events self.old (steps_of_queue self.old.queue)) }
         ensures refused { OnErr result (StopsAmid self.old self.new) }
     {
-        if self.rest() {
+        if self.calls.rest(&self.device, queue) {
             return Ok(());
         }
-        self.make_steps(alloc)
-    }
-
-    /// Makes them where the queue is at rest and there is memory: each is idle. Else it makes none of them. Answers
-    /// whether they are made.
-    fn rest(&mut self) -> bool
-        ensures made { result ≡ true → self.new ≡ after_events self.old (steps_of_queue self.old.queue) }
-        ensures unchanged { result ≡ false → self.new ≡ self.old }
-    {
-        self.calls.rest(&self.device, self.queue)
-    }
-
-    /// Makes them one after the other.
-    fn make_steps(&mut self, alloc: Global) -> Result<(), OutOfMemory<()>>
-        ensures made { OnOk result (self.new ≡ after_events self.old (steps_of_queue self.old.queue)) }
-        ensures refused { OnErr result (StopsAmid self.old self.new) }
-    {
-        let queue = self.queue;
         self.make_step(alloc, Event::QueueStep(Dir::Rx, queue))?;
         self.make_step(alloc, Event::QueueStep(Dir::Tx, queue))?;
         self.make_step(alloc, Event::TxStep(queue))?;
@@ -119,22 +100,8 @@ impl Direct {
         Ok(())
     }
 
-    /// Makes the event itself, once the device steps are made.
-    fn make_last(&mut self, alloc: Global, event: Event) -> Result<Reply, CallFault>
-        ensures made { OnOk result (self.new ≡ after_event self.old event) }
-        ensures adds { IfOk result (λ reply. Adds self.old.calls self.new.calls event reply) }
-        ensures fits { IfOk result (λ reply. may_answer event reply ≡ true) }
-        ensures memory { IfErr result (λ fault. fault ≡ CallFault.OutOfMemory event) }
-        ensures unchanged { OnErr result (self.new ≡ self.old) }
-    {
-        match self.make(alloc, event) {
-            Ok(reply) => Ok(reply),
-            Err(refused) => Err(no_memory(refused)),
-        }
-    }
-
     /// Makes one device step. Its reply is in the calls.
-    fn make_step(&mut self, alloc: Global, step: Event) -> Result<(), OutOfMemory<()>>
+    fn make_step(&mut self, alloc: Global, step: Event) -> Result<(), CallFault<()>>
         requires { is_step step ≡ true }
         ensures made { OnOk result (self.new ≡ after_event self.old step) }
         ensures unchanged { OnErr result (self.new ≡ self.old) }
@@ -144,10 +111,7 @@ impl Direct {
                 None => Ok(()),
                 Some(_buf) => unreachable!(),
             },
-            Err(refused) => match refused.0.into_buf() {
-                None => Err(OutOfMemory(())),
-                Some(_buf) => unreachable!(),
-            },
+            Err(fault) => Err(without_event(fault)),
         }
     }
 }
@@ -168,9 +132,9 @@ impl Direct {
         ensures began { BeganAs began_in_hand self.old self.new }
     {
         event.is_of_a_driver();
-        self.steps_are_of_a_driver();
-        match self.step_on(alloc) {
-            Ok(()) => self.make_last(alloc, event),
+        let queue = self.queue;
+        match self.step_on(alloc, queue) {
+            Ok(()) => self.make(alloc, event),
             Err(_) => Err(CallFault::OutOfMemory(event)),
         }
     }

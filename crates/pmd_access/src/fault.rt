@@ -5,7 +5,7 @@ ghost use Rattle.device_lock.specs.Fault.{event_of, fault_with};
 ghost use Rattle.device_lock.specs.NicDevice.Step.{lent_block};
 ghost use Rattle.pmd_access.specs.Refusals.{Refusals, CanRefuse};
 
-use device_lock::{Buf, CallFault, Event, OutOfMemory};
+use device_lock::{Buf, CallFault};
 
 /// Why a call of the driver fails.
 #[derive(Debug, Drop)]
@@ -23,14 +23,6 @@ pub enum PmdFault {
     DeviceFault,
     /// The way to the device refused a call.
     Call(CallFault<()>),
-}
-
-/// The event of a refusal of memory, as that of a call.
-pub(crate) fn no_memory(refused: OutOfMemory<Event>) -> CallFault
-    ensures { result ≡ CallFault.OutOfMemory refused.0 }
-{
-    let OutOfMemory(event) = refused;
-    CallFault::OutOfMemory(event)
 }
 
 /// A refusal without its event, where the event holds no block.

@@ -5,20 +5,20 @@ use Rattle.pmd_access.proofs.direct.Direct.step_and_make.Goals as goal
 
 pub returns-in-Ok-clause-adds : goal.returns-in-Ok-clause-adds
 returns-in-Ok-clause-adds c =
-    reply_adds (steps_of_queue c.args.self.now.queue) c.args.event c.make_last.result c.args.self.now c.step_on.new.self
-    c.make_last.new.self (queue_steps c.args.self.now.queue) c.in-Ok.ensures.made c.make_last.ensures.adds
+    reply_adds (steps_of_queue c.args.self.now.queue) c.args.event c.make.result c.args.self.now c.step_on.new.self
+    c.make.new.self (queue_steps c.args.self.now.queue) c.in-Ok.ensures.made c.make.ensures.made c.make.ensures.reply
 
 pub returns-in-Ok-clause-amid : goal.returns-in-Ok-clause-amid
 returns-in-Ok-clause-amid c =
-    refused_amid c.make_last.result c.args.self.now c.step_on.new.self c.make_last.new.self c.in-Ok.ensures.made
-    c.make_last.ensures.unchanged
+    refused_amid c.make.result c.args.self.now c.step_on.new.self c.make.new.self c.in-Ok.ensures.made
+    c.make.ensures.unchanged
 
 pub returns-in-Ok-clause-began : goal.returns-in-Ok-clause-began
 returns-in-Ok-clause-began c =
-    call_begins c.make_last.result c.args.event c.args.self.now c.step_on.new.self c.make_last.new.self
-    c.is_of_a_driver.ensures c.steps_are_of_a_driver.ensures c.in-Ok.ensures.made c.make_last.ensures.made
-    c.make_last.ensures.unchanged
+    call_begins c.make.result c.args.event c.args.self.now c.step_on.new.self c.make.new.self
+    c.is_of_a_driver.ensures c.step_on.ensures.number c.in-Ok.ensures.made c.make.ensures.made
+    c.make.ensures.unchanged
 
 pub returns-in-Err-clause-began : goal.returns-in-Err-clause-began
 returns-in-Err-clause-began c =
-    amid_begins c.args.self.now c.step_on.new.self c.steps_are_of_a_driver.ensures c.in-Err.ensures.refused
+    amid_begins c.args.self.now c.step_on.new.self c.step_on.ensures.number c.in-Err.ensures.refused

@@ -1,5 +1,5 @@
 -- What a ring that is filled lends was free before it was begun.
-use Rattle.std.proofs.Common.{◌≡◌, ◌≢◌, ◌<◌, ◌+◌, ℕ, ◌⊎◌, inl, inr, true, false, List, [], ◌∷◌, Result, Ok, Err, IfErr, sym, subst}
+use Rattle.std.proofs.Common.{◌≡◌, ◌≢◌, ◌<◌, ◌+◌, ℕ, ◌⊎◌, inl, inr, true, false, List, [], ◌∷◌, Option, Some, None, IfSome, sym, subst}
 use Rattle.std.proofs.lemmas.Bool.{cases_eq}
 use Rattle.pmd_access.specs.NicDevice.DmaArena.Numbers.{Numbers, free_count, is_free, with_free}
 use Rattle.pmd_access.proofs.NicDevice.DmaArena.Arenas.{is_own-of_free, is_free-with_free_other}
@@ -12,7 +12,7 @@ use Rattle.pmd_rx.specs.Keeping.{Keeps}
 use Rattle.pmd_rx.specs.Wrong.{IsFault, FailsBy}
 use Rattle.pmd_access.specs.declared.fault.PmdFault.{PmdFault}
 use Rattle.pmd_access.specs.declared.fault.PmdFault.TheVariants as fault
-use Rattle.pmd_rx.proofs.Failing.{fails_of, fault_after, fault_in}
+use Rattle.pmd_rx.proofs.Failing.{fails_of, fault_after, fault_among}
 use Rattle.pmd_rx.proofs.Playing.{plays_both, plays_in}
 
 -- a block that is free once others were taken was free before
@@ -50,13 +50,13 @@ pub fails_then : (f : PmdFault) (a b d : Numbers) (old mid new : List Call) (v w
 fails_then f a b d old mid new v w x plays keeps is =
     fails_of f old new a d v x
     (fault_after f a old mid new v w x plays
-    (fault_in f a b mid new w x (free_before a keeps.arena.0 b keeps.arena.1) is))
+    (fault_among f a b mid new w x (free_before a keeps.arena.0 b keeps.arena.1) is))
 
-pub all_fail_then : {A : Type 0} (r : Result A PmdFault) (a b d : Numbers) (old mid new : List Call) (v w x : Receive)
-    → PlaysFrom a old v mid w → Keeps a v b w [] → IfErr r (λ f. IsFault f b mid w new x)
-    → IfErr r (λ f. FailsBy f old a v new d x)
-all_fail_then (Ok o) a b d old mid new v w x plays keeps is = tt
-all_fail_then (Err f) a b d old mid new v w x plays keeps is = fails_then f a b d old mid new v w x plays keeps is
+pub all_fail_then : (o : Option PmdFault) (a b d : Numbers) (old mid new : List Call) (v w x : Receive)
+    → PlaysFrom a old v mid w → Keeps a v b w [] → IfSome o (λ f. IsFault f b mid w new x)
+    → IfSome o (λ f. FailsBy f old a v new d x)
+all_fail_then None a b d old mid new v w x plays keeps is = tt
+all_fail_then (Some f) a b d old mid new v w x plays keeps is = fails_then f a b d old mid new v w x plays keeps is
 
 -- calls that post some blocks, and then the one that fails
 pub stops_filling : (f : PmdFault) (count : ℕ) (a b d : Numbers) (old mid new : List Call) (v w x : Receive)

@@ -1,10 +1,11 @@
 -- Why calls fail.
-use Rattle.std.proofs.Common.{◌≡◌, ℕ, true, List, Result, Ok, Err, IfErr, refl, ap, subst, ◌∙◌}
+use Rattle.std.proofs.Common.{◌≡◌, ℕ, true, List, Option, Some, None, IfSome, Result, Ok, Err, refl, ap, subst, ◌∙◌}
 use Rattle.std.specs.Prelude.{IsFalse}
 use Rattle.pmd_access.specs.NicDevice.DmaArena.Block.{Block}
 use Rattle.pmd_access.specs.NicDevice.DmaArena.Numbers.{Numbers, is_free}
 use Rattle.pmd_access.specs.NicDevice.declared.event.Event.{Event}
 use Rattle.pmd_access.specs.NicDevice.declared.event.Reply.{Reply}
+use Rattle.pmd_access.specs.Asks.{fault_in}
 use Rattle.pmd_access.specs.DeviceLock.declared.entry.Call.{Call}
 use Rattle.pmd_access.specs.Made.{Adds}
 use Rattle.pmd_access.specs.declared.fault.PmdFault.{PmdFault}
@@ -70,14 +71,14 @@ wrong_in : (a b : Numbers) (old new : List Call) (v w : Receive) → ((n : ℕ) 
 wrong_in a b old new v w all (mid, e, r, on, own, free, adds, bad) =
     (mid, e, r, plays_in a b all old mid v w on, own, free-in a b all true e free, adds, bad)
 
-pub fault_in : (f : PmdFault) (a b : Numbers) (old new : List Call) (v w : Receive)
+pub fault_among : (f : PmdFault) (a b : Numbers) (old new : List Call) (v w : Receive)
     → ((n : ℕ) → is_free b n ≡ true → is_free a n ≡ true) → IsFault f b old v new w → IsFault f a old v new w
-fault_in fault.BadSize a b old new v w all is = is
-fault_in fault.ForeignBlock a b old new v w all is = is
-fault_in fault.StartTimeout a b old new v w all is = is
-fault_in fault.NoBuffer a b old new v w all is = is
-fault_in fault.DeviceFault a b old new v w all is = wrong_in a b old new v w all is
-fault_in (fault.Call refusal) a b old new v w all is = asks_in a b w all is
+fault_among fault.BadSize a b old new v w all is = is
+fault_among fault.ForeignBlock a b old new v w all is = is
+fault_among fault.StartTimeout a b old new v w all is = is
+fault_among fault.NoBuffer a b old new v w all is = is
+fault_among fault.DeviceFault a b old new v w all is = wrong_in a b old new v w all is
+fault_among (fault.Call refusal) a b old new v w all is = asks_in a b w all is
 
 -- what fails where as many blocks are free as are wanted is at fault
 pub fault_of : (f : PmdFault) (old new : List Call) (a b : Numbers) (v w : Receive) → (f ≡ fault.NoBuffer → ⊥)
@@ -89,34 +90,36 @@ fault_of fault.NoBuffer old new a b v w enough is = absurd (enough refl)
 fault_of fault.DeviceFault old new a b v w enough is = is
 fault_of (fault.Call refusal) old new a b v w enough is = is
 
--- the same of a result
+-- the same where there may be none
+
+pub fails_all : (o : Option PmdFault) (old new : List Call) (a b : Numbers) (v w : Receive)
+    → IfSome o (λ f. IsFault f a old v new w) → IfSome o (λ f. FailsBy f old a v new b w)
+fails_all None old new a b v w is = tt
+fails_all (Some f) old new a b v w is = fails_of f old new a b v w is
+
+pub fails_behind : (o : Option PmdFault) (old mid new : List Call) (a b : Numbers) (v w x : Receive)
+    → PlaysFrom a old v mid w → w ≡ record v { seen = w.seen; stage = w.stage }
+    → IfSome o (λ f. FailsBy f mid a w new b x) → IfSome o (λ f. FailsBy f old a v new b x)
+fails_behind None old mid new a b v w x plays l is = tt
+fails_behind (Some f) old mid new a b v w x plays l is = fails_after f old mid new a b v w x plays l is
+
+pub faults_of : (o : Option PmdFault) (old new : List Call) (a b : Numbers) (v w : Receive)
+    → (o ≡ Some fault.NoBuffer → ⊥) → IfSome o (λ f. FailsBy f old a v new b w)
+    → IfSome o (λ f. IsFault f a old v new w)
+faults_of None old new a b v w enough is = tt
+faults_of (Some f) old new a b v w enough is = fault_of f old new a b v w (λ same. enough (ap Some same)) is
+
+-- a device's fault is no want of a block
+pub never_short : (o : Option PmdFault) (a : Numbers) (old new : List Call) (v w : Receive)
+    → IfSome o (λ f. IsFault f a old v new w) → o ≡ Some fault.NoBuffer → ⊥
+never_short o a old new v w is short =
+    subst (λ (p : Option PmdFault). IfSome p (λ f. IsFault f a old v new w)) short is
+
+-- a result with a fault
 
 pub err_same : {A E : Type 0} {x y : E} → (let r : Result A E = Err x in r) ≡ Err y → x ≡ y
 err_same is = cc
 
-pub fails_all : {A : Type 0} (r : Result A PmdFault) (old new : List Call) (a b : Numbers) (v w : Receive)
-    → IfErr r (λ f. IsFault f a old v new w) → IfErr r (λ f. FailsBy f old a v new b w)
-fails_all (Ok o) old new a b v w is = tt
-fails_all (Err f) old new a b v w is = fails_of f old new a b v w is
-
-pub fails_behind : {A : Type 0} (r : Result A PmdFault) (old mid new : List Call) (a b : Numbers) (v w x : Receive)
-    → PlaysFrom a old v mid w → w ≡ record v { seen = w.seen; stage = w.stage }
-    → IfErr r (λ f. FailsBy f mid a w new b x) → IfErr r (λ f. FailsBy f old a v new b x)
-fails_behind (Ok o) old mid new a b v w x plays l is = tt
-fails_behind (Err f) old mid new a b v w x plays l is = fails_after f old mid new a b v w x plays l is
-
-pub faults_of : {A : Type 0} (r : Result A PmdFault) (old new : List Call) (a b : Numbers) (v w : Receive)
-    → (r ≡ Err fault.NoBuffer → ⊥) → IfErr r (λ f. FailsBy f old a v new b w) → IfErr r (λ f. IsFault f a old v new w)
-faults_of (Ok o) old new a b v w enough is = tt
-faults_of (Err f) old new a b v w enough is =
-    fault_of f old new a b v w (λ same. enough (ap (λ (g : PmdFault). let r : Result _ PmdFault = Err g in r) same)) is
-
--- a device's fault is no want of a block
-pub no_short : (f : PmdFault) (a : Numbers) (old new : List Call) (v w : Receive) → IsFault f a old v new w
-    → f ≡ fault.NoBuffer → ⊥
-no_short f a old new v w is short = subst (λ (g : PmdFault). IsFault g a old v new w) short is
-
-pub never_short : {A : Type 0} (r : Result A PmdFault) (a : Numbers) (old new : List Call) (v w : Receive)
-    → IfErr r (λ f. IsFault f a old v new w) → r ≡ Err fault.NoBuffer → ⊥
-never_short (Ok o) a old new v w is short = cc
-never_short (Err f) a old new v w is short = no_short f a old new v w is (err_same short)
+pub err_of : {A : Type 0} (r : Result A PmdFault) {f : PmdFault} → fault_in r ≡ Some f → r ≡ Err f
+err_of (Ok x) is = cc
+err_of (Err g) is = cc

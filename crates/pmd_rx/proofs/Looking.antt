@@ -1,5 +1,5 @@
 -- A look at the slot after those that were seen.
-use Rattle.std.proofs.Common.{◌≡◌, ℕ, ◌<◌, ◌+◌, ◌≤◌, ◌∙◌, List, length, Option, Some, None, Result, Ok, Err, IfOk, IfErr, OnErr, refl, sym, ap, subst, inl, inr, arith}
+use Rattle.std.proofs.Common.{◌≡◌, ℕ, ◌<◌, ◌+◌, ◌∙◌, List, length, Option, Some, None, IfSome, Result, Ok, Err, IfOk, IfErr, OnErr, refl, sym, ap, subst, inl, inr, arith}
 use Rattle.std.specs.Prelude.{[]}
 use Rattle.std.proofs.lemmas.List.{length_push, nil_from_length}
 use Rattle.pmd_access.specs.NicDevice.declared.event.Event.TheVariants as event
@@ -7,6 +7,7 @@ use Rattle.pmd_access.specs.NicDevice.declared.event.Reply.TheVariants as reply
 use Rattle.pmd_access.specs.NicDevice.DmaArena.Numbers.{Numbers}
 use Rattle.pmd_access.specs.DeviceLock.declared.entry.Call.{Call}
 use Rattle.pmd_access.specs.Accesses.{IsPeeked}
+use Rattle.pmd_access.specs.Asks.{fault_in}
 use Rattle.pmd_access.specs.declared.fault.PmdFault.{PmdFault}
 use Rattle.pmd_access.specs.declared.packet.Packet.{Packet}
 use Rattle.pmd_access.specs.declared.fault.PmdFault.TheVariants as fault
@@ -118,7 +119,7 @@ looks_play a (Err f) old new v w can some looked same refused = look_refused a o
 
 pub looks_fail : (a : Numbers) (r : Result Look PmdFault) (old new : List Call) (v w : Receive) → v.stage ≡ Looks
     → length v.seen < length v.layout.blocks → OnErr r (w ≡ v) → IfErr r (λ f. IsRefused f old new)
-    → IfErr r (λ f. IsFault f a old v new w)
+    → IfSome (fault_in r) (λ f. IsFault f a old v new w)
 looks_fail a (Ok l) old new v w can some same refused = tt
 looks_fail a (Err f) old new v w can some same refused = refused_fault a old new v can some f w refused same
 
@@ -156,12 +157,6 @@ posted_more v runs looks holds none =
       ap (λ (s : Stage). vacated s) looks,
       none_named v runs looks holds none,
     )
-
--- it doesn't look at more than a packet has
-pub looked_enough : (v : Receive) → IsRunning v → v.stage ≡ Looks → v.layout.most ≤ length v.seen → ⊥
-looked_enough v runs looks many =
-    let amid : length v.seen < v.layout.most = subst (λ (s : Stage). IsAmid v s) looks runs.stage in
-    omega (arith, amid, many)
 
 pub looks_vainly : (old mid new : List Call) (v w x : Receive) → PlaysFrom (record { first = 0; free = [] }) old v mid w
     → w ≡ record v { seen = w.seen; stage = w.stage } → v.stage ≡ Looks → w.stage ≡ Looks → IsRunning w

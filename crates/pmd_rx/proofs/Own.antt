@@ -1,5 +1,5 @@
 -- Taking a part's block, and posting a fresh one.
-use Rattle.std.proofs.Common.{◌≡◌, ◌<◌, ◌∙◌, ℕ, true, List, length, Some, None, Result, Ok, Err, IfErr, OnOk, OnErr, refl, sym, subst, inl, inr}
+use Rattle.std.proofs.Common.{◌≡◌, ◌<◌, ◌∙◌, ℕ, true, List, length, Some, None, IfSome, Result, Ok, Err, IfErr, OnOk, OnErr, refl, sym, subst, inl, inr}
 use Rattle.pmd_access.specs.NicDevice.DmaArena.Block.{Block}
 use Rattle.pmd_access.specs.NicDevice.DmaArena.Numbers.{Numbers, is_free}
 use Rattle.pmd_access.specs.NicDevice.declared.event.Event.{Event}
@@ -7,6 +7,7 @@ use Rattle.pmd_access.specs.NicDevice.declared.event.Event.TheVariants as event
 use Rattle.pmd_access.specs.NicDevice.declared.event.Reply.TheVariants as reply
 use Rattle.pmd_access.specs.DeviceLock.declared.entry.Call.{Call}
 use Rattle.pmd_access.specs.Accesses.{IsTaken, IsLent}
+use Rattle.pmd_access.specs.Asks.{fault_in}
 use Rattle.pmd_access.specs.declared.fault.PmdFault.{PmdFault}
 use Rattle.pmd_access.specs.declared.fault.PmdFault.TheVariants as fault
 use Rattle.pmd_rx.specs.Plays.{PlaysFrom}
@@ -91,7 +92,7 @@ module _ (arena : Numbers) (old new : List Call) (v : Receive) (lent : HasLent v
       subst (PlaysFrom arena old v new) (sym same) (unnamed_plays f failed)
 
   pub name_fails : (r : Result Unit PmdFault) (w : Receive) → OnErr r (w ≡ v)
-      → IfErr r (λ f. IsUnnamed f old new v) → IfErr r (λ f. IsFault f arena old v new w)
+      → IfErr r (λ f. IsUnnamed f old new v) → IfSome (fault_in r) (λ f. IsFault f arena old v new w)
   name_fails (Ok o) w same failed = tt
   name_fails (Err f) w same failed =
       subst (λ (x : Receive). IsFault f arena old v new x) (sym same) (unnamed_fault f failed)

@@ -1,11 +1,12 @@
 //! Packets that come in: one by one, or several by one move of the tail.
 
-ghost use Rattle.std.specs.Prelude.{ℕ, ◌≡◌, ◌≢◌, ◌<◌, ◌≤◌, ◌+◌, ◌++◌, ◌∷◌, [], length, true, false, Ok, Err, IfOk, IfErr, IfSome, IfNone, OnErr};
+ghost use Rattle.std.specs.Prelude.{ℕ, ◌≡◌, ◌≢◌, ◌<◌, ◌≤◌, ◌+◌, ◌++◌, ◌∷◌, [], length, true, false, Ok, Err, IfOk, IfErr, IfSome, IfNone, OnErr, None};
 ghost use Rattle.pmd_access.specs.NicDevice.DmaArena.Numbers.{Numbers};
+ghost use Rattle.pmd_access.specs.Asks.{Asks, fault_in};
 ghost use Rattle.pmd_access.specs.Begun.{BeganAs};
 ghost use Rattle.pmd_access.specs.Home.{AreOut};
 ghost use Rattle.pmd_access.specs.Packet.{kept_of};
-ghost use Rattle.pmd_rx.specs.Acts.{ActsAlone, Gathers, goes_on};
+ghost use Rattle.pmd_rx.specs.Acts.{ActsAlone, Gathers};
 ghost use Rattle.pmd_rx.specs.Burst.{IsBurst};
 ghost use Rattle.pmd_rx.specs.Keeping.{Keeps, IsRunning, blocks_out, handed_blocks};
 ghost use Rattle.pmd_rx.specs.Plays.{PlaysFrom, LooksInVain};
@@ -28,8 +29,9 @@ impl ReceiveRing {
     ) -> Result<bool, PmdFault>
         requires running { IsRunning self.old }
         requires home { AreOut arena.old (blocks_out self.old) }
-        ensures gathers { Gathers N.made N.began N.refuses result
-            nic.old arena.old self.old nic.new arena.new self.new }
+        ensures asks { Asks N.began N.refuses (fault_in result) nic.old nic.new }
+        ensures gathers { Gathers (fault_in result)
+            (N.made nic.old) arena.old self.old (N.made nic.new) arena.new self.new }
         ensures one { result ≡ Ok true → OneMore self.old self.new }
         ensures none { result ≡ Ok false → self.old.whole ≡ []
             → LooksInVain (N.made nic.old) self.old (N.made nic.new) self.new }
@@ -50,7 +52,8 @@ impl ReceiveRing {
     fn take_more<N: Nic>(&mut self, alloc: Global, nic: &mut N, arena: &mut Arena, most: u16)
         requires running { IsRunning self.old }
         requires home { AreOut arena.old (blocks_out self.old) }
-        ensures { Gathers N.made N.began N.refuses goes_on nic.old arena.old self.old nic.new arena.new self.new }
+        ensures asks { Asks N.began N.refuses None nic.old nic.new }
+        ensures gathers { Gathers None (N.made nic.old) arena.old self.old (N.made nic.new) arena.new self.new }
     {
         for _packet in 0..most {
             match self.take_next(alloc, nic, arena) {
@@ -72,8 +75,9 @@ impl ReceiveRing {
         requires running { IsRunning self.old }
         requires home { AreOut arena.old (blocks_out self.old) }
         requires some { 0 < most }
-        ensures gathers { Gathers N.made N.began N.refuses result
-            nic.old arena.old self.old nic.new arena.new self.new }
+        ensures asks { Asks N.began N.refuses (fault_in result) nic.old nic.new }
+        ensures gathers { Gathers (fault_in result)
+            (N.made nic.old) arena.old self.old (N.made nic.new) arena.new self.new }
         ensures some { result ≡ Ok true → 0 < length self.new.whole }
         ensures none { result ≡ Ok false → LooksInVain (N.made nic.old) self.old (N.made nic.new) self.new }
         ensures waits { result ≡ Err PmdFault.NoBuffer → PacketWaits self.new.stage }
@@ -198,7 +202,8 @@ impl ReceiveRing {
         requires running { IsRunning self.old }
         requires some { 0 < length self.old.whole }
         requires most { 0 < most }
-        ensures acts { ActsAlone N.made N.began N.refuses result nic.old self.old nic.new self.new }
+        ensures asks { Asks N.began N.refuses (fault_in result) nic.old nic.new }
+        ensures acts { ActsAlone (fault_in result) (N.made nic.old) self.old (N.made nic.new) self.new }
         ensures out { (a : Numbers) → IsBurst result most a self.old out.old.items a self.new out.new.items }
         ensures some { result ≢ Ok 0 }
     {

@@ -2,6 +2,7 @@
 
 ghost use Rattle.std.specs.Prelude.{ℕ, ◌≡◌, ◌≢◌, ◌<◌, ◌≤◌, ◌+◌, [], length, true, false, Ok, Err, IfErr, OnOk, OnErr};
 ghost use Rattle.pmd_access.specs.NicDevice.DmaArena.Numbers.{Numbers, free_count, is_free, with_free};
+ghost use Rattle.pmd_access.specs.Asks.{Asks, fault_in};
 ghost use Rattle.pmd_access.specs.Begun.{BeganAs};
 ghost use Rattle.pmd_access.specs.Home.{AreOut};
 ghost use Rattle.pmd_rx.specs.Acts.{Gathers, GathersAlone};
@@ -33,8 +34,9 @@ impl ReceiveRing {
         requires stage { CanLend self.old.stage self.old.seen }
         requires room { length (reach self.old).blocks + 1 < self.old.layout.size }
         requires home { AreOut arena.old (blocks_out self.old) }
-        ensures gathers { Gathers N.made N.began N.refuses result
-            nic.old arena.old self.old nic.new arena.new self.new }
+        ensures asks { Asks N.began N.refuses (fault_in result) nic.old nic.new }
+        ensures gathers { Gathers (fault_in result)
+            (N.made nic.old) arena.old self.old (N.made nic.new) arena.new self.new }
         ensures named { OnOk result ((n : ℕ) × (is_free arena.old n ≡ true)
             × (arena.new ≡ with_free arena.old n false) × (self.new ≡ refilled self.old n)) }
         ensures none { result ≡ Err PmdFault.NoBuffer → free_count arena.old ≡ 0 }
@@ -56,7 +58,8 @@ impl ReceiveRing {
         nic: &mut N,
     ) -> Result<bool, PmdFault>
         requires running { IsRunning self.old }
-        ensures gathers { GathersAlone N.made N.began N.refuses result nic.old self.old nic.new self.new }
+        ensures asks { Asks N.began N.refuses (fault_in result) nic.old nic.new }
+        ensures gathers { GathersAlone (fault_in result) (N.made nic.old) self.old (N.made nic.new) self.new }
         ensures none { result ≡ Ok false → self.old.whole ≡ []
             → LooksInVain (N.made nic.old) self.old (N.made nic.new) self.new }
         ensures whole { result ≡ Ok true → PacketWaits self.new.stage }
@@ -118,8 +121,9 @@ impl ReceiveRing {
         requires stage { PacketWaits self.old.stage }
         requires home { AreOut arena.old (blocks_out self.old) }
         requires free { wanted self.old ≤ free_count arena.old }
-        ensures gathers { Gathers N.made N.began N.refuses result
-            nic.old arena.old self.old nic.new arena.new self.new }
+        ensures asks { Asks N.began N.refuses (fault_in result) nic.old nic.new }
+        ensures gathers { Gathers (fault_in result)
+            (N.made nic.old) arena.old self.old (N.made nic.new) arena.new self.new }
         ensures enough { result ≢ Err PmdFault.NoBuffer }
         ensures more { OnOk result (IsOneLess arena.old self.old arena.new self.new) }
     {
@@ -147,8 +151,9 @@ impl ReceiveRing {
         requires running { IsRunning self.old }
         requires stage { PacketWaits self.old.stage }
         requires home { AreOut arena.old (blocks_out self.old) }
-        ensures gathers { Gathers N.made N.began N.refuses result
-            nic.old arena.old self.old nic.new arena.new self.new }
+        ensures asks { Asks N.began N.refuses (fault_in result) nic.old nic.new }
+        ensures gathers { Gathers (fault_in result)
+            (N.made nic.old) arena.old self.old (N.made nic.new) arena.new self.new }
         ensures one { OnOk result (OneMore self.old self.new) }
         ensures same { result ≡ Err PmdFault.NoBuffer → self.new ≡ self.old }
     {
@@ -223,7 +228,8 @@ impl ReceiveRing {
     fn post_named<N: Nic>(&mut self, alloc: Global, nic: &mut N) -> Result<(), PmdFault>
         requires some { 0 < length self.old.named }
         requires none { (self.old.whole ≡ []) × (self.old.held ≡ no_packet) }
-        ensures gathers { GathersAlone N.made N.began N.refuses result nic.old self.old nic.new self.new }
+        ensures asks { Asks N.began N.refuses (fault_in result) nic.old nic.new }
+        ensures gathers { GathersAlone (fault_in result) (N.made nic.old) self.old (N.made nic.new) self.new }
         ensures moved { OnOk result (self.new ≡ posts_all self.old) }
     {
         let mut none = VecDeque::new(alloc);

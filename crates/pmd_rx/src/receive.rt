@@ -6,7 +6,8 @@ ghost use Rattle.std.specs.VecDeque.{deque_len, deque_capacity};
 ghost use Rattle.pmd_access.specs.NicDevice.DmaArena.Numbers.{free_count, is_free, with_free};
 ghost use Rattle.pmd_access.specs.NicDevice.DmaRing.Receive.{is_done, ends_packet};
 ghost use Rattle.pmd_access.specs.Home.{AreOut};
-ghost use Rattle.pmd_rx.specs.Acts.{Asks, Gathers, GathersAlone};
+ghost use Rattle.pmd_access.specs.Asks.{Asks, fault_in};
+ghost use Rattle.pmd_rx.specs.Acts.{Gathers, GathersAlone};
 ghost use Rattle.pmd_rx.specs.Keeping.{blocks_out};
 ghost use Rattle.pmd_rx.specs.Receive.{took, lent_one, names, if_any, records_of, is_part, descriptor_at, slot_at, block_at, vacant, reach, naming, CanLend, HasLent};
 ghost use Rattle.pmd_rx.specs.Shown.{IsLook, IsRefused, IsNamed, IsUnnamed};
@@ -67,7 +68,7 @@ impl ReceiveRing {
     pub(crate) fn look<N: Nic>(&mut self, alloc: Global, nic: &mut N) -> Result<Look, PmdFault>
         requires some { length self.old.seen < length self.old.layout.blocks }
         requires stage { self.old.stage ≡ stage.Looks }
-        ensures asks { Asks N.began N.refuses result nic.old nic.new }
+        ensures asks { Asks N.began N.refuses (fault_in result) nic.old nic.new }
         ensures looked { IfOk result (λ look. IsLook look (N.made nic.old) self.old (N.made nic.new) self.new) }
         ensures unseen { OnErr result (self.new ≡ self.old) }
         ensures refused { IfErr result (λ f. IsRefused f (N.made nic.old) (N.made nic.new)) }
@@ -100,7 +101,8 @@ impl ReceiveRing {
     pub(crate) fn take_part<N: Nic>(&mut self, alloc: Global, nic: &mut N) -> Result<(), PmdFault>
         requires stage { self.old.stage ≡ stage.Takes }
         requires some { 0 < length self.old.seen }
-        ensures gathers { GathersAlone N.made N.began N.refuses result nic.old self.old nic.new self.new }
+        ensures asks { Asks N.began N.refuses (fault_in result) nic.old nic.new }
+        ensures gathers { GathersAlone (fault_in result) (N.made nic.old) self.old (N.made nic.new) self.new }
         ensures whole { self.new.whole ≡ self.old.whole }
         ensures taken { OnOk result ((self.new.stage ≡ stage.Owes)
             × (length self.new.seen + 1 ≡ length self.old.seen) × (0 < length self.new.held.bufs)) }
@@ -164,8 +166,9 @@ impl ReceiveRing {
         requires stage { CanLend self.old.stage self.old.seen }
         requires room { length (reach self.old).blocks + 1 < self.old.layout.size }
         requires home { AreOut arena.old (blocks_out self.old) }
-        ensures gathers { Gathers N.made N.began N.refuses result
-            nic.old arena.old self.old nic.new arena.new self.new }
+        ensures asks { Asks N.began N.refuses (fault_in result) nic.old nic.new }
+        ensures gathers { Gathers (fault_in result)
+            (N.made nic.old) arena.old self.old (N.made nic.new) arena.new self.new }
         ensures lent { OnOk result ((n : ℕ) × (is_free arena.old n ≡ true)
             × (arena.new ≡ with_free arena.old n false) × (self.new ≡ lent_one self.old n)) }
         ensures none { result ≡ Err PmdFault.NoBuffer → free_count arena.old ≡ 0 }
@@ -208,7 +211,7 @@ impl ReceiveRing {
     /// the block's number or the packet's record.
     pub(crate) fn name_fresh<N: Nic>(&mut self, alloc: Global, nic: &mut N) -> Result<(), PmdFault>
         requires { HasLent self.old.stage }
-        ensures asks { Asks N.began N.refuses result nic.old nic.new }
+        ensures asks { Asks N.began N.refuses (fault_in result) nic.old nic.new }
         ensures made { OnOk result (IsNamed (N.made nic.old) (N.made nic.new) self.old true) }
         ensures named { OnOk result (self.new ≡ names self.old) }
         ensures kept { OnErr result (self.new ≡ self.old) }

@@ -2,7 +2,8 @@
 
 ghost use Rattle.std.specs.Prelude.{◌≡◌, ◌<◌, ◌≤◌, ◌+◌, ◌++◌, ◌∷◌, [], length, take, true, All, OnOk, OnErr, IfOk, IfErr};
 ghost use Rattle.std.specs.VecDeque.{deque_len, deque_capacity};
-ghost use Rattle.pmd_rx.specs.Acts.{ActsAlone, Asks};
+ghost use Rattle.pmd_access.specs.Asks.{Asks, fault_in};
+ghost use Rattle.pmd_rx.specs.Acts.{ActsAlone};
 ghost use Rattle.pmd_rx.specs.Burst.{HasPart};
 ghost use Rattle.pmd_rx.specs.Keeping.{numbers_of_all};
 ghost use Rattle.pmd_rx.specs.Receive.{parts_first, posts_one, posts_all};
@@ -19,7 +20,7 @@ impl ReceiveRing {
     /// `DeviceFault` where the port has no such register.
     fn write_tail<N: Nic>(&self, alloc: Global, nic: &mut N, more: u16) -> Result<(), PmdFault>
         requires { length self.now.layout.blocks + more ≤ self.now.layout.size }
-        ensures asks { Asks N.began N.refuses result nic.old nic.new }
+        ensures asks { Asks N.began N.refuses (fault_in result) nic.old nic.new }
         ensures made { OnOk result (IsTailWritten (N.made nic.old) (N.made nic.new) self.now.layout more true) }
         ensures failed { IfErr result (λ f.
             IsUnwritten f (N.made nic.old) (N.made nic.new) self.now.layout more) }
@@ -41,7 +42,8 @@ impl ReceiveRing {
         nic: &mut N,
     ) -> Result<Packet, PmdFault>
         requires { 0 < length self.old.whole }
-        ensures acts { ActsAlone N.made N.began N.refuses result nic.old self.old nic.new self.new }
+        ensures asks { Asks N.began N.refuses (fault_in result) nic.old nic.new }
+        ensures acts { ActsAlone (fault_in result) (N.made nic.old) self.old (N.made nic.new) self.new }
         ensures hands { IfOk result (λ packet. HandsOne self.old self.new packet) }
         ensures kept { OnErr result (self.new ≡ self.old) }
     {
@@ -91,7 +93,8 @@ impl ReceiveRing {
         requires some { 0 < length self.old.named }
         requires none { length self.old.held.bufs ≡ 0 }
         requires room { length self.old.whole + deque_len out.old ≤ deque_capacity out.old }
-        ensures acts { ActsAlone N.made N.began N.refuses result nic.old self.old nic.new self.new }
+        ensures asks { Asks N.began N.refuses (fault_in result) nic.old nic.new }
+        ensures acts { ActsAlone (fault_in result) (N.made nic.old) self.old (N.made nic.new) self.new }
         ensures moved { OnOk result (self.new ≡ posts_all self.old) }
         ensures out { OnOk result (out.new.items ≡ out.old.items ++ self.old.whole) }
         ensures hands { OnOk result (HandsAll self.old self.new) }

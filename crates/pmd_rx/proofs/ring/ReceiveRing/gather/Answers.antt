@@ -1,6 +1,6 @@
 use Rattle.pmd_access.proofs.Exchanging.{out_kept}
 use Rattle.pmd_rx.specs.Keeping.{blocks_out}
-use Rattle.pmd_rx.proofs.Acting.{gathers_as, gathers_none, gathers_then}
+use Rattle.pmd_rx.proofs.Acting.{gathers_none, gathers_then}
 use Rattle.pmd_rx.proofs.ring.ReceiveRing.gather.Goals as goal
 
 pub returns-then-has_whole-clause-gathers : goal.returns-then-has_whole-clause-gathers
@@ -13,4 +13,4 @@ take_more-requires-clause-home g c =
 
 pub returns-in-Ok-true-clause-gathers : goal.returns-in-Ok-true-clause-gathers
 returns-in-Ok-true-clause-gathers g c =
-    gathers_as _ tt (gathers_then c.take_next.ensures.gathers (λ short. cc) c.take_more.ensures)
+    gathers_then c.take_next.ensures.gathers (λ short. cc) c.take_more.ensures.gathers

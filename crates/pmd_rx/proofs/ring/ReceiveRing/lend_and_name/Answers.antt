@@ -1,3 +1,5 @@
+use Rattle.std.proofs.Common.{ap}
+use Rattle.pmd_access.specs.Asks.{fault_in}
 use Rattle.pmd_rx.proofs.Acting.{gathers_then, name_gathers}
 use Rattle.pmd_rx.proofs.Handing.{lent_named}
 use Rattle.pmd_rx.proofs.ring.ReceiveRing.lend_and_name.Goals as goal
@@ -9,7 +11,7 @@ pub returns-in-Ok-clause-gathers : goal.returns-in-Ok-clause-gathers
 returns-in-Ok-clause-gathers g c =
     let lent = c.in-Ok.ensures.lent in
     let n = c.name_fresh.ensures in
-    let named = name_gathers n.asks (rw lent.3 tt) n.made n.named n.kept n.failed in
+    let named = name_gathers c.name_fresh.result (rw lent.3 tt) n.made n.named n.kept n.failed in
     gathers_then c.lend_fresh.ensures.gathers named.enough (named.gathers c.lend_fresh.new.arena)
 
 pub returns-in-Ok-clause-named : goal.returns-in-Ok-clause-named
@@ -21,5 +23,4 @@ returns-in-Ok-clause-named g c =
 pub returns-in-Ok-clause-none : goal.returns-in-Ok-clause-none
 returns-in-Ok-clause-none g c short =
     let n = c.name_fresh.ensures in
-    absurd ((name_gathers {made = g.N.Nic.made} n.asks (rw c.in-Ok.ensures.lent.3 tt) n.made n.named n.kept
-    n.failed).enough short)
+    absurd ((name_gathers c.name_fresh.result (rw c.in-Ok.ensures.lent.3 tt) n.made n.named n.kept n.failed).enough (ap fault_in short))

@@ -1,4 +1,4 @@
-use Rattle.std.proofs.Common.{◌≡◌, ℕ, [], length, Err, refl, sym, ap, subst, arith}
+use Rattle.std.proofs.Common.{◌≡◌, ℕ, [], length, Some, refl, sym, ap, subst, arith}
 use Rattle.pmd_access.specs.NicDevice.DmaArena.Block.{Block}
 use Rattle.pmd_access.specs.NicDevice.DmaArena.Numbers.{Numbers}
 use Rattle.pmd_access.specs.declared.fault.PmdFault.TheVariants as fault
@@ -17,7 +17,7 @@ returns-in_default-clause-gathers g c =
     let v = c.args.self.now in
     let a = c.args.arena.now in
     rw c.in_default.ensures.kept
-    (gathers_none (Err fault.NoBuffer) (tt, short_here a v c.requires.stage (c.in_default.ensures.none.0 refl)))
+    (gathers_none (Some fault.NoBuffer) (short_here a v c.requires.stage (c.in_default.ensures.none.0 refl)))
 
 pub give_back-requires-clause-own : goal.give_back-requires-clause-own
 give_back-requires-clause-own g c =
@@ -45,7 +45,6 @@ returns-in-Ok-None-clause-gathers g c =
     (lent_keeps a v buf.number c.requires.stage c.in-Some.ensures.free c.requires.room) in
     record {
       acts = record {
-        asks = record { began = c.lend.ensures.began; refuses = c.lend.ensures.refuses; refusal = tt };
         plays = lend_plays a (g.N.Nic.made c.args.nic.now) (g.N.Nic.made c.lend.new.nic) v w buf own
             c.in-Some.ensures.free (rw c.in-Ok-None.field-0-is at c.in-Ok-None.ensures.made) lent;
         fails = tt;
@@ -76,7 +75,6 @@ returns-in-Ok-Some-clause-gathers g c =
     c.bytes-whole.ensures.whole.small c.requires.room c.bytes-whole.ensures.whole.size in
     let twice = rw c.in-Ok-Some.field-0-is at c.in-Ok-Some.ensures.made in
     fails_here fault.DeviceFault
-    (record { began = c.lend.ensures.began; refuses = c.lend.ensures.refuses; refusal = tt })
     (lend_misses a old new v buf c.in-Ok-Some.buf own c.in-Some.ensures.free twice)
     (lend_wrong a old new v buf c.in-Ok-Some.buf own c.in-Some.ensures.free twice)
     (back_home a c.take.new.self c.give_back.new.self buf.number _ c.in-Some.ensures.free c.in-Some.ensures.taken
@@ -90,7 +88,6 @@ returns-in-Err-clause-gathers g c =
     let own = lends_own a v buf c.requires.stage c.in-Some.ensures.free c.requires.home
     c.bytes-whole.ensures.whole.small c.requires.room c.bytes-whole.ensures.whole.size in
     fails_here _
-    (record { began = c.lend.ensures.began; refuses = c.lend.ensures.refuses; refusal = c.in-Err.ensures.refusal })
     (plays_some a (g.N.Nic.made c.args.nic.now) (g.N.Nic.made c.lend.new.nic) v c.in-Err.ensures.refused)
     (lend_asks a v buf own c.in-Some.ensures.free)
     (back_home a c.take.new.self c.give_back-in-Err.new.self buf.number _ c.in-Some.ensures.free

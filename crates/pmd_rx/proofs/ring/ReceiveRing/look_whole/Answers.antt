@@ -1,12 +1,14 @@
-use Rattle.std.proofs.Common.{◌∙◌, [], refl, ap, arith}
+use Rattle.std.proofs.Common.{◌∙◌, [], Ok, Err, refl, ap, arith}
 use Rattle.pmd_access.specs.NicDevice.DmaArena.Numbers.{Numbers}
+use Rattle.pmd_access.proofs.Asking.{asks_none, asks_then}
 use Rattle.pmd_rx.specs.Receive.{Receive}
-use Rattle.pmd_rx.proofs.Acting.{alone_as, alone_none, alone_then, look_gathers, wrong_gathers}
+use Rattle.pmd_rx.proofs.Acting.{alone_none, alone_then, look_gathers, wrong_gathers}
 use Rattle.pmd_rx.proofs.Looking.{looks_same, looks_vainly, kept_both, one_more}
 use Rattle.pmd_rx.proofs.ring.ReceiveRing.look_whole.Goals as goal
 
 pub loop-look-init : goal.loop-look-init
 loop-look-init g c = record {
+  asks = asks_none;
   gathers = alone_none;
   kept = refl;
   running = c.requires.running;
@@ -17,37 +19,26 @@ loop-look-init g c = record {
 pub look-requires-clause-some : goal.look-requires-clause-some
 look-requires-clause-some g c = c.has_next.ensures.yes c.if-not-has_next.false
 
-pub returns-then-waits-clause-gathers : goal.returns-then-waits-clause-gathers
-returns-then-waits-clause-gathers g c = alone_as _ tt c.loop-look.invariant.gathers
-
-pub returns-then-not-has_next-clause-gathers : goal.returns-then-not-has_next-clause-gathers
-returns-then-not-has_next-clause-gathers g c = alone_as _ tt c.loop-look.invariant.gathers
-
-pub returns-clause-gathers : goal.returns-clause-gathers
-returns-clause-gathers g c = alone_as _ tt c.loop-look.invariant.gathers
-
 pub returns-in-Ok-Nothing-clause-gathers : goal.returns-in-Ok-Nothing-clause-gathers
 returns-in-Ok-Nothing-clause-gathers g c =
-    let l = c.look.ensures in
+    let l = c.in-Ok-Nothing.ensures in
     let some = c.has_next.ensures.yes c.if-not-has_next.false in
     alone_then c.loop-look.invariant.gathers
-    (alone_as _ tt (look_gathers l.asks (c.waits.ensures.no c.if-waits.false) some l.looked l.unseen l.refused))
+    (look_gathers (Ok c.in-Ok-Nothing.field-0) (c.waits.ensures.no c.if-waits.false) some l.looked l.unseen l.refused)
 
 pub returns-in-Ok-Wrong-clause-gathers : goal.returns-in-Ok-Wrong-clause-gathers
 returns-in-Ok-Wrong-clause-gathers g c =
-    let l = c.look.ensures in
     let some = c.has_next.ensures.yes c.if-not-has_next.false in
     alone_then c.loop-look.invariant.gathers
-    (wrong_gathers l.asks (c.waits.ensures.no c.if-waits.false) some
+    (wrong_gathers (c.waits.ensures.no c.if-waits.false) some
     (rw c.in-Ok-Wrong.field-0-is at c.in-Ok-Wrong.ensures.looked))
 
 pub returns-in-Err-clause-gathers : goal.returns-in-Err-clause-gathers
 returns-in-Err-clause-gathers g c =
-    let l = c.look.ensures in
+    let l = c.in-Err.ensures in
     let some = c.has_next.ensures.yes c.if-not-has_next.false in
     alone_then c.loop-look.invariant.gathers
-    (alone_as _ c.in-Err.is
-    (look_gathers l.asks (c.waits.ensures.no c.if-waits.false) some l.looked l.unseen l.refused))
+    (look_gathers (Err c.in-Err.fault) (c.waits.ensures.no c.if-waits.false) some l.looked l.unseen l.refused)
 
 pub returns-in-Ok-Nothing-clause-kept : goal.returns-in-Ok-Nothing-clause-kept
 returns-in-Ok-Nothing-clause-kept g c =
@@ -89,9 +80,11 @@ loop-look-preserved g c =
     let w = c.look.new.self in
     let looks = c.waits.ensures.no c.if-waits.false in
     let some = c.has_next.ensures.yes c.if-not-has_next.false in
-    let seen = look_gathers l.asks looks some l.looked l.unseen l.refused in
+    let p = c.in-Ok-Part.ensures in
+    let seen = look_gathers (Ok c.in-Ok-Part.field-0) looks some p.looked p.unseen p.refused in
     record {
-      gathers = alone_then c.loop-look.invariant.gathers (alone_as _ tt seen);
+      asks = asks_then c.loop-look.invariant.asks c.in-Ok-Part.ensures.asks;
+      gathers = alone_then c.loop-look.invariant.gathers seen;
       kept = kept_both c.args.self.now v w c.loop-look.invariant.kept
           (looks_same c.look.result old new v w l.looked l.unseen);
       running = (seen.gathers (record { first = 0; free = [] })).keeps.running c.loop-look.invariant.running;

@@ -1,6 +1,6 @@
 use Rattle.std.proofs.Common.{List, [], ◌∷◌, ◌++◌, refl, ap, ◌∙◌, arith}
 use Rattle.pmd_access.specs.declared.packet.Packet.{Packet}
-use Rattle.pmd_rx.proofs.Acting.{acts_alone, alone_acts_as}
+use Rattle.pmd_rx.proofs.Acting.{acts_alone}
 use Rattle.pmd_rx.proofs.Bursts.{none_out, one_out, all_out}
 use Rattle.pmd_rx.proofs.Keeping.{keeps_none}
 use Rattle.pmd_rx.proofs.Playing.{plays_none}
@@ -24,21 +24,9 @@ returns-in-Ok-post_all-clause-out g c a =
     (c.in-Ok-post_all.ensures.out ∙ ap (λ (ps : List Packet). ps ++ c.args.self.now.whole) c.reserve.ensures.items)
     c.count_whole-count.ensures.count (omega (arith, c.if-count-from.false, c.from.ensures))
 
-pub returns-in-Ok-clause-acts : goal.returns-in-Ok-clause-acts
-returns-in-Ok-clause-acts g c = alone_acts_as _ tt c.post_one.ensures.acts
-
-pub returns-in-Err-clause-acts : goal.returns-in-Err-clause-acts
-returns-in-Err-clause-acts g c = alone_acts_as _ refl c.in-Err.ensures.acts
-
-pub returns-in-Ok-post_all-clause-acts : goal.returns-in-Ok-post_all-clause-acts
-returns-in-Ok-post_all-clause-acts g c = alone_acts_as _ tt c.post_all.ensures.acts
-
-pub returns-in-Err-post_all-clause-acts : goal.returns-in-Err-post_all-clause-acts
-returns-in-Err-post_all-clause-acts g c = alone_acts_as _ refl c.in-Err-post_all.ensures.acts
-
 pub returns-then-is_err-clause-acts : goal.returns-then-is_err-clause-acts
 returns-then-is_err-clause-acts g c =
-    acts_alone _ (record { began = λ o is. is; refuses = refl; refusal = tt })
+    acts_alone _
     (λ a. plays_none a (g.N.Nic.made c.args.nic.now) c.args.self.now)
     (λ a. c.count_whole-count.ensures.asks a (omega (arith, c.requires.some, c.count_whole-count.ensures.count)))
 

@@ -1,5 +1,5 @@
-use Rattle.std.proofs.Common.{refl, sym, ◌∙◌, arith}
-use Rattle.pmd_rx.proofs.Acting.{acts_alone, asks_as}
+use Rattle.std.proofs.Common.{None, sym, ◌∙◌, arith}
+use Rattle.pmd_rx.proofs.Acting.{acts_alone}
 use Rattle.pmd_rx.proofs.Moving.{one_own, one_moved, hands_one}
 use Rattle.pmd_rx.proofs.Own.{tail_plays, unmoved_plays, unmoved_fault}
 use Rattle.pmd_rx.proofs.ring.ReceiveRing.post_one.Goals as goal
@@ -8,7 +8,7 @@ pub returns-in-Ok-clause-acts : goal.returns-in-Ok-clause-acts
 returns-in-Ok-clause-acts g c =
     let v = c.args.self.now in
     let p = c.first_parts-parts in
-    acts_alone _ (asks_as _ tt c.write_tail.ensures.asks)
+    acts_alone None
     (λ a. tail_plays a (g.N.Nic.made c.args.nic.now) (g.N.Nic.made c.write_tail.new.nic) v p.result
     (one_own v p.result p.ensures.parts c.requires p.ensures.some p.ensures.few) c.hand_one.new.self
     (one_moved v p.result p.ensures.parts ∙ sym c.hand_one.ensures.left) c.in-Ok.ensures.made)
@@ -21,7 +21,7 @@ returns-in-Err-clause-acts g c =
     let old = g.N.Nic.made c.args.nic.now in
     let new = g.N.Nic.made c.write_tail.new.nic in
     let own = one_own v p.result p.ensures.parts c.requires p.ensures.some p.ensures.few in
-    acts_alone _ (asks_as _ refl c.in-Err.ensures.asks)
+    acts_alone _
     (λ a. unmoved_plays a old new v p.result own c.in-Err.fault c.in-Err.ensures.failed)
     (λ a. unmoved_fault a old new v p.result own c.in-Err.fault c.in-Err.ensures.failed)
 

@@ -1,9 +1,7 @@
-use Rattle.std.proofs.Common.{Result, Err, ap}
-use Rattle.pmd_access.specs.declared.fault.PmdFault.{PmdFault}
-use Rattle.pmd_access.specs.declared.packet.Packet.{Packet}
+use Rattle.std.proofs.Common.{ap}
+use Rattle.pmd_access.specs.Asks.{fault_in}
 use Rattle.pmd_access.specs.Bufs.{numbers_of}
 use Rattle.pmd_rx.proofs.Acting.{acts_then}
-use Rattle.pmd_rx.proofs.Failing.{err_same}
 use Rattle.pmd_rx.proofs.Keeping.{keeps_both}
 use Rattle.pmd_rx.proofs.ring.ReceiveRing.receive.Goals as goal
 
@@ -30,30 +28,4 @@ returns-in-Err-post_one-clause-fails g c =
 
 pub returns-in-Err-post_one-clause-waits : goal.returns-in-Err-post_one-clause-waits
 returns-in-Err-post_one-clause-waits g c short =
-    absurd (c.in-Err-post_one.ensures.acts.enough
-    (ap (λ (f : PmdFault). let r : Result Packet PmdFault = Err f in r) (err_same short)))
-
-pub returns-in-Ok-clause-began : goal.returns-in-Ok-clause-began
-returns-in-Ok-clause-began g c =
-    let next = c.post_one.ensures.acts in
-    (acts_then c.gather.ensures.gathers next.enough (next.acts c.gather.new.arena)).asks.began
-
-pub returns-in-Ok-clause-refuses : goal.returns-in-Ok-clause-refuses
-returns-in-Ok-clause-refuses g c =
-    let next = c.post_one.ensures.acts in
-    (acts_then c.gather.ensures.gathers next.enough (next.acts c.gather.new.arena)).asks.refuses
-
-pub returns-in-Err-post_one-clause-began : goal.returns-in-Err-post_one-clause-began
-returns-in-Err-post_one-clause-began g c =
-    let next = c.in-Err-post_one.ensures.acts in
-    (acts_then c.gather.ensures.gathers next.enough (next.acts c.gather.new.arena)).asks.began
-
-pub returns-in-Err-post_one-clause-refuses : goal.returns-in-Err-post_one-clause-refuses
-returns-in-Err-post_one-clause-refuses g c =
-    let next = c.in-Err-post_one.ensures.acts in
-    (acts_then c.gather.ensures.gathers next.enough (next.acts c.gather.new.arena)).asks.refuses
-
-pub returns-in-Err-post_one-clause-refusal : goal.returns-in-Err-post_one-clause-refusal
-returns-in-Err-post_one-clause-refusal g c =
-    let next = c.in-Err-post_one.ensures.acts in
-    (acts_then c.gather.ensures.gathers next.enough (next.acts c.gather.new.arena)).asks.refusal
+    absurd (c.in-Err-post_one.ensures.acts.enough (ap fault_in short))

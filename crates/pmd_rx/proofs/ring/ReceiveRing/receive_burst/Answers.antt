@@ -1,4 +1,7 @@
-use Rattle.std.proofs.Common.{refl}
+use Rattle.std.proofs.Common.{refl, ap}
+use Rattle.pmd_access.specs.Asks.{fault_in}
+use Rattle.pmd_access.proofs.Asking.{fault_by}
+use Rattle.pmd_rx.specs.Wrong.{FailsBy}
 use Rattle.pmd_rx.proofs.Acting.{acts_then}
 use Rattle.pmd_rx.proofs.Bursts.{none_out, burst_after}
 use Rattle.pmd_rx.proofs.Keeping.{keeps_none}
@@ -27,22 +30,10 @@ returns-in-Ok-true-clause-out g c =
 pub returns-in-Ok-true-clause-fails : goal.returns-in-Ok-true-clause-fails
 returns-in-Ok-true-clause-fails g c =
     let next = c.post_most.ensures.acts in
-    (acts_then c.gather.ensures.gathers next.enough (next.acts c.gather.new.arena)).fails
+    fault_by
+    (λ f. FailsBy f (g.N.Nic.made c.args.nic.now) c.args.arena.now c.args.self.now (g.N.Nic.made c.post_most.new.nic)
+    c.gather.new.arena c.post_most.new.self)
+    c.post_most.result (acts_then c.gather.ensures.gathers next.enough (next.acts c.gather.new.arena)).fails
 
 pub returns-in-Ok-true-clause-waits : goal.returns-in-Ok-true-clause-waits
-returns-in-Ok-true-clause-waits g c short = absurd (c.post_most.ensures.acts.enough short)
-
-pub returns-in-Ok-true-clause-began : goal.returns-in-Ok-true-clause-began
-returns-in-Ok-true-clause-began g c =
-    let next = c.post_most.ensures.acts in
-    (acts_then c.gather.ensures.gathers next.enough (next.acts c.gather.new.arena)).asks.began
-
-pub returns-in-Ok-true-clause-refuses : goal.returns-in-Ok-true-clause-refuses
-returns-in-Ok-true-clause-refuses g c =
-    let next = c.post_most.ensures.acts in
-    (acts_then c.gather.ensures.gathers next.enough (next.acts c.gather.new.arena)).asks.refuses
-
-pub returns-in-Ok-true-clause-refusal : goal.returns-in-Ok-true-clause-refusal
-returns-in-Ok-true-clause-refusal g c =
-    let next = c.post_most.ensures.acts in
-    (acts_then c.gather.ensures.gathers next.enough (next.acts c.gather.new.arena)).asks.refusal
+returns-in-Ok-true-clause-waits g c short = absurd (c.post_most.ensures.acts.enough (ap fault_in short))

@@ -1,9 +1,11 @@
 use Rattle.std.proofs.Common.{sym, ap, subst, ◌∙◌, arith}
+use Rattle.pmd_access.specs.Asks.{fault_in}
 use Rattle.pmd_access.proofs.Exchanging.{out_kept}
 use Rattle.pmd_rx.specs.Keeping.{blocks_out}
 use Rattle.pmd_rx.specs.Receive.{Receive, HasLent}
 use Rattle.pmd_rx.specs.declared.ring.Stage.{Stage}
 use Rattle.pmd_rx.proofs.Acting.{gathers_then, name_gathers}
+use Rattle.pmd_rx.proofs.Failing.{err_of}
 use Rattle.pmd_rx.proofs.Handing.{owes_room, owed_here, owed_some, owes_less, takes_less, lent_less}
 use Rattle.pmd_rx.proofs.ring.ReceiveRing.refill_next.Goals as goal
 
@@ -28,7 +30,7 @@ returns-in-Ok-clause-gathers g c =
     let a = c.args.arena.now in
     gathers_then (c.take_part.ensures.gathers.gathers a)
     (λ short. owed_some c.args.self.now a (omega (arith, c.in-Ok.ensures.taken.1)) c.requires.free
-    (c.lend_and_name.ensures.none short))
+    (c.lend_and_name.ensures.none (err_of c.lend_and_name.result short)))
     c.lend_and_name.ensures.gathers
 
 pub returns-in-Ok-clause-more : goal.returns-in-Ok-clause-more
@@ -45,7 +47,7 @@ pub returns-in-Err-clause-gathers : goal.returns-in-Err-clause-gathers
 returns-in-Err-clause-gathers g c = c.in-Err.ensures.gathers.gathers c.args.arena.now
 
 pub returns-in-Err-clause-enough : goal.returns-in-Err-clause-enough
-returns-in-Err-clause-enough g c = c.in-Err.ensures.gathers.enough
+returns-in-Err-clause-enough g c short = absurd (c.in-Err.ensures.gathers.enough (ap fault_in short))
 
 pub returns-in-Owes-clause-more : goal.returns-in-Owes-clause-more
 returns-in-Owes-clause-more g c =
@@ -62,15 +64,16 @@ pub returns-in-Lent-clause-gathers : goal.returns-in-Lent-clause-gathers
 returns-in-Lent-clause-gathers g c =
     let lent = sym (ap (λ (v : Receive). v.stage) c.self.view_is) ∙ c.in-Lent.is in
     let n = c.name_fresh.ensures in
-    (name_gathers n.asks (subst (λ (s : Stage). HasLent s) (sym lent) tt) n.made n.named n.kept n.failed).gathers
+    (name_gathers c.name_fresh.result (subst (λ (s : Stage). HasLent s) (sym lent) tt) n.made n.named n.kept n.failed).gathers
     c.args.arena.now
 
 pub returns-in-Lent-clause-enough : goal.returns-in-Lent-clause-enough
-returns-in-Lent-clause-enough g c =
+returns-in-Lent-clause-enough g c short =
     let lent = sym (ap (λ (v : Receive). v.stage) c.self.view_is) ∙ c.in-Lent.is in
     let n = c.name_fresh.ensures in
-    (name_gathers {made = g.N.Nic.made} n.asks (subst (λ (s : Stage). HasLent s) (sym lent) tt) n.made n.named n.kept
-    n.failed).enough
+    absurd
+    ((name_gathers c.name_fresh.result (subst (λ (s : Stage). HasLent s) (sym lent) tt) n.made n.named n.kept n.failed).enough
+    (ap fault_in short))
 
 pub returns-in-Lent-clause-more : goal.returns-in-Lent-clause-more
 returns-in-Lent-clause-more g c =

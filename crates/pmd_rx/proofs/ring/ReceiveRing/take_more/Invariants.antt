@@ -1,6 +1,10 @@
-use Rattle.pmd_rx.specs.Acts.{Gathers, goes_on}
+use Rattle.std.proofs.Common.{None}
+use Rattle.pmd_access.specs.Asks.{Asks}
+use Rattle.pmd_rx.specs.Acts.{Gathers}
 use Rattle.pmd_rx.proofs.ring.ReceiveRing.take_more.Given as goal
 
 abbrev pub invariant-loop-packet : goal.invariant-loop-packet
-invariant-loop-packet g l =
-    Gathers g.N.Nic.made g.N.Nic.began g.N.Nic.refuses goes_on l.fn.nic l.fn.arena l.fn.self l.nic l.arena l.self
+invariant-loop-packet g l = record {
+  asks : Asks g.N.Nic.began g.N.Nic.refuses None l.fn.nic l.nic;
+  gathers : Gathers None (g.N.Nic.made l.fn.nic) l.fn.arena l.fn.self (g.N.Nic.made l.nic) l.arena l.self;
+}

@@ -1,4 +1,4 @@
-use Rattle.std.proofs.Common.{List, length, refl, ap, arith}
+use Rattle.std.proofs.Common.{List, length, None, refl, ap, arith}
 use Rattle.pmd_access.specs.declared.packet.Packet.{Packet}
 use Rattle.pmd_rx.specs.Receive.{took}
 use Rattle.pmd_rx.proofs.Acting.{acts_alone, fails_alone, gathers_alone}
@@ -18,7 +18,7 @@ returns-in-Ok-Some-clause-gathers g c =
     (rw c.in-Ok-Some.field-0-is at c.in-Ok-Some.ensures.number) c.next_block-block.ensures.block in
     let same = took_whole v w b c.hold.ensures in
     gathers_alone
-    (acts_alone _ (record { began = c.take.ensures.began; refuses = c.take.ensures.refuses; refusal = tt })
+    (acts_alone None
     (λ a. take_plays a (g.N.Nic.made c.args.nic.now) (g.N.Nic.made c.take.new.nic) v w c.next_block-block.result b own
     (rw c.in-Ok-Some.field-0-is at c.in-Ok-Some.ensures.made) c.hold.ensures)
     (λ a. tt))
@@ -40,7 +40,7 @@ returns-in-Ok-None-clause-gathers g c =
     let own = takes_own v c.next_block-block.result _ c.requires.stage c.requires.some refl
     c.next_block-block.ensures.block in
     let missed = rw c.in-Ok-None.field-0-is at c.in-Ok-None.ensures.made in
-    fails_alone _ (record { began = c.take.ensures.began; refuses = c.take.ensures.refuses; refusal = tt })
+    fails_alone _
     (λ a. take_misses a old new v c.next_block-block.result own missed)
     (λ a. take_wrong a old new v c.next_block-block.result own missed)
 
@@ -50,6 +50,5 @@ returns-in-Err-clause-gathers g c =
     let own = takes_own v c.next_block-block.result _ c.requires.stage c.requires.some refl
     c.next_block-block.ensures.block in
     fails_alone _
-    (record { began = c.take.ensures.began; refuses = c.take.ensures.refuses; refusal = c.in-Err.ensures.refusal })
     (λ a. plays_some a (g.N.Nic.made c.args.nic.now) (g.N.Nic.made c.take.new.nic) v c.in-Err.ensures.refused)
     (λ a. take_asks a v c.next_block-block.result own)

@@ -5,20 +5,18 @@ use Rattle.pmd_access.specs.NicDevice.DmaArena.Block.{Block}
 use Rattle.pmd_access.specs.NicDevice.DmaArena.Numbers.{Numbers, with_free}
 use Rattle.pmd_access.specs.NicDevice.declared.event.Event.{Event}
 use Rattle.pmd_access.specs.NicDevice.declared.event.Reply.{Reply}
-use Rattle.pmd_access.specs.Begun.{Origin}
 use Rattle.pmd_access.specs.Bufs.{numbers_of, with_all_free}
 use Rattle.pmd_access.specs.DeviceLock.declared.entry.Call.{Call}
 use Rattle.pmd_access.specs.DeviceLock.declared.fault.CallFault.{CallFault}
 use Rattle.pmd_access.specs.Home.{AreOut}
 use Rattle.pmd_access.specs.Made.{Adds, AddsSome}
-use Rattle.pmd_access.specs.Refusals.{Refusals}
 use Rattle.pmd_access.specs.declared.fault.PmdFault.{PmdFault}
 use Rattle.pmd_access.specs.declared.fault.PmdFault.TheVariants as fault
 use Rattle.pmd_access.specs.declared.packet.Packet.{Packet}
 use Rattle.pmd_tx.specs.declared.answer.TxAnswer.{TxAnswer}
 use Rattle.pmd_tx.specs.declared.answer.TxAnswer.TheVariants.{Taken}
 use Rattle.pmd_tx.specs.declared.answer.TxFault.{TxFault}
-use Rattle.pmd_tx.specs.Acts.{Acts, Asks, Continues, Queues, HasReaped, failed_in, fault_in}
+use Rattle.pmd_tx.specs.Acts.{Acts, Continues, Queues, HasReaped, failed_in}
 use Rattle.pmd_tx.specs.Plays.{AcceptsIn, FaultsBy, PlaysWith, is_elsewhere}
 use Rattle.pmd_tx.specs.Sending.{Sender, Layout, Move, IsOwn, accepted_by, blocks_of, is_healthy, moved, parts_for, reaped, segment_at}
 use Rattle.pmd_tx.specs.Sends.{IsBack, IsLate, IsNoneAccepted, outgoing_of, returned}
@@ -28,29 +26,10 @@ use Rattle.pmd_tx.proofs.Passing.{accepted_after, accepted_then, kept_after, non
 use Rattle.pmd_tx.proofs.Playing.{asks_at, faults_at, plays_adds, plays_both, plays_none, plays_some}
 
 -- what holds of a fault holds of the result that has it
-
-pub fault_by : {A : Type 0} (P : PmdFault → Type 0) (r : Result A PmdFault) → IfSome (fault_in r) P → IfErr r P
-fault_by P (Ok x) by = tt
-fault_by P (Err f) by = by
-
 pub failed_by : {A : Type 0} (P : PmdFault → Type 0) (r : Result A TxFault) → IfSome (failed_in r) P
     → IfErr r (λ failed. P failed.fault)
 failed_by P (Ok x) by = tt
 failed_by P (Err f) by = by
-
--- the way to the device
-
-module _ {N : Type 0} {known : N → Origin → Type 0} {may : N → Refusals} where
-  pub asks_none : {n : N} → Asks known may None n n
-  asks_none = record { began = λ o is. is; refuses = refl; refusal = tt }
-
-  pub asks_then : {f h : Option PmdFault} {l m n : N} → Asks known may f l m → Asks known may h m n
-      → Asks known may h l n
-  asks_then p q = record {
-    began = λ o is. q.began o (p.began o is);
-    refuses = q.refuses ∙ p.refuses;
-    refusal = q.refusal;
-  }
 
 -- calls that follow others
 

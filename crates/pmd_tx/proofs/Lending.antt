@@ -10,9 +10,10 @@ use Rattle.pmd_access.specs.declared.fault.PmdFault.{PmdFault}
 use Rattle.pmd_access.specs.declared.fault.PmdFault.TheVariants as fault
 use Rattle.pmd_access.specs.declared.packet.Packet.{Packet}
 use Rattle.pmd_access.specs.Made.{AddsSome}
-use Rattle.pmd_tx.specs.Acts.{Acts, refused_in}
+use Rattle.pmd_access.specs.Asks.{refused_in}
+use Rattle.pmd_tx.specs.Acts.{Acts}
 use Rattle.pmd_tx.specs.Plays.{AsksNext, PlaysWith, FaultsBy}
-use Rattle.pmd_tx.specs.Sends.{IsBack, IsLate}
+use Rattle.pmd_tx.specs.Sends.{IsLate}
 use Rattle.pmd_tx.specs.Sending.{Sender, Segment, Accepts, MayAccept, accepted_by, has_lent, is_among, keeps, no_segment, paired, parts_for, parts_in, segments_of}
 use Rattle.pmd_tx.specs.Shown.{AllHold, Holds, MayStart, sent_as, IsUnlent, LendsFirst}
 use Rattle.pmd_tx.proofs.Playing.{plays_adds, plays_some, faults_at, asks_at}
@@ -146,10 +147,3 @@ module _ (old new : List Call) (v : Sender) (p : Packet) (may : MayStart v p) wh
     late = lend_late f back failed;
     faults = lend_faults f back failed;
   }
-
-  pub back_of : {R : Type 0} → (r : Result R (PmdFault × Packet)) → IfErr r (λ x. IsUnlent x.0 old new p x.1)
-      → IfErr r (λ x. IsBack x.0 p x.1)
-  back_of (Ok x) failed = tt
-  back_of (Err (fault.DeviceFault, back)) (twice, made, numbers) = numbers
-  back_of (Err (fault.Call f, back)) (adds, same) = same
-  back_of (Err (other, back)) failed = absurd failed

@@ -1,10 +1,8 @@
 -- What a call of the driver that sends does, in one record: the calls that were made, and the ring before and after.
 use Rattle.std.specs.Prelude.{◌≡◌, ℕ, List, length, Bool, if◌then◌else◌, Option, Some, None, Result, Ok, Err, IfSome, IfNone, IfErr}
 use Rattle.pmd_access.specs.NicDevice.DmaArena.Numbers.{Numbers}
-use Rattle.pmd_access.specs.Begun.{BeganAs, Origin}
 use Rattle.pmd_access.specs.DeviceLock.declared.entry.Call.{Call}
 use Rattle.pmd_access.specs.Home.{AreOut}
-use Rattle.pmd_access.specs.Refusals.{CanFail, Refusals}
 use Rattle.pmd_access.specs.declared.fault.PmdFault.{PmdFault}
 use Rattle.pmd_access.specs.declared.packet.Packet.{Packet}
 use Rattle.pmd_tx.specs.declared.answer.TxAnswer.{TxAnswer}
@@ -15,26 +13,9 @@ use Rattle.pmd_tx.specs.Sending.{Sender, blocks_of}
 use Rattle.pmd_tx.specs.Sends.{outgoing_of, returned, Frees, IsAccepted, IsBack, IsLate, IsNoneAccepted, IsTried, SendsHome}
 
 -- the fault that a call ended with, where it did
-
-abbrev pub fault_in : {A : Type 0} → Result A PmdFault → Option PmdFault
-fault_in (Ok x) = None
-fault_in (Err f) = Some f
-
 abbrev pub failed_in : {A : Type 0} → Result A TxFault → Option PmdFault
 failed_in (Ok x) = None
 failed_in (Err f) = Some f.fault
-
-abbrev pub refused_in : {A B : Type 0} → Result A (PmdFault × B) → Option PmdFault
-refused_in (Ok x) = None
-refused_in (Err x) = Some x.0
-
--- the way to the device is the same: what is known of where its calls began is known of it still, and it may refuse
--- what it might. Where it refused a call, it might
-pub record Asks {N : Type 0} (known : N → Origin → Type 0) (may : N → Refusals) (f : Option PmdFault) (n m : N) : Type 0
-  where
-    pub began : BeganAs known n m
-    pub refuses : may m ≡ may n
-    pub refusal : IfSome f (λ f. CanFail (may m) f)
 
 -- calls were made of which some are the driver's own, and lead from this ring to that one: each packet that they accept
 -- is in the blocks of these numbers. A fault follows from the last of them, or from the one that was refused

@@ -3,7 +3,8 @@
 ghost use Rattle.std.specs.Prelude.{[], ◌≡◌, ◌≢◌, ◌<◌, ◌↔◌, ℕ, List, None, length, true, false, Ok, IsTrue, IfOk, IfErr, OnErr};
 ghost use Rattle.pmd_access.specs.Begun.{BeganAs};
 ghost use Rattle.pmd_access.specs.Home.{AreOut};
-ghost use Rattle.pmd_tx.specs.Acts.{Asks, Continues, HasReaped, fault_in, packets_reaped, parts_reaped};
+ghost use Rattle.pmd_access.specs.Asks.{Asks, fault_in};
+ghost use Rattle.pmd_tx.specs.Acts.{Continues, HasReaped, packets_reaped, parts_reaped};
 ghost use Rattle.pmd_tx.specs.Plays.{PlaysWith, LooksLast, FaultsBy};
 ghost use Rattle.pmd_tx.specs.Sending.{blocks_of};
 ghost use Rattle.pmd_tx.specs.Sends.{FreesSome, IsLate};

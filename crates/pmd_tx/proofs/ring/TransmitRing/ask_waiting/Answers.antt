@@ -1,5 +1,6 @@
 use Rattle.std.proofs.Common.{◌∙◌, ◌+◌, ap, arith, refl, sym}
-use Rattle.pmd_tx.proofs.Acting.{asks_none, asks_then, continues_none, continues_then}
+use Rattle.pmd_access.proofs.Asking.{asks_none, asks_then}
+use Rattle.pmd_tx.proofs.Acting.{continues_none, continues_then}
 use Rattle.pmd_tx.proofs.ring.TransmitRing.ask_waiting.Goals as goal
 
 pub loop-asked-init : goal.loop-asked-init

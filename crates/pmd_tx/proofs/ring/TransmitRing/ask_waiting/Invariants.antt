@@ -1,5 +1,6 @@
 use Rattle.std.proofs.Common.{◌≡◌, ◌≤◌, None, length}
-use Rattle.pmd_tx.specs.Acts.{Asks, Continues}
+use Rattle.pmd_access.specs.Asks.{Asks}
+use Rattle.pmd_tx.specs.Acts.{Continues}
 use Rattle.pmd_tx.proofs.ring.TransmitRing.ask_waiting.Given as goal
 
 abbrev pub invariant-loop-asked : goal.invariant-loop-asked

@@ -1,7 +1,8 @@
 use Rattle.std.proofs.Common.{◌∙◌, [], ap, length, sym}
 use Rattle.pmd_tx.specs.Plays.{FaultsBy}
 use Rattle.pmd_tx.specs.Sends.{IsLate}
-use Rattle.pmd_tx.proofs.Acting.{continues_then, fault_by}
+use Rattle.pmd_access.proofs.Asking.{fault_by}
+use Rattle.pmd_tx.proofs.Acting.{continues_then}
 use Rattle.pmd_tx.proofs.ring.TransmitRing.flush.Goals as goal
 
 pub returns-in-Ok-clause-plays : goal.returns-in-Ok-clause-plays

@@ -1,6 +1,7 @@
 use Rattle.std.proofs.Common.{◌≡◌, ◌≤◌, Bool, true, false, inl, inr, [], if◌then◌else◌, refl, arith}
 use Rattle.std.proofs.lemmas.Bool.{cases_Bool}
-use Rattle.pmd_tx.proofs.Acting.{asks_then, continues_of, reaped_none, reaped_still, reaped_then}
+use Rattle.pmd_access.proofs.Asking.{asks_then}
+use Rattle.pmd_tx.proofs.Acting.{continues_of, reaped_none, reaped_still, reaped_then}
 use Rattle.pmd_tx.proofs.Ending.{looks_after}
 use Rattle.pmd_tx.proofs.ring.TransmitRing.reap.Goals as goal
 

@@ -1,5 +1,6 @@
 use Rattle.std.proofs.Common.{◌≤◌, None}
-use Rattle.pmd_tx.specs.Acts.{Asks, HasReaped}
+use Rattle.pmd_access.specs.Asks.{Asks}
+use Rattle.pmd_tx.specs.Acts.{HasReaped}
 use Rattle.pmd_tx.proofs.ring.TransmitRing.reap.Given as goal
 
 abbrev pub invariant-loop-reaped : goal.invariant-loop-reaped

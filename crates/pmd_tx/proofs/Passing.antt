@@ -1,5 +1,5 @@
 -- What a packet meets, and what comes of it.
-use Rattle.std.proofs.Common.{◌≡◌, ◌≢◌, ℕ, zero, suc, ◌+◌, ◌≤◌, ◌==◌, inl, inr, Bool, true, false, All, List, [], ◌∷◌, ◌++◌, take, drop, Option, Some, None, Result, Ok, Err, IfSome, IfNone, IfErr, not, ◌&&◌, if◌then◌else◌, refl, sym, ap, ◌∙◌, subst, arith}
+use Rattle.std.proofs.Common.{◌≡◌, ◌≢◌, ℕ, zero, suc, ◌+◌, ◌≤◌, ◌==◌, inl, inr, Bool, true, false, All, List, [], ◌∷◌, ◌++◌, take, drop, Option, Some, None, Result, Ok, IfSome, IfNone, not, ◌&&◌, if◌then◌else◌, refl, sym, ap, ◌∙◌, subst, arith}
 use Rattle.std.proofs.lemmas.Bool.{both_ways, cases_Bool, cases_eq, eq-eqb}
 use Rattle.std.proofs.lemmas.Bool.Decides.{nat_tests}
 use Rattle.std.specs.List.{list_any}
@@ -18,10 +18,10 @@ use Rattle.pmd_access.specs.declared.packet.Packet.{Packet}
 use Rattle.pmd_tx.specs.declared.answer.Gate.{Gate}
 use Rattle.pmd_tx.specs.declared.answer.Gate.TheVariants.{Refused, Full, Open}
 use Rattle.pmd_tx.specs.declared.answer.TxAnswer.{TxAnswer}
-use Rattle.pmd_tx.specs.declared.answer.TxAnswer.TheVariants.{Taken, RingFull}
+use Rattle.pmd_tx.specs.declared.answer.TxAnswer.TheVariants.{Taken}
 use Rattle.pmd_tx.specs.declared.answer.TxFault.{TxFault}
 use Rattle.pmd_tx.specs.Sending.{Sender, Segment, accepted_by, keeps, segments_of}
-use Rattle.pmd_tx.specs.Sends.{gate_of, outgoing_of, accepted_of, is_bad_size, is_full, are_out, goes_home, returned, IsAnswer, IsAccepted, IsFullWhereReported, IsNoneAccepted, IsBack, IsShut, IsTried}
+use Rattle.pmd_tx.specs.Sends.{gate_of, outgoing_of, accepted_of, is_bad_size, is_full, are_out, goes_home, returned, IsAnswer, IsAccepted, IsNoneAccepted, IsBack, IsShut, IsTried}
 use Rattle.pmd_tx.specs.Shown.{AreDistinct, MaySend}
 use Rattle.pmd_tx.proofs.Distinct.{neither}
 
@@ -134,22 +134,8 @@ taken_open g p answer = gone_open g p (Ok Taken) answer refl
 pub tried_answer : (g : Gate) (p : Packet) (x : Result TxAnswer TxFault) → Open ≡ g → IsTried x → IsAnswer g p x
 tried_answer g p x is tried = subst (λ (y : Gate). IsAnswer y p x) is tried
 
-pub tried_full : (v : Sender) (p : Packet) (x : Result TxAnswer TxFault) → IsTried x → IsFullWhereReported v p x
-tried_full v p (Ok Taken) tried = tt
-tried_full v p (Ok (RingFull q)) tried = absurd tried
-tried_full v p (Err f) tried = tt
-
 pub open_unshut : (g : Gate) → Open ≡ g → IsShut g → ⊥
 open_unshut g is shut = subst IsShut (sym is) shut
-
-pub gone_home : (v : Sender) (a : Numbers) (elsewhere : Bool) (p : Packet) (x : Result TxAnswer TxFault)
-    → IsAnswer (gate_of v a elsewhere p) p x → returned x ≡ None
-    → (goes_home v a p ≡ true) × (elsewhere ≡ false)
-gone_home v a elsewhere p x answer none =
-    let tests = opened (is_bad_size v p) (goes_home v a p && not elsewhere) (is_full v p)
-    (gone_open (gate_of v a elsewhere p) p x answer none) in
-    let home = tests.1 in
-    (grind (arith, nat_tests, home), grind (arith, nat_tests, home))
 
 -- it may be sent still after what accepts nothing
 pub may_after : (v w : Sender) (p : Packet) → MaySend v p → IsNoneAccepted v w → w.layout ≡ v.layout → MaySend w p
@@ -196,12 +182,6 @@ pub kept_after : (o : Option Packet) (v w x : Sender) → IsNoneAccepted v w →
     → IfSome o (λ b. IsNoneAccepted v x)
 kept_after None v w x none is = tt
 kept_after (Some q) v w x none is = none_both v w x none is
-
--- what isn't given back needs no word
-pub none_back : (r : Result TxAnswer TxFault) (p : Packet) → returned r ≡ None
-    → IfErr r (λ f. IfSome f.packet (λ back. IsBack f.fault p back))
-none_back (Ok a) p none = tt
-none_back (Err f) p none = rw none tt
 
 pub back_itself : (f : PmdFault) (p : Packet) → IsBack f p p
 back_itself DeviceFault p = refl

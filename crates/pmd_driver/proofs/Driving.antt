@@ -1,7 +1,9 @@
 -- A driver as a whole, from what its rings are.
-use Rattle.std.proofs.Common.{◌≡◌, Option, Some, None, Result, Ok, Err, IfErr, IfSome, sym, subst}
+use Rattle.std.proofs.Common.{◌≡◌, Option, Some, None, Result, Ok, Err, IfOk, IfErr, IfSome, sym, subst}
 use Rattle.pmd_driver.specs.Halted.{Halted}
 use Rattle.pmd_rx.specs.PmdAccess.Named.{AtPort}
+use Rattle.pmd_rx.specs.PmdAccess.declared.fault.PmdFault.{PmdFault}
+use Rattle.pmd_tx.specs.Acts.{fault_in}
 use Rattle.pmd_driver.specs.Driver.{Driver, IsDown, halted_of}
 use Rattle.pmd_driver.specs.Running.{Running}
 use Rattle.pmd_driver.specs.declared.driver.Rings.{Rings}
@@ -23,7 +25,17 @@ pub err_later : {T E : Type 0} {P Q : E → Type 0} (r : Result T E) → ((e : E
 err_later (Ok x) step p = tt
 err_later (Err e) step p = step e p
 
+-- of what a call answers
+pub done_later : {T E : Type 0} {P Q : T → Type 0} (r : Result T E) → ((x : T) → P x → Q x) → IfOk r P → IfOk r Q
+done_later (Ok x) step p = step x p
+done_later (Err e) step p = tt
+
 -- and of what there is
 pub some_later : {T : Type 0} {P Q : T → Type 0} (o : Option T) → ((x : T) → P x → Q x) → IfSome o P → IfSome o Q
 some_later None step p = tt
 some_later (Some x) step p = step x p
+
+-- and of an error that is the fault that there is
+pub some_by : {T : Type 0} (P : PmdFault → Type 0) (r : Result T PmdFault) → IfErr r P → IfSome (fault_in r) P
+some_by P (Ok x) by = tt
+some_by P (Err f) by = by

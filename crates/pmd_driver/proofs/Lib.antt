@@ -35,6 +35,5 @@ pub mod Sending
 pub mod Sent
 pub mod SentCounted
 pub mod Several
-pub mod Shut
 pub mod Starting
 pub mod Whole

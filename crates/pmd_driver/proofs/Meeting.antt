@@ -1,11 +1,12 @@
 -- What a packet of a burst meets: a way that is shut, or a fault amid events.
-use Rattle.std.proofs.Common.{◌≡◌, ◌⊎◌, inl, inr, ℕ, true, false, ◌&&◌, not, List, Some, None, Result, Ok, Err, Option, IfErr, refl, sym, ap, ◌∙◌, subst}
+use Rattle.std.proofs.Common.{◌≡◌, ◌⊎◌, inl, inr, ℕ, true, false, ◌&&◌, not, List, Some, None, Result, Ok, Err, Option, IfErr, IfSome, refl, sym, ap, ◌∙◌, subst}
 use Rattle.pmd_rx.specs.NicDevice.DmaArena.Numbers.{is_own}
 use Rattle.pmd_rx.specs.DeviceLock.Alone.{Blocks}
 use Rattle.pmd_rx.specs.DeviceLock.declared.entry.Call.{Call}
 use Rattle.pmd_rx.specs.PmdAccess.declared.fault.PmdFault.{PmdFault}
 use Rattle.pmd_rx.specs.PmdAccess.declared.fault.PmdFault.TheVariants as fault
 use Rattle.pmd_rx.specs.PmdAccess.declared.packet.Packet.{Packet}
+use Rattle.pmd_tx.specs.Acts.{failed_in}
 use Rattle.pmd_tx.specs.Plays.{AsksNext, FaultsBy}
 use Rattle.pmd_tx.specs.Sending.{Sender, blocks_of}
 use Rattle.pmd_tx.specs.Sends.{gate_of, goes_home, is_bad_size, is_full, outgoing_of, IsAnswer, IsLate, IsShut, IsTried}
@@ -165,6 +166,6 @@ module _ (r : Running) (p : Packet) where
 
   pub sent_amids : (up : IsUp r) (x : Result TxAnswer TxFault) (old new : List Call) → MayAnswer r p x
       → IfErr x (λ failed. FaultsBy failed.fault (outgoing_of p).blocks old r.transmit new)
-      → IfErr x (λ failed. IsAmid old new failed.fault)
+      → IfSome (failed_in x) (λ f. IsAmid old new f)
   sent_amids up (Ok y) old new answer faults = tt
   sent_amids up (Err y) old new answer faults = sent_amid up y old new answer faults

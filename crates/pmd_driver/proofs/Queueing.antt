@@ -1,5 +1,5 @@
 -- Packets that are queued one after another.
-use Rattle.std.proofs.Common.{◌≡◌, ◌<◌, ◌≤◌, ◌+◌, ◌*◌, if◌then◌else◌, ◌&&◌, not, ℕ, All, Bool, true, false, List, [], ◌∷◌, ◌++◌, length, drop, map, Option, Some, None, Result, IfSome, IfNone, length-append, refl, sym, ap, ◌∙◌, append-nil, append_assoc, arith}
+use Rattle.std.proofs.Common.{◌≡◌, ◌<◌, ◌≤◌, ◌+◌, ◌*◌, if◌then◌else◌, ◌&&◌, not, ℕ, All, Bool, true, false, List, [], ◌∷◌, ◌++◌, length, drop, map, Option, Some, None, Result, IfSome, IfNone, length-append, refl, sym, ap, subst, ◌∙◌, append-nil, append_assoc, arith}
 use Rattle.std.proofs.lemmas.Bool.Decides.{nat_tests}
 use Rattle.std.proofs.lemmas.List.{length-map, length-take-le, map-append}
 use Rattle.pmd_rx.specs.NicDevice.DmaArena.Block.{Block, IsBlock}
@@ -14,8 +14,8 @@ use Rattle.pmd_tx.specs.Sending.{Layout, Sender, Segment, blocks_of, parts_for, 
 use Rattle.pmd_tx.specs.Sends.{accepted_of, IsAccepted, IsAnswer, IsNoneAccepted, SendsHome, gate_of, goes_home, is_bad_size, is_full, outgoing_of, returned}
 use Rattle.pmd_tx.specs.declared.answer.TxAnswer.{TxAnswer}
 use Rattle.pmd_tx.specs.declared.answer.TxFault.{TxFault}
-use Rattle.pmd_driver.specs.Bursts.{Accepts, MayAnswer, segments_in, vacant_in, with_rests}
-use Rattle.pmd_driver.specs.Queueing.{Queues}
+use Rattle.pmd_driver.specs.Bursts.{Accepts, IsRefusedFirst, MayAnswer, segments_in, vacant_in, with_rests}
+use Rattle.pmd_driver.specs.Queueing.{Queues, QueuesUpTo}
 use Rattle.pmd_driver.specs.Running.{Running, receives, rings_out}
 use Rattle.pmd_driver.proofs.Both.{rings_on, rings_still}
 use Rattle.pmd_driver.proofs.Driving.{some_later}
@@ -135,24 +135,35 @@ accepts_on r s t ps qs one two = record {
 
 -- and so on with the packets that are left
 
-pub queues_on : (given mid_left left : List Packet) (k j : ℕ) (met : Option PmdFault) (old mid new : List Call)
-    (r s t : Running) → Queues given mid_left k None old r mid s → Queues mid_left left j met mid s new t
-    → Queues given left (k + j) met old r new t
-queues_on given mid_left left k j met old mid new r s t one two = record {
-  gone = one.gone ++ two.gone;
-  waiting = two.waiting;
-  given_are = one.given_are ∙ ap (λ (l : List Packet). one.gone ++ l) (sym one.left_are ∙ two.given_are)
-      ∙ sym (append_assoc one.gone two.gone two.waiting);
-  count = omega (arith, one.count, two.count, length-append one.gone two.gone);
-  accepts = accepts_on r s t one.gone two.gone one.accepts two.accepts;
-  left_are = two.left_are;
-  amid = some_later met (λ f amid. amid_after f old mid new r s one.drives amid) two.amid;
-  drives = rings_on old mid new r s t one.drives two.drives;
-  keeps = keeps_then r.arena s.arena t.arena (rings_out r ++ numbers_of_all given)
-      (rings_out s ++ numbers_of_all mid_left) (rings_out t ++ numbers_of_all left) one.keeps two.keeps;
-  tail = two.tail ∙ one.tail;
-  slots = omega (arith, one.slots, two.slots);
-}
+module _ {given mid_left left : List Packet} {k j : ℕ} {met : Option PmdFault} {old mid new : List Call}
+    {r s t : Running} (one : Queues given mid_left k None old r mid s)
+  where
+    queues_both : Queues mid_left left j met mid s new t → Queues given left (k + j) met old r new t
+    queues_both two = record {
+      gone = one.gone ++ two.gone;
+      waiting = two.waiting;
+      given_are = one.given_are ∙ ap (λ (l : List Packet). one.gone ++ l) (sym one.left_are ∙ two.given_are)
+          ∙ sym (append_assoc one.gone two.gone two.waiting);
+      count = omega (arith, one.count, two.count, length-append one.gone two.gone);
+      accepts = accepts_on r s t one.gone two.gone one.accepts two.accepts;
+      left_are = two.left_are;
+      amid = some_later met (λ f amid. amid_after f old mid new r s one.drives amid) two.amid;
+      drives = rings_on old mid new r s t one.drives two.drives;
+      keeps = keeps_then r.arena s.arena t.arena (rings_out r ++ numbers_of_all given)
+          (rings_out s ++ numbers_of_all mid_left) (rings_out t ++ numbers_of_all left) one.keeps two.keeps;
+      tail = two.tail ∙ one.tail;
+      slots = omega (arith, one.slots, two.slots);
+      shut = λ f refused.
+          let now = one.shut f refused in
+          let next = two.shut f
+          (subst (λ (x : Running). IsRefusedFirst f x mid_left) (sym now.4)
+          (subst (λ (l : List Packet). IsRefusedFirst f r l) (sym now.2) refused)) in
+          (omega (arith, now.0, next.0), next.1, next.2 ∙ now.2, next.3 ∙ now.3, next.4 ∙ now.4);
+    }
+
+    pub queues_then : {ends : Bool} → QueuesUpTo ends mid_left left j met mid s new t
+        → QueuesUpTo ends given left (k + j) met old r new t
+    queues_then two = record { queues = queues_both two.queues; stops = two.stops }
 
 -- none yet
 
@@ -165,8 +176,8 @@ accepts_same r = record {
   receive = refl;
 }
 
-pub queues_none : (given : List Packet) (old : List Call) (r : Running) → Queues given given 0 None old r old r
-queues_none given old r = record {
+pub queues_none : {given : List Packet} {old : List Call} {r : Running} → Queues given given 0 None old r old r
+queues_none {given} {old} {r} = record {
   gone = [];
   waiting = given;
   given_are = refl;
@@ -178,4 +189,11 @@ queues_none given old r = record {
   keeps = record { owns = λ n. refl; each = λ n. refl };
   tail = refl;
   slots = omega arith;
+  shut = λ f refused. (refl, tt, refl, refl, refl);
 }
+
+-- all of them
+pub queues_all : {given : List Packet} {k : ℕ} {old new : List Call} {r s : Running} (left : List Packet)
+    → Queues given left k None old r new s → length left ≡ 0 → QueuesUpTo true given left k None old r new s
+queues_all [] q none = record { queues = q; stops = λ ends. tt }
+queues_all (p ∷ left) q none = absurd (omega (arith, none))

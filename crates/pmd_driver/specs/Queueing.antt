@@ -1,13 +1,18 @@
--- How the packets of a burst are queued, before the tail is moved after them.
-use Rattle.std.specs.Prelude.{ℕ, ◌≡◌, ◌+◌, ◌≤◌, ◌++◌, length, List, Option, Some, IfSome}
+-- What the steps of a burst do, each in one record: from the calls that were made and the driver there, to those that
+-- were made after it and the driver there.
+use Rattle.std.specs.Prelude.{ℕ, ◌≡◌, ◌+◌, ◌≤◌, ◌++◌, ◌∷◌, [], length, true, is_some, Bool, List, Option, Some, None, Result, IfSome}
 use Rattle.pmd_rx.specs.NicDevice.DmaArena.Numbers.{is_own}
 use Rattle.pmd_rx.specs.DeviceLock.declared.entry.Call.{Call}
 use Rattle.pmd_rx.specs.PmdAccess.declared.fault.PmdFault.{PmdFault}
 use Rattle.pmd_rx.specs.PmdAccess.declared.packet.Packet.{Packet}
 use Rattle.pmd_rx.specs.Keeping.{numbers_of_all}
-use Rattle.pmd_driver.specs.Apart.{DrivesRings}
+use Rattle.pmd_tx.specs.Acts.{failed_in}
+use Rattle.pmd_tx.specs.Sends.{IsLate, returned}
+use Rattle.pmd_tx.specs.declared.answer.TxAnswer.{TxAnswer}
+use Rattle.pmd_tx.specs.declared.answer.TxFault.{TxFault}
+use Rattle.pmd_driver.specs.Apart.{DrivesRings, FindsBy}
 use Rattle.pmd_driver.specs.Blocks.{KeepsUp}
-use Rattle.pmd_driver.specs.Bursts.{Accepts, AreLeft, FailsAmid, IsRefusedFirst, vacant_in}
+use Rattle.pmd_driver.specs.Bursts.{Accepts, AreLeft, FailsAmid, IsRefusedFirst, MakesRoom, SendsBurst, Stops, vacant_in}
 use Rattle.pmd_driver.specs.Halves.{halves_of}
 use Rattle.pmd_driver.specs.Running.{Running}
 
@@ -27,10 +32,60 @@ pub record Queues (given left : List Packet) (sent : ℕ) (met : Option PmdFault
   pub tail : s.transmit.posted ≡ r.transmit.posted
   -- each takes a slot at least
   pub slots : sent + vacant_in s.transmit ≤ vacant_in r.transmit
+  -- where the first is refused before any event, no call was made, and all stays as it was
+  pub shut : (f : PmdFault) → IsRefusedFirst f r given
+      → (sent ≡ 0) × IfSome met (λ g. g ≡ f) × (left ≡ given) × (new ≡ old) × (s ≡ r)
 
--- where the first packet is refused before any event, no call was made, and all stays as it was
-abbrev pub StaysShut : List Packet → List Packet → ℕ → Option PmdFault → List Call → Running → List Call → Running
-    → Type 0
-StaysShut given left sent met old r new s =
-    (f : PmdFault) → IsRefusedFirst f r given
-    → (sent ≡ 0) × (met ≡ Some f) × (left ≡ given) × (new ≡ old) × (s ≡ r)
+-- the same, and where the burst ends with that, this is why
+pub record QueuesUpTo (ends : Bool) (given left : List Packet) (sent : ℕ) (met : Option PmdFault) (old : List Call)
+    (r : Running) (new : List Call) (s : Running) : Type 0 where
+  pub queues : Queues given left sent met old r new s
+  pub stops : ends ≡ true → Stops met s left
+
+-- a packet before others: which are left with it where it comes back, how many were queued, and whether a burst ends
+
+abbrev pub left_with : Option Packet → List Packet → List Packet
+left_with None rest = rest
+left_with (Some back) rest = back ∷ rest
+
+abbrev pub sent_by : Option Packet → ℕ
+sent_by None = 1
+sent_by (Some back) = 0
+
+abbrev pub ends_by : Option Packet → Option PmdFault → Bool
+ends_by None met = is_some met
+ends_by (Some back) met = true
+
+-- one packet is a burst, whichever others are behind it
+abbrev pub QueuesOne : Packet → Result TxAnswer TxFault → List Call → Running → List Call → Running → Type 0
+QueuesOne p x old r new s =
+    (rest : List Packet) → QueuesUpTo (ends_by (returned x) (failed_in x)) (p ∷ rest) (left_with (returned x) rest)
+    (sent_by (returned x)) (failed_in x) old r new s
+
+-- the transmit half went on with what waits, and accepted no packet
+pub record Continues (f : Option PmdFault) (old : List Call) (r : Running) (new : List Call) (s : Running) : Type 0
+  where
+    pub drives : DrivesRings old r new s
+    pub keeps : KeepsUp r [] s []
+    pub accepts : Accepts [] r s
+    pub late : IfSome f (λ f. IsLate f)
+    pub amid : IfSome f (λ f. FailsAmid f (is_own r.arena) old (halves_of r) new)
+
+-- packets were queued, and the tail was to be moved after them
+pub record Posts (given left : List Packet) (result : Result ℕ PmdFault) (old : List Call) (r : Running)
+    (new : List Call) (s : Running) : Type 0 where
+  pub drives : DrivesRings old r new s
+  pub keeps : KeepsUp r (numbers_of_all given) s (numbers_of_all left)
+  pub sends : SendsBurst given left result old r new s
+
+-- room was made for a burst, where there was less than so much, as far as no fault came
+pub record HasRoom (vacant : ℕ) (f : Option PmdFault) (old : List Call) (r : Running) (new : List Call) (s : Running)
+    : Type 0 where
+  pub drives : DrivesRings old r new s
+  pub keeps : KeepsUp r [] s []
+  pub room : MakesRoom vacant f old r new s
+  pub accepted : s.transmit.accepted ≡ r.transmit.accepted
+  pub layout : s.transmit.layout ≡ record r.transmit.layout { next = s.transmit.layout.next }
+  pub receive : s.receive ≡ r.receive
+  pub late : IfSome f (λ f. IsLate f)
+  pub finds : IfSome f (λ f. FindsBy f (is_own r.arena) old (halves_of r) new)

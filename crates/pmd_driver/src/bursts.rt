@@ -1,14 +1,12 @@
 //! Several packets at once: as many as wait, with one move of the tail.
 
-ghost use Rattle.std.specs.Prelude.{◌≡◌, ◌<◌, ◌+◌, ◌==◌, if◌then◌else◌, [], true, false, None, length, IfErr, IfSome};
-ghost use Rattle.pmd_rx.specs.NicDevice.DmaArena.Numbers.{is_own};
+ghost use Rattle.std.specs.Prelude.{◌≡◌, ◌<◌, ◌+◌, ◌==◌, if◌then◌else◌, true, false, None, length, IfErr};
 ghost use Rattle.pmd_rx.specs.Keeping.{numbers_of_all};
-ghost use Rattle.pmd_tx.specs.Sends.{IsLate};
-ghost use Rattle.pmd_driver.specs.Apart.{DrivesRings, FindsBy};
+ghost use Rattle.pmd_tx.specs.Acts.{Asks, fault_in};
+ghost use Rattle.pmd_driver.specs.Apart.{DrivesRings};
 ghost use Rattle.pmd_driver.specs.Blocks.{KeepsUp};
-ghost use Rattle.pmd_driver.specs.Bursts.{IsSendBurst, MakesRoom, SendsBurst, Stops, fault_of, vacant_in};
-ghost use Rattle.pmd_driver.specs.Halves.{halves_of};
-ghost use Rattle.pmd_driver.specs.Queueing.{Queues, StaysShut};
+ghost use Rattle.pmd_driver.specs.Bursts.{IsSendBurst};
+ghost use Rattle.pmd_driver.specs.Queueing.{HasRoom, Posts, QueuesUpTo};
 ghost use Rattle.pmd_rx.specs.PmdAccess.Begun.{BeganAs};
 ghost use Rattle.pmd_rx.specs.PmdAccess.Refusals.{CanFail};
 
@@ -64,19 +62,8 @@ impl Running {
 
     /// Frees the blocks of packets that were sent, where fewer slots than so many are vacant.
     fn make_room<N: Nic>(&mut self, alloc: Global, nic: &mut N, vacant: u16) -> Result<(), PmdFault>
-        ensures drives { DrivesRings (N.made nic.old) self.old (N.made nic.new) self.new }
-        ensures room { MakesRoom vacant (fault_of result) (N.made nic.old) self.old (N.made nic.new) self.new }
-        ensures accepted { self.new.transmit.accepted ≡ self.old.transmit.accepted }
-        ensures late { IfErr result (λ f. IsLate f) }
-        ensures finds { IfErr result (λ f.
-            FindsBy f (is_own self.old.arena) (N.made nic.old) (halves_of self.old) (N.made nic.new)) }
-        ensures layout { self.new.transmit.layout
-            ≡ record self.old.transmit.layout { next = self.new.transmit.layout.next } }
-        ensures receive { self.new.receive ≡ self.old.receive }
-        ensures blocks { KeepsUp self.old [] self.new [] }
-        ensures began { BeganAs N.began nic.old nic.new }
-        ensures refuses { N.refuses nic.new ≡ N.refuses nic.old }
-        ensures refusal { IfErr result (λ f. CanFail (N.refuses nic.new) f) }
+        ensures asks { Asks N.began N.refuses (fault_in result) nic.old nic.new }
+        ensures room { HasRoom vacant (fault_in result) (N.made nic.old) self.old (N.made nic.new) self.new }
     {
         if self.vacant() >= vacant {
             return Ok(());
@@ -95,14 +82,9 @@ impl Running {
         nic: &mut N,
         packets: &mut VecDeque<Packet>,
     ) -> Result<u16, PmdFault>
-        ensures drives { DrivesRings (N.made nic.old) self.old (N.made nic.new) self.new }
-        ensures sent { SendsBurst packets.old.items packets.new.items result (N.made nic.old) self.old
+        ensures asks { Asks N.began N.refuses (fault_in result) nic.old nic.new }
+        ensures posts { Posts packets.old.items packets.new.items result (N.made nic.old) self.old
             (N.made nic.new) self.new }
-        ensures blocks { KeepsUp self.old (numbers_of_all packets.old.items) self.new
-            (numbers_of_all packets.new.items) }
-        ensures began { BeganAs N.began nic.old nic.new }
-        ensures refuses { N.refuses nic.new ≡ N.refuses nic.old }
-        ensures refusal { IfErr result (λ f. CanFail (N.refuses nic.new) f) }
     {
         let Queued { sent, met } = self.queue_burst(alloc, nic, packets);
         match at_first(sent, met) {
@@ -121,14 +103,9 @@ impl Running {
         nic: &mut N,
         packets: &mut VecDeque<Packet>,
     ) -> Queued
-        ensures queues { Queues packets.old.items packets.new.items result.sent result.met (N.made nic.old) self.old
-            (N.made nic.new) self.new }
-        ensures stops { Stops result.met self.new packets.new.items }
-        ensures shut { StaysShut packets.old.items packets.new.items result.sent result.met (N.made nic.old) self.old
-            (N.made nic.new) self.new }
-        ensures began { BeganAs N.began nic.old nic.new }
-        ensures refuses { N.refuses nic.new ≡ N.refuses nic.old }
-        ensures refusal { IfSome result.met (λ f. CanFail (N.refuses nic.new) f) }
+        ensures asks { Asks N.began N.refuses result.met nic.old nic.new }
+        ensures queues { QueuesUpTo true packets.old.items packets.new.items result.sent result.met (N.made nic.old)
+            self.old (N.made nic.new) self.new }
     {
         let _room = self.vacant();
         let mut sent = 0;
@@ -150,16 +127,11 @@ impl Running {
         packets: &mut VecDeque<Packet>,
     ) -> (Queued, bool)
         requires { 0 < length packets.old.items }
-        ensures queues { Queues packets.old.items packets.new.items result.0.sent result.0.met (N.made nic.old) self.old
-            (N.made nic.new) self.new }
-        ensures ends { result.1 ≡ true → Stops result.0.met self.new packets.new.items }
-        ensures shut { StaysShut packets.old.items packets.new.items result.0.sent result.0.met (N.made nic.old)
-            self.old (N.made nic.new) self.new }
+        ensures asks { Asks N.began N.refuses result.0.met nic.old nic.new }
+        ensures queues { QueuesUpTo result.1 packets.old.items packets.new.items result.0.sent result.0.met
+            (N.made nic.old) self.old (N.made nic.new) self.new }
         ensures goes_on { result.1 ≡ false → (result.0.met ≡ None)
             × (length packets.new.items + 1 ≡ length packets.old.items) }
-        ensures began { BeganAs N.began nic.old nic.new }
-        ensures refuses { N.refuses nic.new ≡ N.refuses nic.old }
-        ensures refusal { IfSome result.0.met (λ f. CanFail (N.refuses nic.new) f) }
     {
         let packet = match packets.pop_front() {
             Some(packet) => packet,

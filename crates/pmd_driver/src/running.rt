@@ -1,20 +1,22 @@
 //! A driver whose two rings are up.
 
-ghost use Rattle.std.specs.Prelude.{◌≡◌, ◌<◌, ◌≤◌, ◌+◌, ◌⊎◌, ◌↔◌, [], ◌∷◌, nat_lt, true, drop, length, All, IfOk, IfErr, IfSome, IfNone, IsNone, IsOk, OnOk, OnErr};
+ghost use Rattle.std.specs.Prelude.{◌≡◌, ◌<◌, ◌⊎◌, ◌↔◌, [], nat_lt, true, drop, length, All, IfOk, IfErr, IfSome, IsNone, IsOk, OnOk, OnErr};
 ghost use Rattle.std.specs.List.{list_any};
-ghost use Rattle.pmd_rx.specs.NicDevice.DmaArena.Numbers.{free_count, is_own};
+ghost use Rattle.pmd_rx.specs.NicDevice.DmaArena.Numbers.{free_count};
 ghost use Rattle.pmd_rx.specs.NicDevice.DmaArena.Whereabouts.{times_in_hand};
 ghost use Rattle.pmd_rx.specs.PmdAccess.Begun.{BeganAs};
 ghost use Rattle.pmd_rx.specs.PmdAccess.Bufs.{numbers_of};
 ghost use Rattle.pmd_rx.specs.PmdAccess.Fresh.{IsFresh, bufs_for};
 ghost use Rattle.pmd_rx.specs.Keeping.{blocks_out, handed_blocks, numbers_in, numbers_of_all};
+ghost use Rattle.pmd_tx.specs.Acts.{Asks, failed_in, fault_in};
 ghost use Rattle.pmd_tx.specs.Counted.{packets_in};
-ghost use Rattle.pmd_tx.specs.Sends.{returned, IsBack, IsFullWhereReported, IsLate};
+ghost use Rattle.pmd_tx.specs.Sends.{returned};
 ghost use Rattle.pmd_driver.specs.Apart.{DrivesRings, OwnsSame};
 ghost use Rattle.pmd_driver.specs.Blocks.{KeepsUp};
-ghost use Rattle.pmd_driver.specs.Bursts.{Accepts, FailsAmid, IsKeptOut, IsReceiveBurst, MayAnswer, vacant_in};
+ghost use Rattle.pmd_driver.specs.Bursts.{IsReceiveBurst, vacant_in};
 ghost use Rattle.pmd_driver.specs.DriverCalls.{IsReceiveCall, IsSendCall, IsReapCall};
 ghost use Rattle.pmd_driver.specs.Halves.{halves_of};
+ghost use Rattle.pmd_driver.specs.Queueing.{Continues, QueuesOne};
 ghost use Rattle.pmd_driver.specs.Running.{IsUp, IsReleased, goes_back, receives};
 ghost use Rattle.pmd_rx.specs.PmdAccess.Refusals.{CanFail};
 
@@ -209,22 +211,8 @@ impl Running {
         nic: &mut N,
         packet: Packet,
     ) -> Result<TxAnswer, TxFault>
-        ensures drives { DrivesRings (N.made nic.old) self.old (N.made nic.new) self.new }
-        ensures answer { MayAnswer self.old packet result }
-        ensures full { IsFullWhereReported self.old.transmit packet result }
-        ensures shut { IsKeptOut self.old packet → (N.made nic.new ≡ N.made nic.old) × (self.new ≡ self.old) }
-        ensures accepted { IfNone (returned result) (Accepts (packet ∷ []) self.old self.new) }
-        ensures kept { IfSome (returned result) (λ back. Accepts [] self.old self.new) }
-        ensures back { IfErr result (λ failed. IfSome failed.packet (λ back. IsBack failed.fault packet back)) }
-        ensures tail { self.new.transmit.posted ≡ self.old.transmit.posted }
-        ensures slots { IfNone (returned result)
-            (1 + vacant_in self.new.transmit ≤ vacant_in self.old.transmit) }
-        ensures blocks { KeepsUp self.old (numbers_of packet.bufs) self.new (numbers_in (returned result)) }
-        ensures amid { IfErr result (λ failed.
-            FailsAmid failed.fault (is_own self.old.arena) (N.made nic.old) (halves_of self.old) (N.made nic.new)) }
-        ensures began { BeganAs N.began nic.old nic.new }
-        ensures refuses { N.refuses nic.new ≡ N.refuses nic.old }
-        ensures refusal { IfErr result (λ failed. CanFail (N.refuses nic.new) failed.fault) }
+        ensures asks { Asks N.began N.refuses (failed_in result) nic.old nic.new }
+        ensures queues { QueuesOne packet result (N.made nic.old) self.old (N.made nic.new) self.new }
     {
         let _whole = bytes_in(&packet.bufs);
         let elsewhere = self.receives(&packet.bufs);
@@ -238,16 +226,9 @@ impl Running {
     /// `DeviceFault` where the device answers what it can't on a healthy queue, and `Call` where a call was refused:
     /// the next call goes on.
     pub(crate) fn flush<N: Nic>(&mut self, alloc: Global, nic: &mut N) -> Result<(), PmdFault>
-        ensures drives { DrivesRings (N.made nic.old) self.old (N.made nic.new) self.new }
-        ensures kept { Accepts [] self.old self.new }
+        ensures asks { Asks N.began N.refuses (fault_in result) nic.old nic.new }
+        ensures continues { Continues (fault_in result) (N.made nic.old) self.old (N.made nic.new) self.new }
         ensures settled { OnOk result (self.new.transmit.posted ≡ length self.new.transmit.outstanding) }
-        ensures blocks { KeepsUp self.old [] self.new [] }
-        ensures late { IfErr result (λ f. IsLate f) }
-        ensures amid { IfErr result (λ f.
-            FailsAmid f (is_own self.old.arena) (N.made nic.old) (halves_of self.old) (N.made nic.new)) }
-        ensures began { BeganAs N.began nic.old nic.new }
-        ensures refuses { N.refuses nic.new ≡ N.refuses nic.old }
-        ensures refusal { IfErr result (λ f. CanFail (N.refuses nic.new) f) }
     {
         self.transmit.flush(alloc, nic)
     }

@@ -3,6 +3,7 @@ use Rattle.pmd_rx.specs.PmdAccess.declared.packet.Packet.{Packet}
 use Rattle.pmd_tx.specs.Sends.{returned}
 use Rattle.pmd_driver.specs.Bursts.{IsKeptOut, MayAnswer}
 use Rattle.pmd_driver.specs.Running.{Running, receives}
+use Rattle.pmd_driver.proofs.First.{queues_one}
 use Rattle.pmd_driver.proofs.Meeting.{sent_amids}
 use Rattle.pmd_driver.proofs.Queueing.{accepted_one, accepted_none, slots_taken}
 use Rattle.pmd_driver.proofs.Sending.{home_owns, shut_home}
@@ -26,8 +27,8 @@ invariant_of-self g c =
     (sent_up_kept q s p c.queue.result answer c.bytes_in-whole.ensures.whole e.accepted e.kept e.home e.back
     e.layout refl c.self.invariant).0
 
-pub returns : goal.returns
-returns g c =
+pub returns-clause-queues : goal.returns-clause-queues
+returns-clause-queues g c =
     let q : Running = record {
       arena = c.self.inside.arena;
       receive = c.self.inside.receive;
@@ -48,20 +49,17 @@ returns g c =
     let still = by way in
     let arena = shut_home q.transmit q.arena (receives q p) p c.queue.result s.arena answer way e.home in
     (still.0, λ i. record q { arena = arena i; transmit = still.1 i }) in
-    rw (← c.self.view_is) (record {
-      drives = sent_drives old new q p c.queue.new.self c.queue.new.arena c.self.invariant shut owns e.plays;
+    rw (← c.self.view_is) (queues_one (record {
       answer = answer;
       full = e.full;
       shut = shut;
       accepted = accepted_one q s p (returned c.queue.result) e.accepted e.home e.layout refl;
       kept = accepted_none q s p (returned c.queue.result) e.kept e.home e.layout refl;
       back = e.back;
-      tail = e.tail;
       slots = slots_taken q p c.queue.result answer c.bytes_in-whole.ensures.whole s.transmit e.layout e.accepted;
-      blocks = (sent_up_kept q s p c.queue.result answer c.bytes_in-whole.ensures.whole e.accepted e.kept e.home e.back
-          e.layout refl c.self.invariant).1;
       amid = sent_amids q p c.self.invariant c.queue.result old new answer e.faults;
-      began = e.began;
-      refuses = e.refuses;
-      refusal = e.refusal;
-    })
+      drives = sent_drives old new q p c.queue.new.self c.queue.new.arena c.self.invariant shut owns e.plays;
+      keeps = (sent_up_kept q s p c.queue.result answer c.bytes_in-whole.ensures.whole e.accepted e.kept e.home e.back
+          e.layout refl c.self.invariant).1;
+      tail = e.tail;
+    }))

@@ -26,9 +26,9 @@ half_handed q h r none is = ap left_handed is ∙ none
 half_accepted : (q : AtPort) (h : Halted) (r : Rest) → h.accepted ≡ [] → IsHalfStarted q h r → left_accepted r ≡ []
 half_accepted q h r none is = ap left_accepted is ∙ none
 
-pub ready_handed : (q : AtPort) (size frame : ℕ) (old : List Call) (a : Numbers) (new : List Call) (b : Numbers)
-    (v : Receive) → IsReceiveReady q size frame old a new b v → v.handed ≡ []
-ready_handed q size frame old a new b v ready = ap (λ (x : Receive). x.handed) ready.fresh
+pub ready_handed : {q : AtPort} {size frame : ℕ} {old new : List Call} {a b : Numbers} {v : Receive}
+    → IsReceiveReady q size frame old a new b v → v.handed ≡ []
+ready_handed ready = ap (λ (x : Receive). x.handed) ready.fresh
 
 -- where no ring was prepared
 pub before_handed : (q : AtPort) (a : Numbers) (out : List ℕ) (r : Rest) → IsLeftWith q a out r → left_handed r ≡ []

@@ -35,5 +35,6 @@ pub mod Sending
 pub mod Sent
 pub mod SentCounted
 pub mod Several
+pub mod Stages
 pub mod Starting
 pub mod Whole

@@ -29,30 +29,17 @@ drawn_behind a drawn b out is =
     keeps_counted a b out (drawn ++ out) (out ++ drawn)
     (λ k. omega (arith, times-append drawn out k, times-append out drawn k)) (all_drawn a drawn b out is)
 
-pub receive_has : (q : AtPort) (size frame : ℕ) (old : List Call) (a : Numbers) (new : List Call) (b : Numbers)
-    (v : Receive) → IsReceiveReady q size frame old a new b v → KeepsEach a [] b (blocks_out v)
-receive_has q size frame old a new b v ready =
+receive_has : {q : AtPort} {size frame : ℕ} {old new : List Call} {a b : Numbers} {v : Receive}
+    → IsReceiveReady q size frame old a new b v → KeepsEach a [] b (blocks_out v)
+receive_has {size = size} {a = a} {b = b} ready =
     subst (λ (x : Receive). KeepsEach a [] b (blocks_out x)) (sym ready.fresh)
     (all_drawn a (ring_blocks ready.ring size) b [] ready.prepared.drawn)
 
-transmit_has : (q : AtPort) (size frame : ℕ) (old : List Call) (a : Numbers) (new : List Call) (b : Numbers)
-    (s : Sender) (out : List ℕ) → IsTransmitReady q size frame old a new b s → KeepsEach a out b (out ++ kept_out s)
-transmit_has q size frame old a new b s out ready =
-    let ends : List ℕ = ring_blocks ready.ring size in
+transmit_has : {q : AtPort} {size frame : ℕ} {old new : List Call} {a b : Numbers} {s : Sender} (out : List ℕ)
+    → IsTransmitReady q size frame old a new b s → KeepsEach a out b (out ++ kept_out s)
+transmit_has {size = size} {a = a} {b = b} out ready =
     subst (λ (x : Sender). KeepsEach a out b (out ++ kept_out x)) (sym ready.fresh)
-    (drawn_behind a ends b out ready.prepared.drawn)
-
--- both rings are lent, and the receive ring was filled
-pub filled_has : (q : AtPort) (size frame : ℕ) (old mid new : List Call) (a b d e : Numbers) (v w : Receive)
-    (s : Sender)
-    → IsReceiveReady q size frame old a mid b v → IsTransmitReady q size frame mid b new d s → Keeps d v e w []
-    → KeepsEach a [] e (blocks_out w ++ kept_out s)
-filled_has q size frame old mid new a b d e v w s ready also keeps =
-    keeps_then a b e [] (blocks_out v) (blocks_out w ++ kept_out s) (receive_has q size frame old a mid b v ready)
-    (keeps_then b d e (blocks_out v) (blocks_out v ++ kept_out s) (blocks_out w ++ kept_out s)
-    (transmit_has q size frame mid b new d s (blocks_out v) also)
-    (keeps_beside d e (blocks_out v) (blocks_out w) (kept_out s)
-    (all_exchanged d (blocks_out v) e (blocks_out w) keeps.arena)))
+    (drawn_behind a (ring_blocks ready.ring size) b out ready.prepared.drawn)
 
 -- a driver of these rings
 
@@ -78,15 +65,6 @@ one_ring a b v out keeps =
     ))
     keeps
 
--- the receive ring alone, with some blocks of the other
-pub after_all : (f : PmdFault) (q : AtPort) (size frame : ℕ) (old mid new : List Call) (a b d : Numbers) (v : Receive)
-    (out : List ℕ) → IsReceiveReady q size frame old a mid b v → PreparingFails f q Tx size mid b new d out
-    → HasAll a (with_receive_ring d v out) []
-after_all f q size frame old mid new a b d v out ready fails =
-    one_ring a d v out
-    (keeps_then a b d [] (blocks_out v) (blocks_out v ++ out) (receive_has q size frame old a mid b v ready)
-    (drawn_behind b out d (blocks_out v) (preparing_drawn f q Tx size mid b new d out fails)))
-
 pub both_rings : (a b : Numbers) (v : Receive) (s : Sender) (hand : List ℕ)
     → KeepsEach a [] b ((blocks_out v ++ kept_out s) ++ hand) → HasAll a (with_rings b v s) hand
 both_rings a b v s hand keeps =
@@ -108,19 +86,32 @@ both_rings a b v s hand keeps =
     ))
     keeps
 
-pub filled_all : (q : AtPort) (size frame : ℕ) (old mid new : List Call) (a b d e : Numbers) (v w : Receive)
-    (s : Sender)
-    → IsReceiveReady q size frame old a mid b v → IsTransmitReady q size frame mid b new d s → Keeps d v e w []
-    → HasAll a (with_rings e w s) []
-filled_all q size frame old mid new a b d e v w s ready also keeps =
-    let out : List ℕ = blocks_out w ++ kept_out s in
-    both_rings a e w s []
-    (keeps_counted a e [] out (out ++ []) (λ n. omega (arith, times-append out [] n))
-    (filled_has q size frame old mid new a b d e v w s ready also keeps))
+module _ {q : AtPort} {size frame : ℕ} {old mid new : List Call} {a b d : Numbers} {v : Receive}
+    (ready : IsReceiveReady q size frame old a mid b v)
+  where
+    -- the receive ring alone, with some blocks of the other
+    pub after_all : {f : PmdFault} {out : List ℕ} → PreparingFails f q Tx size mid b new d out
+        → HasAll a (with_receive_ring d v out) []
+    after_all {f} {out} fails =
+        one_ring a d v out
+        (keeps_then a b d [] (blocks_out v) (blocks_out v ++ out) (receive_has ready)
+        (drawn_behind b out d (blocks_out v) (preparing_drawn f q Tx size mid b new d out fails)))
+
+    -- both rings, and the receive ring was filled
+    pub filled_all : {e : Numbers} {w : Receive} {s : Sender} → IsTransmitReady q size frame mid b new d s
+        → Keeps d v e w [] → HasAll a (with_rings e w s) []
+    filled_all {e} {w} {s} also keeps =
+        let out : List ℕ = blocks_out w ++ kept_out s in
+        both_rings a e w s []
+        (keeps_counted a e [] out (out ++ []) (λ n. omega (arith, times-append out [] n))
+        (keeps_then a b e [] (blocks_out v) out (receive_has ready)
+        (keeps_then b d e (blocks_out v) (blocks_out v ++ kept_out s) out (transmit_has (blocks_out v) also)
+        (keeps_beside d e (blocks_out v) (blocks_out w) (kept_out s)
+        (all_exchanged d (blocks_out v) e (blocks_out w) keeps.arena)))))
 
 -- what a start leaves that is refused
 
-pub half_whole : (a : Numbers) (q : AtPort) (h : Halted) (r : Rest) → HasAll a h [] → IsHalfStarted q h r → IsWhole a r
+half_whole : (a : Numbers) (q : AtPort) (h : Halted) (r : Rest) → HasAll a h [] → IsHalfStarted q h r → IsWhole a r
 half_whole a q h r all is = subst (λ (x : Rest). IsWhole a x) (sym is) (all.owns, λ none. all)
 
 pub home_whole : (a : Numbers) (r : Rest) → IsHome a r → IsWhole a r

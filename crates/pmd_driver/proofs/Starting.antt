@@ -15,8 +15,7 @@ use Rattle.pmd_rx.proofs.PmdAccess.Outside.{times_first, times_rest, times-appen
 use Rattle.pmd_rx.proofs.PmdAccess.Rings.{ring_blocks_many}
 use Rattle.pmd_rx.specs.PmdAccess.Named.{AtPort}
 use Rattle.pmd_rx.specs.Keeping.{Keeps, blocks_out}
-use Rattle.pmd_rx.specs.Receive.{Receive, no_packet}
-use Rattle.pmd_rx.specs.declared.ring.Stage.TheVariants.{Looks}
+use Rattle.pmd_rx.specs.Receive.{Receive}
 use Rattle.pmd_tx.specs.Sending.{Sender}
 use Rattle.pmd_rx.specs.NicDevice.DmaArena.Run.{IsFreeRun}
 use Rattle.pmd_driver.specs.Running.{kept_out}
@@ -29,12 +28,10 @@ drawn_count a [] b is = rw is (omega arith)
 drawn_count a (n ∷ ns) b (free, is) =
     omega (arith, drawn_count (with_free a n false) ns b is, free_count_taken a n free)
 
-pub prepared_count : (q : AtPort) (side : Dir) (size : ℕ) (old : List Call) (a : Numbers) (new : List Call)
-    (b : Numbers) (ring : ℕ) → IsPrepared q side size old a new b ring
-    → free_count b + blocks_for size ≡ free_count a
-prepared_count q side size old a new b ring ready =
-    let drawn = drawn_count a (ring_blocks ring size) b ready.drawn in
-    omega (arith, drawn, ring_blocks_many ring size)
+pub prepared_count : {q : AtPort} {side : Dir} {size : ℕ} {old new : List Call} {a b : Numbers} {ring : ℕ}
+    → IsPrepared q side size old a new b ring → free_count b + blocks_for size ≡ free_count a
+prepared_count {size = size} {a = a} {b = b} {ring = ring} ready =
+    omega (arith, drawn_count a (ring_blocks ring size) b ready.drawn, ring_blocks_many ring size)
 
 -- which blocks are out
 
@@ -45,42 +42,8 @@ none_at false o owns = omega arith
 none_out : (a : Numbers) → AreOut a []
 none_out a k = none_at (is_free a k) (is_own a k) (is_own-of_free a k)
 
-pub receive_out : (q : AtPort) (size frame : ℕ) (old : List Call) (a : Numbers) (new : List Call) (b : Numbers)
-    (v : Receive) → IsReceiveReady q size frame old a new b v → AreOut b (blocks_out v)
-receive_out q size frame old a new b v ready =
-    let ends : List ℕ = ring_blocks ready.ring size in
-    subst (λ (x : Receive). AreOut b (blocks_out x)) (sym ready.fresh)
-    (all_drawn a ends b [] (ends ++ []) ready.prepared.drawn (none_out a) (λ k. omega (arith, times-append ends [] k)))
-
-transmit_out : (q : AtPort) (size frame : ℕ) (old : List Call) (a : Numbers) (new : List Call) (b : Numbers)
-    (v : Sender)
-    (out : List ℕ) → IsTransmitReady q size frame old a new b v → AreOut a out → AreOut b (out ++ kept_out v)
-transmit_out q size frame old a new b v out ready are =
-    let ends : List ℕ = ring_blocks ready.ring size in
-    subst (λ (x : Sender). AreOut b (out ++ kept_out x)) (sym ready.fresh)
-    (all_drawn a ends b out (out ++ ends) ready.prepared.drawn are (λ k. omega (arith, times-append out ends k)))
-
--- both rings are lent
-pub rings_out : (q : AtPort) (size frame : ℕ) (old mid new : List Call) (a b d : Numbers) (v : Receive) (s : Sender)
-    → IsReceiveReady q size frame old a mid b v → IsTransmitReady q size frame mid b new d s
-    → AreOut d (blocks_out v ++ kept_out s)
-rings_out q size frame old mid new a b d v s ready also =
-    transmit_out q size frame mid b new d s (blocks_out v) also (receive_out q size frame old a mid b v ready)
-
 pub one_out : (a : Numbers) (out others : List ℕ) → AreOut a (out ++ others) → AreOut a out
 one_out a out others are = out_fewer a (out ++ others) out are (λ k. omega (arith, times-append out others k))
-
-filled_out : (a b : Numbers) (v w : Receive) (others : List ℕ) → AreOut a (blocks_out v ++ others)
-    → Keeps a v b w [] → AreOut b (blocks_out w ++ others)
-filled_out a b v w others are keeps = out_exchanged a (blocks_out v) b (blocks_out w) others are keeps.arena
-
--- both rings are lent, and the receive ring was filled
-pub filled_rings : (q : AtPort) (size frame : ℕ) (old mid new : List Call) (a b d e : Numbers) (v w : Receive)
-    (s : Sender)
-    → IsReceiveReady q size frame old a mid b v → IsTransmitReady q size frame mid b new d s → Keeps d v e w []
-    → AreOut e (blocks_out w ++ kept_out s)
-filled_rings q size frame old mid new a b d e v w s ready also keeps =
-    filled_out d e v w (kept_out s) (rings_out q size frame old mid new a b d v s ready also) keeps
 
 -- where a ring wasn't prepared, the blocks that are out were drawn
 
@@ -101,12 +64,35 @@ pub before_out : (f : PmdFault) (q : AtPort) (size : ℕ) (old : List Call) (a :
 before_out f q size old a new b out fails =
     all_drawn a out b [] out (receive_drawn f q size old a new b out fails) (none_out a) (λ k. omega arith)
 
-pub after_out : (f : PmdFault) (q : AtPort) (size frame : ℕ) (old mid new : List Call) (a b d : Numbers) (v : Receive)
-    (out : List ℕ) → IsReceiveReady q size frame old a mid b v → PreparingFails f q Tx size mid b new d out
-    → AreOut d (blocks_out v ++ out)
-after_out f q size frame old mid new a b d v out ready fails =
-    all_drawn b out d (blocks_out v) (blocks_out v ++ out) (preparing_drawn f q Tx size mid b new d out fails)
-    (receive_out q size frame old a mid b v ready) (λ k. omega (arith, times-append (blocks_out v) out k))
+receive_out : {q : AtPort} {size frame : ℕ} {old new : List Call} {a b : Numbers} {v : Receive}
+    → IsReceiveReady q size frame old a new b v → AreOut b (blocks_out v)
+receive_out {size = size} {a = a} {b = b} ready =
+    let ends : List ℕ = ring_blocks ready.ring size in
+    subst (λ (x : Receive). AreOut b (blocks_out x)) (sym ready.fresh)
+    (all_drawn a ends b [] (ends ++ []) ready.prepared.drawn (none_out a) (λ k. omega (arith, times-append ends [] k)))
+
+-- the receive ring is lent
+module _ {q : AtPort} {size frame : ℕ} {old mid new : List Call} {a b d : Numbers} {v : Receive}
+    (ready : IsReceiveReady q size frame old a mid b v)
+  where
+    pub after_out : (f : PmdFault) (out : List ℕ) → PreparingFails f q Tx size mid b new d out
+        → AreOut d (blocks_out v ++ out)
+    after_out f out fails =
+        all_drawn b out d (blocks_out v) (blocks_out v ++ out) (preparing_drawn f q Tx size mid b new d out fails)
+        (receive_out ready) (λ k. omega (arith, times-append (blocks_out v) out k))
+
+    -- and the transmit ring
+    module _ {s : Sender} (also : IsTransmitReady q size frame mid b new d s) where
+      pub rings_out : AreOut d (blocks_out v ++ kept_out s)
+      rings_out =
+          let ends : List ℕ = ring_blocks also.ring size in
+          subst (λ (x : Sender). AreOut d (blocks_out v ++ kept_out x)) (sym also.fresh)
+          (all_drawn b ends d (blocks_out v) (blocks_out v ++ ends) also.prepared.drawn (receive_out ready)
+          (λ k. omega (arith, times-append (blocks_out v) ends k)))
+
+      -- and the receive ring was filled
+      pub filled_rings : {e : Numbers} {w : Receive} → Keeps d v e w [] → AreOut e (blocks_out w ++ kept_out s)
+      filled_rings {e} {w} keeps = out_exchanged d (blocks_out v) e (blocks_out w) (kept_out s) rings_out keeps.arena
 
 -- what is free stays so where others are drawn
 
@@ -136,18 +122,3 @@ pub still_free : (a : Numbers) (ring size : ℕ) (b : Numbers) (other count : �
 still_free a ring size b other count drawn apart free k below =
     drawn_keeps a (ring_blocks ring size) b (other + k) drawn (free k below)
     (none_behind (blocks_for size) ring (other + k) (omega (arith, apart)))
-
--- the ring is empty
-pub ready_empty : (q : AtPort) (size frame : ℕ) (old : List Call) (a : Numbers) (new : List Call) (b : Numbers)
-    (v : Receive) → IsReceiveReady q size frame old a new b v
-    → (v.layout.blocks ≡ []) × (v.stage ≡ Looks) × (v.layout.size ≡ size) × (v.seen ≡ []) × (v.held ≡ no_packet)
-    × (v.whole ≡ []) × (v.named ≡ [])
-ready_empty q size frame old a new b v ready = (
-  ap (λ (x : Receive). x.layout.blocks) ready.fresh,
-  ap (λ (x : Receive). x.stage) ready.fresh,
-  ap (λ (x : Receive). x.layout.size) ready.fresh,
-  ap (λ (x : Receive). x.seen) ready.fresh,
-  ap (λ (x : Receive). x.held) ready.fresh,
-  ap (λ (x : Receive). x.whole) ready.fresh,
-  ap (λ (x : Receive). x.named) ready.fresh,
-)

@@ -11,12 +11,14 @@ pub mod Counts
 pub mod Driver
 pub mod DriverCalls
 pub mod Ends
+pub mod Faults
 pub mod Filled
 pub mod Halted
 pub mod Halves
 pub mod Leaving
 pub mod Life
 pub mod Queueing
+pub mod Rising
 pub mod Running
 pub mod Runs
 pub mod Started

@@ -1,24 +1,15 @@
 //! The rings of a driver as they come up: one function for each step. Where a step fails, just the blocks that it lent
 //! are out of the arena.
 
-ghost use Rattle.std.specs.Prelude.{◌≡◌, ◌≤◌, ◌+◌, [], true, false, None, IfOk, IfErr, OnOk, OnErr};
+ghost use Rattle.std.specs.Prelude.{◌≡◌, ◌≤◌, ◌+◌, [], true};
 ghost use Rattle.std.specs.List.{range_with_len};
 ghost use Rattle.std.specs.VecDeque.{deque_capacity};
-ghost use Rattle.pmd_rx.specs.NicDevice.DmaArena.Block.{zero_block};
-ghost use Rattle.pmd_rx.specs.NicDevice.DmaArena.Numbers.{free_count, is_free, with_free};
-ghost use Rattle.pmd_rx.specs.PmdAccess.Accesses.{IsLent};
-ghost use Rattle.pmd_rx.specs.PmdAccess.Begun.{BeganAs};
-ghost use Rattle.pmd_rx.specs.PmdAccess.Home.{AreOut, IsDrawn};
-ghost use Rattle.pmd_rx.specs.PmdAccess.Slots.{blocks_for, ring_blocks};
-ghost use Rattle.pmd_rx.specs.Keeping.{blocks_out, IsRunning, Keeps};
-ghost use Rattle.pmd_rx.specs.Receive.{no_packet};
-ghost use Rattle.pmd_rx.specs.PmdAccess.Frames.{is_frame};
-ghost use Rattle.pmd_rx.specs.declared.ring.Stage.TheVariants.{Looks};
+ghost use Rattle.pmd_rx.specs.NicDevice.DmaArena.Numbers.{is_free};
 ghost use Rattle.pmd_rx.specs.NicDevice.DmaArena.Run.{IsFreeRun};
-ghost use Rattle.pmd_driver.specs.Starting.{ComesLate, LendsEach, LendingFails, StopsLending, IsPrepared};
-ghost use Rattle.pmd_driver.specs.Starting.{PreparingFails, IsReceiveReady, ReceiveFails, IsTransmitReady, GoesOn};
-ghost use Rattle.pmd_driver.specs.Starting.{GoingOnFails};
-ghost use Rattle.pmd_rx.specs.PmdAccess.Refusals.{CanFail};
+ghost use Rattle.pmd_rx.specs.PmdAccess.Frames.{is_frame};
+ghost use Rattle.pmd_tx.specs.Acts.{Asks, fault_in};
+ghost use Rattle.pmd_driver.specs.Faults.{unprepared_in};
+ghost use Rattle.pmd_driver.specs.Rising.{GoesUp, HasPlace, IsEmpty, LendsOne, LendsRun, Prepares, PreparesReceive, PreparesTransmit};
 
 use pmd_rx::{
     Arena, CallFault, Dir, Nic, PmdFault, Queue, ReceiveRing, blocks_for, lend, most_blocks,
@@ -42,13 +33,8 @@ fn lend_one<N: Nic>(
     block: u32,
 ) -> Result<(), PmdFault>
     requires { is_free arena.old block ≡ true }
-    ensures lent { OnOk result (IsLent (N.made nic.old) (N.made nic.new) (zero_block block) None) }
-    ensures drawn { OnOk result (arena.new ≡ with_free arena.old block false) }
-    ensures failed { IfErr result (λ f. LendingFails f (N.made nic.old) (N.made nic.new) (zero_block block)) }
-    ensures kept { OnErr result (arena.new ≡ arena.old) }
-    ensures began { BeganAs N.began nic.old nic.new }
-    ensures refuses { N.refuses nic.new ≡ N.refuses nic.old }
-    ensures refusal { IfErr result (λ f. CanFail (N.refuses nic.new) f) }
+    ensures asks { Asks N.began N.refuses (fault_in result) nic.old nic.new }
+    ensures lends { LendsOne result block (N.made nic.old) arena.old (N.made nic.new) arena.new }
 {
     let Some(buf) = arena.take_at(block) else {
         unreachable!()
@@ -80,13 +66,9 @@ fn lend_run<N: Nic>(
     requires free { IsFreeRun arena.old first count }
     requires none { lent.old.items ≡ [] }
     requires room { count ≤ deque_capacity lent.old }
-    ensures all { OnOk result (LendsEach (N.made nic.old) (N.made nic.new) (range_with_len first count)) }
-    ensures drawn { OnOk result (IsDrawn arena.old (range_with_len first count) arena.new) }
-    ensures stops { IfErr result (λ f. StopsLending f (range_with_len first count) (N.made nic.old) arena.old
-        (N.made nic.new) arena.new lent.new.items) }
-    ensures began { BeganAs N.began nic.old nic.new }
-    ensures refuses { N.refuses nic.new ≡ N.refuses nic.old }
-    ensures refusal { IfErr result (λ f. CanFail (N.refuses nic.new) f) }
+    ensures asks { Asks N.began N.refuses (fault_in result) nic.old nic.new }
+    ensures lends { LendsRun result (range_with_len first count) (N.made nic.old) arena.old (N.made nic.new) arena.new
+        lent.new.items }
 {
     for k in 0..count {
         match lend_one(alloc, nic, arena, first + k) {
@@ -108,17 +90,9 @@ fn prepare<N: Nic>(
     ring: u32,
     size: u16,
 ) -> Result<(), Unprepared>
-    requires some { 8 ≤ size }
-    requires few { size ≤ 1024 }
-    requires low { ring + blocks_for size ≤ 65536 }
-    requires free { IsFreeRun arena.old ring (blocks_for size) }
-    ensures prepared { OnOk result
-        (IsPrepared queue.now side size (N.made nic.old) arena.old (N.made nic.new) arena.new ring) }
-    ensures failed { IfErr result (λ e. PreparingFails e.fault queue.now side size (N.made nic.old) arena.old
-        (N.made nic.new) arena.new e.lent.items) }
-    ensures began { BeganAs N.began nic.old nic.new }
-    ensures refuses { N.refuses nic.new ≡ N.refuses nic.old }
-    ensures refusal { IfErr result (λ e. CanFail (N.refuses nic.new) e.fault) }
+    requires { HasPlace arena.old ring size }
+    ensures asks { Asks N.began N.refuses (unprepared_in result) nic.old nic.new }
+    ensures prepares { Prepares result queue.now side ring size (N.made nic.old) arena.old (N.made nic.new) arena.new }
 {
     let count = blocks_for(size);
     let mut lent = VecDeque::new(alloc);
@@ -149,19 +123,11 @@ pub(crate) fn receive_ring<N: Nic>(
     size: u16,
     frame: u16,
 ) -> Result<ReceiveRing, Unprepared>
-    requires some { 8 ≤ size }
-    requires few { size ≤ 1024 }
+    requires place { HasPlace arena.old ring size }
     requires frame { is_frame frame ≡ true }
-    requires low { ring + blocks_for size ≤ 65536 }
-    requires free { IsFreeRun arena.old ring (blocks_for size) }
-    ensures ready { IfOk result (λ receive.
-        IsReceiveReady queue.now size frame (N.made nic.old) arena.old (N.made nic.new) arena.new receive) }
-    ensures drawn { OnOk result (IsDrawn arena.old (ring_blocks ring size) arena.new) }
-    ensures failed { IfErr result (λ e.
-        ReceiveFails e.fault queue.now size (N.made nic.old) arena.old (N.made nic.new) arena.new e.lent.items) }
-    ensures began { BeganAs N.began nic.old nic.new }
-    ensures refuses { N.refuses nic.new ≡ N.refuses nic.old }
-    ensures refusal { IfErr result (λ e. CanFail (N.refuses nic.new) e.fault) }
+    ensures asks { Asks N.began N.refuses (unprepared_in result) nic.old nic.new }
+    ensures prepares { PreparesReceive result queue.now ring size frame (N.made nic.old) arena.old (N.made nic.new)
+        arena.new }
 {
     match queue.disable_both(alloc, nic) {
         Ok(()) => {}
@@ -190,18 +156,11 @@ pub(crate) fn transmit_ring<N: Nic>(
     size: u16,
     frame: u16,
 ) -> Result<TransmitRing, Unprepared>
-    requires some { 8 ≤ size }
-    requires few { size ≤ 1024 }
+    requires place { HasPlace arena.old ring size }
     requires frame { is_frame frame ≡ true }
-    requires low { ring + blocks_for size ≤ 65536 }
-    requires free { IsFreeRun arena.old ring (blocks_for size) }
-    ensures ready { IfOk result (λ transmit.
-        IsTransmitReady queue.now size frame (N.made nic.old) arena.old (N.made nic.new) arena.new transmit) }
-    ensures failed { IfErr result (λ e. PreparingFails e.fault queue.now Dir.Tx size (N.made nic.old) arena.old
-        (N.made nic.new) arena.new e.lent.items) }
-    ensures began { BeganAs N.began nic.old nic.new }
-    ensures refuses { N.refuses nic.new ≡ N.refuses nic.old }
-    ensures refusal { IfErr result (λ e. CanFail (N.refuses nic.new) e.fault) }
+    ensures asks { Asks N.began N.refuses (unprepared_in result) nic.old nic.new }
+    ensures prepares { PreparesTransmit result queue.now size frame (N.made nic.old) arena.old (N.made nic.new)
+        arena.new }
 {
     match prepare(alloc, nic, queue, arena, Dir::Tx, ring, size) {
         Ok(()) => {
@@ -220,23 +179,10 @@ pub(crate) fn go_on<N: Nic>(
     arena: &mut Arena,
     receive: &mut ReceiveRing,
 ) -> Result<(), PmdFault>
-    requires empty { receive.old.layout.blocks ≡ [] }
-    requires stage { receive.old.stage ≡ Looks }
-    requires unseen { (receive.old.seen ≡ []) × (receive.old.held ≡ no_packet) }
-    requires idle { (receive.old.whole ≡ []) × (receive.old.named ≡ []) }
-    requires home { AreOut arena.old (blocks_out receive.old) }
-    requires enough { receive.old.layout.size ≤ free_count arena.old + 1 }
-    ensures on { OnOk result
-        (GoesOn queue.now (N.made nic.old) arena.old receive.old (N.made nic.new) arena.new receive.new) }
-    ensures running { OnOk result (IsRunning receive.new) }
-    ensures failed { IfErr result (λ f. GoingOnFails f queue.now (N.made nic.old) arena.old receive.old
-        (N.made nic.new) arena.new receive.new) }
-    ensures late { IfErr result (λ f. ComesLate f) }
-    ensures handed { receive.new.handed ≡ receive.old.handed }
-    ensures keeps { Keeps arena.old receive.old arena.new receive.new [] }
-    ensures began { BeganAs N.began nic.old nic.new }
-    ensures refuses { N.refuses nic.new ≡ N.refuses nic.old }
-    ensures refusal { IfErr result (λ f. CanFail (N.refuses nic.new) f) }
+    requires { IsEmpty arena.old receive.old }
+    ensures asks { Asks N.began N.refuses (fault_in result) nic.old nic.new }
+    ensures goes { GoesUp result queue.now (N.made nic.old) arena.old receive.old (N.made nic.new) arena.new
+        receive.new }
 {
     match queue.switch_both(alloc, nic, true) {
         Ok(()) => receive.fill(alloc, nic, arena),

@@ -1,15 +1,18 @@
 //! How a driver starts.
 
-ghost use Rattle.std.specs.Prelude.{◌≡◌, ◌↔◌, ◌≤◌, ◌+◌, ◌-◌, ◌*◌, ◌++◌, [], true, None, Some, IsSome, IfSome, OnSome, IfOk, IfErr, OnOk};
+ghost use Rattle.std.specs.Prelude.{◌≡◌, ◌↔◌, ◌≤◌, ◌+◌, ◌-◌, ◌*◌, ◌++◌, [], true, None, Some, IsSome, IfSome, OnSome, IfOk, IfErr};
 ghost use Rattle.pmd_rx.specs.NicDevice.DmaArena.Numbers.{free_count};
 ghost use Rattle.pmd_driver.specs.Halted.{Halted, with_receive_ring};
 ghost use Rattle.pmd_rx.specs.Keeping.{blocks_out};
+ghost use Rattle.pmd_tx.specs.Acts.{Asks};
 ghost use Rattle.pmd_driver.specs.Starting.{ComesLate};
 ghost use Rattle.pmd_driver.specs.Blocks.{HasAll, IsWhole};
 ghost use Rattle.pmd_driver.specs.Driver.{handed_of, halted_of};
+ghost use Rattle.pmd_driver.specs.Faults.{refused_in};
+ghost use Rattle.pmd_driver.specs.Rising.{HasPlaces, IsOpen, StartsUp, StopsShort};
 ghost use Rattle.pmd_driver.specs.Runs.{AreRuns};
 ghost use Rattle.pmd_driver.specs.Started.{is_size, has_room, start_gate, left_accepted, left_handed, IsHome, IsShut};
-ghost use Rattle.pmd_driver.specs.Started.{HasStarted, IsHalfStarted, IsLeftWith, StopsStarting};
+ghost use Rattle.pmd_driver.specs.Started.{HasStarted, IsLeftWith, StopsStarting};
 ghost use Rattle.pmd_rx.specs.PmdAccess.Begun.{BeganAs};
 ghost use Rattle.pmd_rx.specs.PmdAccess.Frames.{is_frame};
 ghost use Rattle.pmd_rx.specs.PmdAccess.Home.{AreOut};
@@ -78,15 +81,10 @@ fn named(
     size: u16,
     frame: u16,
 ) -> Result<(Queue, Places), PmdFault>
-    ensures open { OnOk result (start_gate arena.now (record { port = port; queue = queue }) size frame ≡ None) }
+    ensures named { IfOk result (λ n.
+        IsOpen arena.now (record { port = port; queue = queue }) n.0 size frame n.1.receive n.1.transmit) }
     ensures shut { IfErr result (λ f.
         start_gate arena.now (record { port = port; queue = queue }) size frame ≡ Some f) }
-    ensures queue { IfOk result (λ n. n.0 ≡ record { port = port; queue = queue }) }
-    ensures size { OnOk result ((8 ≤ size) × (size ≤ 1024)) }
-    ensures sized { OnOk result (is_size size ≡ true) }
-    ensures frame { OnOk result (is_frame frame ≡ true) }
-    ensures runs { IfOk result (λ n. AreRuns arena.now (blocks_for size) n.1.receive n.1.transmit) }
-    ensures enough { OnOk result (size - 1 + 2 * blocks_for size ≤ free_count arena.now) }
     ensures refusal { (way : Refusals) → IfErr result (λ f. CanFail way f) }
 {
     if !is_size(size) || !is_frame(frame) {
@@ -119,8 +117,10 @@ fn at_home(alloc: Global, fault: PmdFault, arena: Arena) -> StartRefused
 
 /// A refusal by which a driver is left with what was lent.
 fn half_started(fault: PmdFault, queue: Queue, halted: Halted) -> StartRefused
-    ensures fault { result.fault ≡ fault }
-    ensures rest { IsHalfStarted queue halted result.rest }
+    ensures { result ≡ record {
+      fault = fault;
+      rest = Rest.Running (record { queue = queue; rings = Rings.Down halted });
+    } }
 {
     StartRefused {
         fault,
@@ -156,8 +156,13 @@ fn left_after_one(
     unprepared: Unprepared,
 ) -> StartRefused
     requires { AreOut arena (blocks_out receive ++ unprepared.lent.items) }
-    ensures fault { result.fault ≡ unprepared.fault }
-    ensures rest { IsHalfStarted queue (with_receive_ring arena receive unprepared.lent.items) result.rest }
+    ensures { result ≡ record {
+      fault = unprepared.fault;
+      rest = Rest.Running (record {
+        queue = queue;
+        rings = Rings.Down (with_receive_ring arena receive unprepared.lent.items);
+      });
+    } }
 {
     let Unprepared { fault, lent } = unprepared;
     half_started(
@@ -177,22 +182,10 @@ fn bring_up<N: Nic>(
     arena: Arena,
     places: Places,
 ) -> Result<Pmd, StartRefused>
-    requires some { 8 ≤ size }
-    requires few { size ≤ 1024 }
-    requires sized { is_size size ≡ true }
-    requires frame { is_frame frame ≡ true }
-    requires runs { AreRuns arena (blocks_for size) places.receive places.transmit }
-    requires enough { size - 1 + 2 * blocks_for size ≤ free_count arena }
-    ensures started { IfOk result (λ p. HasStarted queue size frame (N.made nic.old) arena (N.made nic.new) p) }
-    ensures stops { IfErr result (λ e. StopsStarting queue size frame (N.made nic.old) arena (N.made nic.new) e) }
-    ensures late { IfErr result (λ e. ComesLate e.fault) }
-    ensures none { IfOk result (λ p. handed_of p.rings ≡ []) }
-    ensures left { IfErr result (λ e. left_handed e.rest ≡ []) }
-    ensures blocks { IfOk result (λ p. HasAll arena (halted_of p.rings) []) }
-    ensures whole { IfErr result (λ e. IsWhole arena e.rest) }
-    ensures began { BeganAs N.began nic.old nic.new }
-    ensures refuses { N.refuses nic.new ≡ N.refuses nic.old }
-    ensures refusal { IfErr result (λ e. CanFail (N.refuses nic.new) e.fault) }
+    requires { HasPlaces arena size frame places.receive places.transmit }
+    ensures asks { Asks N.began N.refuses (refused_in result) nic.old nic.new }
+    ensures starts { IfOk result (λ p. StartsUp queue size frame (N.made nic.old) arena (N.made nic.new) p) }
+    ensures stops { IfErr result (λ e. StopsShort queue size frame (N.made nic.old) arena (N.made nic.new) e) }
 {
     let mut arena = arena;
     let mut receive = match receive_ring(

@@ -1,8 +1,8 @@
-use Rattle.std.proofs.Common.{◌≡◌, ◌+◌, ◌≤◌}
+use Rattle.std.proofs.Common.{◌≡◌, ◌+◌, ◌≤◌, None}
 use Rattle.std.specs.List.{range_with_len}
 use Rattle.std.specs.VecDeque.{deque_len, deque_capacity}
-use Rattle.pmd_rx.specs.PmdAccess.Begun.{BeganAs}
 use Rattle.pmd_rx.specs.PmdAccess.Home.{IsDrawn}
+use Rattle.pmd_tx.specs.Acts.{Asks}
 use Rattle.pmd_driver.specs.Starting.{LendsEach}
 use Rattle.pmd_driver.proofs.rings.lend_run.Given as goal
 
@@ -12,6 +12,5 @@ invariant-loop-k g l = record {
   drawn : IsDrawn l.initial.arena (range_with_len l.first l.k) l.arena;
   items : l.lent.items ≡ range_with_len l.first l.k;
   room : deque_len l.lent + l.count ≤ deque_capacity l.lent + l.k;
-  began : BeganAs g.N.Nic.began l.initial.nic l.nic;
-  refuses : g.N.Nic.refuses l.nic ≡ g.N.Nic.refuses l.initial.nic;
+  asks : Asks g.N.Nic.began g.N.Nic.refuses None l.initial.nic l.nic;
 }

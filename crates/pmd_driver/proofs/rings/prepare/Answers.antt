@@ -5,8 +5,8 @@ use Rattle.pmd_driver.specs.Starting.{StopsLending}
 use Rattle.pmd_driver.proofs.Lending.{unwritten}
 use Rattle.pmd_driver.proofs.rings.prepare.Goals as goal
 
-pub returns-then-is_err-clause-failed : goal.returns-then-is_err-clause-failed
-returns-then-is_err-clause-failed g c = (
+pub returns-then-is_err-clause-prepares : goal.returns-then-is_err-clause-prepares
+returns-then-is_err-clause-prepares g c = (
   c.args.ring,
   c.requires.free,
   inl (
@@ -16,13 +16,13 @@ returns-then-is_err-clause-failed g c = (
   ),
 )
 
-pub returns-in-Err-clause-failed : goal.returns-in-Err-clause-failed
-returns-in-Err-clause-failed g c =
+pub returns-in-Err-clause-prepares : goal.returns-in-Err-clause-prepares
+returns-in-Err-clause-prepares g c =
     let none = c.reserve.ensures.items ∙ c.new-lent.ensures.items in
     (c.args.ring, c.requires.free, inl (c.in-Err.ensures.failed, refl, none))
 
-pub returns-in-Err-lend_run-clause-failed : goal.returns-in-Err-lend_run-clause-failed
-returns-in-Err-lend_run-clause-failed g c = (
+pub returns-in-Err-lend_run-clause-prepares : goal.returns-in-Err-lend_run-clause-prepares
+returns-in-Err-lend_run-clause-prepares g c = (
   c.args.ring,
   c.requires.free,
   inr (
@@ -30,6 +30,6 @@ returns-in-Err-lend_run-clause-failed g c = (
     c.in-Ok.ensures.made,
     subst (λ (n : ℕ). StopsLending c.in-Err-lend_run.fault (range_with_len c.args.ring n)
         (g.N.Nic.made c.lay_out.new.nic) c.args.arena.now (g.N.Nic.made c.lend_run.new.nic) c.lend_run.new.arena
-        c.lend_run.new.lent.items) c.blocks_for-count.ensures.blocks c.in-Err-lend_run.ensures.stops,
+        c.lend_run.new.lent.items) c.blocks_for-count.ensures.blocks c.in-Err-lend_run.ensures.lends,
   ),
 )

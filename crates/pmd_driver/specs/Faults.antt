@@ -1,0 +1,13 @@
+-- The fault that a step ended with, where it did.
+use Rattle.std.specs.Prelude.{Option, Some, None, Result, Ok, Err}
+use Rattle.pmd_rx.specs.PmdAccess.declared.fault.PmdFault.{PmdFault}
+use Rattle.pmd_driver.specs.declared.rings.Unprepared.{Unprepared}
+use Rattle.pmd_driver.specs.declared.start.StartRefused.{StartRefused}
+
+abbrev pub unprepared_in : {T : Type 0} → Result T Unprepared → Option PmdFault
+unprepared_in (Ok x) = None
+unprepared_in (Err e) = Some e.fault
+
+abbrev pub refused_in : {T : Type 0} → Result T StartRefused → Option PmdFault
+refused_in (Ok x) = None
+refused_in (Err e) = Some e.fault

@@ -6,6 +6,7 @@ ghost use Rattle.pmd_rx.specs.DeviceLock.Fault.{event_of, fault_with};
 ghost use Rattle.pmd_rx.specs.PmdAccess.Begun.{BeganAs};
 ghost use Rattle.pmd_rx.specs.PmdAccess.Made.{AddsSome};
 ghost use Rattle.pmd_rx.specs.PmdAccess.Refusals.{CanFail};
+ghost use Rattle.pmd_tx.specs.Acts.{Asks, fault_in};
 ghost use Rattle.pmd_driver.specs.Arriving.{Arrives, IsRefusal};
 
 use pmd_rx::{CallFault, Event, Nic, Octets, PmdFault, Reply, Why};
@@ -39,12 +40,10 @@ pub fn arrive<N: Nic>(alloc: Global, nic: &mut N, frame: &[u8]) -> Result<Arrive
 
 /// Lets a frame arrive.
 fn bring<N: Nic>(alloc: Global, nic: &mut N, frame: Octets) -> Result<Arrived, PmdFault>
+    ensures asks { Asks N.began N.refuses (fault_in result) nic.old nic.new }
     ensures arrives { IfOk result (λ arrived. Arrives (N.made nic.old) (N.made nic.new) frame arrived) }
     ensures refused { OnErr result (AddsSome (N.made nic.old) (N.made nic.new)) }
     ensures call { IfErr result (λ f. IsRefusal f) }
-    ensures began { BeganAs N.began nic.old nic.new }
-    ensures refuses { N.refuses nic.new ≡ N.refuses nic.old }
-    ensures refusal { IfErr result (λ f. CanFail (N.refuses nic.new) f) }
 {
     match nic.call(alloc, Event::Arrive(frame)) {
         Ok(reply) => match reply {

@@ -1,12 +1,12 @@
 //! A driver whose rings are closed, on its way home.
 
-ghost use Rattle.std.specs.Prelude.{◌≡◌, ◌++◌, IfOk, IfErr, OnOk, OnErr};
-ghost use Rattle.pmd_rx.specs.PmdAccess.Begun.{BeganAs};
+ghost use Rattle.std.specs.Prelude.{◌++◌, IfOk, IfErr, OnOk, OnErr};
 ghost use Rattle.pmd_rx.specs.PmdAccess.Home.{AreOut, BringsAll, StopsBringing};
+ghost use Rattle.pmd_tx.specs.Acts.{Asks};
+ghost use Rattle.pmd_driver.specs.Faults.{called_in, stopped_in};
 ghost use Rattle.pmd_driver.specs.Halted.{IsHalted};
 ghost use Rattle.pmd_driver.specs.Leaving.{leaving_as, bringing_both};
 ghost use Rattle.pmd_driver.specs.Stopping.{ComesHome, GoesHome, IsLeft, IsLeftAmid};
-ghost use Rattle.pmd_rx.specs.PmdAccess.Refusals.{CanFail, CanRefuse};
 
 use crate::halted::Halted;
 use crate::home::{Home, StopFailed};
@@ -31,13 +31,11 @@ impl Leaving {
         queue: &Queue,
     ) -> Result<Home, StopFailed>
         requires { IsHalted (leaving_as self) }
+        ensures asks { Asks N.began N.refuses (stopped_in result) nic.old nic.new }
         ensures home { IfOk result (λ home.
             GoesHome queue.now (N.made nic.old) (leaving_as self) (N.made nic.new) home) }
         ensures failed { IfErr result (λ failed.
             IsLeft failed.fault queue.now (N.made nic.old) (leaving_as self) (N.made nic.new) failed.halted) }
-        ensures began { BeganAs N.began nic.old nic.new }
-        ensures refuses { N.refuses nic.new ≡ N.refuses nic.old }
-        ensures refusal { IfErr result (λ failed. CanFail (N.refuses nic.new) failed.fault) }
     {
         match queue.switch_both(alloc, nic, false) {
             Ok(()) => self.bring(alloc, nic),
@@ -51,12 +49,10 @@ impl Leaving {
     /// Takes the blocks home.
     fn bring<N: Nic>(self, alloc: Global, nic: &mut N) -> Result<Home, StopFailed>
         requires { IsHalted (leaving_as self) }
+        ensures asks { Asks N.began N.refuses (stopped_in result) nic.old nic.new }
         ensures home { IfOk result (λ home. ComesHome (N.made nic.old) (leaving_as self) (N.made nic.new) home) }
         ensures failed { IfErr result (λ failed.
             IsLeftAmid failed.fault (N.made nic.old) (leaving_as self) (N.made nic.new) failed.halted) }
-        ensures began { BeganAs N.began nic.old nic.new }
-        ensures refuses { N.refuses nic.new ≡ N.refuses nic.old }
-        ensures refusal { IfErr result (λ failed. CanFail (N.refuses nic.new) failed.fault) }
     {
         let Leaving {
             arena,
@@ -98,15 +94,13 @@ fn bring_both<N: Nic>(
     second: &mut Reclaim,
 ) -> Result<(), CallFault<()>>
     requires { AreOut arena.old (first.old.lent ++ second.old.lent) }
+    ensures asks { Asks N.began N.refuses (called_in result) nic.old nic.new }
     ensures all { OnOk result (BringsAll
         (bringing_both (N.made nic.old) arena.old first.old second.old)
         (bringing_both (N.made nic.new) arena.new first.new second.new)) }
     ensures stopped { OnErr result (StopsBringing
         (bringing_both (N.made nic.old) arena.old first.old second.old)
         (bringing_both (N.made nic.new) arena.new first.new second.new)) }
-    ensures began { BeganAs N.began nic.old nic.new }
-    ensures refuses { N.refuses nic.new ≡ N.refuses nic.old }
-    ensures refusal { IfErr result (λ refusal. CanRefuse (N.refuses nic.new) refusal) }
 {
     match first.bring(alloc, nic, arena) {
         Ok(()) => second.bring(alloc, nic, arena),

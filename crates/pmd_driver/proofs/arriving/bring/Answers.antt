@@ -13,6 +13,9 @@ returns-in-Dropped-clause-arrives g c =
     adds_as (g.N.Nic.made c.args.nic.now) (g.N.Nic.made c.call.new.self) (event.Arrive c.args.frame) _ _
     c.in-Dropped.is c.in-Ok.ensures.made
 
-pub returns-in-Err-clause-refusal : goal.returns-in-Err-clause-refusal
-returns-in-Err-clause-refusal g c =
-    rw c.without_event.ensures (without_refuses c.in-Err.fault tt _ c.in-Err.ensures.refusal)
+pub returns-in-Err-clause-asks : goal.returns-in-Err-clause-asks
+returns-in-Err-clause-asks g c = record {
+  began = c.call.ensures.began;
+  refuses = c.call.ensures.refuses;
+  refusal = rw c.without_event.ensures (without_refuses c.in-Err.fault tt _ c.in-Err.ensures.refusal);
+}

@@ -1,28 +1,19 @@
-use Rattle.std.proofs.Common.{◌<◌, refl, sym, subst, arith}
-use Rattle.pmd_rx.specs.PmdAccess.Home.{Bringing}
+use Rattle.std.proofs.Common.{refl, sym, subst, arith}
 use Rattle.pmd_rx.specs.PmdAccess.declared.fault.PmdFault.TheVariants as fault
 use Rattle.pmd_driver.specs.Halted.{Halted}
-use Rattle.pmd_driver.specs.Leaving.{leaving_as, bringing_both}
+use Rattle.pmd_driver.specs.Leaving.{leaving_as}
 use Rattle.pmd_driver.specs.Stopping.{IsLeftAmid}
 use Rattle.pmd_driver.proofs.Bringing.{stopped_unheld, all_fit}
 use Rattle.pmd_driver.proofs.stopping.Leaving.bring.Goals as goal
 
 pub overflow_add-result : goal.overflow_add-result
 overflow_add-result g c =
-    let s : Bringing =
-    bringing_both (g.N.Nic.made c.args.nic.now) c.args.self.arena c.args.self.receive c.args.self.transmit in
-    let t : Bringing = bringing_both (g.N.Nic.made c.bring_both.new.nic) c.bring_both.new.arena c.bring_both.new.first
-    c.bring_both.new.second in
-    let fits : t.way.lost < 4294967296 = all_fit s t c.in-Ok.ensures.all (c.requires.home, c.requires.few) in
+    let fits = all_fit _ _ c.in-Ok.ensures.all (c.requires.home, c.requires.few) in
     omega (arith, fits, c.lost.ensures, c.lost-in-Ok.ensures)
 
 pub of_leaving-requires : goal.of_leaving-requires
 of_leaving-requires g c =
-    let s : Bringing =
-    bringing_both (g.N.Nic.made c.args.nic.now) c.args.self.arena c.args.self.receive c.args.self.transmit in
-    let t : Bringing = bringing_both (g.N.Nic.made c.bring_both.new.nic) c.bring_both.new.arena c.bring_both.new.first
-    c.bring_both.new.second in
-    let is = stopped_unheld s t c.in-Err.ensures.stopped (c.requires.home, c.requires.few) in
+    let is = stopped_unheld _ _ c.in-Err.ensures.stopped (c.requires.home, c.requires.few) in
     record { home = is.0; few = is.1 }
 
 pub returns-in-Err-clause-failed : goal.returns-in-Err-clause-failed

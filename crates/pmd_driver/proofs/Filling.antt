@@ -1,5 +1,5 @@
 -- Packets that are made of bytes.
-use Rattle.std.proofs.Common.{◌≡◌, ℕ, ◌+◌, ◌-◌, ◌*◌, ◌≤◌, List, [], ◌∷◌, ◌++◌, map, replicate, length, drop, Some, refl, sym, ap, ◌∙◌, subst, arith}
+use Rattle.std.proofs.Common.{◌≡◌, ℕ, ◌+◌, ◌-◌, ◌*◌, List, [], ◌∷◌, ◌++◌, map, replicate, length, drop, Some, refl, sym, ap, ◌∙◌, subst, arith}
 use Rattle.std.proofs.lemmas.List.{drop-replicate, length-map, replicate-append-replicate}
 use Rattle.pmd_rx.specs.NicDevice.DmaArena.Block.{Block, zero_block}
 use Rattle.pmd_rx.specs.NicDevice.DmaArena.Memory.{put_bytes}
@@ -36,13 +36,6 @@ zero_bytes (n ∷ ns) =
     ap (λ (xs : List ℕ). replicate 2048 0 ++ xs) (zero_bytes ns)
     ∙ replicate-append-replicate 2048 (2048 * length ns) 0
     ∙ ap (λ (m : ℕ). replicate m 0) all
-
--- there are enough of them
-pub fits_fresh : (a b : Numbers) (len : ℕ) (p : Packet) → IsFresh a len (Some p) b
-    → (p.len ≡ len) × (len ≤ 2048 * length p.bufs)
-fits_fresh a b len p (draws, is) =
-    let count = draws.count_is in
-    (ap (λ (x : Packet). x.len) is, omega (arith, count))
 
 same_count : (bs cs : List Block) → numbers_of bs ≡ numbers_of cs → length bs ≡ length cs
 same_count bs cs same =

@@ -84,19 +84,8 @@ module _ (a : Numbers) (lent gone kept : List ℕ) (out : AreOut a (lent ++ (gon
   pub part_out : AreOut (with_all_free a gone) (lent ++ kept)
   part_out = out_all_given a gone (lent ++ kept) turned
 
--- what each half needs as it is closed, the receive half first
+-- what the transmit half needs as it is closed, after the receive half
 module _ (a : Numbers) (lent sent held waiting : List ℕ) (out : AreOut a ((lent ++ sent) ++ (held ++ waiting))) where
-  pub first_half : AreOut a (lent ++ held)
-  first_half =
-      out_fewer a ((lent ++ sent) ++ (held ++ waiting)) (lent ++ held) out
-      (λ k. omega (
-        arith,
-        times-append (lent ++ sent) (held ++ waiting) k,
-        times-append lent sent k,
-        times-append held waiting k,
-        times-append lent held k,
-      ))
-
   pub second_half : AreOut (with_all_free a held) waiting
   second_half =
       out_all_given a held waiting
@@ -137,10 +126,6 @@ module _ (a : Numbers) (lent held : List ℕ) (out : AreOut a (lent ++ held)) wh
       by_sum (is_free (with_all_free a held) k) (times_in_hand (lent ++ []) k)
       ∙ ap (λ (t : ℕ). nat_lt 0 t) (same_sum k)
       ∙ sym (by_sum (is_free a k) (times_in_hand (lent ++ held) k))
-
--- by where its blocks are alone
-pub halted_like : (h k : Halted) → IsHalted h → k.arena ≡ h.arena → k.held ≡ h.held → k.way ≡ h.way → IsHalted k
-halted_like h k is arena held way = record { home = rw (arena, held, way) is.home; few = rw way is.few }
 
 pub closed_halted : (h : Halted) → IsHalted h → IsHalted (closed h)
 closed_halted h is = record { home = closed_out h.arena h.way.lent h.held is.home; few = is.few }

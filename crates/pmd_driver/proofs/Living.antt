@@ -1,13 +1,11 @@
 -- A driver's life, call by call.
-use Rattle.std.proofs.Common.{◌≡◌, ℕ, List, Option, sym, ap, ◌∙◌, subst}
-use Rattle.pmd_rx.specs.NicDevice.DmaArena.Numbers.{Numbers, is_own}
+use Rattle.std.proofs.Common.{◌≡◌, ℕ, List, Option, ap, ◌∙◌, subst}
+use Rattle.pmd_rx.specs.NicDevice.DmaArena.Numbers.{Numbers}
 use Rattle.pmd_rx.specs.DeviceLock.declared.entry.Call.{Call}
 use Rattle.pmd_rx.specs.PmdAccess.declared.fault.PmdFault.{PmdFault}
 use Rattle.pmd_rx.specs.PmdAccess.Named.{AtPort}
 use Rattle.pmd_driver.specs.Driver.{Driver, accepted_of, handed_of, halted_of}
-use Rattle.pmd_driver.specs.Apart.{DrivesApart}
-use Rattle.pmd_driver.specs.Halves.{Halves, halves_of}
-use Rattle.pmd_driver.specs.Life.{RunsOn, KeepsHalves, IsStopped, HasLived}
+use Rattle.pmd_driver.specs.Life.{RunsOn, IsStopped, HasLived}
 use Rattle.pmd_driver.specs.Started.{HasStarted, left_accepted, left_handed}
 use Rattle.pmd_driver.specs.declared.driver.Rings.{Rings}
 use Rattle.pmd_driver.specs.declared.driver.Rings.TheVariants.{Up, Down}
@@ -27,18 +25,6 @@ runs_on old mid new (Up r) (Up s) (Up t) one two =
 runs_on old mid new (Up r) (Up s) (Down h) one two = absurd two
 runs_on old mid new (Up r) (Down h) last one two = absurd one
 runs_on old mid new (Down h) then last one two = tt
-
--- a call that leaves the halves
-pub runs_kept : (old new : List Call) (first then last : Rings) → RunsOn old first new then → KeepsHalves then last
-    → RunsOn old first new last
-runs_kept old new (Up r) (Up s) (Up t) one kept =
-    record {
-      apart = subst (λ (h : Halves). DrivesApart (is_own r.arena) old (halves_of r) new h) (sym kept.0) one.apart;
-      owns = λ n. kept.1 n ∙ one.owns n;
-    }
-runs_kept old new (Up r) (Up s) (Down h) one kept = absurd kept
-runs_kept old new (Up r) (Down h) last one kept = absurd one
-runs_kept old new (Down h) then last one kept = tt
 
 -- from its start to its end
 

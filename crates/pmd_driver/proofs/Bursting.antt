@@ -8,7 +8,7 @@ use Rattle.pmd_rx.specs.PmdAccess.declared.fault.PmdFault.{PmdFault}
 use Rattle.pmd_rx.specs.PmdAccess.declared.fault.PmdFault.TheVariants as fault
 use Rattle.pmd_rx.specs.PmdAccess.declared.packet.Packet.{Packet}
 use Rattle.pmd_rx.specs.Keeping.{numbers_of_all}
-use Rattle.pmd_tx.specs.Acts.{fault_in}
+use Rattle.pmd_rx.specs.PmdAccess.Asks.{fault_in}
 use Rattle.pmd_tx.specs.Sending.{Layout}
 use Rattle.pmd_tx.specs.Sends.{IsLate, accepted_of}
 use Rattle.pmd_tx.specs.declared.answer.Reaped.{Reaped}

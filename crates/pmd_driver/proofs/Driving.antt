@@ -3,7 +3,7 @@ use Rattle.std.proofs.Common.{◌≡◌, Option, Some, None, Result, Ok, Err, If
 use Rattle.pmd_driver.specs.Halted.{Halted}
 use Rattle.pmd_rx.specs.PmdAccess.Named.{AtPort}
 use Rattle.pmd_rx.specs.PmdAccess.declared.fault.PmdFault.{PmdFault}
-use Rattle.pmd_tx.specs.Acts.{fault_in}
+use Rattle.pmd_rx.specs.PmdAccess.Asks.{fault_in}
 use Rattle.pmd_driver.specs.Driver.{Driver, IsDown, halted_of}
 use Rattle.pmd_driver.specs.Running.{Running}
 use Rattle.pmd_driver.specs.declared.driver.Rings.{Rings}

@@ -6,7 +6,7 @@ ghost use Rattle.pmd_rx.specs.DeviceLock.Fault.{event_of, fault_with};
 ghost use Rattle.pmd_rx.specs.PmdAccess.Begun.{BeganAs};
 ghost use Rattle.pmd_rx.specs.PmdAccess.Made.{AddsSome};
 ghost use Rattle.pmd_rx.specs.PmdAccess.Refusals.{CanFail};
-ghost use Rattle.pmd_tx.specs.Acts.{Asks, fault_in};
+ghost use Rattle.pmd_rx.specs.PmdAccess.Asks.{Asks, fault_in};
 ghost use Rattle.pmd_driver.specs.Arriving.{Arrives, IsRefusal};
 
 use pmd_rx::{CallFault, Event, Nic, Octets, PmdFault, Reply, Why};

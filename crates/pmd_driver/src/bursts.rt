@@ -2,7 +2,7 @@
 
 ghost use Rattle.std.specs.Prelude.{◌≡◌, ◌<◌, ◌+◌, ◌==◌, if◌then◌else◌, true, false, None, length, IfErr};
 ghost use Rattle.pmd_rx.specs.Keeping.{numbers_of_all};
-ghost use Rattle.pmd_tx.specs.Acts.{Asks, fault_in};
+ghost use Rattle.pmd_rx.specs.PmdAccess.Asks.{Asks, fault_in};
 ghost use Rattle.pmd_driver.specs.Apart.{DrivesRings};
 ghost use Rattle.pmd_driver.specs.Blocks.{KeepsUp};
 ghost use Rattle.pmd_driver.specs.Bursts.{IsSendBurst};

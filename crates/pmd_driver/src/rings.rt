@@ -7,7 +7,7 @@ ghost use Rattle.std.specs.VecDeque.{deque_capacity};
 ghost use Rattle.pmd_rx.specs.NicDevice.DmaArena.Numbers.{is_free};
 ghost use Rattle.pmd_rx.specs.NicDevice.DmaArena.Run.{IsFreeRun};
 ghost use Rattle.pmd_rx.specs.PmdAccess.Frames.{is_frame};
-ghost use Rattle.pmd_tx.specs.Acts.{Asks, fault_in};
+ghost use Rattle.pmd_rx.specs.PmdAccess.Asks.{Asks, fault_in};
 ghost use Rattle.pmd_driver.specs.Faults.{unprepared_in};
 ghost use Rattle.pmd_driver.specs.Rising.{GoesUp, HasPlace, IsEmpty, LendsOne, LendsRun, Prepares, PreparesReceive, PreparesTransmit};
 

@@ -4,7 +4,7 @@ ghost use Rattle.std.specs.Prelude.{◌≡◌, ◌↔◌, ◌≤◌, ◌+◌, �
 ghost use Rattle.pmd_rx.specs.NicDevice.DmaArena.Numbers.{free_count};
 ghost use Rattle.pmd_driver.specs.Halted.{Halted, with_receive_ring};
 ghost use Rattle.pmd_rx.specs.Keeping.{blocks_out};
-ghost use Rattle.pmd_tx.specs.Acts.{Asks};
+ghost use Rattle.pmd_rx.specs.PmdAccess.Asks.{Asks};
 ghost use Rattle.pmd_driver.specs.Starting.{ComesLate};
 ghost use Rattle.pmd_driver.specs.Blocks.{HasAll, IsWhole};
 ghost use Rattle.pmd_driver.specs.Driver.{handed_of, halted_of};

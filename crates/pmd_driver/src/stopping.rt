@@ -2,7 +2,7 @@
 
 ghost use Rattle.std.specs.Prelude.{◌++◌, IfOk, IfErr, OnOk, OnErr};
 ghost use Rattle.pmd_rx.specs.PmdAccess.Home.{AreOut, BringsAll, StopsBringing};
-ghost use Rattle.pmd_tx.specs.Acts.{Asks};
+ghost use Rattle.pmd_rx.specs.PmdAccess.Asks.{Asks};
 ghost use Rattle.pmd_driver.specs.Faults.{called_in, stopped_in};
 ghost use Rattle.pmd_driver.specs.Halted.{IsHalted};
 ghost use Rattle.pmd_driver.specs.Leaving.{leaving_as, bringing_both};

@@ -3,7 +3,7 @@ use Rattle.std.specs.List.{range_with_len}
 use Rattle.pmd_rx.specs.NicDevice.DmaArena.Numbers.{Numbers}
 use Rattle.pmd_rx.specs.PmdAccess.Home.{IsDrawn}
 use Rattle.pmd_rx.proofs.PmdAccess.Rings.{range_more}
-use Rattle.pmd_tx.proofs.Acting.{asks_then}
+use Rattle.pmd_rx.proofs.PmdAccess.Asking.{asks_then}
 use Rattle.pmd_driver.specs.Starting.{StopsLending}
 use Rattle.pmd_driver.proofs.Lending.{drawn_next, lends_next, stops_next, next_free}
 use Rattle.pmd_driver.proofs.rings.lend_run.Goals as goal

@@ -2,7 +2,7 @@ use Rattle.std.proofs.Common.{◌≡◌, ◌+◌, ◌≤◌, None}
 use Rattle.std.specs.List.{range_with_len}
 use Rattle.std.specs.VecDeque.{deque_len, deque_capacity}
 use Rattle.pmd_rx.specs.PmdAccess.Home.{IsDrawn}
-use Rattle.pmd_tx.specs.Acts.{Asks}
+use Rattle.pmd_rx.specs.PmdAccess.Asks.{Asks}
 use Rattle.pmd_driver.specs.Starting.{LendsEach}
 use Rattle.pmd_driver.proofs.rings.lend_run.Given as goal
 

@@ -1,14 +1,8 @@
 -- A printed address is one word.
 use Rattle.std.proofs.Common.{◌≡◌, refl, ℕ, ◌^◌, ◌<◌, true, false, ◌==◌, List, [], ◌∷◌, ◌++◌, length, Option, Some, None, arith, inl, inr}
 use Rattle.std.specs.Prelude.{decimal}
-use Rattle.std.proofs.lemmas.Bool.Decides.{eqb_tells, nat_tests}
-use Rattle.text_format.specs.Name.{is_name}
-use Rattle.text_format.specs.Word.{word_text}
-use Rattle.reg_table.specs.declared.place.Place.{Place}
-use Rattle.reg_table.specs.declared.rows.RowId.{RowId}
-use Rattle.reg_table.specs.Place.{place_among}
-use Rattle.reg_table.specs.Rows.{row_of}
-use Rattle.reg_table.specs.Runs.{runs}
+use Rattle.script_text.specs.Prelude.{Place, RowId, is_name, place_among, row_of, runs, word_text}
+use Rattle.script_text.proofs.Prelude.{eqb_tells, nat_tests}
 use Rattle.script_text.specs.Printing.{place_text, place_first_at, target_text}
 use Rattle.script_text.proofs.Numerals.{is_tame, IsWord-word, plain-decimal}
 use Rattle.script_text.proofs.Plain.{IsWord, is_plain, list_all-weaker, both_all}

@@ -1,19 +1,11 @@
 -- Printed addresses of registers read back.
 use Rattle.std.proofs.Common.{◌≡◌, refl, ap, subst, ℕ, ◌^◌, ◌<◌, [], ◌∷◌, ◌++◌, Option, Some, None, Result, Ok, Err, unwrap_or, arith, inl, inr}
 use Rattle.std.specs.Prelude.{decimal}
-use Rattle.std.specs.Option.{ok_or}
-use Rattle.std.proofs.lemmas.Bool.{lt-ltb}
-use Rattle.std.proofs.lemmas.Bool.Decides.{eqb_tells}
-use Rattle.text_format.specs.Name.{is_name}
-use Rattle.text_format.specs.Word.{word_text}
-use Rattle.reg_table.specs.declared.place.Place.{Place}
-use Rattle.reg_table.specs.declared.rows.RowId.{RowId}
-use Rattle.reg_table.specs.Place.{place_among, address_among}
-use Rattle.reg_table.specs.Rows.{row_of}
-use Rattle.reg_table.specs.Runs.{runs}
 use Rattle.reg_table.proofs.Finding.{found-named}
 use Rattle.reg_table.proofs.InRange.{named_in_range}
 use Rattle.reg_table.proofs.Naming.{found_by_name}
+use Rattle.script_text.specs.Prelude.{Place, RowId, address_among, is_name, ok_or, place_among, row_of, runs, word_text}
+use Rattle.script_text.proofs.Prelude.{eqb_tells, lt-ltb}
 use Rattle.script_text.specs.Fault.{number_fault}
 use Rattle.script_text.specs.Printing.{place_text, if_first_at, place_first_at, target_text}
 use Rattle.script_text.specs.Target.{number_in, row_in, register_address, address_in, target_of}

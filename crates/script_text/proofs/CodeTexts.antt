@@ -1,12 +1,10 @@
 -- The lines of a program's code, and what they say.
 use Rattle.std.proofs.Common.{◌≡◌, refl, sym, ap, subst, ℕ, ◌+◌, ◌<◌, ◌≤◌, Bool, true, false, cond, ◌==◌, List, [], ◌∷◌, ◌++◌, length, map, append_assoc, append-nil, Ok, arith}
 use Rattle.std.specs.Prelude.{decimal}
-use Rattle.std.specs.List.{AllByRecursion}
-use Rattle.std.proofs.lemmas.Bool.Decides.{nat_tests}
 use Rattle.text_format.specs.Lines.{numbered_from}
-use Rattle.program.specs.Encoding.{HaveWidths, fields_of}
-use Rattle.program.specs.Listing.{IsSound}
 use Rattle.program.specs.declared.instruction.Instruction.{Instruction as Step}
+use Rattle.script_text.specs.Prelude.{AllByRecursion, HaveWidths, IsSound, fields_of}
+use Rattle.script_text.proofs.Prelude.{nat_tests}
 use Rattle.script_text.specs.Disassembly.{is_target, label_line, label_line_at, code_lines}
 use Rattle.script_text.specs.Laws.{reading_of}
 use Rattle.script_text.specs.Printing.{instruction_text}

@@ -1,7 +1,7 @@
 -- Lines before the first that ends a script.
 use Rattle.std.proofs.Common.{◌≡◌, ◌+◌, ap, arith, refl, ◌∙◌, Bool, true, false, not, List, [], ◌∷◌, ℕ, suc, take, drop, Ok, Err}
 use Rattle.std.specs.List.{after_first, before_first, list_any, prefix_len}
-use Rattle.text_format.specs.Lines.{NumberedLine}
+use Rattle.script_text.specs.Prelude.{NumberedLine}
 use Rattle.script_text.specs.End.{has_end, is_end, lines_after}
 use Rattle.script_text.specs.Outline.{Outline}
 use Rattle.script_text.specs.Script.{with_line, with_lines}

@@ -3,8 +3,8 @@ use Rattle.std.proofs.Common.{refl, sym, ◌∙◌, ap, ◌≡◌, ◌≢◌, �
 use Rattle.std.specs.Option.{option_copied}
 use Rattle.std.proofs.lemmas.List.{take_more}
 use Rattle.std.proofs.Math.Seq.{get_or-append_seam, take-append_seam, take-length}
-use Rattle.std.proofs.lemmas.Bool.Decides.{eqb_tells}
 use Rattle.std.proofs.lemmas.Bool.{cases_lt, le-ltb, lt-ltb}
+use Rattle.script_text.proofs.Prelude.{eqb_tells}
 use Rattle.script_text.specs.Target.{before_last_byte}
 
 length_ended : (byte : ℕ) (front : List ℕ) → length (front ++ byte ∷ []) - 1 ≡ length front

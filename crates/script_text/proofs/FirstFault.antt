@@ -1,7 +1,7 @@
 -- What the first fault of a script decides.
 use Rattle.std.proofs.Common.{◌≡◌, ◌∙◌, ap, ℕ, List, [], ◌∷◌, ◌++◌, Result, Ok}
-use Rattle.text_format.specs.Lines.{NumberedLine}
 use Rattle.program.specs.declared.instruction.Instruction.{Instruction as Step}
+use Rattle.script_text.specs.Prelude.{NumberedLine}
 use Rattle.script_text.specs.Fault.{◌then◌}
 use Rattle.script_text.specs.Laws.{FirstFaultDecides}
 use Rattle.script_text.specs.Outline.{Outline, blank}

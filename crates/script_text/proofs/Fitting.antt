@@ -1,13 +1,11 @@
 -- The statements of a program fit.
 use Rattle.std.proofs.Common.{◌≡◌, ◌≢◌, refl, sym, ◌∙◌, ap, subst, ℕ, ◌+◌, ◌<◌, ◌≤◌, Bool, true, false, cond, List, [], ◌∷◌, ◌++◌, length, length-append, append_assoc, append-nil, None, arith}
 use Rattle.std.specs.Prelude.{decimal}
-use Rattle.std.specs.List.{AllByRecursion}
-use Rattle.std.specs.Str.{bytes_eq}
 use Rattle.std.proofs.lemmas.Bool.{false_from_ne_true}
 use Rattle.std.proofs.lemmas.Fmt.{decimal_injective}
 use Rattle.std.proofs.lemmas.Slice.Eq.{bytes_eq-Decides}
-use Rattle.program.specs.Listing.{Listing, IsListing, IsDataString}
 use Rattle.program.specs.declared.instruction.Instruction.{Instruction as Step}
+use Rattle.script_text.specs.Prelude.{AllByRecursion, IsDataString, IsListing, Listing, bytes_eq}
 use Rattle.script_text.specs.Disassembly.{is_target}
 use Rattle.script_text.specs.Laws.{strings_in, drafts_in, label_from, data_from, Fit}
 use Rattle.script_text.specs.Operation.{Draft}

@@ -3,6 +3,7 @@ pub mod Endings
 pub mod Lines
 pub mod Naming
 pub mod Outcomes
+pub mod Prelude
 pub mod Resolving
 pub mod ResolvedSound
 pub mod Ranges

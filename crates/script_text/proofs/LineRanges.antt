@@ -1,9 +1,8 @@
 -- What a line says is in range.
 use Rattle.std.proofs.Common.{◌≤◌, ℕ, cond, length, List, [], ◌∷◌, Option, Some, None, Ok, Err, IfOk, inl, inr, arith, eqb}
 use Rattle.std.specs.Bool.{⊤}
-use Rattle.std.specs.Option.{ok_or}
-use Rattle.std.proofs.lemmas.Bool.Decides.{eqb_tells}
-use Rattle.text_format.specs.HexData.{hex_bytes_of}
+use Rattle.script_text.specs.Prelude.{hex_bytes_of, ok_or}
+use Rattle.script_text.proofs.Prelude.{eqb_tells}
 use Rattle.script_text.specs.Fault.{both}
 use Rattle.script_text.specs.Operation.{instruction_in}
 use Rattle.script_text.specs.Resolved.{IsInRange}

@@ -1,6 +1,6 @@
 -- One more line of a script.
 use Rattle.std.proofs.Common.{◌≡◌, refl, List, [], ◌∷◌, Result, Ok, Err}
-use Rattle.text_format.specs.Lines.{NumberedLine}
+use Rattle.script_text.specs.Prelude.{NumberedLine}
 use Rattle.script_text.specs.Fault.{◌then◌}
 use Rattle.script_text.specs.Outline.{Outline}
 use Rattle.script_text.specs.Script.{with_line, with_lines}

@@ -1,7 +1,7 @@
 -- Where names stand among statements.
 use Rattle.std.proofs.Common.{◌≡◌, refl, sym, ◌∙◌, ap, ℕ, suc, ◌+◌, Bool, true, false, cond, List, [], ◌∷◌, ◌++◌, length, Option, Some, None, arith, add-zero}
-use Rattle.std.specs.Str.{bytes_eq}
 use Rattle.std.proofs.lemmas.Slice.Eq.{bytes_eq-Decides}
+use Rattle.script_text.specs.Prelude.{bytes_eq}
 use Rattle.script_text.specs.Laws.{strings_in, drafts_in, label_from, data_from}
 use Rattle.script_text.specs.declared.statements.Statement.{Statement}
 use Rattle.script_text.specs.declared.statements.Statement.TheVariants.{Empty, Label, Data, Instruction}

@@ -1,11 +1,8 @@
 -- The program that statements make, and the first fault.
 use Rattle.std.proofs.Common.{◌≡◌, refl, sym, ◌∙◌, ap, subst, ℕ, List, [], ◌∷◌, ◌++◌, Option, Result, Ok, append-nil, append_assoc}
-use Rattle.std.specs.Cmp.Lexicographic.{slice_cmp}
 use Rattle.std.specs.FinMap as fin
-use Rattle.std.specs.Ordering.{nat_cmp}
-use Rattle.text_format.specs.Lines.{lines_of}
 use Rattle.program.specs.declared.instruction.Instruction.{Instruction as Step}
-use Rattle.program.specs.Listing.{Listing}
+use Rattle.script_text.specs.Prelude.{Listing, lines_of, nat_cmp, slice_cmp}
 use Rattle.script_text.specs.Fault.{◌then◌}
 use Rattle.script_text.specs.Laws.{strings_in, drafts_in, label_from, data_from, Mean, IsSaid, ProgramIsWhatLinesSay}
 use Rattle.script_text.specs.Operation.{Draft}

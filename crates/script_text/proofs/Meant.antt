@@ -1,9 +1,8 @@
 -- What an instruction of a line is in the program.
 use Rattle.std.proofs.Common.{◌≡◌, refl, sym, ◌∙◌, ap, ℕ, List, length, Option, Some, None, Ok, ◌==◌, eq-eqb, eqb-true}
-use Rattle.std.specs.Option.{ok_or}
 use Rattle.program.specs.declared.instruction.Instruction.{Instruction as Step}
 use Rattle.program.specs.declared.instruction.Instruction.TheVariants.{Write, Read, VfWrite, VfRead, Lend, Unlend, Poke, Peek, Arrive, RxStep, TxStep, IntStep, QueueStep, EepromStep, Link, Collect, Expect, And, JumpIfEqual, JumpUnlessEqual, Jump, Halt}
-use Rattle.program.specs.Listing.{string_at}
+use Rattle.script_text.specs.Prelude.{ok_or, string_at}
 use Rattle.script_text.specs.Fault.{◌then◌}
 use Rattle.script_text.specs.Laws.{Means}
 use Rattle.script_text.specs.Operation.{Draft}

@@ -1,7 +1,7 @@
 -- A name stands where the statements give it.
 use Rattle.std.proofs.Common.{◌≡◌, refl, ◌∙◌, ap, ℕ, ◌+◌, Bool, true, false, cond, List, [], ◌∷◌, ◌++◌, length, Some, None, arith}
-use Rattle.std.specs.Str.{bytes_eq}
 use Rattle.std.proofs.lemmas.Slice.Eq.{bytes_eq-Decides}
+use Rattle.script_text.specs.Prelude.{bytes_eq}
 use Rattle.script_text.specs.Laws.{strings_in, drafts_in, label_from, data_from, NamesHaveTheirPlaces}
 use Rattle.script_text.specs.declared.statements.Statement.{Statement}
 use Rattle.script_text.specs.declared.statements.Statement.TheVariants.{Empty, Label, Data, Instruction}

@@ -1,14 +1,13 @@
 -- An ordered map with names as its keys, as what the names stand for.
 use Rattle.std.proofs.Common.{map, ◌≡◌, ℕ, true, false, cond, Some, List, [], ◌∷◌, refl, sym, ap, ◌∙◌}
 use Rattle.std.specs.BTreeMap as tree
-use Rattle.std.specs.BTreeMap.{BTreeMap}
 use Rattle.std.specs.Cmp.{eq_by_cmp_equiv}
 use Rattle.std.specs.Cmp.Lexicographic.{slice_cmp, nat_list_cmp_total}
 use Rattle.std.specs.FinMap as fin
 use Rattle.std.specs.Map.{update, lookup}
 use Rattle.std.specs.Ordering.{nat_cmp, is_eq}
-use Rattle.std.specs.Str.{bytes_eq}
 use Rattle.std.proofs.lemmas.Map.Text.{is_eq-slice_cmp}
+use Rattle.script_text.specs.Prelude.{BTreeMap, bytes_eq}
 use Rattle.script_text.specs.Places.{Places, place_of, with_place, shown}
 use denote.Ref.{Bor}
 

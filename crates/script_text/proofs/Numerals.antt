@@ -5,12 +5,11 @@ use Rattle.std.specs.Char.{digit_value, is_digit}
 use Rattle.std.specs.Fmt.{digits}
 use Rattle.std.specs.List.{list_all, starts_with}
 use Rattle.std.specs.Str.Parse.{AllDigits, IsNumeral, digits_value}
-use Rattle.std.proofs.lemmas.Bool.{lt-ltb, le-leb}
-use Rattle.std.proofs.lemmas.Bool.Decides.{nat_tests}
 use Rattle.std.proofs.lemmas.Fmt.{digits_is_IsNumeral, decimal_is_IsNumeral, length-decimal-le}
 use Rattle.text_format.specs.Name.{is_name, begins_name, continues_name}
 use Rattle.text_format.specs.Number.{numeral_of, number_of}
-use Rattle.text_format.specs.Word.{word_text}
+use Rattle.script_text.specs.Prelude.{word_text}
+use Rattle.script_text.proofs.Prelude.{le-leb, lt-ltb, nat_tests}
 use Rattle.script_text.specs.Target.{name_in}
 use Rattle.script_text.proofs.Plain.{IsWord, is_plain, list_all-weaker, both_all}
 

@@ -1,6 +1,6 @@
 -- The faults of a line come in their order.
 use Rattle.std.proofs.Common.{◌≡◌, ◌≤◌, ◌⊎◌, refl, ◌∙◌, ap, ℕ, true, cond, is_some, List, Option, Some, None, Result, Ok, Err, arith, inl, inr}
-use Rattle.text_format.specs.Lines.{NumberedLine}
+use Rattle.script_text.specs.Prelude.{NumberedLine}
 use Rattle.script_text.specs.Fault.{◌then◌, both, reported_first, at_line, fault_at}
 use Rattle.script_text.specs.Laws.{rank, OneHas, FaultsComeInOrder, reading_of}
 use Rattle.script_text.specs.Outline.{Outline}

@@ -1,6 +1,6 @@
 -- What holds of the value of a step that may be refused.
 use Rattle.std.proofs.Common.{◌≡◌, refl, Bool, true, false, cond, Option, Some, None, Result, Ok, Err, IfOk, IfSome, subst}
-use Rattle.std.specs.Option.{ok_or}
+use Rattle.script_text.specs.Prelude.{ok_or}
 use Rattle.script_text.specs.Fault.{◌then◌, both}
 use Rattle.script_text.specs.declared.faults.LineFault.{LineFault}
 

@@ -1,9 +1,8 @@
 -- The statements of a program fit, and its names have its places.
 use Rattle.std.proofs.Common.{◌≡◌, refl, sym, ◌∙◌, ap, ℕ, ◌+◌, ◌<◌, ◌≤◌, Bool, true, false, List, [], ◌∷◌, ◌++◌, length, map, append-nil, Some, arith, inl, inr}
-use Rattle.std.specs.Str.{bytes_eq}
-use Rattle.std.proofs.lemmas.Bool.Decides.{eqb_tells}
-use Rattle.program.specs.Listing.{Listing, IsListing}
 use Rattle.program.specs.declared.instruction.Instruction.{Instruction as Step}
+use Rattle.script_text.specs.Prelude.{IsListing, Listing, bytes_eq}
+use Rattle.script_text.proofs.Prelude.{eqb_tells}
 use Rattle.script_text.specs.Disassembly.{is_target}
 use Rattle.script_text.specs.Laws.{strings_in, drafts_in, label_from, data_from}
 use Rattle.script_text.specs.declared.statements.Statement.{Statement}

@@ -3,12 +3,11 @@ use Rattle.std.proofs.Common.{◌≡◌, refl, ◌∙◌, ap, ℕ, ◌-◌, ◌<
 use Rattle.std.specs.List.{All, AllByRecursion, list_all, slice_split, position_or_len}
 use Rattle.std.specs.Str.Lines.{lines, lines_of_parts, strip_carriage_return}
 use Rattle.std.proofs.Math.Seq.{take-length}
-use Rattle.std.proofs.lemmas.Bool.{and_parts}
-use Rattle.std.proofs.lemmas.Bool.Decides.{nat_tests}
 use Rattle.std.proofs.lemmas.List.Folds.{list_all-append}
 use Rattle.std.proofs.lemmas.List.Splits.{slice_split_at, slice_split_none}
 use Rattle.text_format.specs.Words.{is_blank, before_comment, words_between_blanks, words_of}
 use Rattle.text_format.proofs.Parts.{HasFirst, slice_split-HasFirst}
+use Rattle.script_text.proofs.Prelude.{and_parts, nat_tests}
 
 -- a byte of a word, and one of a line
 abbrev pub is_plain : ℕ → Bool

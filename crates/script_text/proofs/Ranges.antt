@@ -1,9 +1,7 @@
 -- Numbers that a line writes itself are in their range.
 use Rattle.std.proofs.Common.{◌≡◌, ◌<◌, refl, ℕ, Bool, true, false, cond, nat_lt, List, [], ◌∷◌, Result, Ok, Err, IfOk, codes}
-use Rattle.std.specs.List.{AllByRecursion}
-use Rattle.std.specs.Str.{bytes_eq}
-use Rattle.std.proofs.lemmas.Bool.{ltb-true}
-use Rattle.program.specs.Listing.{IsGroup}
+use Rattle.script_text.specs.Prelude.{AllByRecursion, IsGroup, bytes_eq}
+use Rattle.script_text.proofs.Prelude.{ltb-true}
 use Rattle.script_text.specs.Fault.{both}
 use Rattle.script_text.specs.Operation.{Draft, looked_up, table_alone, table_of_one, table_of_two, table_of_three}
 use Rattle.script_text.specs.Operation.{instruction_in, direction_in, link_in, group_in, number16_in}

@@ -1,11 +1,9 @@
 -- Each instruction of a program reads back from its line.
 use Rattle.std.proofs.Common.{refl, ℕ, List, [], ◌∷◌, arith}
 use Rattle.std.specs.Prelude.{codes}
-use Rattle.text_format.specs.Word.{word_text}
-use Rattle.program.specs.Encoding.{HaveWidths, fields_of}
-use Rattle.program.specs.Listing.{IsSound}
 use Rattle.program.specs.declared.instruction.Instruction.{Instruction as Step}
 use Rattle.program.specs.declared.instruction.Instruction.TheVariants.{Write, Read, VfWrite, VfRead, Lend, Unlend, Poke, Peek, Arrive, RxStep, TxStep, IntStep, QueueStep, EepromStep, Link, Collect, Expect, And, JumpIfEqual, JumpUnlessEqual, Jump, Halt}
+use Rattle.script_text.specs.Prelude.{HaveWidths, IsSound, fields_of, word_text}
 use Rattle.script_text.specs.Printing.{target_text}
 use Rattle.script_text.specs.Statement.{statement_of}
 use Rattle.script_text.proofs.Addresses.{number_in-word, target_of-text}

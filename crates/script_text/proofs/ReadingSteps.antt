@@ -1,14 +1,8 @@
 -- The steps of interrupts, queues and the link read back from their lines.
 use Rattle.std.proofs.Common.{refl, ℕ, Bool, true, false, List, [], ◌∷◌, arith}
 use Rattle.std.specs.Prelude.{codes}
-use Rattle.program.specs.IntrUnit.declared.Group.{Group}
-use Rattle.program.specs.IntrUnit.declared.Group.TheVariants.{Pf, Vf}
-use Rattle.program.specs.DmaRing.declared.dir.Dir.{Dir}
-use Rattle.program.specs.DmaRing.declared.dir.Dir.TheVariants.{Rx, Tx}
-use Rattle.text_format.specs.Word.{word_text}
-use Rattle.program.specs.Encoding.{HaveWidths, fields_of}
-use Rattle.program.specs.Listing.{IsSound}
 use Rattle.program.specs.declared.instruction.Instruction.TheVariants.{IntStep, QueueStep, Link}
+use Rattle.script_text.specs.Prelude.{Dir, Group, HaveWidths, IsSound, Pf, Rx, Tx, Vf, fields_of, word_text}
 use Rattle.script_text.specs.Statement.{statement_of}
 use Rattle.script_text.proofs.Numerals.{IsWord-word}
 use Rattle.script_text.proofs.Spelling.{ReadsBack, number_below-word, says-int, says-qstep-rx, says-qstep-tx}

@@ -1,11 +1,8 @@
 -- What all lines have said makes a program.
 use Rattle.std.proofs.Common.{◌≡◌, ◌<◌, ◌≤◌, refl, ℕ, ◌+◌, Bool, true, false, cond, is_some, ◌&&◌, nat_le, nat_lt, length, List, [], ◌∷◌, ◌++◌, Option, Some, None, Ok, Err, IfOk, IfSome, arith, length-append}
 use Rattle.std.specs.FinMap as fin
-use Rattle.std.specs.Ordering.{nat_cmp}
-use Rattle.std.specs.Cmp.Lexicographic.{slice_cmp}
-use Rattle.std.specs.Str.{bytes_eq}
 use Rattle.std.proofs.lemmas.Bool.{ltb-true, leb-true, and_parts}
-use Rattle.program.specs.Listing.{IsDataString}
+use Rattle.script_text.specs.Prelude.{IsDataString, bytes_eq, nat_cmp, slice_cmp}
 use Rattle.script_text.specs.Operation.{Draft}
 use Rattle.script_text.specs.Outline.{Outline, blank}
 use Rattle.script_text.specs.Places.{Places, place_of, with_place}

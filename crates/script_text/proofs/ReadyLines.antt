@@ -1,7 +1,6 @@
 -- What all lines have said makes a program, line by line.
 use Rattle.std.proofs.Common.{◌≡◌, subst, ℕ, List, [], ◌∷◌, Result, Ok, Err, IfOk}
-use Rattle.text_format.specs.Lines.{NumberedLine}
-use Rattle.text_format.specs.Words.{words_of}
+use Rattle.script_text.specs.Prelude.{NumberedLine, words_of}
 use Rattle.script_text.specs.Fault.{◌then◌, at_line}
 use Rattle.script_text.specs.Outline.{Outline, blank}
 use Rattle.script_text.specs.Resolved.{IsReady}

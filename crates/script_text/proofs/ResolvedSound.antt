@@ -1,9 +1,8 @@
 -- What was resolved is sound, and is a program.
 use Rattle.std.proofs.Common.{◌≡◌, ◌<◌, ◌≤◌, refl, sym, ◌∙◌, ap, subst, ℕ, ◌+◌, List, [], ◌∷◌, ◌++◌, length, Result, Ok, Err, IfOk, inl, inr, arith, length-append, zero-add}
-use Rattle.std.specs.List.{AllByRecursion}
-use Rattle.std.proofs.lemmas.Bool.Decides.{eqb_tells}
-use Rattle.program.specs.Listing.{IsSound, IsListing, string_at}
 use Rattle.program.specs.declared.instruction.Instruction.TheVariants.{Write, Read, VfWrite, VfRead, Lend, Unlend, Poke, Peek, Arrive, RxStep, TxStep, IntStep, QueueStep, EepromStep, Link, Collect, Expect, And, JumpIfEqual, JumpUnlessEqual, Jump, Halt}
+use Rattle.script_text.specs.Prelude.{AllByRecursion, IsListing, IsSound, string_at}
+use Rattle.script_text.proofs.Prelude.{eqb_tells}
 use Rattle.script_text.specs.Operation.{Draft}
 use Rattle.script_text.specs.Outline.{Outline}
 use Rattle.script_text.specs.Places.{place_of}

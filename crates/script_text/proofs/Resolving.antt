@@ -1,7 +1,7 @@
 -- Instructions whose labels and data are looked up.
 use Rattle.std.proofs.Common.{◌≡◌, ◌<◌, ◌≤◌, refl, sym, ◌∙◌, ap, ℕ, suc, ◌+◌, List, [], ◌∷◌, ◌++◌, length, get_or, drop, Result, Ok, Err, add-one, drop-cons}
 use Rattle.std.proofs.lemmas.List.{drop_all}
-use Rattle.program.specs.declared.instruction.Instruction.{Instruction}
+use Rattle.script_text.specs.Prelude.{Instruction}
 use Rattle.script_text.specs.Fault.{◌then◌}
 use Rattle.script_text.specs.Outline.{Outline}
 use Rattle.script_text.specs.Resolved.{resolved, with_resolved}

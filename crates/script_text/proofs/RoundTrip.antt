@@ -1,11 +1,9 @@
 -- The text of a program means the program.
 use Rattle.std.proofs.Common.{◌≡◌, refl, sym, ◌∙◌, ℕ, zero, suc, ◌==◌, ◌<◌, Bool, true, false, ◌||◌, List, [], ◌∷◌, length, map, arith, eq-eqb}
-use Rattle.std.specs.List.{AllByRecursion}
-use Rattle.text_format.specs.Lines.{lines_of}
 use Rattle.std.specs.Str.Lines.{lines}
-use Rattle.program.specs.Listing.{Listing, IsSound, IsListing, string_at}
 use Rattle.program.specs.declared.instruction.Instruction.{Instruction as Step}
 use Rattle.program.specs.declared.instruction.Instruction.TheVariants.{Write, Read, VfWrite, VfRead, Lend, Unlend, Poke, Peek, Arrive, RxStep, TxStep, IntStep, QueueStep, EepromStep, Link, Collect, Expect, And, JumpIfEqual, JumpUnlessEqual, Jump, Halt}
+use Rattle.script_text.specs.Prelude.{AllByRecursion, IsListing, IsSound, Listing, lines_of, string_at}
 use Rattle.script_text.specs.Disassembly.{jumps_to, is_target, code_lines, text_of}
 use Rattle.script_text.specs.Laws.{label_from, data_from, Means, Mean, IsSaid}
 use Rattle.script_text.specs.ReadBack.{HasWidths, TextsReadBack}

@@ -1,13 +1,9 @@
 -- The names of rows, and the bracket after one.
 use Rattle.std.proofs.Common.{◌≡◌, refl, ℕ, ◌<◌, Bool, true, false, ◌&&◌, ◌==◌, nat_lt, List, [], ◌∷◌, ◌++◌, length, length-append, arith}
-use Rattle.std.specs.List.{list_all, position_or_len, before_first, after_first}
 use Rattle.std.proofs.Math.Seq.{take-append_seam, drop-append-add}
-use Rattle.std.proofs.lemmas.Bool.{and_parts, lt-ltb, le-ltb, ltb-true}
-use Rattle.std.proofs.lemmas.Bool.Decides.{nat_tests}
-use Rattle.text_format.specs.Name.{is_name}
-use Rattle.reg_table.specs.declared.rows.RowId.{RowId}
 use Rattle.reg_table.specs.declared.rows.RowId.TheVariants.{Ctrl}
-use Rattle.reg_table.specs.Rows.{row_of}
+use Rattle.script_text.specs.Prelude.{RowId, after_first, before_first, is_name, list_all, position_or_len, row_of}
+use Rattle.script_text.proofs.Prelude.{and_parts, le-ltb, lt-ltb, ltb-true, nat_tests}
 use Rattle.script_text.specs.Target.{has_byte}
 use Rattle.script_text.proofs.Numerals.{is_tame}
 use Rattle.script_text.proofs.Plain.{is_plain}

@@ -1,6 +1,6 @@
 -- What lines have said is what their statements come to.
 use Rattle.std.proofs.Common.{◌≡◌, refl, sym, ◌∙◌, ap, subst, List, [], ◌∷◌, ◌++◌, Result, Ok, Err, append_assoc, append-nil}
-use Rattle.text_format.specs.Lines.{NumberedLine}
+use Rattle.script_text.specs.Prelude.{NumberedLine}
 use Rattle.script_text.specs.Fault.{◌then◌, at_line}
 use Rattle.script_text.specs.Laws.{reading_of, Say, Fit}
 use Rattle.script_text.specs.Outline.{Outline}

@@ -1,13 +1,10 @@
 -- The line of an instruction reads back as the instruction.
 use Rattle.std.proofs.Common.{◌≡◌, refl, ℕ, ◌^◌, ◌<◌, List, [], ◌∷◌, Ok}
 use Rattle.std.specs.Prelude.{codes, decimal}
-use Rattle.std.specs.List.{AllByRecursion}
-use Rattle.std.proofs.lemmas.Bool.{lt-ltb}
-use Rattle.program.specs.IntrUnit.declared.Group.TheVariants.{Vf}
-use Rattle.program.specs.DmaRing.declared.dir.Dir.TheVariants.{Rx, Tx}
-use Rattle.text_format.specs.Word.{word_text}
 use Rattle.program.specs.declared.instruction.Instruction.{Instruction as Step}
 use Rattle.program.specs.declared.instruction.Instruction.TheVariants.{Write, Read, VfWrite, VfRead, Lend, Unlend, Poke, Peek, Arrive, RxStep, TxStep, IntStep, QueueStep, EepromStep, Link, Collect, Expect, And, JumpIfEqual, JumpUnlessEqual, Jump, Halt}
+use Rattle.script_text.specs.Prelude.{AllByRecursion, Rx, Tx, Vf, word_text}
+use Rattle.script_text.proofs.Prelude.{lt-ltb}
 use Rattle.script_text.specs.Operation.{Draft}
 use Rattle.script_text.specs.Printing.{instruction_text}
 use Rattle.script_text.specs.Statement.{statement_of}

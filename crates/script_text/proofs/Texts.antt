@@ -1,18 +1,13 @@
 -- The lines of a program's text, and what they say.
 use Rattle.std.proofs.Common.{◌≡◌, refl, sym, ◌∙◌, ap, subst, ℕ, zero, suc, ◌+◌, ◌/◌, ◌%◌, ◌<◌, ◌≤◌, true, false, cond, ◌==◌, List, [], ◌∷◌, ◌++◌, length, map, get_or, slice_index, append_assoc, Result, Ok, Err, Some, arith}
 use Rattle.std.specs.Prelude.{codes, decimal}
-use Rattle.std.specs.List.{AllByRecursion, list_all}
-use Rattle.std.specs.Option.{ok_or}
 use Rattle.std.specs.Str.Lines.{lines}
-use Rattle.std.proofs.lemmas.Bool.Decides.{nat_tests}
 use Rattle.std.proofs.lemmas.List.Sums.{AllPass-from_list_all}
 use Rattle.hex.specs.Hex.{encode_with, lower_digits}
 use Rattle.hex.proofs.HexLemmas.{decode_of-encode_lower}
-use Rattle.text_format.specs.Words.{words_of}
-use Rattle.text_format.specs.HexData.{hex_bytes_of}
 use Rattle.text_format.proofs.HexData.{hex_bytes_of-decoded}
-use Rattle.text_format.specs.Bytes.{bytes_text}
-use Rattle.program.specs.Listing.{IsDataString}
+use Rattle.script_text.specs.Prelude.{AllByRecursion, IsDataString, bytes_text, hex_bytes_of, list_all, ok_or, words_of}
+use Rattle.script_text.proofs.Prelude.{nat_tests}
 use Rattle.script_text.specs.Disassembly.{data_line, data_lines}
 use Rattle.script_text.specs.Fault.{◌then◌}
 use Rattle.script_text.specs.Statement.{bytes_in, statement_of}

@@ -1,7 +1,7 @@
 -- What lines have said, and what their statements come to.
 use Rattle.std.proofs.Common.{◌≡◌, refl, sym, ◌∙◌, ap, ℕ, ◌+◌, Bool, true, false, cond, List, [], ◌∷◌, ◌++◌, length, map, Option, Some, None, append-nil, arith}
-use Rattle.std.specs.Str.{bytes_eq}
 use Rattle.std.proofs.lemmas.Slice.Eq.{bytes_eq-Decides}
+use Rattle.script_text.specs.Prelude.{bytes_eq}
 use Rattle.script_text.specs.Laws.{strings_in, drafts_in, label_from, data_from}
 use Rattle.script_text.specs.Operation.{Draft}
 use Rattle.script_text.specs.Outline.{Outline}

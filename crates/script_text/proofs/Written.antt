@@ -1,7 +1,7 @@
 -- One more line of a text that is written.
 use Rattle.std.proofs.Common.{◌≡◌, ◌<◌, ◌≤◌, sym, ◌∙◌, ap, ℕ, suc, ◌+◌, List, ◌∷◌, ◌++◌, length, get_or, drop, add-one, drop-cons, append_assoc, append-nil, Result, Ok, Err, IfOk}
 use Rattle.std.proofs.lemmas.List.{drop_all}
-use Rattle.program.specs.declared.instruction.Instruction.{Instruction}
+use Rattle.script_text.specs.Prelude.{Instruction}
 use Rattle.script_text.specs.Disassembly.{data_line, data_lines, code_line, code_lines, label_line_at}
 
 first_left : {X : Type 0} (xs : List X) (x : X) (k : ℕ) → k < length xs → x ≡ get_or xs k x

@@ -1,10 +1,7 @@
 -- The text of a program.
 use Rattle.std.specs.Prelude.{ℕ, ◌+◌, ◌==◌, ◌++◌, Bool, false, List, [], ◌∷◌, codes, decimal, if◌then◌else◌}
-use Rattle.std.specs.List.{list_any}
-use Rattle.text_format.specs.Bytes.{bytes_text}
-use Rattle.program.specs.declared.instruction.Instruction.{Instruction}
 use Rattle.program.specs.declared.instruction.Instruction.TheVariants.{JumpIfEqual, JumpUnlessEqual, Jump}
-use Rattle.program.specs.Listing.{Listing}
+use Rattle.script_text.specs.Prelude.{Instruction, Listing, bytes_text, list_any}
 use Rattle.script_text.specs.Printing.{instruction_text}
 
 -- the line of a data string, whose name is `d` and its number

@@ -1,10 +1,6 @@
 -- A script that a line ends, with other lines after it.
 use Rattle.std.specs.Prelude.{ℕ, Bool, false, List, [], ◌∷◌, Result}
-use Rattle.std.specs.List.{after_first, before_first, list_any}
-use Rattle.std.specs.Str.{bytes_eq}
-use Rattle.text_format.specs.Lines.{NumberedLine}
-use Rattle.text_format.specs.Words.{words_of}
-use Rattle.program.specs.Listing.{Listing}
+use Rattle.script_text.specs.Prelude.{Listing, NumberedLine, after_first, before_first, bytes_eq, list_any, words_of}
 use Rattle.script_text.specs.Script.{program_of_lines}
 use Rattle.script_text.specs.declared.faults.ScriptFault.{ScriptFault}
 

@@ -1,5 +1,6 @@
 pub mod End
 pub mod Fault
+pub mod Prelude
 pub mod Target
 pub mod Operation
 pub mod Statement

@@ -1,6 +1,6 @@
 -- The line of an instruction: its name and its operands, as text.
 use Rattle.std.specs.Prelude.{ℕ, ◌++◌, List, codes, decimal}
-use Rattle.text_format.specs.Word.{word_text}
+use Rattle.script_text.specs.Prelude.{word_text}
 use Rattle.script_text.specs.Printing.{target_text}
 use Rattle.script_text.specs.declared.printing.Line.{Line}
 use Rattle.script_text.specs.declared.printing.Operand.{Operand}

@@ -1,15 +1,10 @@
 -- The instruction of an operation and its operands, as its line writes it.
 use Rattle.std.specs.Prelude.{ℕ, ◌^◌, Bool, List, [], ◌∷◌, Result, Ok, Err, true, false, codes, if◌then◌else◌}
-use Rattle.std.specs.Str.{bytes_eq}
-use Rattle.program.specs.IntrUnit.declared.Group.{Group}
-use Rattle.program.specs.IntrUnit.declared.Group.TheVariants.{Pf, Vf}
-use Rattle.program.specs.DmaRing.declared.dir.Dir.{Dir}
-use Rattle.program.specs.DmaRing.declared.dir.Dir.TheVariants.{Rx, Tx}
-use Rattle.program.specs.declared.instruction.Instruction.{Instruction}
 use Rattle.program.specs.declared.instruction.Instruction.TheVariants.{Write, Read, VfWrite, VfRead, Lend, Unlend, Poke}
 use Rattle.program.specs.declared.instruction.Instruction.TheVariants.{Peek, Arrive, RxStep, TxStep, IntStep, QueueStep}
 use Rattle.program.specs.declared.instruction.Instruction.TheVariants.{EepromStep, Link, Collect, Expect, And}
 use Rattle.program.specs.declared.instruction.Instruction.TheVariants.{JumpIfEqual, JumpUnlessEqual, Jump, Halt}
+use Rattle.script_text.specs.Prelude.{Dir, Group, Instruction, Pf, Rx, Tx, Vf, bytes_eq}
 use Rattle.script_text.specs.declared.faults.LineFault.{LineFault}
 use Rattle.script_text.specs.declared.faults.LineFault.TheVariants.{Syntax}
 use Rattle.script_text.specs.Fault.{◌then◌, both}

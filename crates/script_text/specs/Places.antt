@@ -1,11 +1,9 @@
 -- The numbers of names.
 use Rattle.std.specs.Prelude.{ℕ, List, map, Option}
-use Rattle.std.specs.BTreeMap.{BTreeMap}
-use Rattle.std.specs.Cmp.Lexicographic.{slice_cmp}
 use Rattle.std.specs.Coded.{Coded, coded_ℕ, coded_list}
 use Rattle.std.specs.FinMap as fin
-use Rattle.std.specs.Ordering.{nat_cmp}
 use denote.Ref.{Bor}
+use Rattle.script_text.specs.Prelude.{BTreeMap, nat_cmp, slice_cmp}
 
 -- names, and the number of each
 abbrev pub Places : Type 0

@@ -1,20 +1,12 @@
 -- Instructions as text.
 use Rattle.std.specs.Prelude.{ℕ, Bool, true, false, ◌==◌, ◌++◌, List, Option, Some, None, unwrap_or, codes, decimal}
 use Rattle.std.specs.Prelude.{if◌then◌else◌}
-use Rattle.program.specs.IntrUnit.declared.Group.{Group}
-use Rattle.program.specs.IntrUnit.declared.Group.TheVariants.{Pf, Vf}
-use Rattle.program.specs.DmaRing.declared.dir.Dir.{Dir}
-use Rattle.program.specs.DmaRing.declared.dir.Dir.TheVariants.{Rx, Tx}
-use Rattle.text_format.specs.Word.{word_text}
-use Rattle.program.specs.declared.instruction.Instruction.{Instruction}
 use Rattle.program.specs.declared.instruction.Instruction.TheVariants.{Write, Read, VfWrite, VfRead, Lend, Unlend, Poke}
 use Rattle.program.specs.declared.instruction.Instruction.TheVariants.{Peek, Arrive, RxStep, TxStep, IntStep, QueueStep}
 use Rattle.program.specs.declared.instruction.Instruction.TheVariants.{EepromStep, Link, Collect, Expect, And}
 use Rattle.program.specs.declared.instruction.Instruction.TheVariants.{JumpIfEqual, JumpUnlessEqual, Jump, Halt}
-use Rattle.reg_table.specs.declared.place.Place.{Place}
-use Rattle.reg_table.specs.Place.{place_among, address_among}
-use Rattle.reg_table.specs.Rows.{row_of}
-use Rattle.reg_table.specs.Runs.{runs}
+use Rattle.script_text.specs.Prelude.{Dir, Group, Instruction, Pf, Place, Rx, Tx, Vf, address_among, place_among}
+use Rattle.script_text.specs.Prelude.{row_of, runs, word_text}
 
 -- a place by its row's name, with its index where the row has several
 abbrev pub place_text : Place → List ℕ

@@ -1,8 +1,6 @@
 -- What disassembly promises.
 use Rattle.std.specs.Prelude.{◌≡◌, ◌<◌, Ok}
-use Rattle.std.specs.List.{AllByRecursion}
-use Rattle.program.specs.Encoding.{HaveWidths, fields_of}
-use Rattle.program.specs.Listing.{Listing, IsListing}
+use Rattle.script_text.specs.Prelude.{AllByRecursion, HaveWidths, IsListing, Listing, fields_of}
 use Rattle.script_text.specs.Disassembly.{text_of}
 use Rattle.script_text.specs.Script.{program_of}
 

@@ -1,9 +1,7 @@
 -- The program that a text means.
 use Rattle.std.specs.Prelude.{ℕ, ◌&&◌, List, [], ◌∷◌, ◌++◌, length, is_some, Result, Ok, Err, nat_le, nat_lt}
 use Rattle.std.specs.Prelude.{if◌then◌else◌}
-use Rattle.text_format.specs.Lines.{NumberedLine, lines_of}
-use Rattle.text_format.specs.Words.{words_of}
-use Rattle.program.specs.Listing.{Listing}
+use Rattle.script_text.specs.Prelude.{Listing, NumberedLine, lines_of, words_of}
 use Rattle.script_text.specs.declared.faults.ScriptFault.{ScriptFault}
 use Rattle.script_text.specs.declared.faults.ScriptFault.TheVariants.{TwoLabels, TooLong}
 use Rattle.script_text.specs.declared.statements.Statement.{Statement}

@@ -1,8 +1,6 @@
 -- What the words of a line say.
 use Rattle.std.specs.Prelude.{ℕ, ◌==◌, List, [], ◌∷◌, length, Option, Some, None, Result, Ok, Err, codes, if◌then◌else◌}
-use Rattle.std.specs.Option.{ok_or}
-use Rattle.std.specs.Str.{bytes_eq}
-use Rattle.text_format.specs.HexData.{hex_bytes_of}
+use Rattle.script_text.specs.Prelude.{bytes_eq, hex_bytes_of, ok_or}
 use Rattle.script_text.specs.declared.faults.LineFault.{LineFault}
 use Rattle.script_text.specs.declared.faults.LineFault.TheVariants.{Syntax}
 use Rattle.script_text.specs.declared.statements.Statement.{Statement}

@@ -1,15 +1,10 @@
 -- The address that a word of a script names.
 use Rattle.std.specs.Prelude.{ℕ, Bool, ◌-◌, ◌&&◌, ◌==◌, List, length, take, Option, Some, None, unwrap_or, Result, Ok}
 use Rattle.std.specs.Prelude.{Err, slice_index, nat_le, nat_lt, if◌then◌else◌}
-use Rattle.std.specs.Option.{ok_or}
-use Rattle.std.specs.List.{position_or_len, before_first, after_first}
-use Rattle.reg_table.specs.declared.rows.RowId.{RowId}
-use Rattle.reg_table.specs.Rows.{row_of}
-use Rattle.reg_table.specs.Runs.{runs}
 use Rattle.reg_table.specs.Named.{row_with_name}
-use Rattle.reg_table.specs.Place.{address_among}
-use Rattle.text_format.specs.Name.{is_name}
 use Rattle.text_format.specs.Number.{number_of}
+use Rattle.script_text.specs.Prelude.{RowId, address_among, after_first, before_first, is_name, ok_or, position_or_len}
+use Rattle.script_text.specs.Prelude.{row_of, runs}
 use Rattle.script_text.specs.declared.faults.LineFault.{LineFault}
 use Rattle.script_text.specs.declared.faults.LineFault.TheVariants.{Syntax, UnknownName, Range, TooLong}
 use Rattle.script_text.specs.Fault.{◌then◌, both, number_fault}

@@ -1,4 +1,4 @@
-use Rattle.text_format.specs.Lines.{lines_of}
+use Rattle.script_text.specs.Prelude.{lines_of}
 use Rattle.script_text.proofs.ReadyLines.{text-ready}
 use Rattle.script_text.proofs.assembly.assemble.Goals as goal
 

@@ -1,4 +1,4 @@
-use Rattle.std.specs.List.{before_first}
+use Rattle.script_text.specs.Prelude.{before_first}
 use Rattle.script_text.specs.End.{is_end}
 use Rattle.script_text.proofs.ReadyLines.{text-ready}
 use Rattle.script_text.proofs.assembly.assemble_before.Goals as goal

@@ -1,5 +1,5 @@
 use Rattle.std.proofs.Common.{◌≡◌, length}
-use Rattle.std.specs.List.{before_first}
+use Rattle.script_text.specs.Prelude.{before_first}
 use Rattle.script_text.specs.End.{has_end, is_end, lines_after}
 use Rattle.script_text.specs.Outline.{blank}
 use Rattle.script_text.specs.Script.{with_lines}

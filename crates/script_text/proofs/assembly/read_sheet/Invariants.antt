@@ -1,5 +1,5 @@
 use Rattle.std.proofs.Common.{◌≡◌}
-use Rattle.text_format.specs.Lines.{lines_of}
+use Rattle.script_text.specs.Prelude.{lines_of}
 use Rattle.script_text.specs.Outline.{blank}
 use Rattle.script_text.specs.Script.{with_lines}
 use Rattle.script_text.proofs.assembly.read_sheet.Given as goal

@@ -1,6 +1,5 @@
 use Rattle.std.proofs.Common.{◌∙◌, ap, subst, ◌++◌, ◌<◌}
-use Rattle.std.specs.List.{AllByRecursion}
-use Rattle.program.specs.Encoding.{HaveWidths, fields_of}
+use Rattle.script_text.specs.Prelude.{AllByRecursion, HaveWidths, fields_of}
 use Rattle.script_text.specs.Disassembly.{data_lines, code_lines, text_of}
 use Rattle.script_text.specs.Script.{program_of}
 use Rattle.script_text.proofs.RoundTrip.{texts_read_back}

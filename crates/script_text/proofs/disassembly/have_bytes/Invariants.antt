@@ -1,5 +1,5 @@
 use Rattle.std.proofs.Common.{◌<◌, take}
-use Rattle.std.specs.List.{AllByRecursion}
+use Rattle.script_text.specs.Prelude.{AllByRecursion}
 use Rattle.script_text.proofs.disassembly.have_bytes.Given as goal
 
 abbrev pub invariant-loop-string : goal.invariant-loop-string

@@ -1,6 +1,5 @@
 use Rattle.std.proofs.Common.{take}
-use Rattle.std.specs.List.{AllByRecursion}
-use Rattle.program.specs.Encoding.{HaveWidths, fields_of}
+use Rattle.script_text.specs.Prelude.{AllByRecursion, HaveWidths, fields_of}
 use Rattle.script_text.proofs.disassembly.have_widths.Given as goal
 
 abbrev pub invariant-loop-instruction : goal.invariant-loop-instruction

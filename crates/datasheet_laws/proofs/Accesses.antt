@@ -1,14 +1,9 @@
 -- Registers by their addresses.
 use Rattle.std.proofs.Common.{◌≡◌, ℕ, ◌<◌, ◌==◌, ap, ◌∙◌, arith}
 use Rattle.std.specs.Prelude.{bit_and, min}
-use Rattle.std.specs.Int.{bit_at}
 use Rattle.std.proofs.lemmas.Nat.Bits.{bit_at_and, bit_at_ones, bit_at-lt}
-use Rattle.reg_table.specs.Rows.{row_of}
-use Rattle.reg_table.specs.declared.rows.RowId.{RowId}
-use Rattle.register_file.specs.Access.{read_word, after_read, written}
-use Rattle.register_file.specs.Bits.{has_bit}
-use Rattle.register_file.specs.Registers.{Registers, word_of}
-use Rattle.register_file.specs.declared.surroundings.Surroundings.{Surroundings}
+use Rattle.datasheet_laws.specs.Prelude.{Registers, RowId, Surroundings, after_read, bit_at, has_bit, read_word, row_of}
+use Rattle.datasheet_laws.specs.Prelude.{word_of, written}
 use Rattle.datasheet_laws.specs.Accesses.{held, given, left, wrote, word, reads, read_at, write_at}
 use Rattle.datasheet_laws.specs.Table.{line_of, whole}
 use Rattle.datasheet_laws.proofs.Table.{at, listed}

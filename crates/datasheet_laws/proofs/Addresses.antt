@@ -2,14 +2,12 @@
 use Rattle.std.proofs.Common.{◌≡◌, ℕ, ◌+◌, ◌*◌, ◌<◌, Bool, true, ◌==◌, ◌&&◌, ◌||◌, nat_lt, List, [], ◌∷◌, Option, Some, None, refl, ap, sym, ◌∙◌, ◌⊎◌, inl, inr, arith}
 use Rattle.std.specs.List.{list_all, list_any, range_with_len}
 use Rattle.std.proofs.lemmas.Bool.{and_parts, or_cases, ltb-true, eqb-true}
-use Rattle.reg_table.specs.Access.{access_of}
+use Rattle.std.proofs.lemmas.Option.{same_Some}
 use Rattle.reg_table.specs.Place.{SomeRunHas, place_among, view_among}
 use Rattle.reg_table.specs.Run.{Run, HasPlaceAt}
-use Rattle.reg_table.specs.Runs.{runs}
-use Rattle.reg_table.specs.declared.access.Access.{Access}
-use Rattle.reg_table.specs.declared.place.Place.{Place}
 use Rattle.reg_table.proofs.Finding.{found-named}
 use Rattle.vf_map.proofs.Owners.{at_number}
+use Rattle.datasheet_laws.specs.Prelude.{Access, Place, access_of, runs}
 use Rattle.datasheet_laws.specs.Table.{Series, IsAmong, IsFirst, further_addresses, line_of, OtherAddressesMeetNone}
 
 -- whether step k of a run leads to the first address that the line has
@@ -67,12 +65,9 @@ there (r ∷ rs) e a p (inl h) =
     ]
 there (r ∷ rs) e a p (inr n) = there rs (and_parts (is_listed r) (list_all is_listed rs) e).1 a p n
 
-Some-one : {A : Type 0} {x y : A} → Some x ≡ Some y → x ≡ y
-Some-one e = cc
-
 place_of : (o : Option Place) (view : ℕ) (a : Access) → access_of o view ≡ Some a → o ≡ Some a.place
 place_of None view a e = cc
-place_of (Some p) view a e = ap (λ (x : Access). Some x.place) (Some-one e)
+place_of (Some p) view a e = ap (λ (x : Access). Some x.place) (same_Some _ _ e)
 
 pub others : OtherAddressesMeetNone
 others address a e =

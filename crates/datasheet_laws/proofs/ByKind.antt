@@ -1,30 +1,21 @@
 -- What accesses do to a register's word, by the kind that is listed for it.
 use Rattle.std.proofs.Common.{◌≡◌, ℕ, zero, suc, ◌+◌, ◌-◌, ◌*◌, ◌/◌, ◌%◌, ◌^◌, ◌<◌, ◌==◌, Bool, true, false, cond, ◌&&◌, Some, None, if◌then◌else◌, refl, ap, sym, ◌∙◌, subst, arith, lit<}
 use Rattle.std.specs.Prelude.{bit_and, min, max}
-use Rattle.std.specs.Int.{bit_at, w32}
 use Rattle.std.proofs.lemmas.List.{get_or-set_same}
 use Rattle.std.proofs.lemmas.Nat.{and_le_r}
+use Rattle.std.proofs.lemmas.Bool.Decides.{nat_tests}
 use Rattle.std.proofs.lemmas.Nat.Bits.{bit_at_and, bit_at_or, bit_at_not, bit_at_ones, bit_at-lt}
-use Rattle.reg_table.specs.Rows.{row_of}
-use Rattle.reg_table.specs.declared.kind.Kind.{Kind}
 use Rattle.reg_table.specs.declared.kind.Kind.TheVariants as kind
-use Rattle.reg_table.specs.declared.place.Place.{Place}
-use Rattle.reg_table.specs.declared.rows.RowId.{RowId}
 use Rattle.reg_table.specs.declared.rows.RowId.TheVariants as row
-use Rattle.register_file.specs.DmaRing.declared.dir.Dir.TheVariants.{Rx, Tx}
-use Rattle.register_file.specs.Access.{read_word, after_read, written}
 use Rattle.register_file.specs.Bits.{has_bit, merged}
 use Rattle.register_file.specs.Eeprom.{eeprom_answered, eeprom_index}
 use Rattle.register_file.specs.Effects.{stored, asked}
-use Rattle.register_file.specs.Owner.{owner_of}
-use Rattle.register_file.specs.Registers.{Registers, word_of, is_wanted}
-use Rattle.register_file.specs.Words.{word_at}
 use Rattle.register_file.specs.declared.owner.Owner.{Owner}
 use Rattle.register_file.specs.declared.owner.Owner.TheVariants as owner
-use Rattle.register_file.specs.declared.surroundings.Surroundings.{Surroundings}
-use Rattle.register_laws.specs.Sound.{HasShape}
 use Rattle.register_laws.proofs.MailBits.{has_bit-zero}
 use Rattle.register_laws.proofs.Shape.{put_stands}
+use Rattle.datasheet_laws.specs.Prelude.{HasShape, Kind, Place, Registers, RowId, Rx, Surroundings, Tx, after_read}
+use Rattle.datasheet_laws.specs.Prelude.{bit_at, is_wanted, owner_of, read_word, row_of, w32, word_at, word_of, written}
 use Rattle.datasheet_laws.specs.Accesses.{reads, read_at, write_at}
 use Rattle.datasheet_laws.specs.ByKind.{at, is_silent, WordsAreStored, KindsAreRead, SidesAreAsked, EepromIsRead}
 use Rattle.datasheet_laws.specs.Table.{line_of, whole}
@@ -33,9 +24,7 @@ use Rattle.datasheet_laws.proofs.Table.{at as place, listed}
 
 chosen : (m old new : ℕ) → m < 2 → old < 2 → new < 2
     → (max (min old (1 - m)) (min new m) == 1) ≡ (if m == 1 then new == 1 else old == 1)
-chosen zero old new a b c = let e : max (min old (1 - 0)) (min new 0) ≡ old = omega arith in ap (λ n. n == 1) e
-chosen (suc zero) old new a b c = let e : max (min old (1 - 1)) (min new 1) ≡ new = omega arith in ap (λ n. n == 1) e
-chosen (suc (suc m)) old new a b c = absurd (omega arith)
+chosen m old new a b c = grind (arith, nat_tests)
 
 -- a bit of a merged word is the new one where the mask has it
 merged_bit : (bit mask old new : ℕ) → bit < 32 → has_bit bit (merged (bit_and mask whole) old new)
@@ -53,11 +42,7 @@ merged_bit bit mask old new low =
     ∙ ap (λ b. cond b (has_bit bit new) (has_bit bit old)) (has_bit-shown mask bit low)
 
 both : (x y : ℕ) → x < 2 → y < 2 → (min x y == 1) ≡ ((x == 1) && (y == 1))
-both zero y p q = let e : min 0 y ≡ 0 = omega arith in ap (λ n. n == 1) e
-both (suc zero) zero p q = refl
-both (suc zero) (suc zero) p q = refl
-both (suc zero) (suc (suc y)) p q = absurd (omega arith)
-both (suc (suc x)) y p q = absurd (omega arith)
+both x y p q = grind (arith, nat_tests)
 
 module _ (around : Surroundings) (r : Registers) (h : HasShape r) (x : RowId) (i w : ℕ) (inside : i < (line_of x).count)
     (k : Kind) (is : (line_of x).kind ≡ k) where

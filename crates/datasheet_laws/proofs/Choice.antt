@@ -1,24 +1,14 @@
 -- Which queue and which RSS type a frame has, and which writes reset.
 use Rattle.std.proofs.Common.{◌≡◌, ◌≢◌, ℕ, zero, suc, ◌+◌, ◌*◌, ◌/◌, ◌%◌, ◌^◌, ◌<◌, ◌==◌, Bool, true, false, cond, ◌&&◌, ◌⊎◌, List, [], Ok, Err, if◌then◌else◌, refl, ap, sym, ◌∙◌, subst, inl, inr, arith, lit<, length}
 use Rattle.std.specs.Prelude.{slice_index, Result}
-use Rattle.std.specs.Int.{to_le_bytes, w32}
 use Rattle.std.proofs.lemmas.Bool.{cond-true, cond-false, ne_eqb}
-use Rattle.reg_table.specs.Rows.{row_of}
-use Rattle.reg_table.specs.declared.rows.RowId.{RowId}
 use Rattle.reg_table.specs.declared.rows.RowId.TheVariants as row
-use Rattle.register_file.specs.Access.{asks_reset, asks_pool_reset}
-use Rattle.register_file.specs.Bits.{has_bit}
 use Rattle.register_file.specs.Pools.{mode_in}
-use Rattle.register_file.specs.Registers.{Registers, word_of}
-use Rattle.register_file.specs.Words.{row_words}
-use Rattle.register_laws.specs.Sound.{HasShape}
-use Rattle.vf_map.specs.declared.mode.Mode.{Mode}
 use Rattle.vf_map.specs.declared.mode.Mode.TheVariants as mode
 use Rattle.rss_hash.specs.Choice.{code_of, rss_type_of, first_enabled}
 use Rattle.rss_hash.specs.Mrqc.{queue_mode_of, is_hashing}
 use Rattle.rss_hash.specs.declared.choice.RssType.{RssType}
 use Rattle.rss_hash.specs.declared.choice.RssType.TheVariants.{NoHash, TcpIpv4, Ipv4, TcpIpv6, Ipv6, UdpIpv4, UdpIpv6}
-use Rattle.rss_hash.specs.declared.flow.Flow.{Flow}
 use Rattle.rss_hash.specs.declared.mrqc.QueueMode.{QueueMode}
 use Rattle.rss_hash.specs.declared.mrqc.QueueMode.TheVariants.{Single, Rss, Vmdq64, Vmdq32Rss, Vmdq64Rss}
 use Rattle.rss_hash.proofs.RegisterBytes.{register_byte_at}
@@ -26,10 +16,11 @@ use Rattle.rss_hash.proofs.Types.{ipv4_types, ipv6_types, no_types}
 use Rattle.rx_filter.specs.Address.{passes}
 use Rattle.rx_filter.specs.Pools.{chosen_pool}
 use Rattle.rx_filter.specs.Sorting.{rss_type, rss_hash, rss_entry, target_of, pool_target, sorted}
-use Rattle.rx_filter.specs.declared.target.Target.{Target}
 use Rattle.rx_filter.specs.declared.unwanted.Unwanted.{Unwanted}
 use Rattle.rx_filter.proofs.Queues.{queues_by_mode}
 use Rattle.rx_filter.proofs.Sorted.{sorted-let_in}
+use Rattle.datasheet_laws.specs.Prelude.{Flow, HasShape, Mode, Registers, RowId, Target, asks_pool_reset, asks_reset}
+use Rattle.datasheet_laws.specs.Prelude.{has_bit, row_of, row_words, to_le_bytes, w32, word_of}
 use Rattle.datasheet_laws.specs.Accesses.{word, holds}
 use Rattle.datasheet_laws.specs.Choice.{IsHashing, IsType, Has, HasTypes, TypesAreChosen, ChoosesQueues, QueuesAreChosen, ResetsAreAsked}
 use Rattle.datasheet_laws.proofs.Accesses.{word-at}

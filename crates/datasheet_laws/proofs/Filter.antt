@@ -3,8 +3,6 @@ use Rattle.std.proofs.Common.{◌≡◌, ℕ, ◌+◌, ◌*◌, ◌/◌, ◌%◌
 use Rattle.std.specs.Prelude.{slice_index}
 use Rattle.std.proofs.lemmas.Bool.{cases_Bool, both_ways, eqb-true, eq-eqb, ne_eqb, false_from_ne_true}
 use Rattle.reg_table.specs.declared.rows.RowId.TheVariants as row
-use Rattle.register_file.specs.Bits.{has_bit}
-use Rattle.register_file.specs.Registers.{Registers, word_of}
 use Rattle.rx_filter.specs.Address.{destination_low, destination_high, matches, is_broadcast, is_multicast, passes}
 use Rattle.rx_filter.specs.Laws as law
 use Rattle.rx_filter.specs.Pools.{selects}
@@ -14,6 +12,7 @@ use Rattle.rx_filter.proofs.Multicast.{multicast_in}
 use Rattle.rx_filter.proofs.Queues.{pool_of_a_frame}
 use Rattle.rx_filter.proofs.Tests.{both_hold, both_right, both_true}
 use Rattle.rx_filter.proofs.Unicast.{unicast_in}
+use Rattle.datasheet_laws.specs.Prelude.{Registers, has_bit, word_of}
 use Rattle.datasheet_laws.specs.Accesses.{word, holds}
 use Rattle.datasheet_laws.specs.Filter.{vector_of, IsAddress, IsAddressedBy, IsAddressed, IsListed, IsLetIn, FramesAreLetIn, ChoosesPools, PoolsAreChosen}
 use Rattle.datasheet_laws.proofs.Accesses.{word-at}

@@ -1,21 +1,17 @@
 -- Each bit of a frame's hash, by the registers of its key.
 use Rattle.std.proofs.Common.{◌≡◌, ℕ, zero, suc, ◌+◌, ◌-◌, ◌*◌, ◌/◌, ◌%◌, ◌^◌, ◌<◌, ◌≤◌, ◌==◌, Bool, true, false, ◌&&◌, cond, List, ◌∷◌, length, filter, slice_index, count_by, refl, ap, sym, ◌∙◌, arith}
-use Rattle.std.specs.Int.{bit_at, to_le_bytes, w32}
-use Rattle.std.specs.List.{range_with_len}
 use Rattle.std.proofs.Math.Nat.{div-div-eq-div-mul}
 use Rattle.std.proofs.lemmas.List.Sums.{sum_by-cons}
 use Rattle.std.proofs.lemmas.Nat.{pow-add}
 use Rattle.std.proofs.lemmas.Nat.Bits.{bit_at_cat_low}
 use Rattle.reg_table.specs.declared.rows.RowId.TheVariants as row
-use Rattle.register_file.specs.Bits.{has_bit}
-use Rattle.register_file.specs.Registers.{Registers, word_of}
-use Rattle.register_file.specs.Words.{row_words}
-use Rattle.register_laws.specs.Sound.{HasShape}
 use Rattle.rss_hash.specs.Bits.{bit_of}
 use Rattle.rss_hash.specs.Registers.{bytes_of_registers}
 use Rattle.rss_hash.specs.Toeplitz.{toeplitz_hash}
 use Rattle.rss_hash.proofs.HashBits.{has_parity_bits}
 use Rattle.rss_hash.proofs.RegisterBytes.{register_byte_at}
+use Rattle.datasheet_laws.specs.Prelude.{HasShape, Registers, bit_at, has_bit, range_with_len, row_words, to_le_bytes}
+use Rattle.datasheet_laws.specs.Prelude.{w32, word_of}
 use Rattle.datasheet_laws.specs.Accesses.{word, held}
 use Rattle.datasheet_laws.specs.Hash.{key_bit, input_bit, HashIsOfTheKey}
 use Rattle.datasheet_laws.proofs.Table.{aliases}

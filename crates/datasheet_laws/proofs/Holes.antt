@@ -1,15 +1,12 @@
 -- An offset that isn't listed by hand is none of the map's.
 use Rattle.std.proofs.Common.{◌≡◌, ℕ, zero, suc, ◌%◌, ◌*◌, ◌<◌, ◌≤◌, ◌==◌, false, nat_lt, List, [], ◌∷◌, map, None, refl, ap, ◌∙◌, inl, inr, arith}
-use Rattle.std.specs.List.{list_any}
 use Rattle.std.proofs.lemmas.Bool.{cases_lt, cond-false, le-ltb, or_parts}
 use Rattle.reg_table.specs.Rows.{rows}
 use Rattle.vf_map.specs.Map.{Entry, entries, mapped, mapped_to}
-use Rattle.vf_map.specs.Parts.{place_at}
 use Rattle.vf_map.proofs.LocatedAt.{located_at}
-use Rattle.vf_map.specs.Pools.{mode_of, queues_of}
 use Rattle.vf_map.specs.declared.mapped.Mapped.TheVariants.{Absent}
-use Rattle.vf_map.specs.declared.mode.Mode.{Mode}
 use Rattle.vf_map.proofs.Whole.{located_beyond, located_none, located_some}
+use Rattle.datasheet_laws.specs.Prelude.{Mode, list_any, mode_of, place_at, queues_of}
 use Rattle.datasheet_laws.specs.Offsets.{OtherOffsetsAreHoles, offsets_of, pools_by, queues_by}
 use Rattle.datasheet_laws.proofs.Offsets.{mode_by, parted}
 

@@ -3,10 +3,9 @@ use Rattle.std.proofs.Common.{◌≡◌, ℕ, ◌<◌, true, false, ◌==◌, �
 use Rattle.std.specs.Prelude.{not}
 use Rattle.std.proofs.lemmas.Bool.{cases_Bool, and_cases, and_from, and_left, and_right, or_from, or_left, not_from_true, both_ways, eq-eqb, agree_below_at}
 use Rattle.reg_table.specs.declared.rows.RowId.TheVariants as row
-use Rattle.register_file.specs.Bits.{has_bit}
 use Rattle.register_file.specs.Mailbox.{mail_of}
-use Rattle.register_file.specs.PoolReset.{pool_reset}
 use Rattle.register_laws.proofs.PoolReset.{renewed-pool}
+use Rattle.datasheet_laws.specs.Prelude.{has_bit, pool_reset}
 use Rattle.datasheet_laws.specs.Accesses.{reads}
 use Rattle.datasheet_laws.specs.Mailbox.{own, PoolResetsLeave}
 use Rattle.datasheet_laws.proofs.Accesses.{reads-at}

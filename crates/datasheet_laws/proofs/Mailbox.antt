@@ -1,28 +1,21 @@
 -- The hand-shake of the mailboxes, by their addresses.
 use Rattle.std.proofs.Common.{◌≡◌, ◌≢◌, ℕ, zero, suc, ◌+◌, ◌-◌, ◌*◌, ◌/◌, ◌%◌, ◌^◌, ◌<◌, Bool, true, false, cond, ◌==◌, ◌&&◌, ◌||◌, nat_le, ◌⊎◌, refl, ap, sym, ◌∙◌, inl, inr, arith, lit<}
 use Rattle.std.specs.Prelude.{not, bit_and, min}
-use Rattle.std.specs.Int.{bit_at, w32}
 use Rattle.std.proofs.Math.Nat.{div-one}
 use Rattle.std.proofs.lemmas.Bool.{cond_both, cases_eq, eq-eqb, ne_eqb, eqb-true, agree_below_at}
 use Rattle.std.proofs.lemmas.Nat.{and_le_r}
 use Rattle.std.proofs.lemmas.Nat.Bits.{bit_at_and, bit_at_not, bit_at-lt}
 use Rattle.intr_unit.specs.BitSet.{contains, only, no_bits}
 use Rattle.intr_unit.specs.Group.{queue_causes}
-use Rattle.intr_unit.specs.declared.group.Group.TheVariants.{Pf, Vf}
 use Rattle.intr_unit.proofs.SetLaws.{contains-only, contains-no_bits}
-use Rattle.reg_table.specs.Rows.{row_of}
-use Rattle.reg_table.specs.declared.place.Place.{Place}
-use Rattle.reg_table.specs.declared.rows.RowId.{RowId}
 use Rattle.reg_table.specs.declared.rows.RowId.TheVariants as row
-use Rattle.register_file.specs.Bits.{has_bit}
 use Rattle.register_file.specs.Effects.{ones_cleared}
 use Rattle.register_file.specs.Mailbox.{mail_of, with_mail, function_wrote, physical_wrote, reported_once, cause_set, with_requests, function_writes, physical_writes, mail_read, sends}
 use Rattle.register_file.specs.Registers.{Registers, word_of, with_word}
-use Rattle.register_file.specs.declared.surroundings.Surroundings.{Surroundings}
-use Rattle.register_laws.specs.Sound.{HasShape}
 use Rattle.register_laws.proofs.MailBits.{has_bit-or, has_bit-pow_other}
 use Rattle.register_laws.proofs.Puts.{word_at-put_other}
 use Rattle.register_laws.proofs.Shape.{put_stands, HasShape-put}
+use Rattle.datasheet_laws.specs.Prelude.{HasShape, Pf, Place, RowId, Surroundings, Vf, bit_at, has_bit, row_of, w32}
 use Rattle.datasheet_laws.specs.Accesses.{word, reads, read_at, write_at}
 use Rattle.datasheet_laws.specs.Mailbox.{own, other, names, FunctionShakes, PhysicalShakes, ReadAlike, IsReportedOnce, MailboxesShake, OnesAreCleared, FunctionsRaise, PhysicalRaises}
 use Rattle.datasheet_laws.specs.Table.{whole}

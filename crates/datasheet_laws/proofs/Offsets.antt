@@ -1,24 +1,18 @@
 -- Each offset of a virtual function is the one that is listed by hand.
 use Rattle.std.proofs.Common.{◌≡◌, ℕ, zero, suc, ◌+◌, ◌*◌, ◌/◌, ◌%◌, ◌<◌, ◌≤◌, ◌==◌, true, nat_lt, Some, None, if◌then◌else◌, refl, ap, ◌∙◌, arith, lit<}
 use Rattle.std.proofs.lemmas.Bool.{cond-true, lt-ltb, ne_eqb}
-use Rattle.reg_table.specs.Place.{address_among}
-use Rattle.reg_table.specs.Runs.{runs}
-use Rattle.reg_table.specs.declared.place.Place.{Place}
-use Rattle.reg_table.specs.declared.rows.RowId.{RowId}
 use Rattle.reg_table.specs.declared.rows.RowId.TheVariants as row
 use Rattle.vf_map.specs.Map.{mapped, mapped_to, at_address, located, function_entries, own_entries, message_entries, distance}
 use Rattle.vf_map.specs.Owner.{is_receive, is_transmit}
-use Rattle.vf_map.specs.Parts.{place_at}
 use Rattle.vf_map.proofs.LocatedAt.{located_at}
-use Rattle.vf_map.specs.Pools.{mode_of, queues_of}
 use Rattle.vf_map.specs.declared.located.Located.TheVariants.{Register}
 use Rattle.vf_map.specs.declared.mapped.Mapped.TheVariants.{Pf}
-use Rattle.vf_map.specs.declared.mode.Mode.{Mode}
 use Rattle.vf_map.specs.declared.mode.Mode.TheVariants.{Off, Pools16, Pools32, Pools64}
 use Rattle.vf_map.proofs.Chains.{in_second}
 use Rattle.vf_map.proofs.Places.{message_there}
 use Rattle.vf_map.proofs.Queues.{queue_registers}
 use Rattle.vf_map.proofs.Whole.{entries_own, located_some}
+use Rattle.datasheet_laws.specs.Prelude.{Mode, Place, RowId, address_among, mode_of, place_at, queues_of, runs}
 use Rattle.datasheet_laws.specs.Offsets.{OffsetsAreListed, HasOwn, HasQueue, pools_by, queues_by}
 use Rattle.datasheet_laws.specs.Table.{line_of}
 use Rattle.datasheet_laws.proofs.Table.{at, first}

@@ -2,17 +2,12 @@
 use Rattle.std.proofs.Common.{◌≡◌, ℕ, ◌<◌, ◌/◌, ◌%◌, ◌^◌, ◌&&◌, refl, ap, sym, ◌∙◌, lit<}
 use Rattle.std.proofs.lemmas.Bool.{cond_both}
 use Rattle.intr_unit.specs.Group.{queue_causes}
-use Rattle.intr_unit.specs.declared.group.Group.TheVariants.{Pf, Vf}
 use Rattle.reg_table.specs.declared.kind.Kind.TheVariants as kind
-use Rattle.reg_table.specs.declared.place.Place.{Place}
-use Rattle.reg_table.specs.declared.rows.RowId.{RowId}
 use Rattle.reg_table.specs.declared.rows.RowId.TheVariants as row
-use Rattle.register_file.specs.Access.{written}
-use Rattle.register_file.specs.Bits.{has_bit}
 use Rattle.register_file.specs.Mailbox.{mail_of, with_mail, function_wrote, physical_wrote, reported_once, cause_set, with_requests, function_writes, physical_writes, mail_read, sends}
-use Rattle.register_file.specs.Registers.{Registers, word_of}
 use Rattle.register_file.specs.Words.{put}
 use Rattle.register_laws.proofs.Puts.{word_at-put_other}
+use Rattle.datasheet_laws.specs.Prelude.{Pf, Place, Registers, RowId, Vf, has_bit, word_of, written}
 use Rattle.datasheet_laws.specs.Accesses.{word}
 use Rattle.datasheet_laws.specs.ByKind.{at}
 use Rattle.datasheet_laws.specs.Others.{IsOther, MailboxesLeaveOthers, WritesLeaveOthers}

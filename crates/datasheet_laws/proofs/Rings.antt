@@ -1,15 +1,10 @@
 -- A ring's registers are held while its side is on.
 use Rattle.std.proofs.Common.{◌≡◌, ℕ, ◌<◌, Bool, true, false, refl, ap, sym, ◌∙◌, lit<}
 use Rattle.std.proofs.lemmas.Bool.{cond-true, cond-false}
-use Rattle.reg_table.specs.declared.kind.Kind.{Kind}
 use Rattle.reg_table.specs.declared.kind.Kind.TheVariants as kind
-use Rattle.reg_table.specs.declared.rows.RowId.{RowId}
 use Rattle.reg_table.specs.declared.rows.RowId.TheVariants as row
 use Rattle.register_file.specs.Effects.{stored, is_running}
-use Rattle.register_file.specs.Owner.{owner_of}
-use Rattle.register_file.specs.Registers.{Registers}
-use Rattle.register_file.specs.Words.{word_at}
-use Rattle.register_file.specs.declared.surroundings.Surroundings.{Surroundings}
+use Rattle.datasheet_laws.specs.Prelude.{Kind, Registers, RowId, Surroundings, owner_of, word_at}
 use Rattle.datasheet_laws.specs.Accesses.{reads}
 use Rattle.datasheet_laws.specs.ByKind.{enable_of, RingsAreHeld}
 use Rattle.datasheet_laws.specs.Table.{line_of, whole}

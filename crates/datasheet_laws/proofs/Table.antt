@@ -1,21 +1,16 @@
 -- The table is the one that is listed by hand.
 use Rattle.std.proofs.Common.{◌≡◌, ℕ, ◌+◌, ◌-◌, ◌*◌, ◌<◌, true, false, nat_lt, Some, refl, ap, ◌∙◌, arith}
 use Rattle.std.proofs.lemmas.Bool.{cond_both, ltb-true, ltb-false}
-use Rattle.reg_table.specs.Access.{access, access_of, access_at}
 use Rattle.reg_table.specs.FirstAddresses.{first_of}
-use Rattle.reg_table.specs.Place.{address_among}
-use Rattle.reg_table.specs.Rows.{row_of}
 use Rattle.reg_table.specs.Run.{Run, run, HasPlaceAt}
 use Rattle.reg_table.proofs.SoundRuns.{is_sound}
-use Rattle.reg_table.specs.Runs.{runs}
-use Rattle.reg_table.specs.declared.place.Place.{Place}
-use Rattle.reg_table.specs.declared.rows.RowId.{RowId}
 use Rattle.reg_table.specs.declared.rows.RowId.TheVariants as row
 use Rattle.reg_table.proofs.Apart.{table_apart}
 use Rattle.reg_table.proofs.FirstAddresses.{first_address, further_address, found_back}
 use Rattle.reg_table.proofs.FirstViews.{first_view}
 use Rattle.reg_table.proofs.Standing.{stands, view_in, first_with}
 use Rattle.reg_table.proofs.Steps.{has_address-true, place_in-unique}
+use Rattle.datasheet_laws.specs.Prelude.{Place, RowId, access, access_at, access_of, address_among, row_of, runs}
 use Rattle.datasheet_laws.specs.Table.{line_of, halves, whole, RegistersAreListed, HasAliases, HasLowViews}
 
 abbrev pub at : RowId → ℕ → Place

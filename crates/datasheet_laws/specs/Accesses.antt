@@ -1,13 +1,7 @@
 -- Registers by their addresses: the word that one holds, what a read gives, and what accesses leave.
 use Rattle.std.specs.Prelude.{ℕ, Bool, Option, None, Some, bit_and}
-use Rattle.reg_table.specs.Access.{access_at}
-use Rattle.reg_table.specs.Rows.{row_of}
-use Rattle.reg_table.specs.declared.access.Access.{Access}
-use Rattle.register_file.specs.Access.{read_word, after_read, written}
-use Rattle.register_file.specs.Bits.{has_bit}
-use Rattle.register_file.specs.Registers.{Registers}
-use Rattle.register_file.specs.Words.{word_at}
-use Rattle.register_file.specs.declared.surroundings.Surroundings.{Surroundings}
+use Rattle.datasheet_laws.specs.Prelude.{Access, Registers, Surroundings, access_at, after_read, has_bit, read_word}
+use Rattle.datasheet_laws.specs.Prelude.{row_of, word_at, written}
 
 -- by the access that an address meets
 abbrev pub held : Registers → Option Access → ℕ

@@ -1,15 +1,9 @@
 -- What accesses do to a register's word, bit by bit, by the kind and the mask that are listed for it.
 use Rattle.std.specs.Prelude.{ℕ, ◌≡◌, ◌<◌, ◌+◌, ◌*◌, ◌/◌, ◌%◌, Bool, true, false, ◌&&◌, Some, None, if◌then◌else◌}
-use Rattle.reg_table.specs.declared.kind.Kind.{Kind}
 use Rattle.reg_table.specs.declared.kind.Kind.TheVariants as kind
-use Rattle.reg_table.specs.declared.rows.RowId.{RowId}
 use Rattle.reg_table.specs.declared.rows.RowId.TheVariants.{Rxdctl, Tdbal, Tdbah, Tdlen, Tdh, Txdctl}
-use Rattle.register_file.specs.DmaRing.declared.dir.Dir.TheVariants.{Rx, Tx}
-use Rattle.register_file.specs.Bits.{has_bit}
 use Rattle.register_file.specs.Eeprom.{eeprom_asked, eeprom_answered}
-use Rattle.register_file.specs.Registers.{Registers, is_wanted}
-use Rattle.register_file.specs.declared.surroundings.Surroundings.{Surroundings}
-use Rattle.register_laws.specs.Sound.{HasShape}
+use Rattle.datasheet_laws.specs.Prelude.{HasShape, Kind, Registers, RowId, Rx, Surroundings, Tx, has_bit, is_wanted}
 use Rattle.datasheet_laws.specs.Accesses.{word, reads, read_at, write_at}
 use Rattle.datasheet_laws.specs.Table.{line_of}
 

@@ -1,18 +1,10 @@
 -- Which queue and which RSS type a frame has, by the bits of MRQC, RETA, GCR_EXT and RXCSUM, and which writes reset.
 use Rattle.std.specs.Prelude.{ℕ, ◌≡◌, ◌≢◌, ◌+◌, ◌*◌, ◌/◌, ◌%◌, ◌^◌, ◌⊎◌, true, false, ◌&&◌, ◌||◌, List, [], take, Ok}
-use Rattle.reg_table.specs.Rows.{row_of}
-use Rattle.reg_table.specs.declared.rows.RowId.{RowId}
-use Rattle.reg_table.specs.declared.rows.RowId.TheVariants.{Ctrl, Pvfctrl}
-use Rattle.register_file.specs.Access.{asks_reset, asks_pool_reset}
-use Rattle.register_file.specs.Bits.{has_bit}
-use Rattle.register_file.specs.Registers.{Registers}
-use Rattle.register_laws.specs.Sound.{HasShape}
 use Rattle.rss_hash.specs.Choice.{code_of, rss_type_of, hashed_part}
 use Rattle.rss_hash.specs.declared.choice.RssType.{RssType}
-use Rattle.rss_hash.specs.declared.flow.Flow.{Flow}
 use Rattle.rx_filter.specs.Laws.{GoesToPool}
-use Rattle.rx_filter.specs.Sorting.{rss_type, rss_hash, rss_entry, sorted}
-use Rattle.rx_filter.specs.declared.target.Target.{Target}
+use Rattle.datasheet_laws.specs.Prelude.{Ctrl, Flow, HasShape, Pvfctrl, Registers, RowId, Target, asks_pool_reset}
+use Rattle.datasheet_laws.specs.Prelude.{asks_reset, has_bit, row_of, rss_entry, rss_hash, rss_type, sorted}
 use Rattle.datasheet_laws.specs.Accesses.{word, holds}
 
 -- the codes of MRQC bits 3 to 0 that hash: 1, 0xA and 0xB

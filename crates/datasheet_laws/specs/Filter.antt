@@ -1,10 +1,8 @@
 -- Which frames are accepted, and for which pool, by the addresses and bits that a driver writes.
 use Rattle.std.specs.Prelude.{ℕ, ◌≡◌, ◌≢◌, ◌<◌, ◌+◌, ◌*◌, ◌/◌, ◌%◌, ◌==◌, ◌⊎◌, ◌↔◌, true, false, List, slice_index, Some, None, Err, if◌then◌else◌}
-use Rattle.register_file.specs.Bits.{has_bit}
-use Rattle.register_file.specs.Registers.{Registers}
 use Rattle.rx_filter.specs.Pools.{uses_pools, takes_frames, selected_pool}
-use Rattle.rx_filter.specs.Sorting.{sorted}
 use Rattle.rx_filter.specs.declared.unwanted.Unwanted.TheVariants.{Filter}
+use Rattle.datasheet_laws.specs.Prelude.{Registers, has_bit, sorted}
 use Rattle.datasheet_laws.specs.Accesses.{word, holds}
 
 -- the words of an address: the first byte of the destination in bits 7 to 0 of the low word, the fourth in bits 31 to

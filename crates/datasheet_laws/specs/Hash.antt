@@ -1,12 +1,8 @@
 -- The hash of a frame, bit by bit, by the registers of its key.
 use Rattle.std.specs.Prelude.{ℕ, ◌≡◌, ◌<◌, ◌≤◌, ◌+◌, ◌-◌, ◌*◌, ◌/◌, ◌%◌, ◌==◌, Bool, ◌&&◌, List, length, slice_index, count_by}
-use Rattle.std.specs.List.{range_with_len}
-use Rattle.register_file.specs.Bits.{has_bit}
-use Rattle.register_file.specs.Registers.{Registers}
-use Rattle.register_laws.specs.Sound.{HasShape}
 use Rattle.rss_hash.specs.Choice.{hashed_part}
 use Rattle.rss_hash.specs.Flow.{flow_of}
-use Rattle.rx_filter.specs.Sorting.{rss_type, rss_hash}
+use Rattle.datasheet_laws.specs.Prelude.{HasShape, Registers, has_bit, range_with_len, rss_hash, rss_type}
 use Rattle.datasheet_laws.specs.Accesses.{holds}
 
 -- bit k of the key: byte k / 8 of it is byte k / 8 mod 4 of RSSRK[k / 32], at 0x0EB80 + 4(k / 32), from the lowest on,

@@ -6,5 +6,6 @@ pub mod ByKind
 pub mod Mailbox
 pub mod Offsets
 pub mod Others
+pub mod Prelude
 pub mod Settings
 pub mod Table

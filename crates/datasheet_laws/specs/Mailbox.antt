@@ -1,11 +1,6 @@
 -- The hand-shake of the mailboxes, in the addresses and bits that drivers of both sides use.
 use Rattle.std.specs.Prelude.{ℕ, ◌≡◌, ◌<◌, ◌+◌, ◌*◌, ◌/◌, ◌%◌, ◌==◌, ◌⊎◌, Bool, not, true, false, ◌&&◌, ◌||◌, nat_le}
-use Rattle.vf_map.specs.declared.mode.Mode.{Mode}
-use Rattle.register_file.specs.Bits.{has_bit}
-use Rattle.register_file.specs.PoolReset.{pool_reset}
-use Rattle.register_file.specs.Registers.{Registers}
-use Rattle.register_file.specs.declared.surroundings.Surroundings.{Surroundings}
-use Rattle.register_laws.specs.Sound.{HasShape}
+use Rattle.datasheet_laws.specs.Prelude.{HasShape, Mode, Registers, Surroundings, has_bit, pool_reset}
 use Rattle.datasheet_laws.specs.Accesses.{word, reads, read_at, write_at}
 
 -- PVFMAILBOX[v], which is function v's, and PFMAILBOX[v], which is the physical function's

@@ -2,9 +2,8 @@
 use Rattle.std.specs.Prelude.{ℕ, ◌≡◌, ◌<◌, ◌≤◌, ◌+◌, ◌*◌, ◌/◌, ◌%◌, ◌==◌, false, List, [], ◌∷◌, ◌++◌, map, if◌then◌else◌}
 use Rattle.std.specs.List.{flat_map, list_any, range_with_len}
 use Rattle.vf_map.specs.Map.{mapped}
-use Rattle.vf_map.specs.Pools.{mode_of}
-use Rattle.vf_map.specs.declared.mode.Mode.{Mode}
 use Rattle.vf_map.specs.declared.mapped.Mapped.TheVariants.{Absent, Hole, Pf}
+use Rattle.datasheet_laws.specs.Prelude.{Mode, mode_of}
 use Rattle.datasheet_laws.specs.Table.{halves}
 
 -- how many pools GCR_EXT bits 1 to 0 make, and how many queues each of them has

@@ -1,8 +1,7 @@
 -- Which other registers accesses of mailboxes, CTRL, EERD and PFMBICR leave.
 use Rattle.std.specs.Prelude.{ℕ, ◌≡◌, ◌≢◌, ◌<◌, ◌+◌, ◌*◌, ◌/◌}
-use Rattle.reg_table.specs.declared.rows.RowId.{RowId}
 use Rattle.reg_table.specs.declared.rows.RowId.TheVariants.{Ctrl, Eerd, Eicr, Pvteicr, Pfmbicr, Pvfmailbox}
-use Rattle.register_file.specs.Registers.{Registers}
+use Rattle.datasheet_laws.specs.Prelude.{Registers, RowId}
 use Rattle.datasheet_laws.specs.Accesses.{word, read_at, write_at}
 use Rattle.datasheet_laws.specs.ByKind.{at}
 use Rattle.datasheet_laws.specs.Mailbox.{own, other}

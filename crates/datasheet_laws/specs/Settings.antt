@@ -1,10 +1,9 @@
 -- What single bits and fields set, by their addresses, and how counters count.
 use Rattle.std.specs.Prelude.{ℕ, ◌≡◌, ◌<◌, ◌+◌, ◌-◌, ◌*◌, ◌/◌, ◌==◌, true, false, Some, None, if◌then◌else◌}
 use Rattle.reg_table.specs.Counter.{bumped}
-use Rattle.reg_table.specs.declared.rows.RowId.TheVariants.{Srrctl}
 use Rattle.register_file.specs.Groups.{clears_others, masks_by_message}
-use Rattle.register_file.specs.Registers.{Registers}
 use Rattle.register_file.specs.Settings.{is_stopped, can_receive, can_transmit, frame_limit, pads, drops, writeback_of}
+use Rattle.datasheet_laws.specs.Prelude.{Registers, Srrctl}
 use Rattle.datasheet_laws.specs.Accesses.{word, holds}
 use Rattle.datasheet_laws.specs.Table.{line_of}
 

@@ -2,25 +2,14 @@
 use Rattle.std.proofs.Common.{◌≡◌, ◌<◌, ◌≤◌, ◌⊎◌, ◌++◌, ◌∷◌, [], ℕ, cond, List, length, Ok, Err, nat_lt, inl, inr, ap, ◌∙◌, subst}
 use Rattle.std.specs.Prelude.{Result}
 use Rattle.std.proofs.lemmas.Bool.{cond-true, cond-false, cond_both, cases_Bool, both_ways, ltb-true, ltb-false, lt-ltb, le-ltb}
-use Rattle.nic_device.specs.DmaArena.Block.{Block}
 use Rattle.nic_device.specs.RegTable.declared.rows.RowId.TheVariants.{Rxctrl, Gprc, Ruc, Roc, VtCtl}
-use Rattle.nic_device.specs.RegisterFile.Registers.{word_of}
 use Rattle.nic_device.specs.RegisterFile.Settings.{can_receive, frame_limit}
-use Rattle.nic_device.specs.RxFilter.Address.{passes}
 use Rattle.nic_device.specs.RxFilter.Pools.{uses_pools, chosen_pool}
-use Rattle.nic_device.specs.RxFilter.Sorting.{sorted, pool_target, target_of}
-use Rattle.nic_device.specs.RxFilter.declared.target.Target.{Target}
-use Rattle.nic_device.specs.RxFilter.declared.unwanted.Unwanted.{Unwanted}
 use Rattle.nic_device.specs.RxFilter.declared.unwanted.Unwanted.TheVariants as unwanted
 use Rattle.nic_device.specs.Arrival.{arrived, sorted_in, joined, with_count, let_in, missed}
-use Rattle.nic_device.specs.Outcome.{Outcome, gives}
-use Rattle.nic_device.specs.Sound.{IsSound}
-use Rattle.nic_device.specs.State.{State}
-use Rattle.nic_device.specs.Step.{step_of}
-use Rattle.nic_device.specs.declared.event.Reply.{Reply}
-use Rattle.nic_device.specs.declared.event.Reply.TheVariants.{Done, Dropped}
-use Rattle.nic_device.specs.declared.event.Why.{Why}
 use Rattle.nic_device.specs.declared.event.Why.TheVariants.{LinkDown, Off, Short, Long, Filter, NoPool, PoolOff, Full}
+use Rattle.frame_laws.specs.Prelude.{Block, Done, Dropped, IsSound, Outcome, Reply, State, Target, Unwanted, Why, gives}
+use Rattle.frame_laws.specs.Prelude.{passes, pool_target, sorted, step_of, target_of, word_of}
 use Rattle.frame_laws.specs.Arrival.{IsHeard, IsTaken, IsPassed, IsWelcome, HasPoolOn}
 use Rattle.frame_laws.specs.Arrival.{IsDroppedFor, IsAnswered, ArrivingHasAnOrder}
 use Rattle.frame_laws.specs.Bits.{bit}

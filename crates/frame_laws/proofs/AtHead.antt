@@ -1,22 +1,10 @@
 -- Which slot a step of receiving writes.
 use Rattle.std.proofs.Common.{◌≡◌, ◌+◌, ◌*◌, ◌%◌, ◌^◌, ℕ, Bool, length, Ok, ap, sym, ◌∙◌, subst, arith}
-use Rattle.std.proofs.lemmas.Bool.{both_ways}
-use Rattle.nic_device.specs.DmaArena.Block.{Block}
-use Rattle.nic_device.specs.DmaArena.Memory.{read_at}
-use Rattle.nic_device.specs.DmaRing.Descriptor.{first_half}
 use Rattle.nic_device.specs.DmaRing.Receive.{buffer_of}
-use Rattle.nic_device.specs.RegTable.declared.rows.RowId.TheVariants.{Srrctl, Rdbal, Rdbah, Rdh}
-use Rattle.nic_device.specs.RegisterFile.Registers.{word_of}
 use Rattle.nic_device.specs.RxRing.Control.{buffer_size_of}
-use Rattle.nic_device.specs.RxRing.declared.filled.Filled.{Filled}
-use Rattle.nic_device.proofs.RxRing.Fills.{takes_piece}
-use Rattle.nic_device.specs.Outcome.{Outcome}
-use Rattle.nic_device.specs.Receive.{rest_of}
-use Rattle.nic_device.specs.State.{State, Waiting}
-use Rattle.nic_device.specs.Step.{step_of}
-use Rattle.nic_device.proofs.QueueCases.{received_cases, filled_by}
-use Rattle.nic_device.specs.declared.event.Reply.{Reply}
-use Rattle.nic_device.specs.declared.event.Reply.TheVariants.{Wrote}
+use Rattle.frame_laws.specs.Prelude.{Block, Filled, Outcome, Rdbah, Rdbal, Rdh, Reply, Srrctl, State, Waiting, Wrote}
+use Rattle.frame_laws.specs.Prelude.{first_half, read_at, rest_of, step_of, word_of}
+use Rattle.frame_laws.proofs.Prelude.{both_ways, filled_by, received_cases, takes_piece}
 use Rattle.frame_laws.specs.Bits.{field}
 use Rattle.frame_laws.specs.Receiving.{WritesAtHead, SlotsAreWrittenAtHead}
 use Rattle.frame_laws.proofs.Slots.{low-half}

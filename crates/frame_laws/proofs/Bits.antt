@@ -1,7 +1,7 @@
 -- Bits as numbers, and as tests.
 use Rattle.std.proofs.Common.{◌≡◌, ℕ, true, false, arith}
 use Rattle.std.proofs.lemmas.Bool.{eq-eqb, ne_eqb, eqb-true, eqb-false}
-use Rattle.nic_device.specs.RegisterFile.Bits.{has_bit}
+use Rattle.frame_laws.specs.Prelude.{has_bit}
 use Rattle.frame_laws.specs.Bits.{bit}
 
 pub has-one : (n word : ℕ) → bit n word ≡ 1 → has_bit n word ≡ true

@@ -1,26 +1,14 @@
 -- Which slot of a receive ring is written, and which has a fault.
 use Rattle.std.proofs.Common.{cond, ◌≡◌, ◌+◌, ◌*◌, ◌%◌, ◌^◌, ◌&&◌, ◌==◌, ℕ, Bool, true, false, List, ◌∷◌, length, length-drop, inl, inr, ap, sym, ◌∙◌, subst, arith}
 use Rattle.std.specs.Prelude.{min}
-use Rattle.std.proofs.lemmas.Bool.{cond_both, both_ways, eqb-true, eqb-false}
-use Rattle.nic_device.specs.DmaArena.Memory.{is_lent, read_at}
-use Rattle.nic_device.specs.DmaRing.Descriptor.{first_half}
 use Rattle.nic_device.specs.DmaRing.Receive.{buffer_of}
-use Rattle.nic_device.specs.DmaRing.Ring.{is_outside}
-use Rattle.nic_device.specs.DmaRing.declared.fault.RingFault.TheVariants.{Outside, DescType, NoBufferSize, NotLent}
-use Rattle.nic_device.specs.DmaRing.declared.ring.Ring.{Ring}
-use Rattle.nic_device.specs.RegTable.declared.rows.RowId.TheVariants.{Srrctl, Rdbal, Rdbah, Rdh}
-use Rattle.nic_device.specs.RegisterFile.Registers.{word_of}
-use Rattle.nic_device.specs.RegisterFile.Settings.{is_stopped, drops}
-use Rattle.nic_device.specs.RegisterLaws.Sides.{receive_queue_of}
 use Rattle.nic_device.specs.RxRing.Control.{descriptor_type_of, buffer_size_of}
 use Rattle.nic_device.specs.RxRing.Fill as fill
-use Rattle.nic_device.specs.Outcome.{Outcome, gives}
 use Rattle.nic_device.specs.Receive.{first_received, without_slot, slot_filled, slot_done, is_empty, rest_of, slotless_counted}
-use Rattle.nic_device.specs.State.{State, Waiting}
-use Rattle.nic_device.specs.Step.{step_of}
-use Rattle.nic_device.specs.declared.event.Reply.TheVariants.{Idle, Dropped}
-use Rattle.nic_device.specs.declared.event.Why.TheVariants.{QueueOff, NoSlot}
-use Rattle.nic_device.proofs.Cases.{either_way}
+use Rattle.frame_laws.specs.Prelude.{DescType, Dropped, Idle, NoBufferSize, NoSlot, NotLent, Outcome, Outside, QueueOff}
+use Rattle.frame_laws.specs.Prelude.{Rdbah, Rdbal, Rdh, Ring, Srrctl, State, Waiting, drops, first_half, gives, is_lent}
+use Rattle.frame_laws.specs.Prelude.{is_outside, is_stopped, read_at, receive_queue_of, step_of, word_of}
+use Rattle.frame_laws.proofs.Prelude.{both_ways, cond_both, either_way, eqb-false, eqb-true}
 use Rattle.frame_laws.specs.Faults.{IsInside, IsSetUp, descriptor_address, buffer_address, buffer_size}
 use Rattle.frame_laws.specs.Faults.{piece_length, SlotIsSo, SlotsHaveTheirFaults}
 use Rattle.frame_laws.proofs.AtHead.{size-is}

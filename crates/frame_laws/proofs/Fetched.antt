@@ -2,21 +2,12 @@
 use Rattle.std.proofs.Common.{◌≡◌, ◌<◌, ℕ, Bool, cond, List, [], Some, None, Ok, nat_lt, inl, inr, refl, ap, sym, ◌∙◌, subst}
 use Rattle.std.specs.Prelude.{slice_set}
 use Rattle.std.proofs.lemmas.Bool.{cond-true, cond-false, cases_Bool, ltb-true}
-use Rattle.std.proofs.lemmas.List.{get_or-set_same}
-use Rattle.nic_device.specs.RegisterFile.Settings.{pads}
-use Rattle.nic_device.specs.RegisterLaws.Sides.{transmit_queue_of}
 use Rattle.nic_device.specs.TxRing.Fetch.{Outcome as Fetching, command_in, context_outcome, data_outcome}
-use Rattle.nic_device.specs.TxRing.Frame.{frame_of}
 use Rattle.nic_device.specs.TxRing.Laws.{HasContext, HasData}
-use Rattle.nic_device.specs.TxRing.declared.fetched.Fetched.{Fetched}
-use Rattle.nic_device.proofs.TxRing.Fetches.{takes_slot}
-use Rattle.nic_device.specs.Outcome.{Outcome, gives}
-use Rattle.nic_device.specs.Sound.{IsSound}
-use Rattle.nic_device.specs.State.{State}
-use Rattle.nic_device.specs.Step.{step_of}
 use Rattle.nic_device.specs.Transmit.{transmitted, queue_sent, staged_by, sending_of, slot_done}
-use Rattle.nic_device.specs.declared.event.Reply.TheVariants.{NoQueue}
-use Rattle.nic_device.proofs.QueueCases.{transmitted_cases, fetched_by}
+use Rattle.frame_laws.specs.Prelude.{Fetched, IsSound, NoQueue, Outcome, State, frame_of, gives, pads, step_of}
+use Rattle.frame_laws.specs.Prelude.{transmit_queue_of}
+use Rattle.frame_laws.proofs.Prelude.{fetched_by, get_or-set_same, takes_slot, transmitted_cases}
 use Rattle.frame_laws.specs.Transmitting.{SentAfter, FramesGoOutWhole}
 use Rattle.frame_laws.proofs.GoingOut.{ring, descriptor, second, bytes, Leaves, type-is, end-is, no-end, fetched_after}
 

@@ -1,20 +1,11 @@
 -- What a step of transmitting leaves of a frame.
 use Rattle.std.proofs.Common.{◌≡◌, ◌⊎◌, ◌+◌, ◌*◌, ◌-◌, ◌%◌, ◌^◌, ℕ, true, false, List, [], ◌++◌, length, append-nil, Option, Some, None, inl, inr, refl, ap, sym, ◌∙◌, subst, arith}
 use Rattle.std.specs.Prelude.{replicate}
-use Rattle.std.proofs.lemmas.Bool.{cond-true, cond-false, cond_both}
-use Rattle.nic_device.specs.DmaArena.Memory.{read_at}
-use Rattle.nic_device.specs.DmaRing.Descriptor.{second_half}
-use Rattle.nic_device.specs.DmaRing.Transmit.{command_of}
-use Rattle.nic_device.specs.DmaRing.declared.ring.Ring.{Ring}
-use Rattle.nic_device.specs.RegTable.declared.rows.RowId.TheVariants.{Hlreg0, Tdbal, Tdbah, Tdh}
-use Rattle.nic_device.specs.RegisterFile.Registers.{Registers, word_of}
-use Rattle.nic_device.specs.RegisterFile.Settings.{pads}
-use Rattle.nic_device.specs.RegisterLaws.Sides.{transmit_queue_of}
 use Rattle.nic_device.specs.TxRing.Fetch.{descriptor_of, buffer_bytes}
-use Rattle.nic_device.specs.TxRing.Frame.{frame_of}
-use Rattle.nic_device.specs.TxRing.declared.fetched.Fetched.{Fetched}
-use Rattle.nic_device.specs.State.{State}
 use Rattle.nic_device.specs.Transmit.{staged_by, fetched_reply, with_frame}
+use Rattle.frame_laws.specs.Prelude.{Fetched, Hlreg0, Registers, Ring, State, Tdbah, Tdbal, Tdh, command_of, frame_of}
+use Rattle.frame_laws.specs.Prelude.{pads, read_at, second_half, transmit_queue_of, word_of}
+use Rattle.frame_laws.proofs.Prelude.{cond-false, cond-true, cond_both}
 use Rattle.frame_laws.specs.Bits.{bit, field}
 use Rattle.frame_laws.specs.Transmitting.{head_descriptor, named_bytes, with_named, GoesOutAs, StagesBytes}
 use Rattle.frame_laws.specs.Transmitting.{StagesNothing, SentAfter}

@@ -1,10 +1,7 @@
 -- Where a frame that arrives waits.
 use Rattle.std.proofs.Common.{List, ℕ, refl}
-use Rattle.nic_device.specs.Arrival.{let_in}
-use Rattle.nic_device.specs.Outcome.{Outcome}
-use Rattle.nic_device.specs.State.{State}
-use Rattle.nic_device.specs.Step.{step_of}
-use Rattle.nic_device.proofs.Cases.{arrived_cases}
+use Rattle.frame_laws.specs.Prelude.{Outcome, State, let_in, step_of}
+use Rattle.frame_laws.proofs.Prelude.{arrived_cases}
 use Rattle.frame_laws.specs.Arrival.{WaitsAfterArriving, FramesJoinLast}
 
 abbrev Waits : State → List ℕ → Outcome → Type 0

@@ -1,14 +1,8 @@
 -- Which frames wait after a step of receiving.
 use Rattle.std.proofs.Common.{◌≡◌, ◌<◌, ◌+◌, Bool, true, false, cond, List, ◌∷◌, length, length-drop, Ok, refl, subst, arith}
 use Rattle.std.specs.Prelude.{drop}
-use Rattle.std.proofs.lemmas.Bool.{both_ways}
-use Rattle.nic_device.specs.RxRing.declared.filled.Filled.{Filled}
-use Rattle.nic_device.proofs.RxRing.Fills.{takes_piece}
-use Rattle.nic_device.specs.Outcome.{Outcome}
-use Rattle.nic_device.specs.Sound.{IsSound, AreWaiting}
-use Rattle.nic_device.specs.State.{State, Waiting}
-use Rattle.nic_device.specs.Step.{step_of}
-use Rattle.nic_device.proofs.QueueCases.{received_cases, filled_by}
+use Rattle.frame_laws.specs.Prelude.{AreWaiting, Filled, IsSound, Outcome, State, Waiting, step_of}
+use Rattle.frame_laws.proofs.Prelude.{both_ways, filled_by, received_cases, takes_piece}
 use Rattle.frame_laws.specs.Receiving.{AfterPiece, WaitsAfterReceiving, FramesLeaveAtTheirEnd}
 
 abbrev Waits : State → Outcome → Type 0

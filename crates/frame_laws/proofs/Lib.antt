@@ -1,6 +1,7 @@
 pub mod Bits
 pub mod Limits
 pub mod Pools
+pub mod Prelude
 pub mod Queues
 pub mod Packets
 pub mod Types

@@ -1,13 +1,8 @@
 -- The frame limit, by the bits of its registers.
 use Rattle.std.proofs.Common.{◌≡◌, ◌<◌, ◌-◌, ◌/◌, ◌^◌, ℕ, inl, inr, refl, sym, ap, ◌∙◌, arith}
-use Rattle.std.proofs.lemmas.Bool.{cond-true, cond-false, cond_both}
-use Rattle.nic_device.specs.RegTable.declared.rows.RowId.TheVariants.{Hlreg0, Maxfrs}
-use Rattle.nic_device.specs.RegisterFile.Bits.{has_bit}
-use Rattle.nic_device.specs.RegisterFile.Columns.{place}
-use Rattle.nic_device.specs.RegisterFile.Registers.{Registers, word_of}
-use Rattle.nic_device.specs.RegisterFile.Settings.{frame_limit}
 use Rattle.nic_device.specs.RegisterLaws.Sound.{AreSound}
-use Rattle.nic_device.proofs.RegisterLaws.RowBits.{word_small}
+use Rattle.frame_laws.specs.Prelude.{Hlreg0, Maxfrs, Registers, frame_limit, has_bit, place, word_of}
+use Rattle.frame_laws.proofs.Prelude.{cond-false, cond-true, cond_both, word_small}
 use Rattle.frame_laws.specs.Arrival.{IsLimit}
 use Rattle.frame_laws.specs.Bits.{field}
 use Rattle.frame_laws.proofs.Bits.{has-one, has-zero, one-has, zero-has}

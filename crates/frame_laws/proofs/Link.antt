@@ -1,6 +1,5 @@
 -- What a change of the link raises, and which frame a collection hands out.
 use Rattle.std.proofs.Common.{◌≡◌, ◌≢◌, ◌<◌, ◌==◌, ◌&&◌, ◌||◌, ◌^◌, ℕ, Bool, true, false, inl, inr, refl, ap, sym, subst, ◌∙◌, arith}
-use Rattle.std.specs.Bool.{beq}
 use Rattle.std.proofs.lemmas.Bool.{cond-true, cond-false, ne_eqb, cases_eq}
 use Rattle.nic_device.specs.IntrUnit.BitSet.{contains, union, intersection}
 use Rattle.nic_device.specs.IntrUnit.Group.{group_bits}
@@ -9,21 +8,16 @@ use Rattle.nic_device.specs.RegisterFile.Groups.{interrupts_of}
 use Rattle.nic_device.specs.IntrUnit.declared.group.Group.TheVariants.{Pf}
 use Rattle.nic_device.proofs.IntrUnit.SetLaws.{contains-union, contains-intersection, contains-bits_from_to}
 use Rattle.std.proofs.lemmas.Nat.Bits.{bit_at-lt, bit_at-pow_other}
-use Rattle.std.proofs.lemmas.Bool.Decides.{nat_tests}
 use Rattle.nic_device.specs.RegTable.Rows.{number_of}
 use Rattle.nic_device.specs.RegTable.declared.place.Place.{Place}
 use Rattle.nic_device.specs.RegTable.declared.rows.RowId.TheVariants.{Eicr, Eims}
-use Rattle.nic_device.specs.RegisterFile.Columns.{place}
-use Rattle.nic_device.specs.RegisterFile.Registers.{Registers, word_of}
 use Rattle.nic_device.specs.RegisterFile.Words.{put}
 use Rattle.nic_device.specs.RegisterLaws.Sound.{HasShape}
 use Rattle.nic_device.proofs.RegisterLaws.Puts.{word_at-put_other}
-use Rattle.nic_device.proofs.RegisterLaws.Shape.{put_stands}
 use Rattle.nic_device.specs.Interrupt.{device_raised, link_cause}
 use Rattle.nic_device.specs.Link.{link_set, oldest_collected}
-use Rattle.nic_device.specs.Outcome.{Outcome, gives}
-use Rattle.nic_device.specs.Step.{step_of}
-use Rattle.nic_device.specs.declared.event.Reply.TheVariants.{Done, Idle}
+use Rattle.frame_laws.specs.Prelude.{Done, Idle, Outcome, Registers, beq, gives, place, step_of, word_of}
+use Rattle.frame_laws.proofs.Prelude.{nat_tests, put_stands}
 use Rattle.frame_laws.specs.Bits.{bit}
 use Rattle.frame_laws.specs.Link.{RaisesLink, LinkChangesRaise, OldestIsCollected}
 use Rattle.frame_laws.proofs.Bits.{one-has}

@@ -3,17 +3,13 @@ use Rattle.std.proofs.Common.{◌≡◌, ◌≤◌, ◌+◌, ◌*◌, ◌/◌, �
 use Rattle.std.specs.Prelude.{is_some, option_map, take, drop}
 use Rattle.std.specs.FinMap as map
 use Rattle.std.proofs.lemmas.Bool.{cond-true, cond-false, both_ways, eq-eqb, false_from_ne_true}
-use Rattle.nic_device.specs.DmaArena.Block.{Block}
 use Rattle.nic_device.specs.DmaArena.Memory.{Memory, has_block, is_lent, read_at, write_at, part}
 use Rattle.nic_device.proofs.DmaArena.Blocks.{is_lent_in, read_at_in}
 use Rattle.nic_device.proofs.DmaArena.Bus.{is_lent_first}
 use Rattle.nic_device.proofs.DmaArena.Single.{get-insert_same, get-remove_same}
 use Rattle.nic_device.specs.Lending.{lent, block_taken, peeked}
-use Rattle.nic_device.specs.Outcome.{Outcome, gives}
-use Rattle.nic_device.specs.Sound.{IsSound}
-use Rattle.nic_device.specs.State.{State}
-use Rattle.nic_device.specs.Step.{step_of}
 use Rattle.nic_device.specs.declared.event.Reply.TheVariants.{Done, Bytes, Twice, NotLent, Misaligned}
+use Rattle.frame_laws.specs.Prelude.{Block, IsSound, Outcome, State, gives, step_of}
 use Rattle.frame_laws.specs.Memory.{IsNotLent, sixteen, Lends, Takes, Looks, Writes, MemoryCallsAnswer}
 
 -- 16 bytes at a multiple of 16 are in one block

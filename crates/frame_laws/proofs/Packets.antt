@@ -1,13 +1,12 @@
 -- What a frame is, by its bytes.
 use Rattle.std.proofs.Common.{◌≡◌, ◌<◌, ◌+◌, ◌-◌, ◌/◌, ◌==◌, ◌&&◌, ◌||◌, ℕ, Bool, true, false, cond, nat_le, List, length, drop, slice_index, [], ◌++◌, take, refl, ap, sym, subst, ◌∙◌, arith, length-drop}
-use Rattle.std.proofs.lemmas.Bool.{cond_both, cond-true, cond-false}
-use Rattle.std.proofs.lemmas.Bool.Decides.{nat_tests}
 use Rattle.std.proofs.lemmas.List.{get_or-drop, drop-drop}
 use Rattle.nic_device.specs.RssHash.Flow.{flow_of, ipv4_flow, ipv6_flow, no_flow}
 use Rattle.nic_device.specs.RssHash.declared.flow.Flow.{Flow}
 use Rattle.nic_device.specs.RssHash.Frame.{ether_type, packet_of}
 use Rattle.nic_device.specs.RssHash.Ipv4 as four
 use Rattle.nic_device.specs.RssHash.Ipv6 as six
+use Rattle.frame_laws.proofs.Prelude.{cond-false, cond-true, cond_both, nat_tests}
 use Rattle.frame_laws.specs.Packets.{pair_at, header_bytes, is_ipv4, is_ipv6, over_ipv4, over_ipv6, is_tcp, is_udp, bytes_at, ipv4_addresses, ipv4_ports, ipv6_addresses, ipv6_ports}
 
 pub record Reads (frame : List ℕ) (flow : Flow) : Type 0 where

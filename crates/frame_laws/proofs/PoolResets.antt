@@ -2,21 +2,14 @@
 use Rattle.std.proofs.Common.{◌≡◌, ◌/◌, ◌%◌, ◌==◌, ◌&&◌, ℕ, Bool, true, false, cond, not, nat_lt, Some, None, filter, refl, ap, sym, subst, ◌∙◌, arith}
 use Rattle.std.proofs.lemmas.Bool.{cond-true, cond-false, cond_both, eqb-true, eqb-false, le-ltb}
 use Rattle.nic_device.specs.RegTable.Rows.{row_of}
-use Rattle.nic_device.specs.RegTable.declared.rows.RowId.TheVariants.{GcrExt, Pvfctrl}
 use Rattle.nic_device.specs.RegisterFile.Access.{asks_reset, asks_pool_reset}
-use Rattle.nic_device.specs.RegisterFile.Columns.{place}
-use Rattle.nic_device.specs.RegisterFile.Pools.{mode_in}
-use Rattle.nic_device.specs.RegisterFile.Registers.{word_of}
 use Rattle.nic_device.specs.VfMap.Owner.{is_pool, has_queue}
-use Rattle.nic_device.specs.VfMap.Pools.{mode_of}
-use Rattle.nic_device.specs.VfMap.declared.mode.Mode.{Mode}
-use Rattle.nic_device.specs.VfMap.declared.mode.Mode.TheVariants.{Off, Pools16, Pools32, Pools64}
 use Rattle.nic_device.specs.Access.{named_written, state_written}
 use Rattle.nic_device.specs.Eeprom.{reset}
 use Rattle.nic_device.specs.PoolReset.{with_pool_reset, written_below_reset}
-use Rattle.nic_device.specs.State.{State}
-use Rattle.nic_device.specs.Step.{step_of}
 use Rattle.nic_device.proofs.PoolReset.{none_staged_of, pool_reset_stays}
+use Rattle.frame_laws.specs.Prelude.{GcrExt, Mode, Off, Pools16, Pools32, Pools64, Pvfctrl, State, mode_in, mode_of}
+use Rattle.frame_laws.specs.Prelude.{place, step_of, word_of}
 use Rattle.frame_laws.specs.Bits.{field}
 use Rattle.frame_laws.specs.PoolResets.{is_queue_of, has, DropsItsFrames, PoolResetsDropFrames}
 use Rattle.frame_laws.proofs.Bits.{has-one}

@@ -2,23 +2,15 @@
 use Rattle.std.proofs.Common.{◌≡◌, ◌<◌, ◌/◌, ◌%◌, ◌==◌, ℕ, true, false, cond, List, Option, Some, None, Ok, Err, inl, inr, refl, ap, ◌∙◌, subst, arith}
 use Rattle.std.specs.Prelude.{Result, IfSome}
 use Rattle.std.proofs.lemmas.Bool.{cond-true, cond-false, cond_both, both_ways, cases_Bool, eqb-true}
-use Rattle.nic_device.specs.RegTable.declared.rows.RowId.TheVariants.{VtCtl, Mrqc, GcrExt, Vfre}
-use Rattle.nic_device.specs.RegisterFile.Registers.{Registers, word_of}
-use Rattle.nic_device.specs.RssHash.Mrqc.{queue_mode_of}
-use Rattle.nic_device.specs.RssHash.declared.mrqc.QueueMode.{QueueMode}
-use Rattle.nic_device.specs.RssHash.declared.mrqc.QueueMode.TheVariants.{Single, Rss, Vmdq64, Vmdq32Rss, Vmdq64Rss}
-use Rattle.nic_device.specs.VfMap.Pools.{mode_of}
-use Rattle.nic_device.specs.VfMap.declared.mode.Mode.{Mode}
-use Rattle.nic_device.specs.VfMap.declared.mode.Mode.TheVariants.{Off, Pools16, Pools32}
 use Rattle.nic_device.specs.VfMap.declared.mode.Mode.TheVariants as pools
-use Rattle.nic_device.specs.RxFilter.Address.{passes}
 use Rattle.nic_device.specs.RxFilter.Pools.{uses_pools, takes_frames, parting_in, has_queues, checked_pool, chosen_pool, selected_pool}
-use Rattle.nic_device.specs.RxFilter.Sorting.{sorted, pool_target}
 use Rattle.nic_device.specs.RxFilter.Laws.{has_pools}
 use Rattle.nic_device.proofs.RxFilter.Queues.{beyond, lacks_beyond}
 use Rattle.nic_device.proofs.RxFilter.Small.{selected_pool-small}
-use Rattle.nic_device.specs.RxFilter.declared.unwanted.Unwanted.{Unwanted}
 use Rattle.nic_device.specs.RxFilter.declared.unwanted.Unwanted.TheVariants as unwanted
+use Rattle.frame_laws.specs.Prelude.{GcrExt, Mode, Mrqc, Off, Pools16, Pools32, QueueMode, Registers, Rss, Single}
+use Rattle.frame_laws.specs.Prelude.{Unwanted, Vfre, Vmdq32Rss, Vmdq64, Vmdq64Rss, VtCtl, mode_of, passes, pool_target}
+use Rattle.frame_laws.specs.Prelude.{queue_mode_of, sorted, word_of}
 use Rattle.frame_laws.specs.Arrival.{PartsByMrqc, LacksQueues, HasPool, HasNoPool, HasPoolOn, HasPoolOff}
 use Rattle.frame_laws.specs.Arrival.{PartsAmongPools}
 use Rattle.frame_laws.specs.Bits.{bit, field}

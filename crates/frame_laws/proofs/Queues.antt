@@ -3,28 +3,15 @@ use Rattle.std.proofs.Common.{◌≡◌, ◌≢◌, ◌⊎◌, ℕ, ◌+◌, ◌
 use Rattle.std.specs.Prelude.{Result}
 use Rattle.std.proofs.lemmas.Bool.{cond_both, cond-false, ne_eqb}
 use Rattle.nic_device.specs.RegTable.declared.rows.RowId.TheVariants.{GcrExt, Mrqc, Reta, Rssrk, Rxcsum, Vfre, VtCtl}
-use Rattle.nic_device.specs.RegisterFile.Bits.{has_bit}
-use Rattle.nic_device.specs.RegisterFile.Pools.{mode_in}
-use Rattle.nic_device.specs.RegisterFile.Registers.{Registers, word_of}
-use Rattle.nic_device.specs.RegisterFile.Words.{row_words}
-use Rattle.nic_device.specs.RssHash.Choice.{code_of, hashed_part}
-use Rattle.nic_device.specs.RssHash.Flow.{flow_of}
-use Rattle.nic_device.specs.RssHash.Mrqc.{queue_mode_of}
 use Rattle.nic_device.specs.RssHash.Registers.{bytes_of_registers, entry_of}
-use Rattle.nic_device.specs.RssHash.Toeplitz.{toeplitz_hash}
-use Rattle.nic_device.specs.RssHash.declared.choice.RssType.{RssType}
-use Rattle.nic_device.specs.RssHash.declared.mrqc.QueueMode.{QueueMode}
-use Rattle.nic_device.specs.RssHash.declared.mrqc.QueueMode.TheVariants.{Single, Rss, Vmdq64, Vmdq32Rss, Vmdq64Rss}
-use Rattle.nic_device.specs.VfMap.declared.mode.Mode.{Mode}
-use Rattle.nic_device.specs.VfMap.declared.mode.Mode.TheVariants.{Pools16}
-use Rattle.nic_device.specs.RxFilter.Address.{passes}
 use Rattle.nic_device.specs.RxFilter.Pools.{uses_pools, takes_frames, parting_in, has_queues, checked_pool, chosen_pool, selected_pool}
 use Rattle.nic_device.specs.RxFilter.Sorting.{queue_of, rss_type, rss_entry, target_of, pool_target, sorted}
-use Rattle.nic_device.specs.RxFilter.declared.target.Target.{Target}
-use Rattle.nic_device.specs.RxFilter.declared.unwanted.Unwanted.{Unwanted}
 use Rattle.nic_device.specs.RxFilter.declared.unwanted.Unwanted.TheVariants.{NoPool, PoolOff}
 use Rattle.nic_device.proofs.RxFilter.Queues.{entry-unhashed}
 use Rattle.nic_device.proofs.RxFilter.Sorted.{sorted-let_in, type-unhashed}
+use Rattle.frame_laws.specs.Prelude.{Mode, Pools16, QueueMode, Registers, Rss, RssType, Single, Target, Unwanted}
+use Rattle.frame_laws.specs.Prelude.{Vmdq32Rss, Vmdq64, Vmdq64Rss, code_of, flow_of, has_bit, hashed_part, mode_in}
+use Rattle.frame_laws.specs.Prelude.{passes, queue_mode_of, row_words, toeplitz_hash, word_of}
 use Rattle.frame_laws.specs.Arrival.{HasPool, receive_bit}
 use Rattle.frame_laws.specs.Bits.{field}
 use Rattle.frame_laws.specs.Queues.{GoesByMrqc, IsFor, QueuesGoByMrqc, code_in, parts_in}

@@ -2,20 +2,10 @@
 use Rattle.std.proofs.Common.{◌≡◌, ◌≢◌, ◌⊎◌, ◌&&◌, ◌==◌, false, cond, List, [], ◌∷◌, Ok, Err, inl, inr, refl, ap, ◌∙◌}
 use Rattle.std.specs.Prelude.{Result}
 use Rattle.std.proofs.lemmas.Bool.{cond-true, cond-false, cond_both, both_ways, and_parts, and_cases, and_from, and_left, and_right, eqb-true, eqb-false, eq-eqb, ne_eqb}
-use Rattle.nic_device.specs.DmaArena.Memory.{Memory}
-use Rattle.nic_device.specs.DmaRing.declared.fault.RingFault.{RingFault}
-use Rattle.nic_device.specs.RegTable.declared.rows.RowId.TheVariants.{Ctrl, Rxdctl, Srrctl}
-use Rattle.nic_device.specs.RegisterFile.Registers.{word_of}
-use Rattle.nic_device.specs.RegisterFile.Settings.{is_stopped, drops}
 use Rattle.nic_device.specs.RegisterLaws.Sides.{ReceiveQueue, receive_queue_of}
-use Rattle.nic_device.specs.RxRing.declared.filled.Filled.{Filled}
-use Rattle.nic_device.specs.Outcome.{Outcome, gives}
 use Rattle.nic_device.specs.Receive.{received, first_received, without_slot, slot_filled, slot_done, is_empty, slotless_counted}
-use Rattle.nic_device.specs.State.{State, Waiting}
-use Rattle.nic_device.specs.Step.{step_of}
-use Rattle.nic_device.specs.declared.event.Reply.TheVariants.{Idle, Dropped}
-use Rattle.nic_device.specs.declared.event.Why.{Why}
-use Rattle.nic_device.specs.declared.event.Why.TheVariants.{QueueOff, NoSlot}
+use Rattle.frame_laws.specs.Prelude.{Ctrl, Dropped, Filled, Idle, Memory, NoSlot, Outcome, QueueOff, RingFault, Rxdctl}
+use Rattle.frame_laws.specs.Prelude.{Srrctl, State, Waiting, Why, drops, gives, is_stopped, step_of, word_of}
 use Rattle.frame_laws.specs.Bits.{bit}
 use Rattle.frame_laws.specs.Receiving.{IsNext, IsMet, HasNoSlot, ReceivesNothing, WaitsOn, IsReceivedSo, IsLostFor}
 use Rattle.frame_laws.specs.Receiving.{ReceivedForAReason, EachReasonIsMet}

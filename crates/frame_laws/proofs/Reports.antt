@@ -1,27 +1,15 @@
 -- What a step of transmitting writes back.
 use Rattle.std.proofs.Common.{◌≡◌, ◌<◌, ◌⊎◌, ◌+◌, ◌*◌, ◌/◌, ◌%◌, ◌^◌, ℕ, true, false, List, [], ◌∷◌, ◌++◌, slice_index, Option, Some, None, Ok, inl, inr, refl, ap, sym, ◌∙◌, arith}
 use Rattle.std.specs.Int.{w32, to_le_bytes}
-use Rattle.std.proofs.lemmas.Bool.{cond-true, cond-false}
-use Rattle.nic_device.specs.DmaArena.Memory.{read_at}
-use Rattle.nic_device.specs.DmaRing.Descriptor.{of_halves}
 use Rattle.nic_device.specs.DmaRing.Ring.{slots_of, next_of}
-use Rattle.nic_device.specs.RegTable.declared.rows.RowId.TheVariants.{Tdlen, Tdh, Tdwbal, Tdwbah}
-use Rattle.nic_device.specs.RegisterFile.Bits.{has_bit}
-use Rattle.nic_device.specs.RegisterFile.Columns.{place}
-use Rattle.nic_device.specs.RegisterFile.Registers.{word_of}
-use Rattle.nic_device.proofs.RegisterLaws.RowBits.{word_small}
 use Rattle.nic_device.specs.TxRing.Fetch.{Outcome as Fetching}
 use Rattle.nic_device.specs.TxRing.Report.{head_address, done_descriptor}
-use Rattle.nic_device.specs.TxRing.declared.fetched.Fetched.{Fetched}
-use Rattle.nic_device.proofs.TxRing.Fetches.{takes_slot}
 use Rattle.nic_device.proofs.TxRing.Reported.{driver_reads, writes_inside_report}
 use Rattle.nic_device.proofs.TxRing.Reports.{report_law}
-use Rattle.nic_device.specs.Outcome.{Outcome}
-use Rattle.nic_device.specs.Sound.{IsSound}
-use Rattle.nic_device.specs.State.{State}
-use Rattle.nic_device.specs.Step.{step_of}
 use Rattle.nic_device.specs.Transmit.{fetched_reply}
-use Rattle.nic_device.proofs.QueueCases.{transmitted_cases, fetched_by}
+use Rattle.frame_laws.specs.Prelude.{Fetched, IsSound, Outcome, State, Tdh, Tdlen, Tdwbah, Tdwbal, has_bit, of_halves}
+use Rattle.frame_laws.specs.Prelude.{place, read_at, step_of, word_of}
+use Rattle.frame_laws.proofs.Prelude.{cond-false, cond-true, fetched_by, takes_slot, transmitted_cases, word_small}
 use Rattle.frame_laws.specs.Bits.{bit, field}
 use Rattle.frame_laws.specs.Reports.{next_head, head_bytes, with_dd, WritesBack, ReportedAfter, ReportsAreWrittenBack}
 use Rattle.frame_laws.specs.TransmitFaults.{IsReportedAt, type_in, report_bit, descriptor_address}

@@ -1,19 +1,14 @@
 -- What one memory call sees of another.
 use Rattle.std.proofs.Common.{◌≡◌, ◌<◌, ◌+◌, ◌*◌, ◌/◌, ◌%◌, ◌==◌, ℕ, Bool, true, false, cond, List, length, Option, Some, None, refl, ap, sym, ◌∙◌, subst, arith}
 use Rattle.std.specs.FinMap as map
-use Rattle.std.proofs.lemmas.Bool.{cond_both, eqb-true, eq-eqb}
-use Rattle.nic_device.specs.DmaArena.Block.{Block}
 use Rattle.nic_device.specs.DmaArena.Memory.{has_block, is_lent, read_at, write_at, AreApart}
 use Rattle.nic_device.proofs.DmaArena.Bus.{is_lent-same, SameLent-write_at, read_at-write_at_same, read_at-write_at_apart}
 use Rattle.nic_device.proofs.DmaArena.Single.{get-insert_same}
 use Rattle.nic_device.specs.Lending.{lent, peeked, poked}
-use Rattle.nic_device.specs.Outcome.{Outcome, gives}
-use Rattle.nic_device.specs.Sound.{IsSound}
-use Rattle.nic_device.specs.State.{State}
-use Rattle.nic_device.specs.Step.{step_of}
-use Rattle.nic_device.specs.declared.event.Reply.{Reply}
 use Rattle.nic_device.specs.declared.event.Reply.TheVariants.{Done, Bytes, Buf, Twice, NotLent, Misaligned}
 use Rattle.nic_device.proofs.Cases.{poked_cases}
+use Rattle.frame_laws.specs.Prelude.{Block, IsSound, Outcome, Reply, State, gives, step_of}
+use Rattle.frame_laws.proofs.Prelude.{cond_both, eq-eqb, eqb-true}
 use Rattle.frame_laws.specs.Memory.{sixteen, PokedIsPeeked, LentIsPeeked, TakenIsAsPeeked}
 use Rattle.frame_laws.proofs.Memory.{peek-block, taken_by, numbered}
 

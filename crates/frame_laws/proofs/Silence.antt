@@ -2,25 +2,15 @@
 use Rattle.std.proofs.Common.{◌≡◌, ◌<◌, ◌≤◌, ◌⊎◌, ◌/◌, ◌%◌, ◌==◌, ◌||◌, ℕ, Bool, true, cond, not, List, Option, Some, None, Ok, Err, nat_lt, inl, inr, refl, ap, sym, ◌∙◌, arith}
 use Rattle.std.specs.Prelude.{Result}
 use Rattle.std.proofs.lemmas.Bool.{cond-true, cond-false, cond_both, and_parts, and_from, or_cases, or_left, or_right, not-true, ltb-true, ltb-false, lt-ltb, le-ltb, eqb-true, eqb-false}
-use Rattle.nic_device.specs.DmaArena.Memory.{Memory}
-use Rattle.nic_device.specs.DmaRing.declared.dir.Dir.TheVariants.{Tx}
-use Rattle.nic_device.specs.DmaRing.declared.fault.RingFault.{RingFault}
 use Rattle.nic_device.specs.RegTable.declared.rows.RowId.TheVariants.{Ctrl, Dmatxctl, Txdctl, VtCtl, GcrExt, Vfte}
 use Rattle.nic_device.specs.RegisterFile.Pools.{mode_in, is_pool_on}
-use Rattle.nic_device.specs.RegisterFile.Registers.{Registers, word_of}
 use Rattle.nic_device.specs.RegisterFile.Settings.{is_stopped, can_transmit}
 use Rattle.nic_device.specs.RegisterLaws.Sides.{TransmitQueue, transmit_queue_of}
 use Rattle.nic_device.specs.RxFilter.Pools.{uses_pools}
-use Rattle.nic_device.specs.TxRing.declared.fetched.Fetched.{Fetched}
 use Rattle.nic_device.specs.VfMap.Pools.{mode_of, pool_of}
-use Rattle.nic_device.specs.VfMap.declared.mode.Mode.{Mode}
-use Rattle.nic_device.specs.VfMap.declared.mode.Mode.TheVariants.{Off, Pools16, Pools32, Pools64}
-use Rattle.nic_device.specs.Outcome.{Outcome, gives}
-use Rattle.nic_device.specs.Receive.{is_empty}
-use Rattle.nic_device.specs.State.{State}
-use Rattle.nic_device.specs.Step.{step_of}
 use Rattle.nic_device.specs.Transmit.{transmitted, queue_sent, is_silent, is_muted, is_muted_pool, slot_fetched, slot_done, fetched_reply}
-use Rattle.nic_device.specs.declared.event.Reply.TheVariants.{Idle, NoQueue}
+use Rattle.frame_laws.specs.Prelude.{Fetched, Idle, Memory, Mode, NoQueue, Off, Outcome, Pools16, Pools32, Pools64}
+use Rattle.frame_laws.specs.Prelude.{Registers, RingFault, State, Tx, gives, is_empty, step_of, word_of}
 use Rattle.frame_laws.specs.Bits.{bit, field}
 use Rattle.frame_laws.specs.Transmitting.{IsInPool, IsMuted, IsSilent, SilenceHasItsReasons}
 use Rattle.frame_laws.specs.Transmitting.IsSilent.{stopped, down, disabled, off, muted, slotless}

@@ -1,12 +1,8 @@
 -- Rings without a slot for the device, by the bits of their registers.
 use Rattle.std.proofs.Common.{◌≡◌, ◌<◌, ◌%◌, ◌^◌, ◌==◌, ◌&&◌, ℕ, true, false, not, nat_lt, ap, subst, arith}
 use Rattle.std.proofs.lemmas.Bool.{and_parts, and_from, not-true, not-false, ltb-true, lt-ltb, eqb-true, eq-eqb}
-use Rattle.nic_device.specs.DmaRing.Ring.{slots_of, is_outside}
-use Rattle.nic_device.specs.DmaRing.declared.dir.Dir.TheVariants.{Rx, Tx}
-use Rattle.nic_device.specs.DmaRing.declared.ring.Ring.{Ring}
 use Rattle.nic_device.specs.RegisterFile.Queue.{ring_of}
-use Rattle.nic_device.specs.RegisterFile.Registers.{Registers}
-use Rattle.nic_device.specs.Receive.{is_empty}
+use Rattle.frame_laws.specs.Prelude.{Registers, Ring, Rx, Tx, is_empty, is_outside, slots_of}
 use Rattle.frame_laws.specs.Bits.{field}
 use Rattle.frame_laws.specs.Receiving as receiving
 use Rattle.frame_laws.specs.Transmitting as transmitting

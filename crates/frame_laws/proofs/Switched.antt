@@ -1,21 +1,14 @@
 -- What a step of a side's enable leaves.
 use Rattle.std.proofs.Common.{◌≡◌, ◌≢◌, ◌⊎◌, ◌<◌, ◌-◌, ◌+◌, ◌^◌, ◌&&◌, ◌==◌, ℕ, Bool, true, false, cond, not, List, [], ◌∷◌, refl, ap, sym, ◌∙◌, subst, inl, inr, arith}
 use Rattle.std.proofs.lemmas.Bool.{cond-true, cond-false, cond_both, and_from, and_left, and_right, eq-eqb, ne_eqb}
-use Rattle.std.proofs.lemmas.List.{get_or-set_same}
-use Rattle.nic_device.specs.DmaRing.declared.dir.Dir.{Dir}
-use Rattle.nic_device.specs.DmaRing.declared.dir.Dir.TheVariants.{Rx, Tx}
 use Rattle.nic_device.specs.RegisterFile.Bits.{has_bit, bit_set, bit_cleared}
-use Rattle.nic_device.specs.RegisterFile.Columns.{place}
 use Rattle.nic_device.specs.RegisterFile.Queue.{enable_row, switched, switched_on, switched_off}
 use Rattle.nic_device.specs.RegisterFile.Registers.{Registers, word_of, with_word, is_wanted}
 use Rattle.nic_device.specs.RegisterLaws.Laws.{HasShape}
 use Rattle.nic_device.proofs.RegisterLaws.Fields.{is_wanted-put}
-use Rattle.nic_device.proofs.RegisterLaws.Shape.{put_stands}
-use Rattle.nic_device.specs.Outcome.{Outcome}
-use Rattle.nic_device.specs.Sound.{IsSound}
-use Rattle.nic_device.specs.State.{State, Waiting}
-use Rattle.nic_device.specs.Step.{step_of}
 use Rattle.nic_device.specs.Switching.{side_switched, emptied, without_part}
+use Rattle.frame_laws.specs.Prelude.{Dir, IsSound, Outcome, Rx, State, Tx, Waiting, place, step_of}
+use Rattle.frame_laws.proofs.Prelude.{get_or-set_same, put_stands}
 use Rattle.frame_laws.specs.Bits.{bit}
 use Rattle.frame_laws.specs.Switching.{enable_word, IsToSwitch, LosesPart, FramesAfter}
 use Rattle.frame_laws.specs.Switching.{WordAfter, BecomesAsWanted, SwitchedSideIsAsWanted}

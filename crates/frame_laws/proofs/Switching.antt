@@ -1,18 +1,10 @@
 -- Why a step of a side's enable is answered as it is.
 use Rattle.std.proofs.Common.{◌≡◌, ◌≢◌, ◌<◌, ◌≤◌, ◌||◌, ℕ, Bool, true, false, cond, nat_lt, refl, ap, ◌∙◌}
-use Rattle.std.specs.Bool.{beq}
 use Rattle.std.proofs.lemmas.Bool.{cond-true, cond-false, cond_both, both_ways, or_parts, or_from, false_from_ne_true, true_from_ne_false, ltb-true, ltb-false, lt-ltb, le-ltb}
-use Rattle.nic_device.specs.DmaRing.declared.dir.Dir.{Dir}
-use Rattle.nic_device.specs.DmaRing.declared.dir.Dir.TheVariants.{Rx, Tx}
-use Rattle.nic_device.specs.RegTable.declared.rows.RowId.TheVariants.{Ctrl}
 use Rattle.nic_device.specs.RegisterFile.Queue.{is_on, enable_row}
-use Rattle.nic_device.specs.RegisterFile.Registers.{Registers, word_of, is_wanted}
-use Rattle.nic_device.specs.RegisterFile.Settings.{is_stopped}
-use Rattle.nic_device.specs.Outcome.{Outcome, gives}
-use Rattle.nic_device.specs.State.{State}
-use Rattle.nic_device.specs.Step.{step_of}
 use Rattle.nic_device.specs.Switching.{queue_switched, side_switched}
-use Rattle.nic_device.specs.declared.event.Reply.TheVariants.{Done, Idle, NoQueue}
+use Rattle.frame_laws.specs.Prelude.{Ctrl, Dir, Done, Idle, NoQueue, Outcome, Registers, Rx, State, Tx, beq, gives}
+use Rattle.frame_laws.specs.Prelude.{is_stopped, is_wanted, step_of, word_of}
 use Rattle.frame_laws.specs.Switching.{enable_word, enable_bit, wanted_bit, IsToSwitch, SwitchingHasItsReason}
 use Rattle.frame_laws.proofs.Bits.{has-zero, one-has, zero-has}
 

@@ -1,11 +1,10 @@
 -- What a transmit descriptor asks for, by its bytes.
 use Rattle.std.proofs.Common.{◌≡◌, ◌<◌, ◌+◌, ◌*◌, ◌/◌, ◌%◌, ◌^◌, ◌==◌, ◌||◌, ℕ, not, List, [], ◌∷◌, take, drop, slice_index, ap, ◌∙◌, arith}
-use Rattle.std.specs.Int.{w64, to_le_bytes}
-use Rattle.std.proofs.lemmas.Bool.{cond_both, eqb-true, eqb-false}
 use Rattle.std.proofs.lemmas.List.{get_or-take, get_or-drop}
 use Rattle.nic_device.specs.DmaRing.Bits.{has_bit}
-use Rattle.nic_device.specs.DmaRing.Descriptor.{first_half, second_half}
 use Rattle.nic_device.specs.DmaRing.Transmit.{command_of, with_done}
+use Rattle.frame_laws.specs.Prelude.{first_half, second_half, to_le_bytes, w64}
+use Rattle.frame_laws.proofs.Prelude.{cond_both, eqb-false, eqb-true}
 use Rattle.frame_laws.specs.Bits.{bit, field}
 
 -- a word of eight bytes

@@ -1,35 +1,17 @@
 -- Which fault a step of transmitting has.
 use Rattle.std.proofs.Common.{◌≡◌, ◌<◌, ◌≤◌, ◌⊎◌, ◌+◌, ◌*◌, ◌/◌, ◌%◌, ◌^◌, ◌==◌, ◌||◌, ℕ, Bool, true, false, not, cond, nat_lt, List, ◌++◌, length, slice_index, Option, Some, None, unwrap_or, inl, inr, refl, ap, sym, ◌∙◌, subst, arith}
 use Rattle.std.proofs.lemmas.Bool.{cond_both, both_ways, or_cases, or_parts, not-true, not-false, ltb-true, ltb-false, eqb-true, eqb-false, cases_lt}
-use Rattle.std.proofs.lemmas.List.{get_or_past}
-use Rattle.nic_device.specs.DmaArena.Memory.{is_lent}
-use Rattle.nic_device.specs.DmaRing.Descriptor.{first_half, second_half}
-use Rattle.nic_device.specs.DmaRing.Ring.{is_outside}
-use Rattle.nic_device.specs.DmaRing.Transmit.{command_of}
-use Rattle.nic_device.specs.DmaRing.declared.fault.RingFault.{RingFault}
-use Rattle.nic_device.specs.DmaRing.declared.fault.RingFault.TheVariants.{NotLent}
-use Rattle.nic_device.specs.DmaRing.declared.ring.Ring.{Ring}
 use Rattle.nic_device.specs.DmaRing.declared.transmit.Command.{Command}
-use Rattle.nic_device.specs.RegTable.declared.rows.RowId.TheVariants.{Tdbal, Tdbah, Tdh, Tdwbal, Tdwbah}
-use Rattle.nic_device.specs.RegisterFile.Bits.{has_bit}
-use Rattle.nic_device.specs.RegisterFile.Columns.{place}
-use Rattle.nic_device.specs.RegisterFile.Registers.{word_of}
-use Rattle.nic_device.specs.RegisterLaws.Sides.{transmit_queue_of}
-use Rattle.nic_device.proofs.RegisterLaws.RowBits.{word_small}
 use Rattle.nic_device.specs.TxRing.Fetch.{command_in, buffer_in, buffer_bytes, is_context, is_data, data_fault_of, descriptor_fault_of, fault_of, outcome_of, fetch_of, context_outcome, data_outcome}
 use Rattle.nic_device.specs.TxRing.Fetch as fetch
-use Rattle.nic_device.specs.TxRing.declared.fetched.Fetched.{Fetched}
-use Rattle.nic_device.specs.TxRing.Frame.{frame_of}
 use Rattle.nic_device.specs.TxRing.Report.{head_address, new_head, back_of, can_report, report_address, report_length}
 use Rattle.nic_device.specs.TxRing.declared.tx.Tx.{Tx}
-use Rattle.nic_device.specs.Outcome.{Outcome, gives}
-use Rattle.nic_device.specs.Sound.{IsSound}
-use Rattle.nic_device.specs.State.{State}
-use Rattle.nic_device.specs.Step.{step_of}
 use Rattle.nic_device.specs.Transmit.{transmitted, queue_sent, is_silent, slot_fetched, slot_done, fetched_reply, staged_by, sending_of}
-use Rattle.nic_device.specs.declared.event.Reply.TheVariants.{Idle, NoQueue}
 use Rattle.nic_device.proofs.Blocks.{read_at-small}
-use Rattle.nic_device.proofs.Cases.{either_way}
+use Rattle.frame_laws.specs.Prelude.{Fetched, Idle, IsSound, NoQueue, NotLent, Outcome, Ring, RingFault, State, Tdbah}
+use Rattle.frame_laws.specs.Prelude.{Tdbal, Tdh, Tdwbah, Tdwbal, command_of, first_half, frame_of, gives, has_bit}
+use Rattle.frame_laws.specs.Prelude.{is_lent, is_outside, place, second_half, step_of, transmit_queue_of, word_of}
+use Rattle.frame_laws.proofs.Prelude.{either_way, get_or_past, word_small}
 use Rattle.frame_laws.specs.Bits.{bit, field}
 use Rattle.frame_laws.specs.Transmitting.{head_descriptor}
 use Rattle.frame_laws.specs.TransmitFaults.{IsInside, descriptor_address, buffer_address, buffer_length, type_in, report_bit, AsksOffload}

@@ -1,34 +1,18 @@
 -- The RSS type and the hash of a frame, by its bytes.
 use Rattle.std.proofs.Common.{◌≡◌, ◌≤◌, ◌+◌, ◌%◌, ◌==◌, ◌&&◌, ◌||◌, ℕ, Bool, true, false, not, cond, List, ◌++◌, length, take, drop, Some, None, Ok, Err, unwrap_or, ◌⊎◌, inl, inr, refl, ap, sym, subst, ◌∙◌, arith, length-drop, length-append}
 use Rattle.std.specs.Prelude.{Result}
-use Rattle.std.proofs.lemmas.Bool.{cond_both, cond-true, cond-false, and_parts}
-use Rattle.std.proofs.lemmas.Bool.Decides.{nat_tests}
 use Rattle.std.proofs.lemmas.List.{take_at, length-take-le}
-use Rattle.nic_device.specs.RegTable.declared.rows.RowId.TheVariants.{Mrqc, Rssrk, Rxcsum}
-use Rattle.nic_device.specs.RegisterFile.Registers.{Registers, word_of}
 use Rattle.nic_device.specs.RssHash.Choice.{code_of, first_enabled, rss_type_of, hashed_part}
-use Rattle.nic_device.specs.RssHash.Flow.{flow_of}
 use Rattle.nic_device.specs.RssHash.Mrqc.{enables, queue_mode_of, is_hashing}
-use Rattle.nic_device.specs.RssHash.Registers.{bytes_of_registers}
-use Rattle.nic_device.specs.RssHash.Toeplitz.{toeplitz_hash}
-use Rattle.nic_device.specs.RssHash.declared.choice.RssType.{RssType}
 use Rattle.nic_device.specs.RssHash.declared.choice.RssType.TheVariants.{NoHash, TcpIpv4, Ipv4, TcpIpv6, Ipv6, UdpIpv4, UdpIpv6}
-use Rattle.nic_device.specs.RssHash.declared.mrqc.QueueMode.TheVariants.{Single, Rss, Vmdq64, Vmdq32Rss, Vmdq64Rss}
-use Rattle.nic_device.specs.RegisterFile.Words.{row_words}
-use Rattle.nic_device.specs.RegisterFile.Bits.{has_bit}
-use Rattle.nic_device.specs.RxFilter.Address.{passes}
 use Rattle.nic_device.specs.RxFilter.Fields.{PCSD}
 use Rattle.nic_device.specs.RxFilter.Pools.{chosen_pool}
 use Rattle.nic_device.specs.RxFilter.Sorting.{rss_hash, target_of, pool_target, sorted}
-use Rattle.nic_device.specs.RxFilter.declared.target.Target.{Target}
-use Rattle.nic_device.specs.RxFilter.declared.unwanted.Unwanted.{Unwanted}
 use Rattle.nic_device.proofs.RxFilter.Sorted.{sorted-let_in}
-use Rattle.nic_device.specs.Arrival.{let_in}
-use Rattle.nic_device.specs.Outcome.{Outcome}
-use Rattle.nic_device.specs.State.{State}
-use Rattle.nic_device.specs.Step.{step_of}
-use Rattle.nic_device.specs.declared.event.Reply.TheVariants.{Done}
-use Rattle.nic_device.proofs.Cases.{arrived_cases}
+use Rattle.frame_laws.specs.Prelude.{Done, Mrqc, Outcome, Registers, Rss, RssType, Rssrk, Rxcsum, Single, State, Target}
+use Rattle.frame_laws.specs.Prelude.{Unwanted, Vmdq32Rss, Vmdq64, Vmdq64Rss, bytes_of_registers, flow_of, has_bit}
+use Rattle.frame_laws.specs.Prelude.{let_in, passes, row_words, step_of, toeplitz_hash, word_of}
+use Rattle.frame_laws.proofs.Prelude.{and_parts, arrived_cases, cond-false, cond-true, cond_both, nat_tests}
 use Rattle.frame_laws.specs.Bits.{bit, field}
 use Rattle.frame_laws.specs.Packets.{is_ipv4, is_ipv6, over_ipv4, over_ipv6, ipv4_addresses, ipv4_ports, ipv6_addresses, ipv6_ports}
 use Rattle.frame_laws.specs.Types.{hashes, has, type_of, hashed_bytes, hash_of, JoinsTyped, FramesHaveTypes}

@@ -1,30 +1,17 @@
 -- The bytes of a receive descriptor that is written back.
 use Rattle.std.proofs.Common.{◌≡◌, ◌<◌, ◌+◌, ◌*◌, ◌/◌, ◌%◌, ◌^◌, ℕ, Bool, true, false, cond, List, [], ◌∷◌, ◌++◌, take, Ok, refl, ap, sym, subst, ◌∙◌, arith, length, slice_index, inl, inr}
-use Rattle.std.specs.Int.{w64, to_le_bytes}
-use Rattle.std.proofs.lemmas.Bool.{eq-eqb, cases_lt}
-use Rattle.std.proofs.lemmas.List.{get_or_past}
-use Rattle.nic_device.specs.DmaArena.Memory.{Memory, is_lent, read_at, write_at}
 use Rattle.nic_device.proofs.DmaArena.Bus.{is_lent-same, SameLent-write_at, IsWhole-write_at, read_at-write_at_same}
-use Rattle.nic_device.specs.DmaRing.Descriptor.{first_half, of_halves}
 use Rattle.nic_device.specs.DmaRing.Receive.{reported_of, written_back, buffer_of}
-use Rattle.nic_device.specs.DmaRing.declared.dir.Dir.TheVariants.{Rx}
 use Rattle.nic_device.specs.DmaRing.declared.receive.Packet.{Packet}
 use Rattle.nic_device.proofs.DmaRing.Fields.{halves_come_back, packet_is_reported}
-use Rattle.nic_device.specs.DmaArena.Block.{Block}
-use Rattle.nic_device.specs.RssHash.Choice.{code_of}
-use Rattle.nic_device.specs.RssHash.declared.choice.RssType.{RssType}
 use Rattle.nic_device.specs.RssHash.declared.choice.RssType.TheVariants.{NoHash, TcpIpv4, Ipv4, TcpIpv6, Ipv6, UdpIpv4, UdpIpv6}
-use Rattle.nic_device.specs.RxRing.declared.filled.Filled.{Filled}
 use Rattle.nic_device.proofs.RxRing.Fills.{takes_piece, driver_reads, fill_keeps_blocks}
 use Rattle.nic_device.proofs.RegisterLaws.SoundWords.{rings_aligned}
-use Rattle.nic_device.specs.Outcome.{Outcome}
 use Rattle.nic_device.specs.Receive.{packet_of, rest_of, slot_done}
 use Rattle.nic_device.specs.Sound.{IsSound, IsWaiting, AreWaiting}
-use Rattle.nic_device.specs.State.{State, Waiting}
-use Rattle.nic_device.specs.Step.{step_of}
-use Rattle.nic_device.specs.declared.event.Reply.{Reply}
-use Rattle.nic_device.specs.declared.event.Reply.TheVariants.{Wrote}
-use Rattle.nic_device.proofs.QueueCases.{received_cases, filled_by}
+use Rattle.frame_laws.specs.Prelude.{Block, Filled, Memory, Outcome, Reply, RssType, Rx, State, Waiting, Wrote, code_of}
+use Rattle.frame_laws.specs.Prelude.{first_half, is_lent, of_halves, read_at, step_of, to_le_bytes, w64, write_at}
+use Rattle.frame_laws.proofs.Prelude.{cases_lt, eq-eqb, filled_by, get_or_past, received_cases}
 use Rattle.frame_laws.specs.Packets.{is_ipv4, is_ipv6, is_tcp, is_udp}
 use Rattle.frame_laws.specs.WrittenBack.{one_if, byte, written_bytes, ShowsPiece, DescriptorsAreWrittenBack}
 use Rattle.frame_laws.proofs.Packets.{flow-reads}

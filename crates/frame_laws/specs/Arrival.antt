@@ -1,20 +1,11 @@
 -- When a frame that arrives is accepted and why another is dropped, by the bits of registers, and where it waits.
 use Rattle.std.specs.Prelude.{ℕ, ◌≡◌, ◌≢◌, ◌<◌, ◌≤◌, ◌⊎◌, ◌↔◌, ◌-◌, ◌/◌, ◌%◌, IsTrue, IsFalse, List, [], ◌∷◌, ◌++◌, length, Some, None, Ok}
-use Rattle.nic_device.specs.DmaArena.Block.{Block}
 use Rattle.nic_device.specs.RegTable.declared.rows.RowId.TheVariants.{Rxctrl, Hlreg0, Maxfrs, VtCtl, Mrqc, GcrExt, Vfre}
-use Rattle.nic_device.specs.RegisterFile.Registers.{Registers, word_of}
-use Rattle.nic_device.specs.RxFilter.Address.{passes}
 use Rattle.nic_device.specs.RxFilter.Pools.{selected_pool}
-use Rattle.nic_device.specs.RxFilter.Sorting.{sorted}
-use Rattle.nic_device.specs.RxFilter.declared.target.Target.{Target}
-use Rattle.nic_device.specs.Sound.{IsSound}
-use Rattle.nic_device.specs.State.{State, Waiting}
-use Rattle.nic_device.specs.Step.{after, reply_to}
 use Rattle.nic_device.specs.declared.event.Event.TheVariants as event
-use Rattle.nic_device.specs.declared.event.Reply.{Reply}
-use Rattle.nic_device.specs.declared.event.Reply.TheVariants.{Done, Dropped}
-use Rattle.nic_device.specs.declared.event.Why.{Why}
 use Rattle.nic_device.specs.declared.event.Why.TheVariants.{LinkDown, Off, Short, Long, Filter, NoPool, PoolOff, Full}
+use Rattle.frame_laws.specs.Prelude.{Block, Done, Dropped, IsSound, Registers, Reply, State, Target, Waiting, Why}
+use Rattle.frame_laws.specs.Prelude.{after, passes, reply_to, sorted, word_of}
 use Rattle.frame_laws.specs.Bits.{bit, field}
 
 -- the longest frame in bytes: 1,514 while HLREG0 bit 2 is 0; while it is 1, what MAXFRS bits 31 to 16 say less 4, which

@@ -1,17 +1,9 @@
 -- Which slot of a receive ring is written and which has a fault, by the bits of registers.
 use Rattle.std.specs.Prelude.{ℕ, ◌≡◌, ◌≢◌, ◌<◌, ◌⊎◌, ◌+◌, ◌-◌, ◌*◌, ◌/◌, ◌%◌, ◌^◌, min, ⊤, IsTrue, IsFalse, List, ◌∷◌, length}
-use Rattle.nic_device.specs.DmaArena.Block.{Block}
-use Rattle.nic_device.specs.DmaArena.Memory.{is_lent, read_at}
-use Rattle.nic_device.specs.DmaRing.Descriptor.{first_half}
-use Rattle.nic_device.specs.DmaRing.declared.fault.RingFault.{RingFault}
-use Rattle.nic_device.specs.DmaRing.declared.fault.RingFault.TheVariants.{Outside, DescType, NoBufferSize, NotLent}
 use Rattle.nic_device.specs.RegTable.declared.rows.RowId.TheVariants.{Srrctl, Rdbal, Rdbah, Rdlen, Rdh, Rdt}
-use Rattle.nic_device.specs.RegisterFile.Registers.{Registers, word_of}
-use Rattle.nic_device.specs.State.{State, Waiting}
-use Rattle.nic_device.specs.Step.{reply_to}
 use Rattle.nic_device.specs.declared.event.Event.TheVariants as event
-use Rattle.nic_device.specs.declared.event.Reply.{Reply}
-use Rattle.nic_device.specs.declared.event.Reply.TheVariants.{Wrote, Fault}
+use Rattle.frame_laws.specs.Prelude.{Block, DescType, Fault, NoBufferSize, NotLent, Outside, Registers, Reply}
+use Rattle.frame_laws.specs.Prelude.{RingFault, State, Waiting, Wrote, first_half, is_lent, read_at, reply_to, word_of}
 use Rattle.frame_laws.specs.Bits.{field}
 
 -- head and tail of a receive ring, RDH and RDT bits 15 to 0, are slots of it, of which it has one for each 16 bytes of

@@ -1,5 +1,6 @@
 pub mod Bits
 pub mod Arrival
+pub mod Prelude
 pub mod Receiving
 pub mod Faults
 pub mod Transmitting

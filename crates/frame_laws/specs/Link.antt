@@ -1,13 +1,8 @@
 -- What a change of the link raises, and which frame a collection hands out.
 use Rattle.std.specs.Prelude.{ℕ, ◌≡◌, ◌≢◌, ◌<◌, Bool, List, [], ◌∷◌}
-use Rattle.nic_device.specs.Outcome.{gives}
-use Rattle.nic_device.specs.RegTable.declared.rows.RowId.TheVariants.{Eicr}
-use Rattle.nic_device.specs.RegisterFile.Registers.{word_of}
-use Rattle.nic_device.specs.Sound.{IsSound}
-use Rattle.nic_device.specs.State.{State}
-use Rattle.nic_device.specs.Step.{step_of, after, reply_to}
 use Rattle.nic_device.specs.declared.event.Event.TheVariants as event
 use Rattle.nic_device.specs.declared.event.Reply.TheVariants.{Done, Idle, Frame}
+use Rattle.frame_laws.specs.Prelude.{Eicr, IsSound, State, after, gives, reply_to, step_of, word_of}
 use Rattle.frame_laws.specs.Bits.{bit}
 
 -- the link is as it is to be: bit 20 of EICR is 1, and each other of its bits 30 to 0 is as it was

@@ -2,13 +2,9 @@
 use Rattle.std.specs.Prelude.{ℕ, ◌≡◌, ◌<◌, ◌+◌, ◌*◌, ◌/◌, ◌%◌, List, length, take, drop, Some, None}
 use Rattle.std.specs.FinMap as map
 use Rattle.nic_device.specs.DmaArena.Block.{Block, IsBlock}
-use Rattle.nic_device.specs.DmaArena.Memory.{AreApart}
-use Rattle.nic_device.specs.Outcome.{gives}
-use Rattle.nic_device.specs.Sound.{IsSound}
-use Rattle.nic_device.specs.State.{State}
-use Rattle.nic_device.specs.Step.{step_of, after, reply_to}
 use Rattle.nic_device.specs.declared.event.Event.TheVariants as event
 use Rattle.nic_device.specs.declared.event.Reply.TheVariants.{Done, Bytes, Buf, Twice, NotLent}
+use Rattle.frame_laws.specs.Prelude.{AreApart, IsSound, State, after, gives, reply_to, step_of}
 
 -- no block of this number is lent; one is, with these bytes
 abbrev pub IsNotLent : State → ℕ → Type 0

@@ -1,15 +1,10 @@
 -- Which frames and staged bytes a reset of a pool drops, by the numbers of queues.
 use Rattle.std.specs.Prelude.{ℕ, ◌≡◌, ◌/◌, ◌==◌, ◌&&◌, nat_lt, not, Bool, false, IsTrue, IsFalse, [], filter, if◌then◌else◌}
-use Rattle.nic_device.specs.RegTable.declared.rows.RowId.TheVariants.{GcrExt, Pvfctrl}
-use Rattle.nic_device.specs.RegisterFile.Columns.{place}
-use Rattle.nic_device.specs.RegisterFile.Registers.{Registers, word_of}
 use Rattle.nic_device.specs.Named.{named}
-use Rattle.nic_device.specs.State.{State}
-use Rattle.nic_device.specs.Step.{after}
-use Rattle.nic_device.specs.Transmit.{staged_by}
 use Rattle.nic_device.specs.declared.event.Event.TheVariants as event
 use Rattle.nic_device.specs.declared.event.Port.{Port}
 use Rattle.nic_device.specs.declared.named.Named.TheVariants.{Register}
+use Rattle.frame_laws.specs.Prelude.{GcrExt, Pvfctrl, Registers, State, after, place, staged_by, word_of}
 use Rattle.frame_laws.specs.Bits.{bit, field}
 
 -- whether a queue is pool v's: of the 128, eight from 8v on where GCR_EXT bits 1 to 0 are 1, four from 4v on where they

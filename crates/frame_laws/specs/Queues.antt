@@ -1,9 +1,6 @@
 -- Which queue a frame goes to that is accepted, by the bits of registers.
 use Rattle.std.specs.Prelude.{ℕ, ◌≡◌, ◌≢◌, ◌⊎◌, ◌+◌, ◌*◌, ◌%◌, List, Ok}
-use Rattle.nic_device.specs.RegTable.declared.rows.RowId.TheVariants.{GcrExt, Mrqc, VtCtl}
-use Rattle.nic_device.specs.RegisterFile.Registers.{Registers, word_of}
-use Rattle.nic_device.specs.RxFilter.Sorting.{rss_entry, sorted}
-use Rattle.nic_device.specs.RxFilter.declared.target.Target.{Target}
+use Rattle.frame_laws.specs.Prelude.{GcrExt, Mrqc, Registers, Target, VtCtl, rss_entry, sorted, word_of}
 use Rattle.frame_laws.specs.Arrival.{HasPool, PartsAmongPools, receive_bit}
 use Rattle.frame_laws.specs.Bits.{bit, field}
 

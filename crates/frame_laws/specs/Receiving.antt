@@ -1,19 +1,9 @@
 -- What a step of receiving does with the first frame that waits, by the bits of registers.
 use Rattle.std.specs.Prelude.{ℕ, ◌≡◌, ◌≢◌, ◌<◌, ◌≤◌, ◌⊎◌, ◌+◌, ◌*◌, ◌/◌, ◌%◌, ◌^◌, IsFalse, Bool, true, false, List, [], ◌∷◌, length}
-use Rattle.nic_device.specs.DmaArena.Block.{Block}
-use Rattle.nic_device.specs.DmaArena.Memory.{read_at}
-use Rattle.nic_device.specs.DmaRing.Descriptor.{first_half}
 use Rattle.nic_device.specs.RegTable.declared.rows.RowId.TheVariants.{Ctrl, Rxdctl, Srrctl, Rdbal, Rdbah, Rdlen, Rdh, Rdt}
-use Rattle.nic_device.specs.RegisterFile.Registers.{Registers, word_of}
-use Rattle.nic_device.specs.Outcome.{gives}
-use Rattle.nic_device.specs.Sound.{IsSound}
-use Rattle.nic_device.specs.State.{State, Waiting}
-use Rattle.nic_device.specs.Step.{step_of, after, reply_to}
 use Rattle.nic_device.specs.declared.event.Event.TheVariants as event
-use Rattle.nic_device.specs.declared.event.Reply.{Reply}
-use Rattle.nic_device.specs.declared.event.Reply.TheVariants.{Idle, Dropped, Wrote, Fault}
-use Rattle.nic_device.specs.declared.event.Why.{Why}
-use Rattle.nic_device.specs.declared.event.Why.TheVariants.{QueueOff, NoSlot}
+use Rattle.frame_laws.specs.Prelude.{Block, Dropped, Fault, Idle, IsSound, NoSlot, QueueOff, Registers, Reply, State}
+use Rattle.frame_laws.specs.Prelude.{Waiting, Why, Wrote, after, first_half, gives, read_at, reply_to, step_of, word_of}
 use Rattle.frame_laws.specs.Bits.{bit, field}
 
 -- the device makes steps while CTRL bit 2 is 0, and this frame is the first of those that wait

@@ -1,15 +1,8 @@
 -- What a step of transmitting writes back, byte by byte.
 use Rattle.std.specs.Prelude.{ℕ, ◌≡◌, ◌⊎◌, ◌+◌, ◌*◌, ◌/◌, ◌==◌, ⊤, List, [], ◌∷◌, ◌++◌, take, drop, slice_index, Option, Some, None, if◌then◌else◌}
-use Rattle.nic_device.specs.DmaArena.Block.{Block}
-use Rattle.nic_device.specs.DmaArena.Memory.{read_at}
-use Rattle.nic_device.specs.RegTable.declared.rows.RowId.TheVariants.{Tdlen, Tdh, Tdwbal}
-use Rattle.nic_device.specs.RegisterFile.Registers.{Registers, word_of}
-use Rattle.nic_device.specs.Sound.{IsSound}
-use Rattle.nic_device.specs.State.{State}
-use Rattle.nic_device.specs.Step.{after, reply_to}
 use Rattle.nic_device.specs.declared.event.Event.TheVariants as event
-use Rattle.nic_device.specs.declared.event.Reply.{Reply}
-use Rattle.nic_device.specs.declared.event.Reply.TheVariants.{Advanced, Sent, Fault}
+use Rattle.frame_laws.specs.Prelude.{Advanced, Block, Fault, IsSound, Registers, Reply, Sent, State, Tdh, Tdlen, Tdwbal}
+use Rattle.frame_laws.specs.Prelude.{after, read_at, reply_to, word_of}
 use Rattle.frame_laws.specs.Bits.{bit, field}
 use Rattle.frame_laws.specs.TransmitFaults.{IsReportedAt, type_in, report_bit}
 use Rattle.frame_laws.specs.Transmitting.{head_descriptor}

@@ -1,16 +1,8 @@
 -- What a step of a side's enable does, by the bits of registers.
 use Rattle.std.specs.Prelude.{ℕ, ◌≡◌, ◌≢◌, ◌<◌, ◌≤◌, ◌⊎◌, ◌↔◌, ◌+◌, ◌^◌, Bool, true, false, List, [], ◌∷◌, if◌then◌else◌}
-use Rattle.nic_device.specs.DmaRing.declared.dir.Dir.{Dir}
-use Rattle.nic_device.specs.DmaRing.declared.dir.Dir.TheVariants.{Rx, Tx}
-use Rattle.nic_device.specs.RegTable.declared.rows.RowId.TheVariants.{Ctrl, Rxdctl, Txdctl}
-use Rattle.nic_device.specs.RegisterFile.Registers.{Registers, word_of, is_wanted}
-use Rattle.nic_device.specs.Outcome.{gives}
-use Rattle.nic_device.specs.Sound.{IsSound}
-use Rattle.nic_device.specs.State.{State, Waiting}
-use Rattle.nic_device.specs.Step.{step_of, after, reply_to}
-use Rattle.nic_device.specs.Transmit.{staged_by}
 use Rattle.nic_device.specs.declared.event.Event.TheVariants as event
-use Rattle.nic_device.specs.declared.event.Reply.TheVariants.{Done, Idle, NoQueue}
+use Rattle.frame_laws.specs.Prelude.{Ctrl, Dir, Done, Idle, IsSound, NoQueue, Registers, Rx, Rxdctl, State, Tx, Txdctl}
+use Rattle.frame_laws.specs.Prelude.{Waiting, after, gives, is_wanted, reply_to, staged_by, step_of, word_of}
 use Rattle.frame_laws.specs.Bits.{bit}
 
 -- the enable word of a side: RXDCTL or TXDCTL of its queue

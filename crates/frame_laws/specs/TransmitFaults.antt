@@ -1,19 +1,10 @@
 -- What a transmit descriptor asks for, byte by byte, and which fault a step of transmitting has, by the bits of
 -- registers.
 use Rattle.std.specs.Prelude.{ℕ, ◌≡◌, ◌≢◌, ◌<◌, ◌≤◌, ◌⊎◌, ◌+◌, ◌*◌, ◌/◌, ◌%◌, ◌^◌, ⊤, IsTrue, IsFalse, length, slice_index}
-use Rattle.nic_device.specs.DmaArena.Block.{Block}
-use Rattle.nic_device.specs.DmaArena.Memory.{is_lent}
-use Rattle.nic_device.specs.DmaRing.declared.fault.RingFault.{RingFault}
 use Rattle.nic_device.specs.DmaRing.declared.fault.RingFault.TheVariants.{Outside, NotLent, Legacy, UnknownType, Offload, TooLong}
-use Rattle.nic_device.specs.RegTable.declared.rows.RowId.TheVariants.{Tdbal, Tdbah, Tdlen, Tdh, Tdt, Tdwbal, Tdwbah}
-use Rattle.nic_device.specs.RegisterFile.Registers.{Registers, word_of}
-use Rattle.nic_device.specs.Sound.{IsSound}
-use Rattle.nic_device.specs.State.{State}
-use Rattle.nic_device.specs.Step.{reply_to}
-use Rattle.nic_device.specs.Transmit.{staged_by}
 use Rattle.nic_device.specs.declared.event.Event.TheVariants as event
-use Rattle.nic_device.specs.declared.event.Reply.{Reply}
-use Rattle.nic_device.specs.declared.event.Reply.TheVariants.{Advanced, Sent, Fault}
+use Rattle.frame_laws.specs.Prelude.{Advanced, Block, Fault, IsSound, Registers, Reply, RingFault, Sent, State, Tdbah}
+use Rattle.frame_laws.specs.Prelude.{Tdbal, Tdh, Tdlen, Tdt, Tdwbah, Tdwbal, is_lent, reply_to, staged_by, word_of}
 use Rattle.frame_laws.specs.Arrival.{IsLimit}
 use Rattle.frame_laws.specs.Bits.{bit, field}
 use Rattle.frame_laws.specs.Transmitting.{head_descriptor}

@@ -1,18 +1,10 @@
 -- When a step of transmitting is idle, and what frame goes out, by the bits of registers.
 use Rattle.std.specs.Prelude.{ℕ, ◌≡◌, ◌<◌, ◌≤◌, ◌⊎◌, ◌↔◌, ◌+◌, ◌-◌, ◌*◌, ◌/◌, ◌%◌, ◌^◌, ⊤, IsFalse, List, [], ◌∷◌, ◌++◌, length, replicate}
-use Rattle.nic_device.specs.DmaArena.Block.{Block}
-use Rattle.nic_device.specs.DmaArena.Memory.{read_at}
-use Rattle.nic_device.specs.DmaRing.Descriptor.{first_half, second_half}
 use Rattle.nic_device.specs.RegTable.declared.rows.RowId.TheVariants.{Ctrl, Dmatxctl, Txdctl, VtCtl, GcrExt, Vfte, Hlreg0, Tdbal, Tdbah, Tdlen, Tdh, Tdt}
-use Rattle.nic_device.specs.RegisterFile.Registers.{Registers, word_of}
-use Rattle.nic_device.specs.Outcome.{gives}
-use Rattle.nic_device.specs.Sound.{IsSound}
-use Rattle.nic_device.specs.State.{State}
-use Rattle.nic_device.specs.Step.{step_of, after, reply_to}
-use Rattle.nic_device.specs.Transmit.{staged_by}
 use Rattle.nic_device.specs.declared.event.Event.TheVariants as event
-use Rattle.nic_device.specs.declared.event.Reply.{Reply}
-use Rattle.nic_device.specs.declared.event.Reply.TheVariants.{Idle, NoQueue, Advanced, Sent, Fault}
+use Rattle.frame_laws.specs.Prelude.{Advanced, Block, Fault, Idle, IsSound, NoQueue, Registers, Reply, Sent, State}
+use Rattle.frame_laws.specs.Prelude.{after, first_half, gives, read_at, reply_to, second_half, staged_by, step_of}
+use Rattle.frame_laws.specs.Prelude.{word_of}
 use Rattle.frame_laws.specs.Bits.{bit, field}
 
 -- the pool of a queue, by GCR_EXT bits 1 to 0: eight queues each in 16 pools where they are 1, four each in 32 where

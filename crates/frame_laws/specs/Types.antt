@@ -1,14 +1,8 @@
 -- The RSS type and the hash of a frame, by its bytes, MRQC, RXCSUM and the key.
 use Rattle.std.specs.Prelude.{ℕ, ◌≡◌, ◌==◌, ◌&&◌, ◌||◌, Bool, not, List, [], ◌∷◌, ◌++◌, if◌then◌else◌}
-use Rattle.nic_device.specs.RegTable.declared.rows.RowId.TheVariants.{Mrqc, Rssrk, Rxcsum}
-use Rattle.nic_device.specs.RegisterFile.Registers.{Registers, word_of}
-use Rattle.nic_device.specs.RssHash.Registers.{bytes_of_registers}
-use Rattle.nic_device.specs.RssHash.Toeplitz.{toeplitz_hash}
-use Rattle.nic_device.specs.RegisterFile.Words.{row_words}
-use Rattle.nic_device.specs.State.{State, Waiting}
-use Rattle.nic_device.specs.Step.{after, reply_to}
 use Rattle.nic_device.specs.declared.event.Event.TheVariants as event
-use Rattle.nic_device.specs.declared.event.Reply.TheVariants.{Done}
+use Rattle.frame_laws.specs.Prelude.{Done, Mrqc, Registers, Rssrk, Rxcsum, State, Waiting, after, bytes_of_registers}
+use Rattle.frame_laws.specs.Prelude.{reply_to, row_words, toeplitz_hash, word_of}
 use Rattle.frame_laws.specs.Bits.{bit, field}
 use Rattle.frame_laws.specs.Packets.{is_ipv4, is_ipv6, over_ipv4, over_ipv6, ipv4_addresses, ipv4_ports, ipv6_addresses, ipv6_ports}
 

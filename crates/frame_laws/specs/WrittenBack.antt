@@ -1,11 +1,7 @@
 -- The 16 bytes that a step of receiving writes into a descriptor, and the bytes that it writes into the buffer.
 use Rattle.std.specs.Prelude.{ℕ, ◌≡◌, ◌+◌, ◌*◌, ◌/◌, ◌^◌, Bool, List, [], ◌∷◌, take, drop, slice_index, if◌then◌else◌}
-use Rattle.nic_device.specs.DmaArena.Memory.{read_at, AreApart}
-use Rattle.nic_device.specs.Sound.{IsSound}
-use Rattle.nic_device.specs.State.{State, Waiting}
-use Rattle.nic_device.specs.Step.{after, reply_to}
 use Rattle.nic_device.specs.declared.event.Event.TheVariants as event
-use Rattle.nic_device.specs.declared.event.Reply.TheVariants.{Wrote, Bytes}
+use Rattle.frame_laws.specs.Prelude.{AreApart, Bytes, IsSound, State, Waiting, Wrote, after, read_at, reply_to}
 use Rattle.frame_laws.specs.Bits.{field}
 use Rattle.frame_laws.specs.Packets.{is_ipv4, is_ipv6, is_tcp, is_udp}
 

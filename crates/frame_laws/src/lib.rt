@@ -25,12 +25,14 @@ ghost use Rattle.frame_laws.specs.Transmitting.{SilenceHasItsReasons, FramesGoOu
 /// it has no pool, or one above 15 while GCR_EXT bits 1 to 0 are 1 and MRQC bits 3 to 0 are 8, 0xA or 0xB, or one above
 /// 31 while GCR_EXT bits 1 to 0 aren't 1 and MRQC bits 3 to 0 are 0xA (`NoPool`), or its pool's bit of VFRE is 0
 /// (`PoolOff`); the receive list is full (`Full`). Else it is accepted.
+#[tactic(auto, using(crate::proofs::Arriving::arriving_order))]
 pub fn arriving_has_an_order()
     ensures { ArrivingHasAnOrder }
 {}
 
 /// A frame that is accepted is appended to the receive list, with its bytes and the filter's queue, hash and RSS type,
 /// and nothing of it written. One that isn't accepted leaves the list unchanged.
+#[tactic(auto, using(crate::proofs::Joining::joins_last))]
 pub fn frames_join_last()
     ensures { FramesJoinLast }
 {}
@@ -40,6 +42,7 @@ pub fn frames_join_last()
 /// or eight from 8p on where GCR_EXT bits 1 to 0 are 1: the first with 8, else the one that the entry names; and with
 /// any other code to queue 0, with RSS type 0 and hash 0. Its pool is pool 0 while VT_CTL bit 0 is 0, whatever VFRE is;
 /// while it is 1, it is the frame's own, has queues, and its bit of VFRE is 1, whatever the code.
+#[tactic(auto, using(crate::proofs::Queues::queues_by_mrqc))]
 pub fn queues_go_by_mrqc()
     ensures { QueuesGoByMrqc }
 {}
@@ -53,6 +56,7 @@ pub fn queues_go_by_mrqc()
 /// version 6 and a whole header of 40 bytes. TCP is protocol 6 and UDP 17, in byte 23 of an IPv4 packet that is no
 /// fragment, or byte 20 of an IPv6 packet; the four bytes of its ports are there. The hash, with the key in RSSRK, is
 /// of source and destination address, and for types 1, 7, 3 and 8 of the ports, while RXCSUM bit 13 is 1; else it is 0.
+#[tactic(auto, using(crate::proofs::Types::have_types))]
 pub fn frames_have_types()
     ensures { FramesHaveTypes }
 {}
@@ -61,6 +65,7 @@ pub fn frames_have_types()
 /// is dropped (`QueueOff`) where RXDCTL bit 25 of its queue is 0. Without a free descriptor, RDH being RDT inside the
 /// ring, it is dropped (`NoSlot`) where SRRCTL bit 28 is 1 and nothing of it is written, and else waits on, and nothing
 /// changes. In every other case a slot is written, or has a fault.
+#[tactic(auto, using(crate::proofs::Receiving::received_so, crate::proofs::Receiving::reasons_met))]
 pub fn receiving_has_its_reasons()
     ensures reason { ReceivedForAReason }
     ensures met { EachReasonIsMet }
@@ -69,6 +74,7 @@ pub fn receiving_has_its_reasons()
 /// A frame leaves the receive list where it is written to its last byte, dropped, or at fault, and only there; the
 /// others are unchanged. A piece from its middle leaves it at the front, with its offset advanced by the bytes that
 /// were written, at least one, and some left.
+#[tactic(auto, using(crate::proofs::Leaving::leaves_at_end))]
 pub fn frames_leave_at_their_end()
     ensures { FramesLeaveAtTheirEnd }
 {}
@@ -85,6 +91,7 @@ pub fn slots_are_written_at_the_head()
 /// its buffer are lent. Else it has the first fault that applies: head or tail outside (`Outside`), the descriptor type
 /// (`DescType`), the buffer size (`NoBufferSize`), the descriptor (`NotLent` with its address), the buffer (`NotLent`
 /// with its address).
+#[tactic(auto, using(crate::proofs::Faults::slots_so))]
 pub fn slots_have_their_faults()
     ensures { SlotsHaveTheirFaults }
 {}
@@ -100,6 +107,7 @@ pub fn descriptors_are_written_back()
 /// A transmit step of a queue from 128 on gets the reply `NoQueue`. One below is idle exactly where CTRL bit 2 is 1,
 /// the link is down, DMATXCTL bit 0 is 0, TXDCTL bit 25 is 0, the queue's pool, by GCR_EXT bits 1 to 0, has its bit in
 /// VFTE at 0 while VT_CTL bit 0 is 1, or TDH is TDT inside the ring. Neither changes anything.
+#[tactic(auto, using(crate::proofs::Silence::silence_reasons))]
 pub fn silence_has_its_reasons()
     ensures { SilenceHasItsReasons }
 {}
@@ -115,6 +123,7 @@ pub fn silence_has_its_reasons()
 /// of the buffer; and with RS 1 `NotLent` of the report: 4 bytes at TDWBAH and TDWBAL bits 31 to 2 where TDWBAL bit 0
 /// is 1, else the 16 of the descriptor. Without a fault it is done, and one of type 3 sends a frame with EOP 1 and none
 /// with EOP 0.
+#[tactic(auto, using(crate::proofs::TransmitFaults::faults_so))]
 pub fn descriptors_have_their_faults()
     ensures { DescriptorsHaveTheirFaults }
 {}
@@ -123,6 +132,7 @@ pub fn descriptors_have_their_faults()
 /// TDWBAL bit 0 is 1, the new head as 4 bytes, the lowest first, at TDWBAH and TDWBAL bits 31 to 2: the slot after TDH,
 /// or 0 after the last; else the descriptor with bit 0 of byte 12, DD, set, and its other bits unchanged. The reply
 /// names the step's own queue, and where no frame is sent the slot in TDH bits 15 to 0.
+#[tactic(auto, using(crate::proofs::Reports::reports_so))]
 pub fn reports_are_written_back()
     ensures { ReportsAreWrittenBack }
 {}
@@ -132,12 +142,14 @@ pub fn reports_are_written_back()
 /// appended to the transmitted frames, and nothing is staged then. A descriptor of type 3 without EOP has its bytes
 /// staged after the others, one of type 2 none, and a fault drops what is staged; none of these changes the transmitted
 /// frames.
+#[tactic(auto, using(crate::proofs::Fetched::goes_out_whole))]
 pub fn frames_go_out_whole()
     ensures { FramesGoOutWhole }
 {}
 
 /// An enable step of a queue from 128 on gets the reply `NoQueue`. One below is done exactly where CTRL bit 2 is 0 and
 /// bit 25 of RXDCTL or TXDCTL isn't as asked, and else idle. Only one that is done changes anything.
+#[tactic(auto, using(crate::proofs::Switching::switching_reasons))]
 pub fn switching_has_its_reason()
     ensures { SwitchingHasItsReason }
 {}
@@ -153,18 +165,21 @@ pub fn switched_side_is_as_wanted()
 /// written in part or not, and what these queues staged: by GCR_EXT bits 1 to 0 the eight queues from 8v on with 1, the
 /// four from 4v on with 2, the two from 2v on with 3, and none with 0. The frames for all other queues stay in their
 /// order, and these keep what they staged. Lent memory, the frames out and the link are unchanged.
+#[tactic(auto, using(crate::proofs::PoolResets::resets_drop))]
 pub fn pool_resets_drop_their_frames()
     ensures { PoolResetsDropFrames }
 {}
 
 /// Setting the link to what it is has the reply `Idle` and changes nothing. A change has the reply `Done` and sets bit
 /// 20 of EICR, and leaves each other of its bits 30 to 0 as it was.
+#[tactic(auto, using(crate::proofs::Link::link_raises))]
 pub fn link_changes_raise()
     ensures { LinkChangesRaise }
 {}
 
 /// A `Collect` returns the oldest frame out with its queue, which leaves the list, and the others stay; it is idle, and
 /// changes nothing, exactly where there is none.
+#[tactic(auto, using(crate::proofs::Link::oldest_out))]
 pub fn oldest_is_collected()
     ensures { OldestIsCollected }
 {}
@@ -172,6 +187,7 @@ pub fn oldest_is_collected()
 /// A block is lent exactly where none is lent under its number, and else comes back. A `Take`, a `Peek16` and a
 /// `Poke16` get the reply `NotLent`, and change nothing, exactly where the block isn't lent. A lent block comes back
 /// with the bytes that it has then, once; a `Peek16` at a multiple of 16 returns 16 of them, and changes nothing.
+#[tactic(auto, using(crate::proofs::Memory::calls_answer))]
 pub fn memory_calls_answer()
     ensures { MemoryCallsAnswer }
 {}

@@ -1,30 +1,13 @@
 -- Register accesses, one after another.
 use Rattle.std.proofs.Common.{cond, ◌≡◌, ◌≢◌, ℕ, refl, ap, sym, ◌∙◌, Some, None, Option}
-use Rattle.nic_device.specs.RegTable.Rows.{row_of}
-use Rattle.nic_device.specs.RegTable.Runs.{runs}
-use Rattle.nic_device.specs.RegTable.Place.{Names, place_among, view_among}
-use Rattle.nic_device.specs.RegTable.declared.place.Place.{Place}
-use Rattle.nic_device.proofs.RegTable.Finding.{found-named}
-use Rattle.nic_device.proofs.RegTable.InRange.{named_in_range}
 use Rattle.nic_device.specs.RegisterFile.Access.{read_word, after_read, written, stored, asks_reset, asks_pool_reset}
-use Rattle.nic_device.specs.PoolReset.{with_pool_reset}
-use Rattle.nic_device.specs.RegisterFile.Bits.{merged}
-use Rattle.nic_device.specs.RegisterFile.Words.{word_at}
-use Rattle.nic_device.specs.RegisterFile.Registers.{Registers}
-use Rattle.nic_device.proofs.RegisterFile.ResetWords.{word_at-reset}
 use Rattle.nic_device.proofs.RegisterLaws.Puts.{word_at-put_other}
-use Rattle.nic_device.proofs.RegisterLaws.Shape.{put_stands}
-use Rattle.nic_device.specs.Eeprom.{reset}
-use Rattle.nic_device.specs.State.{State, new_state}
-use Rattle.nic_device.specs.Outcome.{gives}
-use Rattle.nic_device.specs.Access.{around, named_read, named_written, state_read, state_written}
-use Rattle.nic_device.specs.Named.{at_place}
-use Rattle.nic_device.specs.Sound.{IsSound}
-use Rattle.nic_device.specs.Step.{step_of}
+use Rattle.device_laws.specs.Prelude.{IsSound, Names, Pf, Place, Registers, State, Stray, Word, around, at_place, gives}
+use Rattle.device_laws.specs.Prelude.{merged, named_read, named_written, new_state, place_among, reset, row_of, runs}
+use Rattle.device_laws.specs.Prelude.{state_read, state_written, step_of, view_among, with_pool_reset, word_at}
+use Rattle.device_laws.proofs.Prelude.{found-named, named_in_range, put_stands, word_at-reset}
 use Rattle.device_laws.specs.Laws.{IsPlain, reply_to_read, after_write, shown}
 use Rattle.nic_device.specs.declared.event.Event.TheVariants as event
-use Rattle.nic_device.specs.declared.event.Port.TheVariants.{Pf}
-use Rattle.nic_device.specs.declared.event.Reply.TheVariants.{Word, Stray}
 
 -- what a read and a write of a named address do
 

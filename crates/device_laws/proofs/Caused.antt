@@ -1,32 +1,18 @@
 -- What raised causes make of the interrupts of groups.
 use Rattle.std.proofs.Common.{cond, ◌≡◌, ◌<◌, ◌≤◌, ◌/◌, ℕ, true, false, refl, ap, sym, ◌∙◌, subst, inl, inr, arith, nat_lt, Option, Some, None}
-use Rattle.std.proofs.lemmas.Bool.{cases_Bool, cond_both, ltb-true}
-use Rattle.nic_device.specs.RegTable.declared.rows.RowId.TheVariants.{GcrExt}
 use Rattle.nic_device.specs.IntrUnit.Group.{queue_causes}
 use Rattle.nic_device.specs.IntrUnit.Interrupts.{raised}
-use Rattle.nic_device.specs.IntrUnit.declared.group.Group.{Group}
 use Rattle.nic_device.specs.IntrUnit.declared.group.Group.TheVariants as group
-use Rattle.nic_device.specs.VfMap.Pools.{mode_of, pool_of}
-use Rattle.nic_device.specs.VfMap.declared.mode.Mode.{Mode}
-use Rattle.nic_device.specs.RegisterFile.Columns.{place}
 use Rattle.nic_device.specs.RegisterFile.Groups.{index_of, interrupts_of, causes_raised, vector_row, vector_entry}
-use Rattle.nic_device.specs.RegisterFile.Owner.{is_group}
-use Rattle.nic_device.specs.RegisterFile.Registers.{Registers}
-use Rattle.nic_device.specs.DmaRing.declared.dir.Dir.{Dir}
-use Rattle.nic_device.proofs.RegisterFile.Own.{intersection-lt}
 use Rattle.nic_device.proofs.RegisterLaws.Settled.{settled-raised}
-use Rattle.nic_device.specs.RegisterLaws.Footprint.{LacksWord, ChangesWithin, pending}
-use Rattle.nic_device.specs.RegisterLaws.Sound.{HasShape}
 use Rattle.nic_device.proofs.RegisterLaws.Owners.{is_group-same, is_group-itself}
-use Rattle.nic_device.proofs.RegisterLaws.Footprints.{word_stands}
 use Rattle.nic_device.proofs.RegisterLaws.ReadBack.{settings_stand}
-use Rattle.nic_device.proofs.RegisterLaws.Standing.{interrupts_of-with_interrupts}
-use Rattle.nic_device.proofs.RegisterLaws.Stands.{group_stands}
-use Rattle.nic_device.proofs.RegisterLaws.Within.{within-causes_raised}
-use Rattle.nic_device.proofs.RegisterLaws.GroupChanges.{settled}
 use Rattle.nic_device.specs.Interrupt.{group_of_queue, group_of, function_in, function_of_queue, mode_in, raised_by}
+use Rattle.device_laws.specs.Prelude.{ChangesWithin, Dir, GcrExt, Group, HasShape, LacksWord, Mode, Registers, State}
+use Rattle.device_laws.specs.Prelude.{is_group, mode_of, pending, place, pool_of}
+use Rattle.device_laws.proofs.Prelude.{cases_Bool, cond_both, group_stands, interrupts_of-with_interrupts}
+use Rattle.device_laws.proofs.Prelude.{intersection-lt, ltb-true, settled, within-causes_raised, word_stands}
 use Rattle.device_laws.specs.Raising.{Causes, after_causes, queue_cause}
-use Rattle.nic_device.specs.State.{State}
 use Rattle.device_laws.proofs.Missed.{misses-other_group}
 use Rattle.nic_device.proofs.Raising.{of_step}
 

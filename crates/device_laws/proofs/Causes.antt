@@ -1,24 +1,13 @@
 -- Each event raises what its reply says, and nothing else.
 use Rattle.std.proofs.Common.{ℕ, List, length, refl, nat_lt, Result, Ok, Err}
-use Rattle.nic_device.specs.RegTable.declared.rows.RowId.TheVariants.{Mpc, Gprc, Ruc, Roc}
 use Rattle.nic_device.specs.RxFilter.Sorting.{sorted}
-use Rattle.nic_device.specs.RxFilter.declared.target.Target.{Target}
-use Rattle.nic_device.specs.RxFilter.declared.unwanted.Unwanted.{Unwanted}
 use Rattle.nic_device.specs.RxFilter.declared.unwanted.Unwanted.TheVariants as unwanted
-use Rattle.nic_device.specs.RegisterFile.Columns.{place}
-use Rattle.nic_device.specs.RegisterFile.Counters.{counted}
-use Rattle.nic_device.specs.RegisterFile.Settings.{can_receive, frame_limit}
-use Rattle.nic_device.specs.DmaRing.declared.dir.Dir.TheVariants.{Tx}
-use Rattle.nic_device.proofs.RegisterLaws.Shape.{HasShape-put}
 use Rattle.nic_device.specs.Arrival.{arrived, sorted_in}
-use Rattle.nic_device.specs.Interrupt.{missed_cause, link_cause}
+use Rattle.device_laws.specs.Prelude.{Gprc, IsSound, Mpc, Roc, Ruc, State, Target, Tx, Unwanted, can_receive, counted}
+use Rattle.device_laws.specs.Prelude.{frame_limit, link_cause, missed_cause, place, step_of, transmitted}
+use Rattle.device_laws.proofs.Prelude.{HasShape-put, transmitted_cases}
 use Rattle.device_laws.specs.Raising.{EventsRaise}
-use Rattle.nic_device.specs.Sound.{IsSound}
-use Rattle.nic_device.specs.State.{State}
-use Rattle.nic_device.specs.Step.{step_of}
-use Rattle.nic_device.specs.Transmit.{transmitted}
 use Rattle.nic_device.proofs.Cases.{either_way, link_cases}
-use Rattle.nic_device.proofs.QueueCases.{transmitted_cases}
 use Rattle.device_laws.proofs.CausesKept.{word_kept}
 use Rattle.device_laws.proofs.CausesReported.{slot_raises}
 use Rattle.device_laws.proofs.Standing.{memory_rest}

@@ -1,26 +1,12 @@
 -- Words that are of no group leave the interrupts of groups.
 use Rattle.std.proofs.Common.{◌≡◌, ℕ, false, Option, Some, None, refl, ap}
-use Rattle.nic_device.specs.RegTable.Rows.{row_of}
-use Rattle.nic_device.specs.RegTable.declared.bank.Bank.TheVariants.{VfCounters}
-use Rattle.nic_device.specs.RegTable.declared.place.Place.{Place}
-use Rattle.nic_device.specs.RegTable.declared.rows.RowId.{RowId}
-use Rattle.nic_device.specs.IntrUnit.declared.group.Group.{Group}
-use Rattle.nic_device.specs.RegisterFile.Columns.{place}
-use Rattle.nic_device.specs.RegisterFile.Groups.{interrupts_of}
-use Rattle.nic_device.specs.RegisterFile.Owner.{owner_in, owner_of, is_owner}
-use Rattle.nic_device.specs.RegisterFile.Queue.{head_row, with_head, shut}
-use Rattle.nic_device.specs.RegisterFile.Registers.{Registers, with_word}
-use Rattle.nic_device.specs.DmaRing.declared.dir.Dir.{Dir}
-use Rattle.nic_device.specs.DmaRing.declared.dir.Dir.TheVariants.{Rx, Tx}
 use Rattle.nic_device.specs.RegisterFile.declared.owner.Owner.TheVariants as owner
-use Rattle.nic_device.specs.RegisterLaws.Footprint.{of_owner, of_side, of_group, the_word}
 use Rattle.nic_device.proofs.RegisterLaws.Footprints.{misses-narrower, misses-owner, covers-the_word}
-use Rattle.nic_device.proofs.RegisterLaws.Stands.{group_stands}
-use Rattle.nic_device.proofs.RegisterLaws.Within.{within-shut}
 use Rattle.nic_device.proofs.RegisterLaws.WithinParts.{within-word}
-use Rattle.nic_device.specs.RegisterLaws.Sound.{HasShape}
-use Rattle.nic_device.proofs.RegisterLaws.Shape.{HasShape-put}
-use Rattle.nic_device.specs.Interrupt.{function_counted}
+use Rattle.device_laws.specs.Prelude.{Dir, Group, HasShape, Place, Registers, RowId, Rx, Tx, VfCounters}
+use Rattle.device_laws.specs.Prelude.{function_counted, head_row, interrupts_of, is_owner, of_group, of_owner, of_side}
+use Rattle.device_laws.specs.Prelude.{owner_in, owner_of, place, row_of, shut, the_word, with_head, with_word}
+use Rattle.device_laws.proofs.Prelude.{HasShape-put, group_stands, within-shut}
 
 -- a word of a register that is of no group
 pub word_kept : (r : Registers) (p : Place) (word : ℕ) (g : Group) → is_owner (owner_of p) (owner.Group g) ≡ false

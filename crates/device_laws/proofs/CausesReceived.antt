@@ -1,32 +1,15 @@
 -- What a step of receiving raises, and a fault.
 use Rattle.std.proofs.Common.{cond, ◌≡◌, ◌∙◌, ℕ, Bool, true, false, refl, ap, arith, Some, None}
-use Rattle.nic_device.specs.DmaArena.Block.{Block}
-use Rattle.nic_device.specs.RegTable.declared.rows.RowId.TheVariants.{Qprdc, Qprc, Vfgprc}
-use Rattle.nic_device.specs.IntrUnit.declared.group.Group.{Group}
-use Rattle.nic_device.specs.RxRing.declared.filled.Filled.{Filled}
-use Rattle.nic_device.specs.RegisterFile.Columns.{place}
-use Rattle.nic_device.specs.RegisterFile.Counters.{counted, counter_of}
-use Rattle.nic_device.specs.RegisterFile.Groups.{interrupts_of}
-use Rattle.nic_device.specs.RegisterFile.Queue.{head_row, with_head, shut}
-use Rattle.nic_device.specs.RegisterFile.Registers.{Registers}
-use Rattle.nic_device.specs.DmaRing.declared.dir.Dir.{Dir}
-use Rattle.nic_device.specs.DmaRing.declared.dir.Dir.TheVariants.{Rx}
-use Rattle.nic_device.specs.RegisterLaws.Sound.{HasShape}
 use Rattle.nic_device.proofs.RegisterLaws.Sound.{sound-shut}
-use Rattle.nic_device.proofs.RegisterLaws.Shape.{HasShape-put}
-use Rattle.nic_device.proofs.Functions.{function_counted_in}
 use Rattle.nic_device.specs.Interrupt.{function_of_queue, device_raised, raised_by, fault_cause}
-use Rattle.nic_device.specs.Outcome.{Outcome}
+use Rattle.device_laws.specs.Prelude.{Block, Dir, Event, Filled, Group, HasShape, IsSound, Outcome, Qprc, Qprdc}
+use Rattle.device_laws.specs.Prelude.{Registers, Rx, State, Vfgprc, counted, counter_of, frame_counted, head_row}
+use Rattle.device_laws.specs.Prelude.{interrupts_of, piece_done, place, received, shut, with_head}
+use Rattle.device_laws.proofs.Prelude.{HasShape-put, counted_in, function_counted_in, received_cases}
 use Rattle.device_laws.specs.Raising.{raises, after_causes, device_cause, queue_cause}
-use Rattle.nic_device.specs.Receive.{received, frame_counted, piece_done}
-use Rattle.nic_device.specs.Sound.{IsSound}
-use Rattle.nic_device.specs.State.{State}
-use Rattle.nic_device.proofs.QueueCases.{received_cases}
 use Rattle.device_laws.proofs.CausesKept.{word_kept, shut_kept, head_kept, function_kept, function_shape}
 use Rattle.device_laws.proofs.Caused.{group_raised, queue_raises}
-use Rattle.nic_device.proofs.Coming.{counted_in}
 use Rattle.nic_device.proofs.Raising.{have_counters, have_functions, covers-counts, of_step, head_moved}
-use Rattle.nic_device.specs.declared.event.Event.{Event}
 use Rattle.nic_device.specs.declared.event.Event.TheVariants as event
 
 abbrev pub Raises : State → Event Block → Outcome → Type 0

@@ -1,26 +1,12 @@
 -- What a fetched slot raises.
 use Rattle.std.proofs.Common.{cond, ◌≡◌, ◌∙◌, ℕ, Bool, true, false, List, refl, ap, sym, subst, inl, inr, Option, Some, None, Result, Ok, Err}
 use Rattle.std.specs.Prelude.{⊤, is_some}
-use Rattle.nic_device.specs.DmaRing.declared.fault.RingFault.{RingFault}
-use Rattle.nic_device.specs.RegTable.declared.rows.RowId.TheVariants.{Gptc, Qptc, Vfgptc}
-use Rattle.nic_device.specs.IntrUnit.declared.group.Group.{Group}
-use Rattle.nic_device.specs.TxRing.declared.fetched.Fetched.{Fetched}
 use Rattle.nic_device.specs.TxRing.Fetch as tx
-use Rattle.nic_device.proofs.TxRing.Fetches.{takes_slot}
-use Rattle.nic_device.specs.RegisterFile.Columns.{place}
-use Rattle.nic_device.specs.RegisterFile.Counters.{counted, counter_of}
-use Rattle.nic_device.specs.RegisterFile.Groups.{interrupts_of}
-use Rattle.nic_device.specs.RegisterFile.Queue.{head_row, with_head}
-use Rattle.nic_device.specs.RegisterFile.Registers.{Registers}
-use Rattle.nic_device.specs.DmaRing.declared.dir.Dir.TheVariants.{Tx}
-use Rattle.nic_device.specs.RegisterLaws.Sound.{HasShape}
-use Rattle.nic_device.proofs.RegisterLaws.Shape.{HasShape-put}
-use Rattle.nic_device.specs.Interrupt.{function_of_queue, raised_by}
+use Rattle.device_laws.specs.Prelude.{Fetched, Gptc, Group, HasShape, IsSound, Qptc, Registers, RingFault, State, Tx}
+use Rattle.device_laws.specs.Prelude.{Vfgptc, counted, counter_of, fetched_reply, function_of_queue, head_row}
+use Rattle.device_laws.specs.Prelude.{interrupts_of, place, raised_by, slot_counted, slot_reported, with_head}
+use Rattle.device_laws.proofs.Prelude.{HasShape-put, fetched_by, takes_slot}
 use Rattle.device_laws.specs.Raising.{raised_reported, raised_sent, after_causes, queue_cause}
-use Rattle.nic_device.specs.Sound.{IsSound}
-use Rattle.nic_device.specs.State.{State}
-use Rattle.nic_device.specs.Transmit.{slot_counted, slot_reported, fetched_reply}
-use Rattle.nic_device.proofs.QueueCases.{fetched_by}
 use Rattle.device_laws.proofs.Caused.{queue_raises}
 use Rattle.nic_device.proofs.Raising.{slot_counted-comes}
 use Rattle.device_laws.proofs.CausesKept.{word_kept, head_kept, function_kept, function_shape}

@@ -1,34 +1,17 @@
 -- What counters read.
 use Rattle.std.proofs.Common.{◌≡◌, ◌<◌, ◌^◌, ℕ, List, refl, ap, ◌∙◌, arith}
 use Rattle.std.proofs.Math.Nat.{mod-eq_of_lt}
-use Rattle.std.proofs.lemmas.Nat.{and_mask}
 use Rattle.std.specs.Int.Bits.{and_zero_l}
-use Rattle.nic_device.specs.RegTable.Counter.{bumped}
-use Rattle.nic_device.specs.RegTable.Runs.{runs}
-use Rattle.nic_device.specs.RegTable.Place.{view_among}
-use Rattle.nic_device.specs.RegTable.declared.place.Place.{Place}
-use Rattle.nic_device.specs.RegTable.declared.rows.RowId.TheVariants.{Gprc}
-use Rattle.nic_device.proofs.RegTable.Finding.{found-named}
-use Rattle.nic_device.proofs.RegTable.InRange.{named_in_range}
 use Rattle.nic_device.specs.RegisterFile.Access.{read_word, after_read}
-use Rattle.nic_device.specs.RegisterFile.Columns.{place}
-use Rattle.nic_device.specs.RegisterFile.Registers.{word_of}
-use Rattle.nic_device.specs.RegisterFile.Words.{word_at}
 use Rattle.nic_device.proofs.RegisterLaws.RowBits.{word_small}
-use Rattle.nic_device.proofs.RegisterLaws.Shape.{put_stands}
 use Rattle.nic_device.proofs.RegisterLaws.Sound.{bumped-lt}
-use Rattle.nic_device.specs.State.{State}
-use Rattle.nic_device.specs.Outcome.{Outcome}
-use Rattle.nic_device.specs.Access.{around, named_read}
-use Rattle.nic_device.specs.Named.{at_place}
-use Rattle.nic_device.specs.Step.{step_of}
-use Rattle.nic_device.specs.Sound.{IsSound}
+use Rattle.device_laws.specs.Prelude.{Done, Gprc, IsSound, Outcome, Pf, Place, State, Word, around, at_place, bumped}
+use Rattle.device_laws.specs.Prelude.{named_read, place, runs, step_of, view_among, word_at, word_of}
+use Rattle.device_laws.proofs.Prelude.{and_mask, found-named, named_in_range, put_stands}
 use Rattle.device_laws.specs.Laws.{IsCounter, reply_to_read, shown, good_frames, ReadCounterStartsAgain, LetInFrameIsCounted}
 use Rattle.device_laws.proofs.Accesses.{state-read}
 use Rattle.nic_device.proofs.Cases.{arrived_cases}
 use Rattle.nic_device.specs.declared.event.Event.TheVariants as event
-use Rattle.nic_device.specs.declared.event.Port.TheVariants.{Pf}
-use Rattle.nic_device.specs.declared.event.Reply.TheVariants.{Word, Done}
 
 counter-read : (s : State) (a : ℕ) (p : Place) → IsCounter a p
     → reply_to_read s a ≡ Word (shown a (word_at s.registers.words p))

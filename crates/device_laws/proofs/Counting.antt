@@ -1,37 +1,20 @@
 -- What counts: each counter's word after a step.
 use Rattle.std.proofs.Common.{cond, ◌≡◌, ◌≢◌, ◌<◌, ◌^◌, ◌*◌, ◌/◌, ◌%◌, ℕ, Bool, true, false, ap, sym, ◌∙◌, inl, inr, arith, refl}
 use Rattle.std.specs.Prelude.{◌&&◌}
-use Rattle.std.proofs.lemmas.Bool.{cases_Bool}
-use Rattle.nic_device.specs.RegTable.Counter.{bumped}
-use Rattle.nic_device.specs.RegTable.Rows.{row_of}
 use Rattle.nic_device.specs.RegTable.declared.kind.Kind.TheVariants as kind
-use Rattle.nic_device.specs.RegTable.declared.kind.Kind.TheVariants.{Rc}
-use Rattle.nic_device.specs.RegTable.declared.place.Place.{Place}
-use Rattle.nic_device.specs.RegTable.declared.rows.RowId.{RowId}
 use Rattle.nic_device.specs.RegTable.declared.rows.RowId.TheVariants.{Mpc, Qprc, Rdh, Tdh, Rxdctl, Txdctl, Rqsmr, Tqsm, Vfgprc}
-use Rattle.nic_device.specs.IntrUnit.declared.group.Group.{Group}
 use Rattle.nic_device.specs.IntrUnit.declared.group.Group.TheVariants as group
-use Rattle.nic_device.specs.RegisterFile.Columns.{place}
-use Rattle.nic_device.specs.RegisterFile.Counters.{counted, counter_of}
-use Rattle.nic_device.specs.RegisterFile.Groups.{causes_raised}
-use Rattle.nic_device.specs.RegisterFile.Queue.{with_head, shut}
-use Rattle.nic_device.specs.RegisterFile.Registers.{Registers, word_of, with_word}
 use Rattle.nic_device.specs.RegisterFile.Words.{word_at, put}
-use Rattle.nic_device.specs.DmaRing.declared.dir.Dir.{Dir}
-use Rattle.nic_device.specs.DmaRing.declared.dir.Dir.TheVariants.{Rx, Tx}
-use Rattle.nic_device.specs.RegisterLaws.Footprint.{LacksWord, is_place, pending, is_pending}
-use Rattle.nic_device.specs.RegisterLaws.Sound.{HasShape}
 use Rattle.nic_device.proofs.RegisterLaws.Accessed.{none_pending}
 use Rattle.nic_device.proofs.RegisterLaws.Owners.{apart, is_place-itself, is_place-other, is_place-same}
 use Rattle.nic_device.proofs.RegisterLaws.Puts.{word_at-put_other}
-use Rattle.nic_device.proofs.RegisterLaws.Footprints.{word_stands}
-use Rattle.nic_device.proofs.RegisterLaws.Shape.{put_stands, HasShape-put}
-use Rattle.nic_device.proofs.RegisterLaws.Within.{within-causes_raised}
-use Rattle.nic_device.specs.RxRing.declared.filled.Filled.{Filled}
+use Rattle.device_laws.specs.Prelude.{Dir, Filled, Group, HasShape, LacksWord, Place, Rc, Registers, RowId, Rx, Tx}
+use Rattle.device_laws.specs.Prelude.{bumped, causes_raised, counted, counter_of, frame_counted, is_pending, is_place}
+use Rattle.device_laws.specs.Prelude.{pending, piece_done, place, row_of, shut, with_head, with_word, word_of}
+use Rattle.device_laws.proofs.Prelude.{HasShape-put, cases_Bool, put_stands, within-causes_raised, word_stands}
 use Rattle.device_laws.specs.Counting.{with_one}
 use Rattle.device_laws.proofs.FunctionCounts.{function_keeps}
 use Rattle.nic_device.specs.Interrupt.{function_of_queue, device_raised, raised_by, fault_cause, missed_cause}
-use Rattle.nic_device.specs.Receive.{frame_counted, piece_done}
 
 -- a counter is at no place of another kind
 pub elsewhere : (q p : Place) → (row_of q.row).kind ≢ Rc → (row_of p.row).kind ≡ Rc → is_place q p ≡ false

@@ -1,26 +1,12 @@
 -- What a fetched slot counts.
 use Rattle.std.proofs.Common.{cond, ◌≡◌, ℕ, Bool, true, false, List, refl, ap, sym, ◌∙◌, arith, Option, Some, None}
 use Rattle.std.specs.Prelude.{◌||◌}
-use Rattle.nic_device.specs.RegTable.Counter.{bumped}
-use Rattle.nic_device.specs.RegTable.Rows.{row_of}
-use Rattle.nic_device.specs.RegTable.declared.kind.Kind.TheVariants.{Rc}
-use Rattle.nic_device.specs.RegTable.declared.place.Place.{Place}
-use Rattle.nic_device.specs.RegTable.declared.rows.RowId.TheVariants.{Gptc, Qptc, Tdh, Vfgptc}
-use Rattle.nic_device.specs.RegisterFile.Columns.{place}
-use Rattle.nic_device.specs.RegisterFile.Counters.{counted, counter_of}
-use Rattle.nic_device.specs.RegisterFile.Queue.{with_head}
-use Rattle.nic_device.specs.RegisterFile.Registers.{Registers, word_of}
-use Rattle.nic_device.specs.RegisterFile.Words.{word_at}
-use Rattle.nic_device.specs.DmaRing.declared.dir.Dir.TheVariants.{Tx}
-use Rattle.nic_device.specs.RegisterLaws.Footprint.{is_place}
-use Rattle.nic_device.specs.RegisterLaws.Sound.{HasShape}
-use Rattle.nic_device.proofs.RegisterLaws.Owners.{is_place-same}
-use Rattle.nic_device.proofs.RegisterLaws.Shape.{HasShape-put}
-use Rattle.nic_device.specs.TxRing.declared.fetched.Fetched.{Fetched}
+use Rattle.device_laws.specs.Prelude.{Fetched, Gptc, HasShape, Place, Qptc, Rc, Registers, Tdh, Tx, Vfgptc, bumped}
+use Rattle.device_laws.specs.Prelude.{counted, counter_of, fetched_reply, function_of_queue, is_place, place, raised_by}
+use Rattle.device_laws.specs.Prelude.{row_of, slot_counted, slot_reported, with_head, word_at, word_of}
+use Rattle.device_laws.proofs.Prelude.{HasShape-put, is_place-same}
 use Rattle.device_laws.specs.Counting.{with_one, counts_sent}
 use Rattle.device_laws.proofs.FunctionCounts.{function_keeps}
-use Rattle.nic_device.specs.Interrupt.{function_of_queue, raised_by}
-use Rattle.nic_device.specs.Transmit.{slot_counted, slot_reported, fetched_reply}
 use Rattle.device_laws.proofs.Counting.{counted_there, raised_keeps, head_keeps}
 
 -- a fetched slot

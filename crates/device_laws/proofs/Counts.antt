@@ -1,45 +1,23 @@
 -- Each event counts where its reply says, and nowhere else.
 use Rattle.std.proofs.Common.{◌≡◌, ℕ, List, [], ◌∷◌, length, refl, arith, Ok, Err, nat_lt}
 use Rattle.std.specs.Prelude.{Result, ◌&&◌, ◌==◌}
-use Rattle.nic_device.specs.DmaArena.Block.{Block}
-use Rattle.nic_device.specs.DmaArena.Memory.{Memory}
-use Rattle.nic_device.specs.DmaRing.declared.fault.RingFault.{RingFault}
-use Rattle.nic_device.specs.RegTable.Rows.{row_of}
 use Rattle.nic_device.specs.RegTable.declared.kind.Kind.TheVariants as kind
-use Rattle.nic_device.specs.RegTable.declared.place.Place.{Place}
-use Rattle.nic_device.specs.RegTable.declared.rows.RowId.TheVariants.{Gprc, Ruc, Roc, Qprdc, Eerd}
 use Rattle.nic_device.specs.IntrUnit.declared.group.Group.TheVariants as group
 use Rattle.nic_device.specs.RxFilter.Sorting.{sorted}
-use Rattle.nic_device.specs.RxFilter.declared.target.Target.{Target}
-use Rattle.nic_device.specs.RxFilter.declared.unwanted.Unwanted.{Unwanted}
 use Rattle.nic_device.specs.RxFilter.declared.unwanted.Unwanted.TheVariants as unwanted
-use Rattle.nic_device.specs.RxRing.declared.filled.Filled.{Filled}
 use Rattle.nic_device.specs.RxRing.Fill.{fill_of}
-use Rattle.nic_device.specs.RegisterFile.Columns.{place}
-use Rattle.nic_device.specs.RegisterFile.Counters.{counter_of}
-use Rattle.nic_device.specs.RegisterFile.Settings.{is_stopped, can_receive, frame_limit, drops}
-use Rattle.nic_device.specs.RegisterFile.Words.{word_at}
-use Rattle.nic_device.specs.DmaRing.declared.dir.Dir.TheVariants.{Rx, Tx}
-use Rattle.nic_device.specs.RegisterLaws.Sides.{receive_queue_of}
-use Rattle.nic_device.proofs.RegisterLaws.Footprints.{word_stands}
 use Rattle.nic_device.specs.Arrival.{arrived, sorted_in}
+use Rattle.device_laws.specs.Prelude.{Block, Eerd, Event, Filled, Gprc, IsSound, Memory, Outcome, Place, Qprdc}
+use Rattle.device_laws.specs.Prelude.{RingFault, Roc, Ruc, Rx, State, Target, Tx, Unwanted, Waiting, can_receive}
+use Rattle.device_laws.specs.Prelude.{counter_of, drops, frame_limit, is_stopped, mode_in, named, place}
+use Rattle.device_laws.specs.Prelude.{receive_queue_of, received, rest_of, row_of, step_of, transmitted, word_at}
+use Rattle.device_laws.proofs.Prelude.{either_way, transmitted_cases, word_stands}
 use Rattle.device_laws.specs.Counting.{counts, with_one, EventsCount}
-use Rattle.nic_device.specs.RegisterFile.Pools.{mode_in}
-use Rattle.nic_device.specs.Named.{named}
-use Rattle.nic_device.specs.Outcome.{Outcome}
 use Rattle.nic_device.specs.Receive as receive
-use Rattle.nic_device.specs.Receive.{received, rest_of}
-use Rattle.nic_device.specs.Sound.{IsSound}
-use Rattle.nic_device.specs.State.{State, Waiting}
-use Rattle.nic_device.specs.Step.{step_of}
-use Rattle.nic_device.specs.Transmit.{transmitted}
-use Rattle.nic_device.proofs.Cases.{either_way}
-use Rattle.nic_device.proofs.QueueCases.{transmitted_cases}
 use Rattle.device_laws.proofs.Counting.{elsewhere, not_pending, counted_there, failed_keeps, missed_counts, piece_counts}
 use Rattle.device_laws.proofs.CountingSent.{reported_counts}
 use Rattle.device_laws.proofs.CountsKept.{read_misses, write_misses, switch_misses}
 use Rattle.device_laws.proofs.Standing.{stays_within}
-use Rattle.nic_device.specs.declared.event.Event.{Event}
 use Rattle.nic_device.specs.declared.event.Event.TheVariants as event
 
 -- what an outcome of an event counts

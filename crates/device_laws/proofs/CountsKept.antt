@@ -1,29 +1,16 @@
 -- Counters that an event may not change.
 use Rattle.std.proofs.Common.{◌≡◌, ◌≢◌, ◌∙◌, ℕ, false, cond, inl, inr, refl, ap, sym}
 use Rattle.std.specs.Prelude.{IsFalse}
-use Rattle.std.proofs.lemmas.Bool.{cases_Bool}
-use Rattle.nic_device.specs.RegTable.Rows.{row_of}
 use Rattle.nic_device.specs.RegTable.declared.kind.Kind.TheVariants as kind
-use Rattle.nic_device.specs.RegTable.declared.place.Place.{Place}
-use Rattle.nic_device.specs.RegisterFile.Access.{asks_reset, asks_pool_reset}
-use Rattle.nic_device.specs.RegTable.declared.bank.Bank.{Bank}
 use Rattle.nic_device.specs.RegTable.declared.bank.Bank.TheVariants as bank
-use Rattle.nic_device.specs.RegisterFile.Owner.{owner_in}
-use Rattle.nic_device.specs.VfMap.Owner.{is_of_pool_by}
-use Rattle.nic_device.specs.VfMap.declared.mode.Mode.{Mode}
-use Rattle.nic_device.proofs.Cases.{either_way}
-use Rattle.nic_device.specs.RegisterFile.Owner.{is_owner}
-use Rattle.nic_device.specs.DmaRing.declared.dir.Dir.{Dir}
-use Rattle.nic_device.specs.DmaRing.declared.dir.Dir.TheVariants.{Rx, Tx}
 use Rattle.nic_device.specs.RegisterFile.declared.owner.Owner.TheVariants as owner
 use Rattle.nic_device.specs.RegisterLaws.Footprint.{LacksWord, is_alone, is_place, pool_has, of_write, written_by}
 use Rattle.nic_device.proofs.RegisterLaws.Accessed.{none_read_by, none_written_by}
-use Rattle.nic_device.proofs.RegisterLaws.Owners.{is_place-other, is_place-same}
 use Rattle.nic_device.proofs.RegisterLaws.NoSide.{counters_own}
-use Rattle.nic_device.proofs.RegisterLaws.Covers.{lacks-renewed}
 use Rattle.nic_device.specs.Footprint.{Reach, read_reach, write_reach, reset_reach, below_reset_reach, switch_reach}
-use Rattle.nic_device.specs.declared.named.Named.{Named}
-use Rattle.nic_device.specs.declared.named.Named.TheVariants.{Nothing, Register}
+use Rattle.device_laws.specs.Prelude.{Bank, Dir, Mode, Named, Nothing, Place, Register, Rx, Tx, asks_pool_reset}
+use Rattle.device_laws.specs.Prelude.{asks_reset, is_of_pool_by, is_owner, owner_in, row_of}
+use Rattle.device_laws.proofs.Prelude.{cases_Bool, either_way, is_place-other, is_place-same, lacks-renewed}
 
 -- what no other event may change: a counter that it doesn't read
 

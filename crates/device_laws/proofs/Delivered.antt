@@ -1,22 +1,16 @@
 -- Pieces that are read back, and a device that makes no steps.
 use Rattle.std.proofs.Common.{cond, ◌≡◌, ℕ, ◌<◌, ◌≤◌, ◌^◌, Bool, true, false, List, [], ◌∷◌, take, drop, refl, ap, sym, ◌∙◌, subst, nat_eq, arith}
 use Rattle.std.specs.Prelude.{⊤}
-use Rattle.std.proofs.lemmas.Bool.{eq-eqb, lt-ltb}
-use Rattle.nic_device.specs.DmaArena.Block.{Block}
-use Rattle.nic_device.specs.DmaArena.Memory.{Memory, read_at, AreApart}
 use Rattle.nic_device.specs.DmaRing.Receive.{reported_of}
 use Rattle.nic_device.specs.DmaRing.declared.receive.Packet.{Packet}
 use Rattle.nic_device.proofs.RxRing.Fills.{driver_reads}
-use Rattle.nic_device.specs.State.{State, Waiting}
-use Rattle.nic_device.specs.Outcome.{gives}
 use Rattle.nic_device.specs.Receive.{received, first_received, packet_of}
 use Rattle.nic_device.specs.Sound.{AreWaiting, IsSound, IsWaiting}
-use Rattle.nic_device.specs.Step.{step_of}
+use Rattle.device_laws.specs.Prelude.{AreApart, Block, Idle, Memory, Reply, State, Waiting, Wrote, gives, read_at}
+use Rattle.device_laws.specs.Prelude.{step_of}
+use Rattle.device_laws.proofs.Prelude.{eq-eqb, lt-ltb, received_cases}
 use Rattle.device_laws.specs.Laws.{piece_of, piece_on, PieceIsReadBack, StoppedDeviceIsIdle}
 use Rattle.nic_device.proofs.Hashes.{type-lt}
-use Rattle.nic_device.proofs.QueueCases.{received_cases}
-use Rattle.nic_device.specs.declared.event.Reply.{Reply}
-use Rattle.nic_device.specs.declared.event.Reply.TheVariants.{Wrote, Idle}
 
 -- what descriptors tell of a frame that waits is a word of 64 bits
 cond-le : (b : Bool) (n : ℕ) → cond b n 0 ≤ n

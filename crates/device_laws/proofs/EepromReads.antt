@@ -1,28 +1,16 @@
 -- What EEC and EERD read.
 use Rattle.std.proofs.Common.{cond, ◌/◌, ◌≡◌, ◌+◌, ◌*◌, ◌^◌, ◌<◌, ℕ, Bool, true, false, length, refl, ap, ◌∙◌, arith, Option, Some, None}
 use Rattle.std.proofs.Math.Nat.{mod-eq_of_lt, mod-lt}
-use Rattle.std.proofs.lemmas.Nat.{and_mask}
 use Rattle.nic_device.specs.EepromImage.Bytes.{word_at as image_word}
 use Rattle.nic_device.specs.EepromImage.Image.{doublings}
 use Rattle.nic_device.proofs.EepromImage.Sizes.{doublings-is, doublings-few}
-use Rattle.nic_device.specs.RegTable.Place.{view_among}
-use Rattle.nic_device.specs.RegTable.Runs.{runs}
 use Rattle.nic_device.specs.RegTable.declared.rows.RowId.TheVariants.{Eec, Eerd}
-use Rattle.nic_device.proofs.RegTable.Finding.{found-named}
-use Rattle.nic_device.specs.RegisterFile.Bits.{has_bit}
-use Rattle.nic_device.specs.RegisterFile.Columns.{place}
 use Rattle.nic_device.specs.RegisterFile.Eeprom.{eeprom_index, eeprom_asked, eeprom_answered}
-use Rattle.nic_device.specs.RegisterFile.Registers.{word_of}
-use Rattle.nic_device.specs.RegisterFile.Settings.{is_stopped}
-use Rattle.nic_device.proofs.RegisterLaws.Shape.{put_stands}
-use Rattle.nic_device.specs.Access.{named_read}
-use Rattle.nic_device.specs.Named.{at_place}
 use Rattle.nic_device.specs.Eeprom.{word_answered}
-use Rattle.nic_device.specs.Outcome.{Outcome, gives}
-use Rattle.nic_device.specs.State.{State}
-use Rattle.nic_device.specs.Step.{step_of}
 use Rattle.nic_device.specs.declared.event.Event.TheVariants as event
-use Rattle.nic_device.specs.declared.event.Reply.TheVariants.{Word, Idle}
+use Rattle.device_laws.specs.Prelude.{Idle, Outcome, State, Word, at_place, gives, has_bit, is_stopped, named_read}
+use Rattle.device_laws.specs.Prelude.{place, runs, step_of, view_among, word_of}
+use Rattle.device_laws.proofs.Prelude.{and_mask, found-named, put_stands}
 use Rattle.device_laws.specs.Eeprom.{control_address, read_address, ControlTellsSize, StepGivesWord, StepWithoutStartIsIdle}
 use Rattle.device_laws.specs.Laws.{reply_to_read, shown}
 

@@ -1,42 +1,19 @@
 -- What is counted of virtual functions: each such word after a part of a step.
 use Rattle.std.proofs.Common.{◌≡◌, ◌≢◌, ◌+◌, ◌%◌, ◌^◌, ◌<◌, ◌≤◌, ℕ, false, List, Option, Some, None, refl, ap, sym, ◌∙◌, arith}
 use Rattle.std.specs.Prelude.{◌&&◌, IfSome, nat_lt}
-use Rattle.std.proofs.lemmas.Bool.{cond_both, ltb-true}
-use Rattle.nic_device.specs.RegTable.Rows.{row_of}
 use Rattle.nic_device.specs.RegTable.declared.bank.Bank.TheVariants as bank
 use Rattle.nic_device.specs.RegTable.declared.bank.Bank.TheVariants.{Counters, VfCounters}
-use Rattle.nic_device.specs.RegTable.declared.place.Place.{Place}
-use Rattle.nic_device.specs.RegTable.declared.rows.RowId.{RowId}
-use Rattle.nic_device.specs.RegTable.declared.rows.RowId.TheVariants.{GcrExt, Gptc, Qprc, Qptc, Rdh, Tdh, Vfgprc, Vfgptc}
-use Rattle.nic_device.specs.IntrUnit.declared.group.Group.{Group}
 use Rattle.nic_device.specs.IntrUnit.declared.group.Group.TheVariants as group
-use Rattle.nic_device.specs.VfMap.Pools.{mode_of, pool_of}
-use Rattle.nic_device.specs.RegisterFile.Columns.{place}
-use Rattle.nic_device.specs.RegisterFile.Counters.{counted, counter_of}
-use Rattle.nic_device.specs.RegisterFile.Groups.{causes_raised}
-use Rattle.nic_device.specs.RegisterFile.Owner.{owner_in, owner_of, is_owner}
-use Rattle.nic_device.specs.RegisterFile.Queue.{with_head, shut}
-use Rattle.nic_device.specs.RegisterFile.Registers.{Registers}
-use Rattle.nic_device.specs.RegisterFile.Words.{word_at}
-use Rattle.nic_device.specs.DmaRing.declared.dir.Dir.{Dir}
-use Rattle.nic_device.specs.DmaRing.declared.dir.Dir.TheVariants.{Rx, Tx}
-use Rattle.nic_device.specs.RegisterFile.declared.owner.Owner.{Owner}
 use Rattle.nic_device.specs.RegisterFile.declared.owner.Owner.TheVariants as owner
-use Rattle.nic_device.specs.RegisterLaws.Footprint.{LacksWord, is_place, pending}
-use Rattle.nic_device.specs.RegisterLaws.Sound.{HasShape}
 use Rattle.nic_device.proofs.RegisterLaws.Covers.{fails, covers-pending}
-use Rattle.nic_device.proofs.RegisterLaws.Footprints.{word_stands}
-use Rattle.nic_device.proofs.RegisterLaws.Owners.{is_place-other}
-use Rattle.nic_device.proofs.RegisterLaws.Shape.{HasShape-put}
 use Rattle.nic_device.proofs.RegisterLaws.Within.{within-causes_raised, within-counted, within-with_head, within-shut}
-use Rattle.nic_device.specs.RxRing.declared.filled.Filled.{Filled}
-use Rattle.nic_device.specs.TxRing.declared.fetched.Fetched.{Fetched}
 use Rattle.nic_device.specs.Interrupt.{function_in, function_of_queue, function_counted, device_raised, raised_by, fault_cause}
-use Rattle.nic_device.specs.Receive.{frame_counted, piece_done}
-use Rattle.nic_device.specs.Sound.{IsSound}
-use Rattle.nic_device.specs.State.{State}
-use Rattle.nic_device.specs.Transmit.{slot_counted, slot_reported, fetched_reply}
-use Rattle.nic_device.proofs.Cases.{either_way}
+use Rattle.device_laws.specs.Prelude.{Dir, Fetched, Filled, GcrExt, Gptc, Group, HasShape, IsSound, LacksWord, Owner}
+use Rattle.device_laws.specs.Prelude.{Place, Qprc, Qptc, Rdh, Registers, RowId, Rx, State, Tdh, Tx, Vfgprc, Vfgptc}
+use Rattle.device_laws.specs.Prelude.{causes_raised, counted, counter_of, fetched_reply, frame_counted, is_owner}
+use Rattle.device_laws.specs.Prelude.{is_place, mode_of, owner_in, owner_of, pending, piece_done, place, pool_of}
+use Rattle.device_laws.specs.Prelude.{row_of, shut, slot_counted, slot_reported, with_head, word_at}
+use Rattle.device_laws.proofs.Prelude.{HasShape-put, cond_both, either_way, is_place-other, ltb-true, word_stands}
 use Rattle.device_laws.specs.FunctionCounting.{is_counter_of, function_sent, with_one_round}
 use Rattle.device_laws.proofs.Counting.{changed_there, either_end}
 

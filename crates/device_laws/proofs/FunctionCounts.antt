@@ -1,21 +1,12 @@
 -- What is counted of virtual functions, beside all else.
 use Rattle.std.proofs.Common.{◌≡◌, ℕ, false, true, Option, Some, None, refl, ap, sym, ◌∙◌}
-use Rattle.nic_device.specs.RegTable.Rows.{row_of}
-use Rattle.nic_device.specs.RegTable.declared.bank.Bank.{Bank}
 use Rattle.nic_device.specs.RegTable.declared.bank.Bank.TheVariants as bank
 use Rattle.nic_device.specs.RegTable.declared.kind.Kind.TheVariants.{Rc, Ro}
-use Rattle.nic_device.specs.RegTable.declared.place.Place.{Place}
-use Rattle.nic_device.specs.RegTable.declared.rows.RowId.{RowId}
-use Rattle.nic_device.specs.RegisterFile.Columns.{place}
-use Rattle.nic_device.specs.RegisterFile.Owner.{owner_in, is_owner}
-use Rattle.nic_device.specs.RegisterFile.Registers.{Registers}
-use Rattle.nic_device.specs.RegisterFile.Words.{word_at}
-use Rattle.nic_device.specs.DmaRing.declared.dir.Dir.{Dir}
 use Rattle.nic_device.specs.RegisterFile.declared.owner.Owner.TheVariants as owner
-use Rattle.nic_device.specs.RegisterLaws.Footprint.{Misses, of_side}
 use Rattle.nic_device.proofs.RegisterLaws.Puts.{word_at-put_other}
 use Rattle.nic_device.specs.Footprint.{function_counts, is_function_count}
-use Rattle.nic_device.specs.Interrupt.{function_counted}
+use Rattle.device_laws.specs.Prelude.{Bank, Dir, Misses, Place, Registers, RowId, function_counted, is_owner, of_side}
+use Rattle.device_laws.specs.Prelude.{owner_in, place, row_of, word_at}
 
 -- it leaves the other counters
 pub function_keeps : (r : Registers) (o : Option ℕ) (row : RowId) → (row_of row).kind ≡ Ro → (p : Place)

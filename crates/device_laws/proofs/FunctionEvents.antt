@@ -2,42 +2,18 @@
 use Rattle.std.proofs.Common.{◌≡◌, ◌≢◌, ℕ, false, refl, ap, sym, ◌∙◌}
 use Rattle.std.specs.Prelude.{cond, ◌==◌, ◌&&◌, IsFalse}
 use Rattle.std.proofs.lemmas.Bool.{cond_both, or_parts}
-use Rattle.nic_device.specs.DmaArena.Block.{Block}
-use Rattle.nic_device.specs.RegTable.Rows.{row_of}
 use Rattle.nic_device.specs.RegTable.declared.bank.Bank.TheVariants as bank
-use Rattle.nic_device.specs.RegTable.declared.bank.Bank.TheVariants.{VfCounters}
-use Rattle.nic_device.specs.RegTable.declared.place.Place.{Place}
-use Rattle.nic_device.specs.RegTable.declared.rows.RowId.{RowId}
 use Rattle.nic_device.specs.RegTable.declared.rows.RowId.TheVariants.{CtrlExt, Eerd, Eicr, Pfmailbox, Pfmbicr, Pvfmailbox, Pvteicr, Qprdc, Vfgprc, Vfgptc}
 use Rattle.nic_device.specs.IntrUnit.declared.group.Group.TheVariants as group
-use Rattle.nic_device.specs.VfMap.Owner.{is_of_pool_by}
-use Rattle.nic_device.specs.VfMap.declared.mode.Mode.{Mode}
-use Rattle.nic_device.specs.RegisterFile.Access.{asks_reset, asks_pool_reset}
-use Rattle.nic_device.specs.RegisterFile.Columns.{place}
-use Rattle.nic_device.specs.RegisterFile.Counters.{counter_of}
-use Rattle.nic_device.specs.RegisterFile.Owner.{owner_of}
-use Rattle.nic_device.specs.RegisterFile.Pools.{mode_in}
-use Rattle.nic_device.specs.RegisterFile.Words.{word_at}
-use Rattle.nic_device.specs.DmaRing.declared.dir.Dir.{Dir}
-use Rattle.nic_device.specs.DmaRing.declared.dir.Dir.TheVariants.{Rx, Tx}
 use Rattle.nic_device.specs.RegisterFile.declared.owner.Owner.TheVariants as owner
 use Rattle.nic_device.specs.RegisterLaws.Footprint.{LacksWord, pool_has, of_read, of_write}
 use Rattle.nic_device.proofs.RegisterLaws.Accessed.{covers-of_read, covers-of_write}
-use Rattle.nic_device.proofs.RegisterLaws.Covers.{fails, lacks-renewed}
-use Rattle.nic_device.proofs.RegisterLaws.Footprints.{word_stands}
 use Rattle.nic_device.specs.Footprint.{Reach, read_reach, write_reach, reset_reach, below_reset_reach, pool_reach, in_registers, switch_reach}
-use Rattle.nic_device.specs.Named.{named}
-use Rattle.nic_device.specs.Outcome.{Outcome}
-use Rattle.nic_device.specs.Receive.{received}
-use Rattle.nic_device.specs.Sound.{IsSound}
-use Rattle.nic_device.specs.State.{State}
-use Rattle.nic_device.specs.Step.{step_of}
-use Rattle.nic_device.specs.Transmit.{transmitted}
-use Rattle.nic_device.specs.declared.event.Event.{Event}
 use Rattle.nic_device.specs.declared.event.Event.TheVariants as event
-use Rattle.nic_device.specs.declared.named.Named.{Named}
-use Rattle.nic_device.specs.declared.named.Named.TheVariants.{Nothing, Register}
-use Rattle.nic_device.proofs.QueueCases.{received_cases, transmitted_cases}
+use Rattle.device_laws.specs.Prelude.{Block, Dir, Event, IsSound, Mode, Named, Nothing, Outcome, Place, Register, RowId}
+use Rattle.device_laws.specs.Prelude.{Rx, State, Tx, VfCounters, asks_pool_reset, asks_reset, counter_of, is_of_pool_by}
+use Rattle.device_laws.specs.Prelude.{mode_in, named, owner_of, place, received, row_of, step_of, transmitted, word_at}
+use Rattle.device_laws.proofs.Prelude.{fails, lacks-renewed, received_cases, transmitted_cases, word_stands}
 use Rattle.device_laws.specs.FunctionCounting.{counts_for_function, with_one_round, resets_count, EventsCountForFunctions}
 use Rattle.device_laws.proofs.FunctionCounting.{not_owned, not_there, not_pending, counted_keeps, failed_keeps, piece_there, reported_there}
 use Rattle.device_laws.proofs.Missed.{neither}

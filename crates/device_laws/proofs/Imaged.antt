@@ -1,21 +1,11 @@
 -- A reset by one image, and by one with one register write more.
 use Rattle.std.proofs.Common.{cond, ◌≡◌, ◌≢◌, ◌⊎◌, inl, inr, ℕ, Bool, true, false, List, [], ◌∷◌, refl, ap, sym, ◌∙◌, Option, Some, None}
 use Rattle.std.proofs.lemmas.List.Sums.{fold-append}
-use Rattle.nic_device.specs.EepromImage.Triples.{triples_of}
-use Rattle.nic_device.specs.RegTable.Place.{place_among, view_among}
-use Rattle.nic_device.specs.RegTable.Runs.{runs}
-use Rattle.nic_device.specs.RegTable.declared.place.Place.{Place}
-use Rattle.nic_device.specs.RegTable.declared.rows.RowId.{RowId}
-use Rattle.nic_device.specs.RegTable.declared.rows.RowId.TheVariants.{Ctrl, Eerd}
-use Rattle.nic_device.proofs.RegTable.Finding.{found-named}
-use Rattle.nic_device.specs.Access.{named_written}
-use Rattle.nic_device.specs.Named.{at_place}
-use Rattle.nic_device.specs.RegTable.Rows.{row_of}
-use Rattle.nic_device.specs.RegisterFile.Access.{asks_pool_reset, written}
-use Rattle.nic_device.specs.PoolReset.{with_pool_reset, written_below_reset}
 use Rattle.nic_device.specs.Eeprom.{is_stepped_over, triple_written, with_triple, with_triples, reset}
-use Rattle.nic_device.specs.State.{State, cleared}
-use Rattle.nic_device.specs.Step.{step_of}
+use Rattle.device_laws.specs.Prelude.{Ctrl, Eerd, Place, RowId, State, asks_pool_reset, at_place, cleared}
+use Rattle.device_laws.specs.Prelude.{named_written, place_among, row_of, runs, step_of, triples_of, view_among}
+use Rattle.device_laws.specs.Prelude.{with_pool_reset, written, written_below_reset}
+use Rattle.device_laws.proofs.Prelude.{found-named}
 use Rattle.device_laws.specs.Eeprom.{with_image, HasOneMore, IsWritten, LastWriteIsMade, SteppedOverWriteIsNotMade}
 use Rattle.device_laws.specs.Laws.{after_write}
 use Rattle.device_laws.proofs.Resetting.{asked-reset}

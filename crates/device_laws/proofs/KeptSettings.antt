@@ -1,16 +1,9 @@
 -- The frame limit and the mode stand.
 use Rattle.std.proofs.Common.{◌≡◌, ℕ, refl, ap, subst}
-use Rattle.nic_device.specs.DmaArena.Block.{Block}
-use Rattle.nic_device.specs.RegTable.declared.place.Place.{Place}
-use Rattle.nic_device.specs.RegTable.declared.rows.RowId.TheVariants.{Hlreg0, Maxfrs, GcrExt}
-use Rattle.nic_device.specs.VfMap.Pools.{mode_of}
+use Rattle.device_laws.specs.Prelude.{Block, Event, GcrExt, Hlreg0, Maxfrs, Place, Port, Register, State, mode_of}
+use Rattle.device_laws.specs.Prelude.{named}
 use Rattle.device_laws.specs.Laws.{IsOfNoSetting, WritesNoSetting, OtherEventsKeepSettings}
-use Rattle.nic_device.specs.Named.{named}
-use Rattle.nic_device.specs.State.{State}
-use Rattle.nic_device.specs.declared.event.Event.{Event}
 use Rattle.nic_device.specs.declared.event.Event.TheVariants as event
-use Rattle.nic_device.specs.declared.event.Port.{Port}
-use Rattle.nic_device.specs.declared.named.Named.TheVariants.{Register}
 use Rattle.device_laws.proofs.Settings.{setting_stands}
 
 no_setting : (s : State) (e : Event Block) → WritesNoSetting s e → (port : Port) (n word : ℕ) (p : Place) (view : ℕ)

@@ -21,6 +21,7 @@ pub mod PoolAgrees
 pub mod PoolFrames
 pub mod PoolReadsAgree
 pub mod PoolResets
+pub mod Prelude
 pub mod Reaching
 pub mod KeptSettings
 pub mod EepromReads

@@ -1,30 +1,18 @@
 -- A due bit is reported.
 use Rattle.std.proofs.Common.{◌≡◌, ℕ, ◌<◌, Bool, true, false, cond, subst, Option, Some, None, refl, ap, sym, ◌∙◌, arith}
 use Rattle.std.specs.Prelude.{is_some, nat_lt}
-use Rattle.std.proofs.lemmas.Bool.{and_parts, ltb-true}
-use Rattle.nic_device.specs.RegTable.declared.rows.RowId.TheVariants.{IvarMisc}
 use Rattle.nic_device.specs.IntrUnit.Interrupts.{after_message, after_message_of, next_bit}
 use Rattle.nic_device.specs.IntrUnit.Laws.{Leaves, reported_bits}
-use Rattle.nic_device.specs.IntrUnit.declared.group.Group.{Group}
 use Rattle.nic_device.specs.IntrUnit.declared.group.Group.TheVariants.{Pf, Vf}
 use Rattle.nic_device.proofs.IntrUnit.MessageLaws.{messages_tell, messages_change}
-use Rattle.nic_device.specs.VfMap.Pools.{queues_of}
 use Rattle.nic_device.specs.RegisterFile.Groups.{index_of, interrupts_of, with_interrupts, message_of, message_made, masks_by_message}
-use Rattle.nic_device.specs.RegisterFile.Pools.{mode_in}
-use Rattle.nic_device.specs.RegisterFile.Registers.{Registers, word_of}
-use Rattle.nic_device.specs.RegisterFile.Settings.{is_stopped}
-use Rattle.nic_device.proofs.RegisterFile.Own.{intersection-lt}
 use Rattle.nic_device.proofs.RegisterLaws.Settled.{settled-after_message_of}
-use Rattle.nic_device.specs.RegisterLaws.Sound.{HasShape}
-use Rattle.nic_device.proofs.RegisterLaws.Standing.{interrupts_of-with_interrupts}
-use Rattle.nic_device.proofs.RegisterLaws.GroupChanges.{settled}
 use Rattle.nic_device.specs.Interrupt.{has_group, message_reply, messaged}
-use Rattle.nic_device.specs.Outcome.{Outcome, gives}
-use Rattle.nic_device.specs.Sound.{IsSound}
-use Rattle.nic_device.specs.State.{State}
-use Rattle.nic_device.specs.Step.{step_of}
 use Rattle.nic_device.specs.declared.event.Event.TheVariants as event
 use Rattle.nic_device.specs.declared.event.Reply.TheVariants.{Idle, NoGroup}
+use Rattle.device_laws.specs.Prelude.{Group, HasShape, IsSound, IvarMisc, Outcome, Registers, State, gives, is_stopped}
+use Rattle.device_laws.specs.Prelude.{mode_in, queues_of, step_of, word_of}
+use Rattle.device_laws.proofs.Prelude.{and_parts, interrupts_of-with_interrupts, intersection-lt, ltb-true, settled}
 use Rattle.device_laws.specs.Messages.{IsDueIn, SendsLowest, DueBitIsReported}
 
 -- the registers show what a message leaves of the group's interrupts

@@ -3,19 +3,13 @@ use Rattle.std.proofs.Common.{◌≡◌, ◌≢◌, ◌+◌, ◌*◌, inl, inr, 
 use Rattle.std.specs.Prelude.{◌||◌, ◌&&◌, nat_lt}
 use Rattle.std.proofs.Math.Bool.{and-false}
 use Rattle.std.proofs.lemmas.Bool.{le-ltb, ne_eqb}
-use Rattle.nic_device.specs.DmaArena.Memory.{Avoids}
-use Rattle.nic_device.specs.RegTable.Rows.{row_of}
-use Rattle.nic_device.specs.RegTable.declared.rows.RowId.{RowId}
 use Rattle.nic_device.specs.RegTable.declared.rows.RowId.TheVariants as row
-use Rattle.nic_device.specs.IntrUnit.declared.group.Group.{Group}
-use Rattle.nic_device.specs.RegisterFile.Owner.{owner_in, is_owner}
-use Rattle.nic_device.specs.DmaRing.declared.dir.Dir.{Dir}
-use Rattle.nic_device.specs.DmaRing.declared.dir.Dir.TheVariants.{Rx, Tx}
 use Rattle.nic_device.specs.RegisterFile.declared.owner.Owner.TheVariants as owner
 use Rattle.nic_device.specs.RegisterLaws.Footprint.{Footprint, Misses, either, of_side, of_group, counters, pending, any_pending, is_pending}
 use Rattle.nic_device.proofs.RegisterLaws.Footprints.{misses-narrower, misses-owner, covers-pending}
 use Rattle.nic_device.proofs.RegisterLaws.NoSide.{pending_misses_sides}
 use Rattle.nic_device.proofs.RegisterLaws.ReadBack.{owners_differ}
+use Rattle.device_laws.specs.Prelude.{Avoids, Dir, Group, RowId, Rx, Tx, is_owner, owner_in, row_of}
 use Rattle.device_laws.proofs.FunctionCounts.{function_counts-miss_side}
 use Rattle.nic_device.specs.Footprint.{function_counts, counts_and_causes, has_some_of}
 

@@ -2,12 +2,8 @@
 use Rattle.std.proofs.Common.{◌≡◌, true, cond, not, ◌||◌, ap, ◌∙◌}
 use Rattle.std.proofs.lemmas.Bool.{and_from, or_left, or_right, lt-ltb}
 use Rattle.nic_device.specs.RegisterFile.Settings.{is_stopped, can_transmit}
-use Rattle.nic_device.specs.RegisterLaws.Sides.{transmit_queue_of}
-use Rattle.nic_device.specs.Outcome.{gives}
-use Rattle.nic_device.specs.Receive.{is_empty}
-use Rattle.nic_device.specs.Step.{step_of}
 use Rattle.nic_device.specs.Transmit.{is_muted, is_muted_pool, queue_sent, slot_fetched}
-use Rattle.nic_device.specs.declared.event.Reply.TheVariants.{Idle, NoQueue}
+use Rattle.device_laws.specs.Prelude.{Idle, NoQueue, gives, is_empty, step_of, transmit_queue_of}
 use Rattle.device_laws.specs.Muting.{MutedQueueIsIdle}
 
 pub muted_idle : MutedQueueIsIdle

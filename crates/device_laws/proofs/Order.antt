@@ -3,16 +3,10 @@ use Rattle.std.proofs.Common.{cond, ◌≡◌, ◌≢◌, ◌⊎◌, Bool, true,
 use Rattle.std.specs.Prelude.{Result, ◌&&◌, ◌==◌, is_ok}
 use Rattle.std.proofs.Math.Bool.{and-false}
 use Rattle.std.proofs.lemmas.Bool.{cond_both, and_parts, and_cases, and_from, eq-eqb, ne_eqb, eqb-true, eqb-false}
-use Rattle.nic_device.specs.DmaRing.declared.fault.RingFault.{RingFault}
-use Rattle.nic_device.specs.RxRing.declared.filled.Filled.{Filled}
-use Rattle.nic_device.specs.RegisterFile.Settings.{is_stopped, drops}
+use Rattle.device_laws.specs.Prelude.{Dropped, Filled, Idle, NoSlot, Outcome, QueueOff, RingFault, State, Waiting}
+use Rattle.device_laws.specs.Prelude.{drops, gives, is_stopped, step_of}
 use Rattle.device_laws.specs.Order.{side_for, filling, IsSlotless, HasSlot, CaseOf, ReceivingHasAnOrder, EachReplyInItsCase, NothingWaitsIsIdle}
-use Rattle.nic_device.specs.Outcome.{Outcome, gives}
 use Rattle.nic_device.specs.Receive.{received, first_received, without_slot, slot_filled, slot_done, is_empty, slotless_counted}
-use Rattle.nic_device.specs.State.{State, Waiting}
-use Rattle.nic_device.specs.Step.{step_of}
-use Rattle.nic_device.specs.declared.event.Reply.TheVariants.{Idle, Dropped}
-use Rattle.nic_device.specs.declared.event.Why.TheVariants.{QueueOff, NoSlot}
 
 running : (s : State) → is_stopped s.registers ≡ false → received s ≡ first_received s s.waiting
 running s runs = ap (λ b. cond b (gives Idle s) (first_received s s.waiting)) runs

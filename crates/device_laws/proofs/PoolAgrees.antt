@@ -1,32 +1,17 @@
 -- Two states that agree on a pool answer alike to its virtual function, and agree on it again.
 use Rattle.std.proofs.Common.{◌≡◌, ℕ, Bool, true, false, [], refl, ap, sym, ◌∙◌, subst}
 use Rattle.std.specs.Prelude.{cond}
-use Rattle.nic_device.specs.RegTable.Rows.{row_of}
-use Rattle.nic_device.specs.RegTable.declared.place.Place.{Place}
-use Rattle.nic_device.specs.VfMap.Map.{located}
-use Rattle.nic_device.specs.VfMap.Owner.{has_queue}
-use Rattle.nic_device.specs.VfMap.Pools.{mode_of}
-use Rattle.nic_device.specs.VfMap.declared.located.Located.{Located}
 use Rattle.nic_device.specs.VfMap.declared.located.Located.TheVariants as located_as
-use Rattle.nic_device.specs.VfMap.declared.mode.Mode.{Mode}
-use Rattle.nic_device.specs.RegisterFile.Access.{asks_pool_reset}
-use Rattle.nic_device.specs.RegisterFile.Pools.{mode_in}
 use Rattle.nic_device.specs.RegisterFile.PoolReset.{pool_reset}
-use Rattle.nic_device.specs.RegisterLaws.Footprint.{AgreeWithin, pool_agrees}
 use Rattle.nic_device.specs.RegisterLaws.Laws.{after_write as word_written}
 use Rattle.nic_device.proofs.RegisterLaws.PoolAfterReset.{agree-reset}
 use Rattle.nic_device.proofs.RegisterLaws.PoolAgreement.{agree-write}
-use Rattle.nic_device.proofs.RegisterLaws.PoolPlaces.{shared-written}
-use Rattle.nic_device.specs.Access.{named_read, named_written, state_written}
-use Rattle.nic_device.specs.Named.{at_location}
-use Rattle.nic_device.specs.PoolReset.{with_pool_reset, written_below_reset}
-use Rattle.nic_device.specs.Sound.{IsSound}
-use Rattle.nic_device.specs.State.{State}
-use Rattle.nic_device.specs.Step.{step_of}
-use Rattle.nic_device.specs.Transmit.{staged_by}
+use Rattle.device_laws.specs.Prelude.{AgreeWithin, IsSound, Located, Mode, Place, State, asks_pool_reset, at_location}
+use Rattle.device_laws.specs.Prelude.{has_queue, located, mode_in, mode_of, named_read, named_written, pool_agrees}
+use Rattle.device_laws.specs.Prelude.{row_of, staged_by, state_written, step_of, with_pool_reset, written_below_reset}
+use Rattle.device_laws.proofs.Prelude.{none_staged_of, shared-written}
 use Rattle.device_laws.specs.Pool.{AgreeOnPool, VfSeesItsPoolAlone, waiting_of}
 use Rattle.device_laws.proofs.PoolAlone.{IsReached, own, shared, reached, below_reset, own_reset, changes_alone}
-use Rattle.nic_device.proofs.PoolReset.{none_staged_of}
 use Rattle.device_laws.proofs.PoolParts.{none_of_the_pool}
 use Rattle.device_laws.proofs.PoolReadsAgree.{PartsAgree, same_parts, agree_after, read_reply, read_parts}
 

@@ -1,32 +1,20 @@
 -- An access of a virtual function changes nothing but what is its pool's.
 use Rattle.std.proofs.Common.{◌≡◌, ◌≢◌, ℕ, true, false, refl, ap, sym, ◌∙◌, subst, inl, inr}
-use Rattle.std.proofs.lemmas.Bool.{cond_both, cond-false, eqb-true}
-use Rattle.nic_device.specs.RegTable.Rows.{row_of}
-use Rattle.nic_device.specs.RegTable.declared.place.Place.{Place}
-use Rattle.nic_device.specs.RegTable.declared.rows.RowId.{RowId}
 use Rattle.nic_device.specs.RegTable.declared.rows.RowId.TheVariants as row
-use Rattle.nic_device.specs.VfMap.Map.{located}
 use Rattle.nic_device.specs.VfMap.Owner.{is_of_pool, is_of_pool_by, is_shared}
-use Rattle.nic_device.specs.VfMap.declared.located.Located.{Located}
 use Rattle.nic_device.specs.VfMap.declared.located.Located.TheVariants as located_as
-use Rattle.nic_device.specs.VfMap.declared.mode.Mode.{Mode}
 use Rattle.nic_device.proofs.VfMap.Owners.{located_owner}
-use Rattle.nic_device.specs.RegisterFile.Access.{after_read, asks_reset, asks_pool_reset}
-use Rattle.nic_device.specs.RegisterFile.Pools.{mode_in}
-use Rattle.nic_device.specs.RegisterFile.Registers.{Registers}
 use Rattle.nic_device.specs.RegisterLaws.Laws.{after_write as word_written}
 use Rattle.nic_device.specs.RegisterLaws.Footprint.{ChangesWithin, pool_has, pool_changes, pool_renews, of_read, of_write}
 use Rattle.nic_device.proofs.RegisterLaws.Footprints.{within-refl, within-wider}
 use Rattle.nic_device.proofs.RegisterLaws.PoolReset.{renewed-pool, within-pool_reset}
 use Rattle.nic_device.proofs.RegisterLaws.PoolPlaces.{covers-has, covers-read, covers-write, shared_rows, shared-read, shared-written}
 use Rattle.nic_device.proofs.RegisterLaws.Within.{within-after_read, within-written}
-use Rattle.nic_device.specs.Access.{named_read, named_written, state_written}
-use Rattle.nic_device.specs.Eeprom.{reset}
-use Rattle.nic_device.specs.Named.{at_location}
-use Rattle.nic_device.specs.PoolReset.{with_pool_reset, written_below_reset}
-use Rattle.nic_device.specs.State.{State}
-use Rattle.nic_device.specs.Step.{step_of}
 use Rattle.nic_device.proofs.PoolReset.{pool_reset_stays}
+use Rattle.device_laws.specs.Prelude.{Located, Mode, Place, Registers, RowId, State, after_read, asks_pool_reset}
+use Rattle.device_laws.specs.Prelude.{asks_reset, at_location, located, mode_in, named_read, named_written, reset}
+use Rattle.device_laws.specs.Prelude.{row_of, state_written, step_of, with_pool_reset, written_below_reset}
+use Rattle.device_laws.proofs.Prelude.{cond-false, cond_both, eqb-true}
 use Rattle.device_laws.specs.Pool.{ChangesAlone, ChangesPoolAlone, VfChangesItsPoolAlone}
 use Rattle.device_laws.proofs.PoolParts.{others_again}
 use Rattle.device_laws.proofs.Settings.{no_reset}

@@ -1,22 +1,12 @@
 -- An access of a virtual function that asks for no reset of its pool keeps all frames.
 use Rattle.std.proofs.Common.{◌≡◌, ◌≢◌, ◌⊎◌, ◌/◌, ◌%◌, ◌^◌, ℕ, true, false, refl, sym, subst, inl, inr, arith}
 use Rattle.std.proofs.lemmas.Bool.{cond_both, both_ways, eqb-true, false_from_ne_true}
-use Rattle.nic_device.specs.RegTable.Rows.{row_of}
-use Rattle.nic_device.specs.RegTable.declared.place.Place.{Place}
-use Rattle.nic_device.specs.RegTable.declared.rows.RowId.{RowId}
 use Rattle.nic_device.specs.RegTable.declared.rows.RowId.TheVariants as row
-use Rattle.nic_device.specs.VfMap.Map.{located}
-use Rattle.nic_device.specs.VfMap.declared.located.Located.{Located}
 use Rattle.nic_device.specs.VfMap.declared.located.Located.TheVariants as located_as
-use Rattle.nic_device.specs.RegisterFile.Access.{asks_pool_reset}
-use Rattle.nic_device.specs.RegisterFile.Pools.{mode_in}
-use Rattle.nic_device.specs.Access.{named_read, named_written, state_written}
-use Rattle.nic_device.specs.Named.{at_location}
-use Rattle.nic_device.specs.PoolReset.{with_pool_reset, written_below_reset}
-use Rattle.nic_device.specs.State.{State}
-use Rattle.nic_device.specs.Step.{step_of}
-use Rattle.nic_device.specs.declared.named.Named.TheVariants.{Register}
-use Rattle.device_laws.specs.Pool.{KeepsFrames, AsksNoPoolReset, VfKeepsFramesButByReset}
+use Rattle.device_laws.specs.Prelude.{Located, Place, Register, State, asks_pool_reset, at_location, located}
+use Rattle.device_laws.specs.Prelude.{mode_in, named_read, named_written, row_of, state_written, step_of}
+use Rattle.device_laws.specs.Prelude.{with_pool_reset}
+use Rattle.device_laws.specs.Pool.{KeepsFrames, VfKeepsFramesButByReset}
 use Rattle.device_laws.proofs.PoolAlone.{IsReached, reached, below_reset, only_control}
 
 -- a write of another register, or without bit 26, asks for none

@@ -2,10 +2,7 @@
 use Rattle.std.proofs.Common.{◌≡◌, ℕ, Bool, List, [], ◌∷◌, refl, ap, sym, ◌∙◌, inl, inr}
 use Rattle.std.specs.Prelude.{filter, not}
 use Rattle.std.proofs.lemmas.Bool.{cases_Bool, cond-true, cond-false, not_from_true, not_from_false}
-use Rattle.nic_device.specs.VfMap.Owner.{has_queue}
-use Rattle.nic_device.specs.VfMap.declared.mode.Mode.{Mode}
-use Rattle.nic_device.specs.PoolReset.{others_waiting}
-use Rattle.nic_device.specs.State.{Waiting}
+use Rattle.device_laws.specs.Prelude.{Mode, Waiting, has_queue, others_waiting}
 use Rattle.device_laws.specs.Pool.{waiting_of}
 
 -- the frames that a test lets through, once more, and those that it doesn't

@@ -1,35 +1,19 @@
 -- Two states that agree on a pool answer alike to a read of its virtual function, and agree on it again.
 use Rattle.std.proofs.Common.{◌≡◌, ◌≢◌, ℕ, true, false, refl, ap, sym, ◌∙◌, subst}
 use Rattle.std.specs.Prelude.{cond, bit_and}
-use Rattle.nic_device.specs.RegTable.Rows.{row_of}
-use Rattle.nic_device.specs.RegTable.declared.kind.Kind.{Kind}
 use Rattle.nic_device.specs.RegTable.declared.kind.Kind.TheVariants as kind
-use Rattle.nic_device.specs.RegTable.declared.place.Place.{Place}
-use Rattle.nic_device.specs.RegTable.declared.rows.RowId.{RowId}
 use Rattle.nic_device.specs.RegTable.declared.rows.RowId.TheVariants as row
-use Rattle.nic_device.specs.VfMap.Map.{located}
 use Rattle.nic_device.specs.VfMap.Owner.{is_of_pool_by, is_of_pool, has_queue}
-use Rattle.nic_device.specs.VfMap.Pools.{mode_of}
-use Rattle.nic_device.specs.VfMap.declared.located.Located.{Located}
 use Rattle.nic_device.specs.VfMap.declared.located.Located.TheVariants as located_as
-use Rattle.nic_device.specs.VfMap.declared.mode.Mode.{Mode}
 use Rattle.nic_device.specs.RegisterFile.Access.{read_word, calculated}
-use Rattle.nic_device.specs.RegisterFile.Columns.{place}
-use Rattle.nic_device.specs.RegisterFile.Pools.{mode_in}
-use Rattle.nic_device.specs.RegisterFile.Registers.{Registers}
 use Rattle.nic_device.specs.RegisterFile.declared.surroundings.Surroundings.{Surroundings}
 use Rattle.nic_device.specs.RegisterLaws.Agreement.{answered_at}
-use Rattle.nic_device.specs.RegisterLaws.Footprint.{AgreeWithin, pool_agrees}
-use Rattle.nic_device.proofs.RegisterLaws.Footprints.{word_stands}
 use Rattle.nic_device.proofs.RegisterLaws.PoolAgreement.{agree-read}
-use Rattle.nic_device.proofs.RegisterLaws.PoolPlaces.{shared_rows, shared-read}
 use Rattle.nic_device.proofs.RegisterLaws.PoolReads.{same_shared, same_reported}
 use Rattle.nic_device.specs.Access.{around, named_read, state_read, word_read}
-use Rattle.nic_device.specs.Named.{at_location}
-use Rattle.nic_device.specs.Sound.{IsSound}
-use Rattle.nic_device.specs.State.{State}
-use Rattle.nic_device.specs.Transmit.{staged_by}
-use Rattle.nic_device.specs.declared.event.Reply.TheVariants.{Word}
+use Rattle.device_laws.specs.Prelude.{AgreeWithin, IsSound, Kind, Located, Mode, Place, Registers, RowId, State, Word}
+use Rattle.device_laws.specs.Prelude.{at_location, located, mode_in, mode_of, place, pool_agrees, row_of, staged_by}
+use Rattle.device_laws.proofs.Prelude.{shared-read, shared_rows, word_stands}
 use Rattle.device_laws.specs.Pool.{ChangesPoolAlone, AgreeOnPool, waiting_of}
 use Rattle.device_laws.proofs.PoolAlone.{IsReached, own, shared, reached}
 

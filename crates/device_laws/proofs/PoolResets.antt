@@ -1,22 +1,12 @@
 -- A write that asks for it resets a pool, and does nothing else.
 use Rattle.std.proofs.Common.{◌≡◌, ℕ, true, false, refl, ap, sym, ◌∙◌, subst}
-use Rattle.std.proofs.lemmas.Bool.{cond-true, cond-false}
-use Rattle.nic_device.specs.RegTable.Rows.{row_of}
-use Rattle.nic_device.specs.RegTable.declared.place.Place.{Place}
-use Rattle.nic_device.specs.RegTable.declared.rows.RowId.{RowId}
 use Rattle.nic_device.specs.RegTable.declared.rows.RowId.TheVariants as row
-use Rattle.nic_device.specs.RegisterFile.Access.{asks_reset, asks_pool_reset}
-use Rattle.nic_device.specs.RegisterFile.Pools.{mode_in}
 use Rattle.nic_device.proofs.RegisterLaws.PoolReset.{renewed-pool}
-use Rattle.nic_device.specs.Access.{named_written, state_written}
-use Rattle.nic_device.specs.Eeprom.{reset}
-use Rattle.nic_device.specs.PoolReset.{with_pool_reset, written_below_reset}
-use Rattle.nic_device.specs.Sound.{IsSound}
-use Rattle.nic_device.specs.State.{State}
-use Rattle.nic_device.specs.Step.{step_of}
+use Rattle.device_laws.specs.Prelude.{IsSound, Place, RowId, State, asks_pool_reset, asks_reset, mode_in, named_written}
+use Rattle.device_laws.specs.Prelude.{reset, row_of, state_written, step_of, with_pool_reset, written_below_reset}
+use Rattle.device_laws.proofs.Prelude.{cond-false, cond-true, none_staged_of}
 use Rattle.device_laws.specs.Pool.{IsPoolReset, AskedPoolResetResets}
 use Rattle.device_laws.proofs.PoolAlone.{reset_alone}
-use Rattle.nic_device.proofs.PoolReset.{none_staged_of}
 
 -- PVFCTRL asks for no reset of the device
 pool_only : (r : RowId) (word : ℕ) → asks_pool_reset (row_of r).kind word ≡ true

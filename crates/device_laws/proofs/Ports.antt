@@ -1,18 +1,12 @@
 -- What virtual functions reach is what the physical function reaches at the mapped address.
 use Rattle.std.proofs.Common.{◌≡◌, ℕ, Some, ap, sym, ◌∙◌}
-use Rattle.nic_device.specs.RegTable.Place.{view_among}
-use Rattle.nic_device.specs.RegTable.Runs.{runs}
 use Rattle.nic_device.proofs.RegTable.FirstAddresses.{found_back}
 use Rattle.nic_device.proofs.RegTable.FirstViews.{first_view}
-use Rattle.nic_device.specs.VfMap.Map.{located, mapped}
 use Rattle.nic_device.specs.VfMap.declared.mapped.Mapped.TheVariants as mapped_as
 use Rattle.nic_device.proofs.VfMap.Reached.{mapped_from, located_hole, located_absent}
-use Rattle.nic_device.specs.Access.{named_read, named_written}
 use Rattle.nic_device.specs.Interrupt.{mode_in}
-use Rattle.nic_device.specs.Named.{named, at_place, at_location}
-use Rattle.nic_device.specs.State.{State}
-use Rattle.nic_device.specs.Step.{step_of}
-use Rattle.nic_device.specs.declared.event.Port.TheVariants.{Pf, Vf}
+use Rattle.device_laws.specs.Prelude.{Pf, State, Vf, at_location, at_place, located, mapped, named, named_read}
+use Rattle.device_laws.specs.Prelude.{named_written, runs, step_of, view_among}
 use Rattle.device_laws.specs.Ports.{AccessIsThePhysicalFunctions, HolesAndAbsentFunctionsMeetNothing}
 
 -- the offset and its address name one register, with all its bits

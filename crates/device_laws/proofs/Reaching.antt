@@ -1,20 +1,14 @@
 -- What writes of mailboxes have nothing of: places of other rows, and sides of queues.
-use Rattle.std.proofs.Common.{◌≡◌, ◌≢◌, ℕ, ◌+◌, ◌/◌, ◌%◌, true, false, ◌==◌, ◌&&◌, ◌||◌, refl, ap, sym, ◌∙◌, subst}
-use Rattle.std.proofs.lemmas.Bool.{eqb-true, false_from_ne_true}
+use Rattle.std.proofs.Common.{◌≡◌, ◌≢◌, ℕ, ◌+◌, ◌/◌, ◌%◌, true, false, ◌==◌, ◌&&◌, ◌||◌, refl, ap, sym, ◌∙◌}
 use Rattle.nic_device.specs.RegTable.Rows.{row_of, number_of}
-use Rattle.nic_device.specs.RegTable.declared.kind.Kind.{Kind}
 use Rattle.nic_device.specs.RegTable.declared.kind.Kind.TheVariants as kind
-use Rattle.nic_device.specs.RegTable.declared.place.Place.{Place}
-use Rattle.nic_device.specs.RegTable.declared.rows.RowId.{RowId}
 use Rattle.nic_device.specs.RegTable.declared.rows.RowId.TheVariants as row
-use Rattle.nic_device.specs.RegisterFile.Columns.{place}
 use Rattle.nic_device.specs.RegisterFile.Mailbox.{by_function, by_physical, by_telling}
-use Rattle.nic_device.specs.RegisterFile.Owner.{owner_of, owner_in, is_owner}
-use Rattle.nic_device.specs.DmaRing.declared.dir.Dir.{Dir}
 use Rattle.nic_device.specs.RegisterFile.declared.owner.Owner.TheVariants as owner
-use Rattle.nic_device.specs.RegisterLaws.Footprint.{LacksWord, Misses, either, is_place, is_own, the_word, of_owner, of_side, written_by, of_write}
+use Rattle.nic_device.specs.RegisterLaws.Footprint.{LacksWord, Misses, either, is_place, is_own, the_word, of_side, written_by, of_write}
 use Rattle.nic_device.proofs.RegTable.FirstAddresses.{same_number}
-use Rattle.nic_device.proofs.RegisterLaws.Owners.{is_place-other}
+use Rattle.device_laws.specs.Prelude.{Dir, Kind, Place, RowId, is_owner, owner_in, owner_of, place}
+use Rattle.device_laws.proofs.Prelude.{eqb-true, false_from_ne_true, is_place-other}
 
 -- a place that is none of a mailbox's: its word, the causes of both sides, or the word that tells of resets
 pub record IsAway (q : Place) : Type 0 where

@@ -1,25 +1,16 @@
 -- The frames out after each event, and misaligned accesses.
 use Rattle.std.proofs.Common.{cond, ◌≡◌, ◌%◌, ℕ, List, refl, ap, false, [], ◌∷◌, Option, Some, None}
-use Rattle.std.proofs.lemmas.Bool.{ne_eqb}
 use Rattle.nic_device.specs.DmaArena.Memory.{is_lent, read_at, write_at}
-use Rattle.nic_device.specs.TxRing.declared.fetched.Fetched.{Fetched}
 use Rattle.nic_device.specs.Footprint.{Reach, write_reach}
 use Rattle.nic_device.specs.Link.{oldest_collected}
-use Rattle.nic_device.specs.Named.{named}
-use Rattle.nic_device.specs.Outcome.{gives}
+use Rattle.device_laws.specs.Prelude.{Fetched, Mode, Named, State, gives, mode_in, named, step_of}
+use Rattle.device_laws.proofs.Prelude.{ne_eqb, transmitted_cases, write_cases}
 use Rattle.device_laws.specs.Replies.{out_sent, out_collected, EventsMoveFramesOut, MisalignedChangesNothing}
-use Rattle.nic_device.specs.State.{State}
-use Rattle.nic_device.specs.Step.{step_of}
 use Rattle.nic_device.specs.Transmit.{transmitted, fetched_reply, with_frame}
-use Rattle.nic_device.specs.RegisterFile.Pools.{mode_in}
-use Rattle.nic_device.specs.VfMap.declared.mode.Mode.{Mode}
-use Rattle.nic_device.proofs.Cases.{write_cases}
-use Rattle.nic_device.proofs.QueueCases.{transmitted_cases}
 use Rattle.device_laws.proofs.Standing.{stays_within}
 use Rattle.device_laws.proofs.StandingAccesses.{read_rest}
 use Rattle.device_laws.proofs.StandingQueues.{receiving_rest, switching_rest}
 use Rattle.nic_device.specs.declared.event.Event.TheVariants as event
-use Rattle.nic_device.specs.declared.named.Named.{Named}
 use Rattle.nic_device.specs.declared.event.Reply.TheVariants.{Done, Bytes, NotLent, Misaligned}
 
 -- no write changes the frames out

@@ -1,38 +1,21 @@
 -- What a step of receiving tells of its queue.
 use Rattle.std.proofs.Common.{◌≡◌, ◌<◌, ℕ, List, ◌∷◌, refl, ap, sym, ◌∙◌, subst, arith}
 use Rattle.std.specs.Prelude.{⊤}
-use Rattle.nic_device.specs.DmaRing.Ring.{slots_of}
-use Rattle.nic_device.specs.RegTable.declared.rows.RowId.TheVariants.{Qprc, Vfgprc}
 use Rattle.nic_device.specs.IntrUnit.declared.group.Group.TheVariants as group
-use Rattle.nic_device.specs.RxRing.declared.filled.Filled.{Filled}
 use Rattle.nic_device.proofs.RxRing.Fills.{takes_piece}
-use Rattle.nic_device.specs.RegisterFile.Counters.{counter_of}
-use Rattle.nic_device.specs.RegisterFile.Queue.{ring_of, with_head, shut}
-use Rattle.nic_device.specs.RegisterFile.Registers.{Registers}
-use Rattle.nic_device.specs.DmaRing.declared.dir.Dir.TheVariants.{Rx}
-use Rattle.nic_device.specs.RegisterLaws.Footprint.{ChangesWithin, pending}
-use Rattle.nic_device.specs.RegisterLaws.Sides.{receive_queue_of}
-use Rattle.nic_device.proofs.RegisterLaws.Footprints.{within-refl}
 use Rattle.nic_device.proofs.RegisterLaws.SideWords.{receive-with_head}
-use Rattle.nic_device.proofs.RegisterLaws.Stands.{receive_stands}
 use Rattle.nic_device.proofs.RegisterLaws.Switches.{receive-shut}
-use Rattle.nic_device.proofs.RegisterLaws.Within.{within-causes_raised}
 use Rattle.nic_device.specs.Footprint.{counts_and_causes}
 use Rattle.nic_device.specs.Interrupt.{raised_by, side_failed, fault_cause}
+use Rattle.device_laws.specs.Prelude.{AreWaiting, ChangesWithin, Filled, IsSound, Outcome, Qprc, Registers, Rx, State}
+use Rattle.device_laws.specs.Prelude.{Vfgprc, Waiting, counter_of, frame_counted, function_of_queue, pending}
+use Rattle.device_laws.specs.Prelude.{piece_done, receive_queue_of, ring_of, shut, slots_of, step_of, with_head}
+use Rattle.device_laws.proofs.Prelude.{counted_in, either_way, function_counted_in, raised_by_queue, receive_stands}
+use Rattle.device_laws.proofs.Prelude.{received_cases, within-causes_raised, within-refl}
 use Rattle.device_laws.specs.Leaving.{IsFirstFor}
-use Rattle.nic_device.specs.Outcome.{Outcome}
-use Rattle.nic_device.specs.Receive.{frame_counted, piece_done}
 use Rattle.device_laws.specs.Replies.{received_tells, ReceivingTells}
-use Rattle.nic_device.specs.Sound.{IsSound, AreWaiting}
-use Rattle.nic_device.specs.State.{State, Waiting}
-use Rattle.nic_device.specs.Step.{step_of}
-use Rattle.nic_device.proofs.Cases.{either_way}
-use Rattle.nic_device.proofs.QueueCases.{received_cases}
-use Rattle.nic_device.proofs.Coming.{counted_in, raised_by_queue}
 use Rattle.device_laws.proofs.Missed.{counts-miss_side, pending-misses_side}
 use Rattle.nic_device.proofs.Raising.{comes-itself, have_counters, have_functions, have_causes}
-use Rattle.nic_device.proofs.Functions.{function_counted_in}
-use Rattle.nic_device.specs.Interrupt.{function_of_queue}
 
 -- beside the head a piece changes counters and causes
 piece_rest : (r : Registers) (vfs queue : ℕ) (f : Filled)

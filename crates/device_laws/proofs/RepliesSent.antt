@@ -1,41 +1,23 @@
 -- What a step of transmitting tells of its queue.
 use Rattle.std.proofs.Common.{cond, ◌≡◌, ◌<◌, ℕ, List, [], refl, ap, sym, ◌∙◌, subst, arith, inl, inr, nat_lt, Option, Some, None, Ok, Err}
 use Rattle.std.specs.Prelude.{⊤}
-use Rattle.std.proofs.lemmas.Bool.{cases_Bool, ltb-true}
 use Rattle.std.proofs.lemmas.List.{get_or-set_same}
-use Rattle.nic_device.specs.DmaRing.Ring.{slots_of}
-use Rattle.nic_device.specs.DmaRing.declared.fault.RingFault.{RingFault}
-use Rattle.nic_device.specs.RegTable.declared.rows.RowId.TheVariants.{Gptc, Qptc, Vfgptc}
 use Rattle.nic_device.specs.IntrUnit.declared.group.Group.TheVariants as group
-use Rattle.nic_device.specs.TxRing.declared.fetched.Fetched.{Fetched}
-use Rattle.nic_device.proofs.TxRing.Fetches.{takes_slot}
-use Rattle.nic_device.specs.RegisterFile.Counters.{counted, counter_of}
-use Rattle.nic_device.specs.RegisterFile.Queue.{ring_of, with_head, shut}
-use Rattle.nic_device.specs.RegisterFile.Registers.{Registers}
-use Rattle.nic_device.specs.DmaRing.declared.dir.Dir.TheVariants.{Tx}
-use Rattle.nic_device.specs.RegisterLaws.Footprint.{ChangesWithin, pending}
-use Rattle.nic_device.specs.RegisterLaws.Sides.{transmit_queue_of}
 use Rattle.nic_device.proofs.RegisterLaws.SideWords.{transmit-with_head}
-use Rattle.nic_device.proofs.RegisterLaws.Stands.{transmit_stands}
 use Rattle.nic_device.proofs.RegisterLaws.Switches.{transmit-shut}
-use Rattle.nic_device.proofs.RegisterLaws.Within.{within-causes_raised}
 use Rattle.nic_device.specs.Footprint.{counts_and_causes}
 use Rattle.nic_device.specs.Interrupt.{raised_by, fault_cause}
-use Rattle.nic_device.specs.Outcome.{Outcome, gives}
+use Rattle.device_laws.specs.Prelude.{ChangesWithin, Fetched, Gptc, IsSound, NoQueue, Outcome, Qptc, Registers}
+use Rattle.device_laws.specs.Prelude.{RingFault, State, Tx, Vfgptc, counted, counter_of, function_of_queue, gives}
+use Rattle.device_laws.specs.Prelude.{pending, ring_of, shut, slots_of, step_of, transmit_queue_of, with_head}
+use Rattle.device_laws.proofs.Prelude.{cases_Bool, either_way, fetched_by, function_counted_in, ltb-true, takes_slot}
+use Rattle.device_laws.proofs.Prelude.{transmit_stands, transmitted_cases, within-causes_raised}
 use Rattle.device_laws.specs.Replies.{sent_tells, TookTransmit, TransmittingTells}
-use Rattle.nic_device.specs.Sound.{IsSound}
-use Rattle.nic_device.specs.State.{State}
-use Rattle.nic_device.specs.Step.{step_of}
 use Rattle.nic_device.specs.Transmit.{transmitted, queue_sent, slot_counted, slot_reported, slot_done, fetched_reply}
-use Rattle.nic_device.proofs.Cases.{either_way}
-use Rattle.nic_device.proofs.QueueCases.{transmitted_cases, fetched_by}
 use Rattle.nic_device.proofs.Coming.{Comes, counted_in, raised_by_queue}
 use Rattle.device_laws.proofs.Missed.{counts-miss_side, pending-misses_side}
 use Rattle.nic_device.proofs.Raising.{comes-itself, have_counters, have_functions, have_causes}
-use Rattle.nic_device.proofs.Functions.{function_counted_in}
-use Rattle.nic_device.specs.Interrupt.{function_of_queue}
 use Rattle.device_laws.proofs.Reporting.{reports_at}
-use Rattle.nic_device.specs.declared.event.Reply.TheVariants.{NoQueue}
 
 -- beside the head a slot changes counters and causes
 slot_rest : (r : Registers) (vfs queue : ℕ) (f : Fetched) (o : Option (List ℕ))

@@ -1,20 +1,11 @@
 -- Where a fetched slot is reported.
 use Rattle.std.proofs.Common.{cond, ◌≡◌, ◌^◌, ◌+◌, ◌*◌, ◌/◌, ℕ, Bool, true, false, refl, ap, sym, ◌∙◌, subst, inl, inr, Some, None, Result, Ok, Err}
 use Rattle.std.specs.Prelude.{⊤, unwrap_or}
-use Rattle.nic_device.specs.DmaRing.Ring.{descriptor_address}
-use Rattle.nic_device.specs.DmaRing.declared.fault.RingFault.{RingFault}
-use Rattle.nic_device.specs.RegTable.declared.rows.RowId.TheVariants.{Tdwbal, Tdwbah}
 use Rattle.nic_device.specs.TxRing.Fetch as tx
-use Rattle.nic_device.specs.TxRing.declared.fetched.Fetched.{Fetched}
-use Rattle.nic_device.proofs.TxRing.Fetches.{takes_slot}
-use Rattle.nic_device.specs.RegisterFile.Bits.{has_bit}
-use Rattle.nic_device.specs.RegisterFile.Queue.{ring_of}
-use Rattle.nic_device.specs.RegisterFile.Registers.{word_of}
-use Rattle.nic_device.specs.DmaRing.declared.dir.Dir.TheVariants.{Tx}
-use Rattle.nic_device.specs.RegisterLaws.Sides.{transmit_queue_of}
+use Rattle.device_laws.specs.Prelude.{Fetched, RingFault, State, Tdwbah, Tdwbal, Tx, descriptor_address, has_bit}
+use Rattle.device_laws.specs.Prelude.{ring_of, transmit_queue_of, word_of}
+use Rattle.device_laws.proofs.Prelude.{fetched_by, takes_slot}
 use Rattle.device_laws.specs.Replies.{report_of}
-use Rattle.nic_device.specs.State.{State}
-use Rattle.nic_device.proofs.QueueCases.{fetched_by}
 
 ReportsAt : ℕ → Result Fetched RingFault → Type 0
 ReportsAt at (Ok f) = (address : ℕ) → f.back ≡ Some address → address ≡ at

@@ -2,23 +2,16 @@
 use Rattle.std.proofs.Common.{cond, ◌≡◌, ◌+◌, ℕ, zero, suc, true, List, [], ◌∷◌, refl, ap, sym, ◌∙◌, subst, Option, Some, None}
 use Rattle.std.specs.Prelude.{slice_index_or, slice_set, replicate}
 use Rattle.std.proofs.lemmas.List.{get_or-replicate}
-use Rattle.nic_device.specs.EepromImage.Triples.{triples_of}
-use Rattle.nic_device.specs.RegTable.Place.{Names, place_among, view_among}
-use Rattle.nic_device.specs.RegTable.Rows.{row_of}
-use Rattle.nic_device.specs.RegTable.Runs.{runs}
-use Rattle.nic_device.specs.RegTable.declared.place.Place.{Place}
-use Rattle.nic_device.specs.RegisterFile.Access.{asks_reset, asks_pool_reset}
-use Rattle.nic_device.specs.RegisterFile.Pools.{mode_in}
-use Rattle.nic_device.specs.VfMap.Pools.{queues_of}
 use Rattle.std.proofs.Math.ListN.{set}
 use Rattle.nic_device.specs.PoolReset.{unstaged, pool_unstaged, others_waiting, with_pool_reset, written_below_reset}
-use Rattle.nic_device.proofs.RegisterFile.ResetWords.{word_at-reset}
 use Rattle.nic_device.proofs.RegisterLaws.ReadBack.{off-reset}
 use Rattle.nic_device.proofs.RegisterLaws.SoundReset.{none_reported}
 use Rattle.nic_device.specs.Eeprom.{is_stepped_over, triple_written, with_triple, with_triples, reset}
 use Rattle.nic_device.specs.State.{State, cleared, none_staged}
-use Rattle.nic_device.proofs.Cases.{either_way}
 use Rattle.nic_device.proofs.Triples.{reset_leaves}
+use Rattle.device_laws.specs.Prelude.{Names, Place, asks_pool_reset, asks_reset, mode_in, place_among, queues_of}
+use Rattle.device_laws.specs.Prelude.{row_of, runs, triples_of, view_among}
+use Rattle.device_laws.proofs.Prelude.{either_way, word_at-reset}
 use Rattle.device_laws.specs.Laws.{IsReset, AskedResetResets, HasResetValues, ResetGivesResetValues, after_write}
 use Rattle.device_laws.proofs.Accesses.{state-written}
 

@@ -1,43 +1,20 @@
 -- Registers of the device as a whole, which nothing changes but a write of them, and a reset.
 use Rattle.std.proofs.Common.{◌≡◌, ◌≢◌, ◌||◌, ℕ, true, false, List, [], ◌∷◌, refl, ap, sym, ◌∙◌, subst, inl, inr}
-use Rattle.std.proofs.lemmas.Bool.{cases_Bool}
-use Rattle.nic_device.specs.DmaArena.Block.{Block}
-use Rattle.nic_device.specs.RegTable.Rows.{row_of}
 use Rattle.nic_device.specs.RegTable.declared.bank.Bank.TheVariants.{Device}
-use Rattle.nic_device.specs.RegTable.declared.place.Place.{Place}
-use Rattle.nic_device.specs.RegTable.declared.rows.RowId.{RowId}
-use Rattle.nic_device.specs.RegTable.declared.rows.RowId.TheVariants.{Ctrl, Eerd}
 use Rattle.nic_device.specs.IntrUnit.declared.group.Group.TheVariants as group
-use Rattle.nic_device.specs.RegisterFile.Access.{asks_reset, asks_pool_reset}
-use Rattle.nic_device.specs.RegisterFile.Pools.{mode_in}
-use Rattle.nic_device.specs.VfMap.declared.mode.Mode.{Mode}
-use Rattle.nic_device.specs.VfMap.Owner.{is_of_pool_by}
-use Rattle.nic_device.proofs.Cases.{either_way}
-use Rattle.nic_device.specs.RegisterFile.Columns.{place}
-use Rattle.nic_device.specs.RegisterFile.Owner.{owner_in, owner_of, is_owner}
-use Rattle.nic_device.specs.RegisterFile.Registers.{word_of}
-use Rattle.nic_device.specs.DmaRing.declared.dir.Dir.{Dir}
-use Rattle.nic_device.specs.DmaRing.declared.dir.Dir.TheVariants.{Rx, Tx}
-use Rattle.nic_device.specs.RegisterFile.declared.owner.Owner.{Owner}
 use Rattle.nic_device.specs.RegisterFile.declared.owner.Owner.TheVariants as owner
-use Rattle.nic_device.specs.RegisterLaws.Footprint.{LacksWord, is_place, is_pending, is_alone, pool_has, of_read}
 use Rattle.nic_device.proofs.RegisterLaws.Accessed.{none_pending, none_read_by, none_written_by}
-use Rattle.nic_device.proofs.RegisterLaws.Covers.{lacks-renewed}
-use Rattle.nic_device.proofs.RegisterLaws.Footprints.{word_stands}
-use Rattle.nic_device.proofs.RegisterLaws.Owners.{is_place-other, is_place-same}
 use Rattle.nic_device.proofs.RegisterLaws.Pending.{alone_steady}
 use Rattle.nic_device.specs.Footprint.{read_reach, write_reach, receive_reach, reach_by, switch_reach, Reach, pool_reach, is_function_count}
-use Rattle.nic_device.specs.Named.{named}
-use Rattle.nic_device.specs.Step.{after, step_of}
-use Rattle.nic_device.specs.State.{State, Waiting}
+use Rattle.device_laws.specs.Prelude.{Block, Ctrl, Dir, Eerd, Event, LacksWord, Mode, Named, Nothing, Owner, Place}
+use Rattle.device_laws.specs.Prelude.{Port, Register, Reply, RowId, Rx, State, Tx, Waiting, after, asks_pool_reset}
+use Rattle.device_laws.specs.Prelude.{asks_reset, is_alone, is_of_pool_by, is_owner, is_pending, is_place, mode_in}
+use Rattle.device_laws.specs.Prelude.{named, of_read, owner_in, owner_of, place, pool_has, row_of, step_of, word_of}
+use Rattle.device_laws.proofs.Prelude.{cases_Bool, either_way, is_place-other, is_place-same, lacks-renewed}
+use Rattle.device_laws.proofs.Prelude.{word_stands}
 use Rattle.device_laws.proofs.Missed.{neither}
 use Rattle.nic_device.proofs.Steps.{step_leads}
-use Rattle.nic_device.specs.declared.event.Event.{Event}
 use Rattle.nic_device.specs.declared.event.Event.TheVariants as event
-use Rattle.nic_device.specs.declared.event.Port.{Port}
-use Rattle.nic_device.specs.declared.named.Named.{Named}
-use Rattle.nic_device.specs.declared.named.Named.TheVariants.{Nothing, Register}
-use Rattle.nic_device.specs.declared.event.Reply.{Reply}
 
 -- a row of the device as a whole, which no step of the device changes, and which neither a read nor another access does
 pub record IsSetting (row : RowId) : Type 0 where

@@ -3,18 +3,10 @@ use Rattle.std.proofs.Common.{◌≡◌, ℕ, length, refl}
 use Rattle.std.specs.Prelude.{IsFalse}
 use Rattle.std.specs.Cmp.{nat_cmp_total}
 use Rattle.std.specs.FinMap as map
-use Rattle.std.proofs.lemmas.Bool.{ne_eqb}
-use Rattle.nic_device.specs.DmaArena.Memory.{Memory}
-use Rattle.nic_device.specs.IntrUnit.declared.group.Group.{Group}
-use Rattle.nic_device.specs.DmaRing.declared.dir.Dir.{Dir}
-use Rattle.nic_device.specs.DmaRing.declared.dir.Dir.TheVariants.{Rx, Tx}
-use Rattle.nic_device.specs.RegisterLaws.Footprint.{Misses, of_side, of_group}
-use Rattle.nic_device.proofs.RegisterLaws.Stands.{receive_stands, transmit_stands, group_stands}
-use Rattle.nic_device.proofs.RegisterLaws.Covers.{misses-nothing}
 use Rattle.nic_device.specs.Footprint.{Reach, StaysWithin}
-use Rattle.nic_device.specs.Step.{after}
+use Rattle.device_laws.specs.Prelude.{Dir, Group, Memory, Misses, Rx, State, Tx, after, of_group, of_side}
+use Rattle.device_laws.proofs.Prelude.{group_stands, misses-nothing, ne_eqb, receive_stands, transmit_stands}
 use Rattle.device_laws.specs.Leaving.{LeavesQueues, LeavesMissed, LeavesAllButMemory, EventStaysWithinReach, EventLeavesMissed, MemoryCallsLeaveTheRest, MemoryCallsLeaveOtherBlocks}
-use Rattle.nic_device.specs.State.{State}
 use Rattle.device_laws.proofs.Missed.{has-none}
 use Rattle.nic_device.proofs.Steps.{step_leads}
 use Rattle.nic_device.specs.declared.event.Event.TheVariants as event

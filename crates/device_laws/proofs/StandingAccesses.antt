@@ -1,33 +1,19 @@
 -- What register accesses leave alone.
 use Rattle.std.proofs.Common.{◌≡◌, ◌≢◌, ℕ, false, refl, ap, ◌∙◌, subst, cond, inl, inr}
-use Rattle.std.proofs.lemmas.Bool.{cases_Bool}
 use Rattle.std.specs.Prelude.{IsFalse}
-use Rattle.nic_device.specs.RegTable.Rows.{row_of}
-use Rattle.nic_device.specs.RegTable.declared.place.Place.{Place}
-use Rattle.nic_device.specs.IntrUnit.declared.group.Group.{Group}
-use Rattle.nic_device.specs.RegisterFile.Access.{asks_reset, asks_pool_reset}
-use Rattle.nic_device.specs.RegisterFile.Owner.{owner_of}
-use Rattle.nic_device.specs.DmaRing.declared.dir.Dir.{Dir}
-use Rattle.nic_device.specs.DmaRing.declared.dir.Dir.TheVariants.{Rx, Tx}
 use Rattle.nic_device.specs.RegisterFile.declared.owner.Owner.TheVariants as owner
 use Rattle.nic_device.specs.RegisterLaws.Footprint.{Misses, is_own, of_owner, of_side, of_group, of_read, of_write}
 use Rattle.nic_device.proofs.RegisterLaws.Covers.{misses-narrower, misses-owner, misses-nothing}
 use Rattle.nic_device.proofs.RegisterLaws.Accessed.{covers-of_read, covers-of_write, read_misses_sides}
 use Rattle.nic_device.proofs.RegisterLaws.ReadBack.{owners_differ}
 use Rattle.nic_device.specs.Footprint.{Reach, StaysWithin, in_registers, read_reach, write_reach, reset_reach, pool_reach, below_reset_reach}
-use Rattle.nic_device.specs.Named.{named}
-use Rattle.nic_device.specs.Step.{after}
+use Rattle.device_laws.specs.Prelude.{Dir, Group, Mode, Named, Nothing, Place, Port, Register, Rx, State, Tx, after}
+use Rattle.device_laws.specs.Prelude.{asks_pool_reset, asks_reset, mode_in, named, owner_of, row_of}
+use Rattle.device_laws.proofs.Prelude.{cases_Bool, write_cases}
 use Rattle.device_laws.specs.Leaving.{ReadLeavesTheRest, WriteLeavesTheRest, WriteLeavesMemory}
-use Rattle.nic_device.specs.State.{State}
-use Rattle.nic_device.proofs.Cases.{write_cases}
-use Rattle.nic_device.specs.RegisterFile.Pools.{mode_in}
-use Rattle.nic_device.specs.VfMap.declared.mode.Mode.{Mode}
 use Rattle.device_laws.proofs.Reaching.{reaching_misses_sides}
 use Rattle.device_laws.proofs.Standing.{stays_within, missed, leaves_missed, same_memory}
 use Rattle.nic_device.specs.declared.event.Event.TheVariants as event
-use Rattle.nic_device.specs.declared.event.Port.{Port}
-use Rattle.nic_device.specs.declared.named.Named.{Named}
-use Rattle.nic_device.specs.declared.named.Named.TheVariants.{Nothing, Register}
 
 -- a read has nothing of a side
 misses_side : (m : Named) (dir : Dir) (queue : ℕ) → Misses (read_reach m).registers (of_side dir queue)

@@ -1,22 +1,13 @@
 -- What the steps of queues leave alone.
 use Rattle.std.proofs.Common.{◌≡◌, ◌≢◌, ℕ, false, List, [], ◌∷◌, refl, sym, inl, inr, ◌⊎◌, Option, Some, None}
-use Rattle.std.proofs.lemmas.Bool.{ne_eqb}
-use Rattle.nic_device.specs.DmaArena.Block.{Block}
-use Rattle.nic_device.specs.DmaArena.Memory.{Avoids}
-use Rattle.nic_device.specs.DmaRing.declared.dir.Dir.TheVariants.{Rx, Tx}
 use Rattle.nic_device.specs.RegisterFile.declared.owner.Owner.TheVariants as owner
-use Rattle.nic_device.specs.RegisterLaws.Footprint.{Misses, of_side}
-use Rattle.nic_device.proofs.RegisterLaws.Footprints.{misses-owner}
-use Rattle.nic_device.proofs.RegisterLaws.Covers.{misses-nothing}
 use Rattle.nic_device.specs.Footprint.{receive_reach, received_into, back_into, reported_address, counts_and_causes}
+use Rattle.device_laws.specs.Prelude.{Avoids, Block, Misses, Reply, Rx, Tx, Waiting, Wrote, of_side, step_of}
+use Rattle.device_laws.proofs.Prelude.{misses-nothing, misses-owner, ne_eqb}
 use Rattle.device_laws.specs.Leaving.{IsFirstFor, ReceivingLeavesTheRest, ReceivesOutside, ReceivingLeavesOtherBlocks, TransmittingLeavesTheRest, TransmittingLeavesOtherBlocks, SwitchingLeavesTheRest}
-use Rattle.nic_device.specs.State.{Waiting}
-use Rattle.nic_device.specs.Step.{step_of}
 use Rattle.device_laws.proofs.Missed.{neither, misses-either, misses-other_side, counts-miss_side, has-none}
 use Rattle.device_laws.proofs.Standing.{stays_within, missed, leaves_missed, same_memory}
 use Rattle.nic_device.specs.declared.event.Event.TheVariants as event
-use Rattle.nic_device.specs.declared.event.Reply.{Reply}
-use Rattle.nic_device.specs.declared.event.Reply.TheVariants.{Wrote}
 
 -- steps of receiving
 

@@ -1,14 +1,10 @@
 -- What frames that arrive, messages, the link and frames out leave alone.
 use Rattle.std.proofs.Common.{◌≡◌, false, refl}
 use Rattle.nic_device.specs.IntrUnit.declared.group.Group.TheVariants as group
-use Rattle.nic_device.specs.RegisterFile.Columns.{place}
-use Rattle.nic_device.specs.RegisterFile.Owner.{is_owner}
-use Rattle.nic_device.specs.RegisterLaws.Footprint.{Misses, the_word, of_owner, counters, pending}
-use Rattle.nic_device.specs.RegTable.declared.rows.RowId.TheVariants.{Eerd}
-use Rattle.nic_device.specs.RegisterFile.declared.owner.Owner.{Owner}
 use Rattle.nic_device.specs.RegisterFile.declared.owner.Owner.TheVariants as owner
 use Rattle.nic_device.proofs.RegisterLaws.Footprints.{misses-owner, misses-narrower, covers-the_word}
-use Rattle.nic_device.proofs.RegisterLaws.Covers.{misses-nothing}
+use Rattle.device_laws.specs.Prelude.{Eerd, Misses, Owner, counters, is_owner, of_owner, pending, place, the_word}
+use Rattle.device_laws.proofs.Prelude.{misses-nothing}
 use Rattle.device_laws.specs.Leaving.{ArrivalLeavesTheRest, MessageLeavesTheRest, EepromStepLeavesTheRest, LinkLeavesTheRest, CollectingLeavesTheRest}
 use Rattle.device_laws.proofs.Missed.{misses-either, misses-other_group, pending-misses_side}
 use Rattle.device_laws.proofs.Standing.{stays_within, missed, same_memory, queues_stand}

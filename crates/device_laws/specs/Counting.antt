@@ -1,29 +1,11 @@
 -- Which counters an event counts in, by its reply.
 use Rattle.std.specs.Prelude.{ℕ, ◌≡◌, ◌≢◌, Bool, false, ◌&&◌, ◌||◌, ⊤, IsFalse, List, [], ◌∷◌, if◌then◌else◌}
-use Rattle.nic_device.specs.DmaArena.Block.{Block}
-use Rattle.nic_device.specs.RegTable.Counter.{bumped}
-use Rattle.nic_device.specs.RegTable.Rows.{row_of}
-use Rattle.nic_device.specs.RegTable.declared.kind.Kind.TheVariants.{Rc}
-use Rattle.nic_device.specs.RegTable.declared.place.Place.{Place}
-use Rattle.nic_device.specs.RegTable.declared.rows.RowId.TheVariants.{Mpc, Gprc, Gptc, Ruc, Roc, Qprc, Qprdc, Qptc}
-use Rattle.nic_device.specs.RegisterFile.Access.{asks_reset}
-use Rattle.nic_device.specs.RegisterFile.Columns.{place}
-use Rattle.nic_device.specs.RegisterFile.Counters.{counter_of}
-use Rattle.nic_device.specs.RegisterFile.Registers.{Registers}
-use Rattle.nic_device.specs.RegisterFile.Words.{word_at}
-use Rattle.nic_device.specs.DmaRing.declared.dir.Dir.TheVariants.{Rx, Tx}
-use Rattle.nic_device.specs.RegisterLaws.Footprint.{is_place}
-use Rattle.nic_device.specs.Step.{after, reply_to}
-use Rattle.nic_device.specs.Sound.{IsSound}
-use Rattle.nic_device.specs.State.{State, Waiting}
-use Rattle.nic_device.specs.declared.event.Event.{Event}
 use Rattle.nic_device.specs.declared.event.Event.TheVariants as event
-use Rattle.nic_device.specs.declared.named.Named.TheVariants.{Register}
-use Rattle.nic_device.specs.Named.{named}
-use Rattle.nic_device.specs.declared.event.Reply.{Reply}
-use Rattle.nic_device.specs.declared.event.Reply.TheVariants.{Done, Dropped, Wrote, Sent}
-use Rattle.nic_device.specs.declared.event.Why.{Why}
 use Rattle.nic_device.specs.declared.event.Why.TheVariants.{Short, Long, Full, NoSlot}
+use Rattle.device_laws.specs.Prelude.{Block, Done, Dropped, Event, Gprc, Gptc, IsSound, Mpc, Place, Qprc, Qprdc, Qptc}
+use Rattle.device_laws.specs.Prelude.{Rc, Register, Registers, Reply, Roc, Ruc, Rx, Sent, State, Tx, Waiting, Why}
+use Rattle.device_laws.specs.Prelude.{Wrote, after, asks_reset, bumped, counter_of, is_place, named, place, reply_to}
+use Rattle.device_laws.specs.Prelude.{row_of, word_at}
 
 -- a frame that arrives: RUC counts those that are too short, ROC those that are too long, MPC those that find the list
 -- full, and GPRC those that are accepted

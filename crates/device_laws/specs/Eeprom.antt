@@ -1,20 +1,10 @@
 -- What the EEPROM's image does at a reset, and how it is read.
 use Rattle.std.specs.Prelude.{ℕ, ◌≡◌, ◌≢◌, ◌⊎◌, ◌+◌, ◌*◌, ◌^◌, IsTrue, IsFalse, List, [], ◌∷◌, ◌++◌, length, Some, None}
 use Rattle.nic_device.specs.EepromImage.Bytes.{word_at}
-use Rattle.nic_device.specs.EepromImage.Triples.{triples_of}
-use Rattle.nic_device.specs.RegTable.Place.{Names}
-use Rattle.nic_device.specs.RegTable.Rows.{row_of}
-use Rattle.nic_device.specs.RegTable.declared.place.Place.{Place}
-use Rattle.nic_device.specs.RegTable.declared.rows.RowId.TheVariants.{Ctrl, Eerd}
-use Rattle.nic_device.specs.RegisterFile.Access.{asks_reset}
 use Rattle.nic_device.specs.RegisterFile.Eeprom.{eeprom_asked}
-use Rattle.nic_device.specs.RegisterFile.Settings.{is_stopped}
-use Rattle.nic_device.specs.Outcome.{gives}
-use Rattle.nic_device.specs.Sound.{IsSound}
-use Rattle.nic_device.specs.State.{State}
-use Rattle.nic_device.specs.Step.{step_of, after, reply_to}
 use Rattle.nic_device.specs.declared.event.Event.TheVariants as event
-use Rattle.nic_device.specs.declared.event.Reply.TheVariants.{Word, Done, Idle}
+use Rattle.device_laws.specs.Prelude.{Ctrl, Done, Eerd, Idle, IsSound, Names, Place, State, Word, after, asks_reset}
+use Rattle.device_laws.specs.Prelude.{gives, is_stopped, reply_to, row_of, step_of, triples_of}
 use Rattle.device_laws.specs.Laws.{reply_to_read, after_write}
 
 -- a device with another image

@@ -1,25 +1,9 @@
 -- Which counters of virtual functions an event counts in, by its reply.
 use Rattle.std.specs.Prelude.{ℕ, ◌≡◌, ◌+◌, ◌%◌, ◌^◌, ◌==◌, Bool, false, ◌&&◌, ◌||◌, ⊤, IsFalse, Option, Some, None, if◌then◌else◌}
-use Rattle.nic_device.specs.DmaArena.Block.{Block}
-use Rattle.nic_device.specs.RegTable.Rows.{row_of}
-use Rattle.nic_device.specs.RegTable.declared.bank.Bank.TheVariants.{VfCounters}
-use Rattle.nic_device.specs.RegTable.declared.place.Place.{Place}
-use Rattle.nic_device.specs.RegTable.declared.rows.RowId.{RowId}
-use Rattle.nic_device.specs.RegTable.declared.rows.RowId.TheVariants.{Vfgprc, Vfgptc}
-use Rattle.nic_device.specs.RegisterFile.Access.{asks_reset, asks_pool_reset}
-use Rattle.nic_device.specs.RegisterFile.Columns.{place}
-use Rattle.nic_device.specs.RegisterFile.Words.{word_at}
-use Rattle.nic_device.specs.RegisterLaws.Footprint.{is_place}
-use Rattle.nic_device.specs.Interrupt.{function_of_queue}
-use Rattle.nic_device.specs.Named.{named}
-use Rattle.nic_device.specs.Sound.{IsSound}
-use Rattle.nic_device.specs.State.{State}
-use Rattle.nic_device.specs.Step.{after, reply_to}
-use Rattle.nic_device.specs.declared.event.Event.{Event}
 use Rattle.nic_device.specs.declared.event.Event.TheVariants as event
-use Rattle.nic_device.specs.declared.event.Reply.{Reply}
-use Rattle.nic_device.specs.declared.event.Reply.TheVariants.{Wrote, Sent}
-use Rattle.nic_device.specs.declared.named.Named.TheVariants.{Register}
+use Rattle.device_laws.specs.Prelude.{Block, Event, IsSound, Place, Register, Reply, RowId, Sent, State, VfCounters}
+use Rattle.device_laws.specs.Prelude.{Vfgprc, Vfgptc, Wrote, after, asks_pool_reset, asks_reset, function_of_queue}
+use Rattle.device_laws.specs.Prelude.{is_place, named, place, reply_to, row_of, word_at}
 
 -- whether a place is the counter in a row of a function, where there is one
 abbrev pub is_counter_of : Option ℕ → RowId → Place → Bool

@@ -1,38 +1,18 @@
 -- What the device promises a driver author, whatever happened before. `view` is the bits that an address shows.
 use Rattle.std.specs.Prelude.{ℕ, ◌≡◌, ◌≢◌, ◌<◌, ◌==◌, Bool, ⊤, IsTrue, IsFalse, List, [], ◌∷◌, take, drop, bit_and, if◌then◌else◌}
-use Rattle.nic_device.specs.RegTable.Rows.{row_of}
-use Rattle.nic_device.specs.RegTable.Runs.{runs}
-use Rattle.nic_device.specs.RegTable.Place.{Names, view_among}
-use Rattle.nic_device.specs.RegTable.declared.place.Place.{Place}
 use Rattle.nic_device.specs.RegTable.declared.kind.Kind.TheVariants.{Rw, Rc}
-use Rattle.nic_device.specs.RegTable.declared.rows.RowId.TheVariants.{Ctrl, Hlreg0, Maxfrs, GcrExt}
-use Rattle.nic_device.specs.RegTable.Counter.{bumped}
-use Rattle.nic_device.specs.DmaArena.Block.{Block}
-use Rattle.nic_device.specs.DmaArena.Memory.{read_at, AreApart}
-use Rattle.nic_device.specs.EepromImage.Triples.{triples_of}
 use Rattle.nic_device.specs.IntrUnit.BitSet.{IsSubset}
-use Rattle.nic_device.specs.IntrUnit.declared.group.Group.{Group}
-use Rattle.nic_device.specs.RegisterFile.Access.{asks_reset}
-use Rattle.nic_device.specs.RegisterFile.Bits.{merged}
 use Rattle.nic_device.specs.RegisterFile.Groups.{index_of, reported_by}
 use Rattle.nic_device.specs.RegisterFile.Registers.{is_wanted}
-use Rattle.nic_device.specs.RegisterFile.Words.{word_at}
-use Rattle.nic_device.specs.RegisterFile.Settings.{is_stopped, frame_limit}
-use Rattle.nic_device.specs.DmaRing.declared.dir.Dir.{Dir}
 use Rattle.nic_device.specs.RegisterLaws.Sound.{pending_bits}
-use Rattle.nic_device.specs.State.{State, Waiting, new_state}
-use Rattle.nic_device.specs.Outcome.{gives}
 use Rattle.nic_device.specs.Interrupt.{has_group, mode_in}
-use Rattle.nic_device.specs.Named.{named}
 use Rattle.nic_device.specs.Sound.{IsSound, IsEvent}
 use Rattle.nic_device.specs.Step.{step_of, after, reply_to, is_fault}
-use Rattle.nic_device.specs.Transmit.{staged_by}
-use Rattle.nic_device.specs.declared.event.Event.{Event}
 use Rattle.nic_device.specs.declared.event.Event.TheVariants as event
-use Rattle.nic_device.specs.declared.event.Port.TheVariants.{Pf}
-use Rattle.nic_device.specs.declared.event.Reply.{Reply}
-use Rattle.nic_device.specs.declared.named.Named.TheVariants.{Register}
-use Rattle.nic_device.specs.declared.event.Reply.TheVariants.{Word, Stray, Done, Idle, Wrote}
+use Rattle.device_laws.specs.Prelude.{AreApart, Block, Ctrl, Dir, Done, Event, GcrExt, Group, Hlreg0, Idle, Maxfrs}
+use Rattle.device_laws.specs.Prelude.{Names, Pf, Place, Register, Reply, State, Stray, Waiting, Word, Wrote, asks_reset}
+use Rattle.device_laws.specs.Prelude.{bumped, frame_limit, gives, is_stopped, merged, named, new_state, read_at, row_of}
+use Rattle.device_laws.specs.Prelude.{runs, staged_by, triples_of, view_among, word_at}
 
 -- after every event a bit is reported only while its cause and its mask are 1
 abbrev pub ReportedIsPending : Type 0

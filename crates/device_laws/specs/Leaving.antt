@@ -1,32 +1,15 @@
 -- What an event leaves alone: all that its reach misses.
 use Rattle.std.specs.Prelude.{ℕ, ◌≡◌, ◌≢◌, ◌⊎◌, Bool, ⊤, IsFalse, List, [], ◌∷◌, length, Some}
 use Rattle.std.specs.FinMap as map
-use Rattle.nic_device.specs.RegTable.Rows.{row_of}
-use Rattle.nic_device.specs.RegTable.declared.place.Place.{Place}
-use Rattle.nic_device.specs.DmaArena.Block.{Block}
-use Rattle.nic_device.specs.DmaArena.Memory.{Avoids}
 use Rattle.nic_device.specs.TxRing.Report.{report_length}
-use Rattle.nic_device.specs.IntrUnit.declared.group.Group.{Group}
 use Rattle.nic_device.specs.IntrUnit.declared.group.Group.TheVariants as group
-use Rattle.nic_device.specs.RegisterFile.Access.{asks_reset, asks_pool_reset}
-use Rattle.nic_device.specs.RegisterFile.Groups.{interrupts_of}
-use Rattle.nic_device.specs.RegisterFile.Owner.{owner_of}
-use Rattle.nic_device.specs.DmaRing.declared.dir.Dir.{Dir}
-use Rattle.nic_device.specs.DmaRing.declared.dir.Dir.TheVariants.{Rx, Tx}
 use Rattle.nic_device.specs.RegisterFile.declared.owner.Owner.TheVariants as owner
 use Rattle.nic_device.specs.RegisterLaws.Footprint.{Misses, of_side, of_group, of_write}
-use Rattle.nic_device.specs.RegisterLaws.Sides.{receive_queue_of, transmit_queue_of}
 use Rattle.nic_device.specs.Footprint.{Reach, StaysWithin, reach_of, reported_address}
-use Rattle.nic_device.specs.Step.{after, reply_to}
-use Rattle.nic_device.specs.State.{State, Waiting}
-use Rattle.nic_device.specs.Transmit.{staged_by}
-use Rattle.nic_device.specs.declared.event.Event.{Event}
 use Rattle.nic_device.specs.declared.event.Event.TheVariants as event
-use Rattle.nic_device.specs.declared.event.Port.{Port}
-use Rattle.nic_device.specs.declared.named.Named.TheVariants.{Register}
-use Rattle.nic_device.specs.Named.{named}
-use Rattle.nic_device.specs.declared.event.Reply.{Reply}
-use Rattle.nic_device.specs.declared.event.Reply.TheVariants.{Wrote}
+use Rattle.device_laws.specs.Prelude.{Avoids, Block, Dir, Event, Group, Place, Port, Register, Reply, Rx, State, Tx}
+use Rattle.device_laws.specs.Prelude.{Waiting, Wrote, after, asks_pool_reset, asks_reset, interrupts_of, named}
+use Rattle.device_laws.specs.Prelude.{owner_of, receive_queue_of, reply_to, row_of, staged_by, transmit_queue_of}
 
 -- the receive side of a queue is as it was: its ring and control word, and whether it is on and wanted on
 abbrev pub LeavesReceive : ℕ → State → State → Type 0

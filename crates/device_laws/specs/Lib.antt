@@ -8,5 +8,6 @@ pub mod Muting
 pub mod Order
 pub mod Ports
 pub mod Pool
+pub mod Prelude
 pub mod Raising
 pub mod Replies

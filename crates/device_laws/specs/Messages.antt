@@ -1,18 +1,11 @@
 -- What a message of a group reports to a driver, and when there is one.
 use Rattle.std.specs.Prelude.{ℕ, ◌≡◌, ◌<◌, IsTrue, IsFalse}
-use Rattle.nic_device.specs.RegTable.declared.rows.RowId.TheVariants.{IvarMisc}
 use Rattle.nic_device.specs.IntrUnit.Interrupts.{is_due}
 use Rattle.nic_device.specs.IntrUnit.Laws.{IsMessageOf, Leaves, reported_bits}
-use Rattle.nic_device.specs.IntrUnit.declared.group.Group.{Group}
-use Rattle.nic_device.specs.RegisterFile.Groups.{interrupts_of, masks_by_message}
-use Rattle.nic_device.specs.RegisterFile.Registers.{Registers, word_of}
-use Rattle.nic_device.specs.RegisterFile.Settings.{is_stopped}
-use Rattle.nic_device.specs.Interrupt.{has_group}
-use Rattle.nic_device.specs.Sound.{IsSound}
-use Rattle.nic_device.specs.State.{State}
-use Rattle.nic_device.specs.Step.{after, reply_to}
 use Rattle.nic_device.specs.declared.event.Event.TheVariants as event
 use Rattle.nic_device.specs.declared.event.Reply.TheVariants.{Message}
+use Rattle.device_laws.specs.Prelude.{Group, IsSound, IvarMisc, Registers, State, after, has_group, interrupts_of}
+use Rattle.device_laws.specs.Prelude.{is_stopped, masks_by_message, reply_to, word_of}
 
 -- a bit of a group is due: its cause and its mask are 1, it wasn't reported, and it has a vector
 abbrev pub IsDueIn : Registers → Group → ℕ → Type 0

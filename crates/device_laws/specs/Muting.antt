@@ -1,13 +1,9 @@
 -- Queues whose pool doesn't send.
 use Rattle.std.specs.Prelude.{ℕ, ◌≡◌, ◌<◌, IsTrue, IsFalse, Some}
-use Rattle.nic_device.specs.VfMap.Pools.{pool_of}
 use Rattle.nic_device.specs.RegisterFile.Pools.{mode_in, sends_frames}
 use Rattle.nic_device.specs.RxFilter.Pools.{uses_pools}
-use Rattle.nic_device.specs.Outcome.{gives}
-use Rattle.nic_device.specs.State.{State}
-use Rattle.nic_device.specs.Step.{step_of}
 use Rattle.nic_device.specs.declared.event.Event.TheVariants as event
-use Rattle.nic_device.specs.declared.event.Reply.TheVariants.{Idle}
+use Rattle.device_laws.specs.Prelude.{Idle, State, gives, pool_of, step_of}
 
 -- while frames are distributed among pools, a step of transmitting of a queue whose pool doesn't send is idle and
 -- changes nothing

@@ -1,20 +1,11 @@
 -- What a step of receiving does with the first frame that waits, by the state before it.
 use Rattle.std.specs.Prelude.{◌≡◌, ◌≢◌, ◌⊎◌, IsTrue, IsFalse, List, [], ◌∷◌, Ok, Err, is_ok}
-use Rattle.nic_device.specs.DmaArena.Block.{Block}
-use Rattle.nic_device.specs.DmaRing.declared.fault.RingFault.{RingFault}
 use Rattle.nic_device.specs.RxRing.Fill.{Outcome, fill_of}
-use Rattle.nic_device.specs.RxRing.declared.filled.Filled.{Filled}
-use Rattle.nic_device.specs.RegisterFile.Settings.{is_stopped, drops}
 use Rattle.nic_device.specs.RegisterLaws.Sides.{ReceiveQueue, receive_queue_of}
-use Rattle.nic_device.specs.Step.{reply_to, step_of}
-use Rattle.nic_device.specs.Outcome.{gives}
-use Rattle.nic_device.specs.Receive.{is_empty, rest_of}
-use Rattle.nic_device.specs.State.{State, Waiting}
 use Rattle.nic_device.specs.declared.event.Event.TheVariants as event
-use Rattle.nic_device.specs.declared.event.Reply.{Reply}
-use Rattle.nic_device.specs.declared.event.Reply.TheVariants.{Idle, Dropped, Wrote, Fault}
-use Rattle.nic_device.specs.declared.event.Why.{Why}
-use Rattle.nic_device.specs.declared.event.Why.TheVariants.{QueueOff, NoSlot}
+use Rattle.device_laws.specs.Prelude.{Block, Dropped, Fault, Filled, Idle, NoSlot, QueueOff, Reply, RingFault, State}
+use Rattle.device_laws.specs.Prelude.{Waiting, Why, Wrote, drops, gives, is_empty, is_stopped, reply_to, rest_of}
+use Rattle.device_laws.specs.Prelude.{step_of}
 
 -- the receive side that a frame waits for, and what filling the slot at its head answers
 abbrev pub side_for : State → Waiting → ReceiveQueue

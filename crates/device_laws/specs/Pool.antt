@@ -1,26 +1,12 @@
 -- What of the device is a virtual function's: its pool, and no more.
 use Rattle.std.specs.Prelude.{ℕ, ◌≡◌, ◌≢◌, ◌⊎◌, ◌/◌, ◌%◌, ◌^◌, IsTrue, IsFalse, List, [], filter}
-use Rattle.nic_device.specs.RegTable.Rows.{row_of}
-use Rattle.nic_device.specs.RegTable.declared.place.Place.{Place}
 use Rattle.nic_device.specs.RegTable.declared.rows.RowId.TheVariants.{GcrExt, Pvfctrl}
-use Rattle.nic_device.specs.VfMap.Owner.{has_queue}
-use Rattle.nic_device.specs.VfMap.declared.mode.Mode.{Mode}
-use Rattle.nic_device.specs.RegisterFile.Access.{asks_pool_reset}
-use Rattle.nic_device.specs.RegisterFile.Pools.{mode_in}
-use Rattle.nic_device.specs.RegisterFile.Registers.{word_of}
-use Rattle.nic_device.specs.RegisterFile.Settings.{is_stopped}
 use Rattle.nic_device.specs.RegisterLaws.Footprint.{Footprint, ChangesWithin, AgreeWithin, pool_agrees, pool_changes, pool_renews}
 use Rattle.nic_device.specs.RegisterLaws.PoolReset.{IsResetAt}
-use Rattle.nic_device.specs.Named.{named}
-use Rattle.nic_device.specs.PoolReset.{others_waiting}
-use Rattle.nic_device.specs.Sound.{IsSound}
-use Rattle.nic_device.specs.State.{State, Waiting}
-use Rattle.nic_device.specs.Step.{after, reply_to}
-use Rattle.nic_device.specs.Transmit.{staged_by}
 use Rattle.nic_device.specs.declared.event.Event.TheVariants as event
-use Rattle.nic_device.specs.declared.event.Port.{Port}
-use Rattle.nic_device.specs.declared.event.Port.TheVariants.{Vf}
-use Rattle.nic_device.specs.declared.named.Named.TheVariants.{Register}
+use Rattle.device_laws.specs.Prelude.{IsSound, Mode, Place, Port, Register, State, Vf, Waiting, after, asks_pool_reset}
+use Rattle.device_laws.specs.Prelude.{has_queue, is_stopped, mode_in, named, others_waiting, reply_to, row_of}
+use Rattle.device_laws.specs.Prelude.{staged_by, word_of}
 
 -- the frames that wait for a pool's queues, in their order
 abbrev pub waiting_of : Mode → ℕ → List Waiting → List Waiting

@@ -1,14 +1,9 @@
 -- What virtual functions reach, compared with the physical function.
 use Rattle.std.specs.Prelude.{ℕ, ◌≡◌}
-use Rattle.nic_device.specs.VfMap.Map.{mapped}
 use Rattle.nic_device.specs.VfMap.declared.mapped.Mapped.TheVariants as mapped_as
 use Rattle.nic_device.specs.Interrupt.{mode_in}
-use Rattle.nic_device.specs.Outcome.{gives}
-use Rattle.nic_device.specs.State.{State}
-use Rattle.nic_device.specs.Step.{step_of}
 use Rattle.nic_device.specs.declared.event.Event.TheVariants as event
-use Rattle.nic_device.specs.declared.event.Port.TheVariants.{Pf, Vf}
-use Rattle.nic_device.specs.declared.event.Reply.TheVariants.{Stray}
+use Rattle.device_laws.specs.Prelude.{Pf, State, Stray, Vf, gives, mapped, step_of}
 
 -- two accesses through ports have one reply and one state, as reads and as writes
 pub record AreOneAccess (s : State) (v offset address : ℕ) : Type 0 where

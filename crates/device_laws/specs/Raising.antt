@@ -1,24 +1,13 @@
 -- Which causes an event raises, by its reply.
 use Rattle.std.specs.Prelude.{ℕ, ◌≡◌, false, ⊤, Option, Some, None, if◌then◌else◌}
-use Rattle.nic_device.specs.DmaArena.Block.{Block}
 use Rattle.nic_device.specs.IntrUnit.Group.{queue_causes}
 use Rattle.nic_device.specs.IntrUnit.Interrupts.{Interrupts, raised}
-use Rattle.nic_device.specs.IntrUnit.declared.group.Group.{Group}
 use Rattle.nic_device.specs.IntrUnit.declared.group.Group.TheVariants as group
 use Rattle.nic_device.specs.RegisterFile.Groups.{interrupts_of, vector_entry}
-use Rattle.nic_device.specs.RegisterFile.Owner.{is_group}
-use Rattle.nic_device.specs.DmaRing.declared.dir.Dir.{Dir}
-use Rattle.nic_device.specs.DmaRing.declared.dir.Dir.TheVariants.{Rx, Tx}
 use Rattle.nic_device.specs.Interrupt.{group_of_queue, missed_cause, fault_cause, link_cause}
-use Rattle.nic_device.specs.Step.{after, reply_to}
-use Rattle.nic_device.specs.Sound.{IsSound}
-use Rattle.nic_device.specs.State.{State}
-use Rattle.nic_device.specs.declared.event.Event.{Event}
 use Rattle.nic_device.specs.declared.event.Event.TheVariants as event
-use Rattle.nic_device.specs.declared.event.Reply.{Reply}
-use Rattle.nic_device.specs.declared.event.Reply.TheVariants.{Done, Dropped, Wrote, Advanced, Sent, Fault}
-use Rattle.nic_device.specs.declared.event.Why.{Why}
-use Rattle.nic_device.specs.declared.event.Why.TheVariants.{Full}
+use Rattle.device_laws.specs.Prelude.{Advanced, Block, Dir, Done, Dropped, Event, Fault, Full, Group, IsSound, Reply}
+use Rattle.device_laws.specs.Prelude.{Rx, Sent, State, Tx, Why, Wrote, after, is_group, reply_to}
 
 -- causes of a group
 pub record Causes : Type 0 where

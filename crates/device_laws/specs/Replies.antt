@@ -1,23 +1,12 @@
 -- What the reply to a step says about the state after it.
 use Rattle.std.specs.Prelude.{ℕ, ◌≡◌, ◌≢◌, ◌+◌, ◌*◌, ◌/◌, ◌%◌, ◌^◌, false, ⊤, List, [], ◌∷◌, ◌++◌, length, Option, Some, if◌then◌else◌}
-use Rattle.nic_device.specs.DmaArena.Block.{Block}
 use Rattle.nic_device.specs.DmaRing.declared.ring.Ring.{Ring}
 use Rattle.nic_device.specs.DmaRing.Ring.{slots_of, next_of, descriptor_address}
-use Rattle.nic_device.specs.RegTable.declared.rows.RowId.TheVariants.{Tdwbal, Tdwbah}
-use Rattle.nic_device.specs.RegisterFile.Bits.{has_bit}
-use Rattle.nic_device.specs.RegisterFile.Queue.{ring_of}
-use Rattle.nic_device.specs.RegisterFile.Registers.{Registers, word_of}
-use Rattle.nic_device.specs.DmaRing.declared.dir.Dir.TheVariants.{Rx, Tx}
-use Rattle.nic_device.specs.RegisterLaws.Sides.{receive_queue_of, transmit_queue_of}
-use Rattle.nic_device.specs.Step.{after, reply_to, step_of}
+use Rattle.device_laws.specs.Prelude.{Block, Event, IsSound, Registers, Reply, Rx, State, Tdwbah, Tdwbal, Tx, after}
+use Rattle.device_laws.specs.Prelude.{gives, has_bit, receive_queue_of, reply_to, ring_of, staged_by, step_of}
+use Rattle.device_laws.specs.Prelude.{transmit_queue_of, word_of}
 use Rattle.device_laws.specs.Leaving.{IsFirstFor}
-use Rattle.nic_device.specs.Outcome.{gives}
-use Rattle.nic_device.specs.Sound.{IsSound}
-use Rattle.nic_device.specs.State.{State}
-use Rattle.nic_device.specs.Transmit.{staged_by}
-use Rattle.nic_device.specs.declared.event.Event.{Event}
 use Rattle.nic_device.specs.declared.event.Event.TheVariants as event
-use Rattle.nic_device.specs.declared.event.Reply.{Reply}
 use Rattle.nic_device.specs.declared.event.Reply.TheVariants.{Wrote, Advanced, Sent, Fault, Frame, Misaligned}
 
 -- a ring with its head moved on to the next slot

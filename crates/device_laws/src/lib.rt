@@ -25,11 +25,13 @@ pub fn devices_stay_sound()
 {}
 
 /// After every event that a driver can make, a bit of a group is reported only while its cause and its mask are 1.
+#[tactic(auto, using(crate::proofs::Kept::reported_pending))]
 pub fn reported_is_pending()
     ensures { ReportedIsPending }
 {}
 
 /// A plain read/write register of a new device reads as its reset value, in the bits that the address shows.
+#[tactic(auto, using(crate::proofs::Accesses::new_reads))]
 pub fn new_device_reads_reset_values()
     ensures { NewDeviceReadsResetValues }
 {}
@@ -37,16 +39,19 @@ pub fn new_device_reads_reset_values()
 /// A read right after a write of a plain read/write register, each at any address of it, aliases included, returns the
 /// written bits that the mask and the written address let through, and the former bits elsewhere, as far as its own
 /// address shows them.
+#[tactic(auto, using(crate::proofs::Accesses::write_shows))]
 pub fn write_shows_at_each_address()
     ensures { WriteShowsAtEachAddress }
 {}
 
 /// A write of one plain read/write register doesn't show in any other.
+#[tactic(auto, using(crate::proofs::Accesses::write_leaves))]
 pub fn write_leaves_other_registers()
     ensures { WriteLeavesOtherRegisters }
 {}
 
 /// A read of a plain read/write register changes nothing.
+#[tactic(auto, using(crate::proofs::Accesses::read_changes_nothing))]
 pub fn read_changes_nothing()
     ensures { ReadChangesNothing }
 {}
@@ -57,12 +62,14 @@ pub fn stray_access_changes_nothing()
 {}
 
 /// A counter that was read reads as 0 right after that, at each of its addresses.
+#[tactic(auto, using(crate::proofs::Counted::read_starts_again))]
 pub fn read_counter_starts_again()
     ensures { ReadCounterStartsAgain }
 {}
 
 /// A frame that is accepted is counted in GPRC, so that the next read returns one more. The largest word, 0xFFFFFFFF,
 /// stays.
+#[tactic(auto, using(crate::proofs::Counted::let_in_is_counted))]
 pub fn let_in_frame_is_counted()
     ensures { LetInFrameIsCounted }
 {}
@@ -71,6 +78,7 @@ pub fn let_in_frame_is_counted()
 /// and GPTC those transmitted. QPRC, QPRDC and QPTC count the frames of queues in the counters that RQSMR and TQSM
 /// assign: QPRC those written to their end, QPRDC those dropped because no descriptor was free, QPTC those transmitted.
 /// 0xFFFFFFFF stays. Only a read of a counter and a reset change it otherwise.
+#[tactic(auto, using(crate::proofs::Counts::events_count))]
 pub fn events_count()
     ensures { EventsCount }
 {}
@@ -78,6 +86,7 @@ pub fn events_count()
 /// VFGPRC of a virtual function counts the frames that are written to their end on a queue of the function's pool, and
 /// VFGPTC those that are transmitted from one, where the device has the function. 0xFFFFFFFF is followed by 0. Only a
 /// reset of the device or of the function's pool changes them otherwise; a read doesn't.
+#[tactic(auto, using(crate::proofs::FunctionEvents::events_count_for_functions))]
 pub fn events_count_for_functions()
     ensures { EventsCountForFunctions }
 {}
@@ -86,6 +95,7 @@ pub fn events_count_for_functions()
 /// change of the link bit 20. A frame that is written to its end raises the cause that IVAR or PVTIVAR has for its
 /// receive queue, and a written-back report the one for its transmit queue, in the queue's group. No other event but
 /// accesses and messages changes a group's interrupts, and these change no other group.
+#[tactic(auto, using(crate::proofs::Causes::events_raise))]
 pub fn events_raise()
     ensures { EventsRaise }
 {}
@@ -94,6 +104,7 @@ pub fn events_raise()
 /// registers: lent memory, the transmitted frames, the link, the image and the configuration are unchanged. With an
 /// image that writes no register, each register has its reset value then, no side of a queue is asked to be enabled,
 /// and no bit is reported; `reset_applies_the_image` says what more an image does.
+#[tactic(auto, using(crate::proofs::Resetting::asked_resets, crate::proofs::Resetting::reset_values))]
 pub fn asked_reset_resets()
     ensures rest { AskedResetResets }
     ensures values { ResetGivesResetValues }
@@ -102,12 +113,14 @@ pub fn asked_reset_resets()
 /// A reset makes the register writes of the EEPROM image one by one: an image with one more write at its end leaves the
 /// device as the image without it does, changed by that write. A write of CTRL or EERD is skipped, and none ends the
 /// list.
+#[tactic(auto, using(crate::proofs::Imaged::last_write, crate::proofs::Imaged::stepped_over))]
 pub fn reset_applies_the_image()
     ensures writes { LastWriteIsMade }
     ensures steps_over { SteppedOverWriteIsNotMade }
 {}
 
 /// EEC reports the size of the installed image: it reads 0x300 + 0x800 s where that has 64 * 2^s words.
+#[tactic(auto, using(crate::proofs::EepromReads::control_tells))]
 pub fn image_is_reported_by_its_size()
     ensures { ControlTellsSize }
 {}
@@ -123,6 +136,7 @@ pub fn eeprom_step_gives_the_word()
 
 /// An event that writes none of CTRL, HLREG0, MAXFRS and GCR_EXT changes neither the frame limit nor how the queues are
 /// separated into pools.
+#[tactic(auto, using(crate::proofs::KeptSettings::settings_stand))]
 pub fn other_events_keep_settings()
     ensures { OtherEventsKeepSettings }
 {}
@@ -151,6 +165,7 @@ pub fn access_leaves_the_rest()
 
 /// A memory call changes no queue, no group and no frame; and no block but the one that it lends or takes, or those
 /// with the 16 bytes that it writes.
+#[tactic(auto, using(crate::proofs::Standing::memory_rest, crate::proofs::Standing::memory_blocks))]
 pub fn memory_call_leaves_the_rest()
     ensures rest { MemoryCallsLeaveTheRest }
     ensures blocks { MemoryCallsLeaveOtherBlocks }
@@ -163,6 +178,7 @@ pub fn arrival_leaves_the_rest()
 
 /// A receive step changes no queue but the receive side of the one that the oldest frame waits for, no transmitted
 /// frame, and no block but those of the descriptor and the bytes that it reports.
+#[tactic(auto, using(crate::proofs::StandingQueues::receiving_rest, crate::proofs::StandingQueues::receiving_blocks))]
 pub fn receiving_leaves_the_rest()
     ensures rest { ReceivingLeavesTheRest }
     ensures blocks { ReceivingLeavesOtherBlocks }
@@ -204,6 +220,7 @@ pub fn receiving_has_an_order()
 /// A filled slot was the one at the head of the queue that the oldest frame waits for; then that receive side is
 /// unchanged but for its head, which is the next slot. A fault leaves that side disabled and not asked to be enabled,
 /// and unchanged otherwise.
+#[tactic(auto, using(crate::proofs::RepliesReceived::receiving_tells))]
 pub fn receiving_tells()
     ensures { ReceivingTells }
 {}
@@ -212,12 +229,14 @@ pub fn receiving_tells()
 /// the next slot, and a report is made where the queue reports: at its head write-back address while TDWBAL bit 0 is 1,
 /// else at the descriptor. A fault leaves the side disabled, not asked to be enabled, with nothing staged, and
 /// unchanged otherwise.
+#[tactic(auto, using(crate::proofs::RepliesSent::transmitting_tells))]
 pub fn transmitting_tells()
     ensures { TransmittingTells }
 {}
 
 /// While VT_CTL bit 0 is 1, a transmit step of a queue below 128 whose pool has its bit of VFTE at 0 is idle and
 /// changes nothing.
+#[tactic(auto, using(crate::proofs::Muting::muted_idle))]
 pub fn muted_queue_is_idle()
     ensures { MutedQueueIsIdle }
 {}
@@ -226,12 +245,14 @@ pub fn muted_queue_is_idle()
 /// interrupt step of the group sends the vector of the lowest such bit and marks that bit as reported. It clears the
 /// bit's cause where EIAC has the bit, and its mask where GPIE bit 30 is 1 and EIAM has the bit; the group's other bits
 /// are unchanged.
+#[tactic(auto, using(crate::proofs::Messages::due_reported))]
 pub fn due_bit_is_reported()
     ensures { DueBitIsReported }
 {}
 
 /// A frame is appended to the transmitted frames exactly where a transmit step reports it as sent, with its queue and
 /// its length; the oldest is removed exactly where it is collected. No other event changes them.
+#[tactic(auto, using(crate::proofs::RepliesOut::frames_out))]
 pub fn events_move_frames_out()
     ensures { EventsMoveFramesOut }
 {}
@@ -247,6 +268,7 @@ pub fn piece_is_read_back()
 {}
 
 /// A fault changes no memory.
+#[tactic(auto, using(crate::proofs::Kept::fault_memory))]
 pub fn fault_changes_no_memory()
     ensures { FaultChangesNoMemory }
 {}

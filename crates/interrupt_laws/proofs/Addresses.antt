@@ -1,14 +1,10 @@
 -- Where the interrupt registers are.
 use Rattle.std.proofs.Common.{◌≡◌, ℕ, Some, refl, lit<}
-use Rattle.nic_device.specs.RegTable.Place.{address_among}
-use Rattle.nic_device.specs.RegTable.Runs.{runs}
-use Rattle.nic_device.specs.RegTable.declared.place.Place.{Place}
 use Rattle.nic_device.specs.RegTable.declared.rows.RowId.TheVariants.{Eicr, Eics, Eims, Eimc, Eiac, Eiam, Gpie, Pvteicr, Pvteics, Pvteims, Pvteimc, Pvteiac, Pvteiam}
 use Rattle.nic_device.proofs.RegTable.Finding.{found-named}
 use Rattle.nic_device.proofs.RegTable.FirstAddresses.{first_address, first_address_names}
 use Rattle.nic_device.proofs.RegTable.FirstViews.{first_view}
-use Rattle.nic_device.specs.IntrUnit.declared.group.Group.TheVariants.{Pf, Vf}
-use Rattle.nic_device.specs.RegisterFile.Columns.{place}
+use Rattle.interrupt_laws.specs.Prelude.{Pf, Place, Vf, address_among, place, runs}
 use Rattle.interrupt_laws.specs.Names.{IsAddressOf, RegistersHaveAddresses, HasLowViews}
 
 -- the first address of a place shows all bits

@@ -1,30 +1,17 @@
 -- An access of a register of one group leaves the other groups.
 use Rattle.std.proofs.Common.{◌≡◌, ◌≢◌, ℕ, true, ◌&&◌, refl, ap, sym, ◌∙◌}
 use Rattle.std.specs.Prelude.{bit_and, IsFalse}
-use Rattle.nic_device.specs.RegTable.Place.{Names, view_among}
-use Rattle.nic_device.specs.RegTable.Rows.{row_of}
-use Rattle.nic_device.specs.RegTable.Runs.{runs}
-use Rattle.nic_device.specs.RegTable.declared.place.Place.{Place}
-use Rattle.nic_device.specs.RegTable.declared.rows.RowId.{RowId}
-use Rattle.nic_device.specs.RegTable.declared.rows.RowId.TheVariants.{CtrlExt, Pfmailbox, Pvfmailbox}
-use Rattle.nic_device.specs.IntrUnit.BitSet.{contains}
-use Rattle.nic_device.specs.IntrUnit.declared.group.Group.{Group}
 use Rattle.nic_device.specs.RegisterFile.Access.{asks_reset, asks_pool_reset}
-use Rattle.nic_device.specs.RegisterFile.Bits.{has_bit}
-use Rattle.nic_device.specs.RegisterFile.Groups.{interrupts_of}
-use Rattle.nic_device.specs.RegisterFile.Owner.{owner_in, owner_of}
 use Rattle.nic_device.specs.RegisterFile.declared.owner.Owner.TheVariants as owner
 use Rattle.nic_device.specs.RegisterLaws.Footprint.{is_own, of_owner, of_group, of_write}
-use Rattle.nic_device.proofs.RegisterLaws.Accessed.{covers-of_write}
-use Rattle.nic_device.proofs.RegisterLaws.Covers.{misses-narrower, misses-owner}
 use Rattle.nic_device.proofs.RegisterLaws.ReadBack.{owners_differ}
-use Rattle.nic_device.specs.State.{State}
-use Rattle.nic_device.specs.Step.{after}
 use Rattle.nic_device.specs.declared.event.Event.TheVariants as event
 use Rattle.nic_device.specs.declared.event.Port.TheVariants as port
-use Rattle.nic_device.specs.declared.named.Named.TheVariants.{Register}
-use Rattle.device_laws.specs.Laws.{after_write}
 use Rattle.device_laws.proofs.StandingAccesses.{read_rest, write_rest}
+use Rattle.interrupt_laws.specs.Prelude.{CtrlExt, Group, Names, Pfmailbox, Place, Pvfmailbox, Register, RowId, State}
+use Rattle.interrupt_laws.specs.Prelude.{after, after_write, contains, has_bit, interrupts_of, owner_in, owner_of}
+use Rattle.interrupt_laws.specs.Prelude.{row_of, runs, view_among}
+use Rattle.interrupt_laws.proofs.Prelude.{covers-of_write, misses-narrower, misses-owner}
 use Rattle.interrupt_laws.proofs.Bits.{has_bit-and}
 use Rattle.interrupt_laws.proofs.Words.{named-at}
 

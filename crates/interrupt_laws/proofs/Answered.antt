@@ -1,9 +1,6 @@
 -- How accesses of registers are answered.
 use Rattle.std.proofs.Common.{◌≡◌, refl, ap, sym, subst}
-use Rattle.nic_device.specs.Access.{named_read, named_written}
-use Rattle.nic_device.specs.Step.{step_of}
-use Rattle.nic_device.specs.declared.event.Reply.TheVariants.{Word}
-use Rattle.nic_device.specs.declared.named.Named.{Named}
+use Rattle.interrupt_laws.specs.Prelude.{Named, Word, named_read, named_written, step_of}
 use Rattle.interrupt_laws.specs.Answered.{AccessesAreAnswered}
 use Rattle.interrupt_laws.specs.Shown.{word_in}
 

@@ -1,16 +1,11 @@
 -- Frames are let into pools whose bit of VFRE is 1.
 use Rattle.std.proofs.Common.{◌≡◌, ℕ, zero, suc, ◌≢◌, ◌⊎◌, ◌+◌, ◌*◌, ◌/◌, ◌%◌, ◌<◌, ◌==◌, true, if◌then◌else◌, List, [], ◌∷◌, ◌++◌, Option, Some, None, Ok, Err, refl, ap, sym, ◌∙◌, subst, inl, inr, arith, lit<}
 use Rattle.std.specs.Prelude.{⊤, Result, IfSome}
-use Rattle.std.proofs.lemmas.Bool.{cond_both, cond-true, cond-false, ne_eqb}
 use Rattle.nic_device.specs.RegTable.declared.rows.RowId.TheVariants.{GcrExt, Mrqc, Vfre, VtCtl}
-use Rattle.nic_device.proofs.RegTable.FirstAddresses.{first_address}
 use Rattle.nic_device.specs.RssHash.Mrqc.{queue_mode_of}
 use Rattle.nic_device.specs.RssHash.declared.mrqc.QueueMode.{QueueMode}
 use Rattle.nic_device.specs.RssHash.declared.mrqc.QueueMode.TheVariants.{Single, Rss, Vmdq64, Vmdq32Rss, Vmdq64Rss}
 use Rattle.nic_device.specs.VfMap.declared.mode.Mode.TheVariants.{Pools16}
-use Rattle.nic_device.specs.RegisterFile.Pools.{mode_in}
-use Rattle.nic_device.specs.RegisterFile.Columns.{place}
-use Rattle.nic_device.specs.RegisterFile.Registers.{Registers, word_of}
 use Rattle.nic_device.specs.RxFilter.Address.{passes}
 use Rattle.nic_device.specs.RxFilter.Pools.{uses_pools, selected_pool, parting_in, has_queues, takes_frames, checked_pool, chosen_pool}
 use Rattle.nic_device.specs.RxFilter.Sorting.{queue_of, rss_entry, target_of, pool_target, sorted}
@@ -22,12 +17,9 @@ use Rattle.nic_device.specs.RxFilter.declared.target.Target.{Target}
 use Rattle.nic_device.specs.RxFilter.declared.unwanted.Unwanted.{Unwanted}
 use Rattle.nic_device.specs.RxFilter.declared.unwanted.Unwanted.TheVariants.{Filter, NoPool, PoolOff}
 use Rattle.nic_device.specs.Arrival.{let_in}
-use Rattle.nic_device.specs.Outcome.{Outcome}
-use Rattle.nic_device.specs.Sound.{IsSound}
-use Rattle.nic_device.specs.State.{State}
-use Rattle.nic_device.specs.Step.{step_of}
-use Rattle.nic_device.specs.declared.event.Reply.TheVariants.{Done}
 use Rattle.nic_device.proofs.Cases.{either_way, arrived_cases}
+use Rattle.interrupt_laws.specs.Prelude.{Done, IsSound, Outcome, Registers, State, mode_in, place, step_of, word_of}
+use Rattle.interrupt_laws.proofs.Prelude.{cond-false, cond-true, cond_both, first_address, ne_eqb}
 use Rattle.interrupt_laws.specs.Arriving.{IsOfOpenPool, JoinsOpenPool, VfreLetsIntoPools, queue_mode, pool_mode}
 use Rattle.interrupt_laws.proofs.Addresses.{address_of}
 use Rattle.interrupt_laws.proofs.Reading.{read-word, word_lt}

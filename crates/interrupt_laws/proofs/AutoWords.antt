@@ -3,27 +3,13 @@ use Rattle.std.proofs.Common.{◌≡◌, ◌≢◌, ℕ, ◌<◌, ◌^◌, true,
 use Rattle.std.specs.Prelude.{bit_and}
 use Rattle.std.proofs.lemmas.Nat.{and_le_l}
 use Rattle.std.proofs.lemmas.Nat.Bits.{bit_at_ones}
-use Rattle.nic_device.specs.RegTable.Place.{Names, view_among}
-use Rattle.nic_device.specs.RegTable.Rows.{row_of}
-use Rattle.nic_device.specs.RegTable.Runs.{runs}
-use Rattle.nic_device.specs.RegTable.declared.place.Place.{Place}
 use Rattle.nic_device.specs.RegTable.declared.rows.RowId.TheVariants.{Eicr, Eims, Eiac, Eiam, Pvteicr, Pvteims, Pvteiac, Pvteiam}
-use Rattle.nic_device.specs.IntrUnit.declared.group.Group.{Group}
-use Rattle.nic_device.specs.IntrUnit.declared.group.Group.TheVariants.{Pf, Vf}
 use Rattle.nic_device.specs.RegisterFile.Access.{stored}
-use Rattle.nic_device.specs.RegisterFile.Bits.{has_bit, merged}
-use Rattle.nic_device.specs.RegisterFile.Columns.{place}
-use Rattle.nic_device.specs.RegisterFile.Groups.{interrupts_of}
-use Rattle.nic_device.specs.RegisterFile.Registers.{Registers}
 use Rattle.nic_device.specs.RegisterFile.Words.{word_at, put}
-use Rattle.nic_device.proofs.RegisterLaws.Puts.{word_at-put_other}
-use Rattle.nic_device.proofs.RegisterLaws.Shape.{put_stands}
 use Rattle.nic_device.specs.RegisterLaws.Sound.{HasShape}
-use Rattle.nic_device.specs.Access.{state_written}
-use Rattle.nic_device.specs.Sound.{IsSound}
-use Rattle.nic_device.specs.State.{State}
-use Rattle.device_laws.specs.Laws.{after_write}
-use Rattle.device_laws.proofs.Accesses.{state-written}
+use Rattle.interrupt_laws.specs.Prelude.{Group, IsSound, Names, Pf, Place, Registers, State, Vf, after_write, has_bit}
+use Rattle.interrupt_laws.specs.Prelude.{interrupts_of, merged, place, row_of, runs, state_written, view_among}
+use Rattle.interrupt_laws.proofs.Prelude.{put_stands, state-written, word_at-put_other}
 use Rattle.interrupt_laws.specs.Accesses.{written_bit, WriteOfAutoClearIsKept, WriteOfAutoMaskIsKept}
 use Rattle.interrupt_laws.specs.Names.{IsGroup, bits_in, auto_clear_register, auto_mask_register}
 use Rattle.interrupt_laws.specs.Shown.{Bit, bit_of}

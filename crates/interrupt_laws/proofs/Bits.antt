@@ -3,7 +3,7 @@ use Rattle.std.proofs.Common.{◌≡◌, ℕ, zero, suc, ◌-◌, ◌^◌, ◌<�
 use Rattle.std.specs.Prelude.{bit_and, min, max}
 use Rattle.std.specs.Int.{bit_at, w32}
 use Rattle.std.proofs.lemmas.Nat.Bits.{bit_at_and, bit_at_or, bit_at_not, bit_at_ones, bit_at-lt}
-use Rattle.nic_device.specs.RegisterFile.Bits.{has_bit, merged}
+use Rattle.interrupt_laws.specs.Prelude.{has_bit, merged}
 
 pub and_true : (x : Bool) → (x && true) ≡ x
 and_true true = refl

@@ -1,23 +1,14 @@
 -- What bytes of IVAR and PVTIVAR name.
 use Rattle.std.proofs.Common.{◌≡◌, ℕ, ◌+◌, ◌*◌, ◌/◌, ◌%◌, ◌^◌, ◌<◌, Bool, true, false, ◌&&◌, nat_le, ◌==◌, cond, refl, ap, sym, ◌∙◌, arith}
 use Rattle.std.proofs.Math.Nat.{div-one}
-use Rattle.std.proofs.lemmas.Bool.{eqb-true}
 use Rattle.nic_device.specs.RegTable.declared.rows.RowId.TheVariants.{Ivar, Pvtivar}
-use Rattle.nic_device.proofs.RegTable.FirstAddresses.{first_address}
-use Rattle.nic_device.specs.DmaRing.declared.dir.Dir.{Dir}
-use Rattle.nic_device.specs.DmaRing.declared.dir.Dir.TheVariants.{Rx, Tx}
 use Rattle.nic_device.specs.IntrUnit.BitSet.{contains, only, no_bits}
 use Rattle.nic_device.specs.IntrUnit.Group.{last_queue_cause, queue_causes}
-use Rattle.nic_device.specs.IntrUnit.declared.group.Group.{Group}
-use Rattle.nic_device.specs.IntrUnit.declared.group.Group.TheVariants.{Pf, Vf}
 use Rattle.nic_device.proofs.IntrUnit.SetLaws.{contains-only, contains-no_bits}
-use Rattle.nic_device.specs.RegisterFile.Bits.{has_bit}
-use Rattle.nic_device.specs.RegisterFile.Columns.{place}
 use Rattle.nic_device.specs.RegisterFile.Groups.{vector_row, vector_entry}
-use Rattle.nic_device.specs.RegisterFile.Pools.{mode_in}
-use Rattle.nic_device.specs.RegisterFile.Registers.{Registers, word_of}
-use Rattle.nic_device.specs.Sound.{IsSound}
-use Rattle.nic_device.specs.State.{State}
+use Rattle.interrupt_laws.specs.Prelude.{Dir, Group, IsSound, Pf, Registers, Rx, State, Tx, Vf, has_bit, mode_in, place}
+use Rattle.interrupt_laws.specs.Prelude.{word_of}
+use Rattle.interrupt_laws.proofs.Prelude.{eqb-true, first_address}
 use Rattle.interrupt_laws.specs.Queues.{IsQueueOf, byte_of, side_byte, pf_byte, vf_byte, names_cause}
 use Rattle.interrupt_laws.specs.Shown.{read_at}
 use Rattle.interrupt_laws.proofs.Addresses.{address_of}

@@ -1,29 +1,17 @@
 -- What accesses of EICS and EICR, and of PVTEICS and PVTEICR, do to causes and masks.
 use Rattle.std.proofs.Common.{◌≡◌, ◌≢◌, ℕ, ◌<◌, Bool, ◌&&◌, ◌||◌, refl, ap, sym, ◌∙◌, arith}
 use Rattle.std.specs.Prelude.{bit_and, not, nat_le}
-use Rattle.nic_device.specs.RegTable.Place.{Names, view_among}
-use Rattle.nic_device.specs.RegTable.Runs.{runs}
-use Rattle.nic_device.specs.RegTable.declared.rows.RowId.TheVariants.{Eicr, Eics, Pvteicr, Pvteics}
 use Rattle.nic_device.specs.IntrUnit.BitSet.{BitSet, contains}
 use Rattle.nic_device.specs.IntrUnit.Interrupts.{Interrupts, raised, after_read, after_write_one}
 use Rattle.nic_device.specs.IntrUnit.Laws.{keeps_cause}
-use Rattle.nic_device.specs.IntrUnit.declared.group.Group.{Group}
-use Rattle.nic_device.specs.IntrUnit.declared.group.Group.TheVariants.{Pf, Vf}
 use Rattle.nic_device.proofs.IntrUnit.BitLaws.{raises_change, writes_of_ones_change, reads_change}
-use Rattle.nic_device.specs.RegisterFile.Bits.{has_bit}
-use Rattle.nic_device.specs.RegisterFile.Columns.{place}
 use Rattle.nic_device.specs.RegisterFile.Groups.{interrupts_of, with_interrupts, auto_masks, clears_others}
-use Rattle.nic_device.proofs.RegisterFile.Own.{intersection-lt}
-use Rattle.nic_device.proofs.RegisterLaws.GroupChanges.{settled}
 use Rattle.nic_device.proofs.RegisterLaws.Settled.{settled-raised, settled-after_read, settled-after_write_one}
-use Rattle.nic_device.specs.Access.{state_read, state_written}
-use Rattle.nic_device.specs.Sound.{IsSound}
-use Rattle.nic_device.specs.State.{State}
-use Rattle.nic_device.specs.Step.{after}
 use Rattle.nic_device.specs.declared.event.Event.TheVariants as event
 use Rattle.nic_device.specs.declared.event.Port.TheVariants as port
-use Rattle.device_laws.specs.Laws.{after_write}
-use Rattle.device_laws.proofs.Accesses.{state-read, state-written}
+use Rattle.interrupt_laws.specs.Prelude.{Eicr, Eics, Group, IsSound, Names, Pf, Pvteicr, Pvteics, State, Vf, after}
+use Rattle.interrupt_laws.specs.Prelude.{after_write, has_bit, place, runs, state_read, state_written, view_among}
+use Rattle.interrupt_laws.proofs.Prelude.{intersection-lt, settled, state-read, state-written}
 use Rattle.interrupt_laws.specs.Accesses.{writes_one, cause_set, cause_cleared, read_keeps, causes_read, WriteOfCauseSetSets, WriteOfCausesClears, ReadOfCausesClears}
 use Rattle.interrupt_laws.specs.Names.{IsGroup, bits_in, cause_register, cause_set_register}
 use Rattle.interrupt_laws.specs.Shown.{bit_of, masks_by_access}

@@ -1,17 +1,11 @@
 -- What a group shows after a call that changes its causes and masks alone.
 use Rattle.std.proofs.Common.{◌≡◌, ℕ, ◌<◌, ◌^◌, ◌&&◌, ap, sym, subst, ◌∙◌}
 use Rattle.std.specs.Prelude.{bit_and}
-use Rattle.nic_device.specs.IntrUnit.BitSet.{contains}
-use Rattle.nic_device.specs.IntrUnit.Group.{group_bits}
-use Rattle.nic_device.specs.IntrUnit.Interrupts.{Interrupts}
 use Rattle.nic_device.specs.IntrUnit.Laws.{Bits, Leaves}
-use Rattle.nic_device.specs.IntrUnit.declared.group.Group.{Group}
-use Rattle.nic_device.specs.RegisterFile.Bits.{has_bit}
 use Rattle.nic_device.specs.RegisterFile.Groups.{index_of, interrupts_of, with_interrupts}
 use Rattle.nic_device.proofs.RegisterLaws.Settled.{IsSettled}
-use Rattle.nic_device.proofs.RegisterLaws.Standing.{interrupts_of-with_interrupts}
-use Rattle.nic_device.specs.Sound.{IsSound}
-use Rattle.nic_device.specs.State.{State}
+use Rattle.interrupt_laws.specs.Prelude.{Group, Interrupts, IsSound, State, contains, group_bits, has_bit}
+use Rattle.interrupt_laws.proofs.Prelude.{interrupts_of-with_interrupts}
 use Rattle.interrupt_laws.specs.Names.{IsGroup, bits_in}
 use Rattle.interrupt_laws.specs.Shown.{Bit, bit_of}
 use Rattle.interrupt_laws.proofs.Alone.{written}

@@ -1,18 +1,13 @@
 -- In which counters the frames of queues are counted.
 use Rattle.std.proofs.Common.{◌≡◌, ℕ, ◌+◌, ◌*◌, ◌/◌, ◌%◌, ◌^◌, ◌<◌, ◌==◌, refl, ap, sym, ◌∙◌, subst, arith}
-use Rattle.nic_device.specs.DmaRing.declared.dir.Dir.TheVariants.{Rx, Tx}
 use Rattle.nic_device.specs.RegTable.declared.rows.RowId.TheVariants.{Qprc, Qprdc, Qptc, Rqsmr, Tqsm}
-use Rattle.nic_device.proofs.RegTable.FirstAddresses.{first_address}
-use Rattle.nic_device.specs.RegisterFile.Columns.{place}
 use Rattle.nic_device.specs.RegisterFile.Counters.{counter_of}
-use Rattle.nic_device.specs.RegisterFile.Words.{word_at}
-use Rattle.nic_device.proofs.Steps.{keeps_sound}
 use Rattle.nic_device.specs.Sound.{IsSound, AreWaiting}
-use Rattle.nic_device.specs.State.{State}
-use Rattle.nic_device.specs.Step.{after}
 use Rattle.nic_device.specs.declared.event.Event.TheVariants as event
 use Rattle.device_laws.specs.Counting.{counts_received, counts_slotless, counts_sent, with_one}
 use Rattle.device_laws.proofs.Counts.{events_count}
+use Rattle.interrupt_laws.specs.Prelude.{Rx, State, Tx, after, place, word_at}
+use Rattle.interrupt_laws.proofs.Prelude.{first_address, keeps_sound}
 use Rattle.interrupt_laws.specs.Queues.{receive_counter, transmit_counter, MappingsNameCounters}
 use Rattle.interrupt_laws.proofs.Addresses.{address_of}
 use Rattle.interrupt_laws.proofs.Reading.{read-word, word_lt}

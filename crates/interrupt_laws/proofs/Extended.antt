@@ -1,35 +1,16 @@
 -- What a write of CTRL_EXT leaves.
 use Rattle.std.proofs.Common.{◌≡◌, ◌≢◌, ℕ, ◌<◌, false, cond, if◌then◌else◌, List, [], ◌∷◌, refl, ap, sym, ◌∙◌, subst, arith, lit<}
 use Rattle.std.specs.Prelude.{bit_and, fold}
-use Rattle.std.specs.List.{range_with_len}
-use Rattle.std.proofs.lemmas.Bool.{cond_both, cond-false}
-use Rattle.nic_device.specs.RegTable.Place.{Names, view_among}
-use Rattle.nic_device.specs.RegTable.Rows.{row_of}
-use Rattle.nic_device.specs.RegTable.Runs.{runs}
-use Rattle.nic_device.specs.RegTable.declared.kind.Kind.{Kind}
 use Rattle.nic_device.specs.RegTable.declared.kind.Kind.TheVariants as kind
-use Rattle.nic_device.specs.RegTable.declared.place.Place.{Place}
-use Rattle.nic_device.specs.RegTable.declared.rows.RowId.{RowId}
 use Rattle.nic_device.specs.RegTable.declared.rows.RowId.TheVariants as row
-use Rattle.nic_device.proofs.RegTable.FirstAddresses.{first_address}
 use Rattle.nic_device.specs.RegisterFile.Access.{read_word, stored, calculated}
-use Rattle.nic_device.specs.RegisterFile.Bits.{has_bit, merged}
-use Rattle.nic_device.specs.RegisterFile.Columns.{place}
 use Rattle.nic_device.specs.RegisterFile.Mailbox.{done_reported, mail_of, reset_reported, resets_reported}
-use Rattle.nic_device.specs.RegisterFile.Registers.{Registers, word_of}
-use Rattle.nic_device.specs.RegisterFile.Words.{word_at}
-use Rattle.nic_device.specs.RegisterFile.declared.surroundings.Surroundings.{Surroundings}
 use Rattle.nic_device.proofs.RegisterFile.ResetWords.{word_at-reset}
-use Rattle.nic_device.proofs.RegisterLaws.Puts.{word_at-put_other}
-use Rattle.nic_device.proofs.RegisterLaws.Shape.{put_stands}
-use Rattle.nic_device.specs.Access.{around}
-use Rattle.nic_device.specs.Sound.{IsSound}
-use Rattle.nic_device.specs.State.{State, new_state}
-use Rattle.nic_device.specs.declared.event.Reply.{Reply}
-use Rattle.nic_device.specs.declared.event.Reply.TheVariants.{Word}
-use Rattle.nic_device.specs.DmaArena.Block.{Block}
-use Rattle.device_laws.specs.Laws.{reply_to_read, after_write}
-use Rattle.device_laws.proofs.Accesses.{state-read, state-written}
+use Rattle.interrupt_laws.specs.Prelude.{Block, IsSound, Kind, Names, Place, Registers, Reply, RowId, State}
+use Rattle.interrupt_laws.specs.Prelude.{Surroundings, Word, after_write, around, has_bit, merged, new_state, place}
+use Rattle.interrupt_laws.specs.Prelude.{range_with_len, reply_to_read, row_of, runs, view_among, word_at, word_of}
+use Rattle.interrupt_laws.proofs.Prelude.{cond-false, cond_both, first_address, put_stands, state-read, state-written}
+use Rattle.interrupt_laws.proofs.Prelude.{word_at-put_other}
 use Rattle.interrupt_laws.specs.Extended.{ExtendedBeginsAtZero, ExtendedKeepsWhatIsWritten}
 use Rattle.interrupt_laws.specs.Names.{IsAddressOf}
 use Rattle.interrupt_laws.specs.Shown.{word_in}

@@ -3,14 +3,9 @@ use Rattle.std.proofs.Common.{◌≡◌, ◌≢◌, ℕ, ◌<◌, true, ◌&&◌
 use Rattle.std.proofs.lemmas.Bool.{and_from, le-leb}
 use Rattle.nic_device.specs.RegTable.declared.rows.RowId.TheVariants.{Eicr, Eims, Eiac, Eiam, Pvteicr, Pvteims, Pvteiac, Pvteiam}
 use Rattle.nic_device.specs.IntrUnit.BitSet.{contains, intersection}
-use Rattle.nic_device.specs.IntrUnit.Group.{group_bits}
-use Rattle.nic_device.specs.IntrUnit.Interrupts.{Interrupts}
-use Rattle.nic_device.specs.IntrUnit.declared.group.Group.{Group}
-use Rattle.nic_device.specs.IntrUnit.declared.group.Group.TheVariants.{Pf, Vf}
 use Rattle.nic_device.proofs.IntrUnit.SetLaws.{contains-bits_from_to, contains-intersection}
 use Rattle.nic_device.specs.RegisterFile.Groups.{index_of, interrupts_of}
-use Rattle.nic_device.specs.RegisterFile.Registers.{Registers, word_of}
-use Rattle.nic_device.specs.State.{State}
+use Rattle.interrupt_laws.specs.Prelude.{Group, Interrupts, Pf, Registers, State, Vf, group_bits, word_of}
 use Rattle.interrupt_laws.specs.Names.{IsGroup, bits_in}
 use Rattle.interrupt_laws.specs.Shown.{Bit, bit_of, ShowsThen}
 use Rattle.interrupt_laws.proofs.Bits.{and_true}

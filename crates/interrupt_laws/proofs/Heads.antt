@@ -1,11 +1,11 @@
 -- Where the head of a ring moves.
 use Rattle.std.proofs.Common.{ap, subst}
 use Rattle.nic_device.specs.RegisterLaws.Sides.{ReceiveQueue, TransmitQueue}
-use Rattle.nic_device.specs.Step.{after}
 use Rattle.nic_device.specs.declared.event.Event.TheVariants as event
 use Rattle.device_laws.specs.Replies.{received_tells, sent_tells}
 use Rattle.device_laws.proofs.RepliesReceived.{receiving_tells}
 use Rattle.device_laws.proofs.RepliesSent.{transmitting_tells}
+use Rattle.interrupt_laws.specs.Prelude.{after}
 use Rattle.interrupt_laws.specs.Heads.{HeadsMoveOn}
 
 pub heads : HeadsMoveOn

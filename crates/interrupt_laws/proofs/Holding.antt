@@ -1,36 +1,15 @@
 -- Who holds a mailbox keeps it.
 use Rattle.std.proofs.Common.{◌≡◌, ◌≢◌, ℕ, ◌<◌, ◌%◌, Bool, true, false, cond, ◌==◌, ◌&&◌, ◌||◌, ◌⊎◌, refl, ap, sym, ◌∙◌, subst, inl, inr, arith, lit<}
-use Rattle.std.proofs.Math.Bool.{and-false}
-use Rattle.std.proofs.lemmas.Bool.{cond_both, both_ways, cases_eq, ne_eqb}
-use Rattle.nic_device.specs.DmaArena.Block.{Block}
-use Rattle.nic_device.specs.RegTable.Rows.{row_of}
-use Rattle.nic_device.specs.RegTable.declared.place.Place.{Place}
 use Rattle.nic_device.specs.RegTable.declared.rows.RowId.TheVariants as row
-use Rattle.nic_device.specs.IntrUnit.Group.{queue_causes}
-use Rattle.nic_device.specs.IntrUnit.declared.group.Group.TheVariants.{Vf}
-use Rattle.nic_device.specs.RegisterFile.Bits.{has_bit, bit_set, bit_cleared}
-use Rattle.nic_device.specs.RegisterFile.Columns.{place}
 use Rattle.nic_device.specs.RegisterFile.Mailbox.{mail_of, with_mail, function_wrote, released, taken, physical_wrote, cause_set, sends, function_signalled, function_writes, physical_writes}
-use Rattle.nic_device.specs.RegisterFile.Registers.{Registers, word_of}
 use Rattle.nic_device.specs.RegisterLaws.Laws.{HasShape, after_write as word_written}
-use Rattle.nic_device.proofs.RegisterLaws.Bits.{has_bit-set}
-use Rattle.nic_device.proofs.RegisterLaws.Footprints.{word_stands}
 use Rattle.nic_device.proofs.RegisterLaws.MailBits.{has_bit-set_other, has_bit-clear_other, function_keeps}
 use Rattle.nic_device.proofs.RegisterLaws.Mailbox.{within-sent}
-use Rattle.nic_device.proofs.RegisterLaws.PoolReset.{renewed-pool, within-pool_reset}
-use Rattle.nic_device.proofs.RegisterLaws.Puts.{word_at-put_other}
-use Rattle.nic_device.proofs.RegisterLaws.Shape.{put_stands}
-use Rattle.nic_device.specs.Access.{state_written, named_written}
-use Rattle.nic_device.specs.Named.{named}
-use Rattle.nic_device.specs.PoolReset.{with_pool_reset}
-use Rattle.nic_device.specs.Sound.{IsSound}
-use Rattle.nic_device.specs.State.{State}
-use Rattle.nic_device.specs.Step.{after, step_of}
-use Rattle.nic_device.specs.declared.event.Event.{Event}
-use Rattle.nic_device.specs.declared.event.Port.{Port}
-use Rattle.nic_device.specs.declared.named.Named.{Named}
-use Rattle.nic_device.specs.declared.named.Named.TheVariants.{Nothing, Register}
-use Rattle.nic_device.specs.RegisterFile.Pools.{mode_in}
+use Rattle.interrupt_laws.specs.Prelude.{Block, Event, IsSound, Named, Nothing, Place, Port, Register, Registers, State}
+use Rattle.interrupt_laws.specs.Prelude.{Vf, after, bit_cleared, bit_set, has_bit, mode_in, named, named_written, place}
+use Rattle.interrupt_laws.specs.Prelude.{queue_causes, row_of, state_written, step_of, with_pool_reset, word_of}
+use Rattle.interrupt_laws.proofs.Prelude.{and-false, both_ways, cases_eq, cond_both, has_bit-set, ne_eqb, put_stands}
+use Rattle.interrupt_laws.proofs.Prelude.{renewed-pool, within-pool_reset, word_at-put_other, word_stands}
 use Rattle.interrupt_laws.proofs.LastingAccesses.{asks_pool}
 use Rattle.interrupt_laws.proofs.Lasting.{in_range}
 use Rattle.interrupt_laws.proofs.MailEvents.{apart_mail, still_holds, read_holds, word_holds, write_holds, mail_place, physical_place, Side, function, physical, neither, side_of, Made, reading, writing, silent, made}

@@ -1,18 +1,10 @@
 -- Every event that spares a mask keeps it.
 use Rattle.std.proofs.Common.{◌≡◌, ◌≢◌, ℕ, ◌<◌, Bool, true, false, not, ◌&&◌, Option, Some, None, refl, ap, sym, ◌∙◌, subst, arith, inl, inr}
 use Rattle.std.specs.Prelude.{IsFalse, is_some}
-use Rattle.std.proofs.lemmas.Bool.{cases_Bool, cond_both, or_left, both_ways}
-use Rattle.nic_device.specs.DmaArena.Block.{Block}
 use Rattle.nic_device.specs.RegTable.Place.{place_among, view_among}
-use Rattle.nic_device.specs.RegTable.Rows.{row_of}
-use Rattle.nic_device.specs.RegTable.Runs.{runs}
-use Rattle.nic_device.specs.RegTable.declared.place.Place.{Place}
-use Rattle.nic_device.specs.RegTable.declared.rows.RowId.TheVariants.{IvarMisc}
 use Rattle.nic_device.proofs.RegTable.Finding.{found-named}
 use Rattle.nic_device.proofs.RegTable.InRange.{named_in_range}
 use Rattle.nic_device.specs.IntrUnit.BitSet.{contains, only}
-use Rattle.nic_device.specs.IntrUnit.Interrupts.{Interrupts, after_message_of, next_bit}
-use Rattle.nic_device.specs.IntrUnit.declared.group.Group.{Group}
 use Rattle.nic_device.proofs.IntrUnit.BitLaws.{raises_change}
 use Rattle.nic_device.proofs.IntrUnit.SetLaws.{contains-difference, contains-acting}
 use Rattle.nic_device.specs.VfMap.Map.{located}
@@ -20,31 +12,18 @@ use Rattle.nic_device.specs.VfMap.declared.located.Located.{Located}
 use Rattle.nic_device.specs.VfMap.declared.located.Located.TheVariants as located_as
 use Rattle.nic_device.proofs.VfMap.Owners.{located_in_range}
 use Rattle.nic_device.specs.RegisterFile.Groups.{interrupts_of, with_interrupts, message_of, message_made, masks_by_message}
-use Rattle.nic_device.specs.RegisterFile.Owner.{is_group}
-use Rattle.nic_device.specs.RegisterFile.Pools.{mode_in}
-use Rattle.nic_device.specs.RegisterFile.Registers.{Registers, word_of}
-use Rattle.nic_device.proofs.RegisterFile.Own.{intersection-lt}
 use Rattle.nic_device.specs.RegisterLaws.Sound.{HasShape}
-use Rattle.nic_device.proofs.RegisterLaws.GroupChanges.{settled}
-use Rattle.nic_device.proofs.RegisterLaws.Owners.{is_group-itself, is_group-same}
 use Rattle.nic_device.proofs.RegisterLaws.Settled.{settled-after_message_of}
-use Rattle.nic_device.proofs.RegisterLaws.Standing.{interrupts_of-with_interrupts}
-use Rattle.nic_device.specs.Access.{named_read, named_written}
-use Rattle.nic_device.specs.Named.{named, at_place, at_location}
-use Rattle.nic_device.specs.Outcome.{Outcome}
-use Rattle.nic_device.specs.Sound.{IsSound}
-use Rattle.nic_device.specs.State.{State}
-use Rattle.nic_device.specs.Step.{step_of, after}
-use Rattle.nic_device.specs.declared.event.Event.{Event}
 use Rattle.nic_device.specs.declared.event.Event.TheVariants as event
-use Rattle.nic_device.specs.declared.event.Port.{Port}
 use Rattle.nic_device.specs.declared.event.Port.TheVariants as port
-use Rattle.nic_device.specs.declared.named.Named.{Named}
-use Rattle.nic_device.specs.declared.named.Named.TheVariants.{Nothing, Register}
 use Rattle.nic_device.proofs.Cases.{interrupted_cases}
-use Rattle.device_laws.specs.Raising.{Causes, IsOfTheDevice, after_causes}
-use Rattle.device_laws.proofs.Causes.{events_raise}
 use Rattle.device_laws.proofs.StandingRest.{message_rest}
+use Rattle.interrupt_laws.specs.Prelude.{Block, Causes, Event, Group, Interrupts, IsOfTheDevice, IsSound, IvarMisc}
+use Rattle.interrupt_laws.specs.Prelude.{Named, Nothing, Outcome, Place, Port, Register, Registers, State, after}
+use Rattle.interrupt_laws.specs.Prelude.{after_causes, after_message_of, at_location, at_place, is_group, mode_in}
+use Rattle.interrupt_laws.specs.Prelude.{named, named_read, named_written, next_bit, row_of, runs, step_of, word_of}
+use Rattle.interrupt_laws.proofs.Prelude.{both_ways, cases_Bool, cond_both, events_raise, interrupts_of-with_interrupts}
+use Rattle.interrupt_laws.proofs.Prelude.{intersection-lt, is_group-itself, is_group-same, or_left, settled}
 use Rattle.interrupt_laws.specs.Lasting.{SparesMask, MasksLast, masks_itself}
 use Rattle.interrupt_laws.specs.Names.{IsGroup, bits_in, cause_register, general_address}
 use Rattle.interrupt_laws.specs.Shown.{Bit, bit_of, reads_one}

@@ -1,37 +1,19 @@
 -- Which register accesses keep a mask.
 use Rattle.std.proofs.Common.{◌≡◌, ◌≢◌, ℕ, ◌<◌, Bool, true, false, not, ◌&&◌, ◌||◌, refl, ap, sym, ◌∙◌, subst, arith, inl, inr}
 use Rattle.std.specs.Prelude.{IsFalse}
-use Rattle.std.proofs.lemmas.Bool.{cases_Bool, cond_both, or_left, ne_eqb, both_ways}
-use Rattle.nic_device.specs.RegTable.Rows.{row_of}
-use Rattle.nic_device.specs.RegTable.declared.place.Place.{Place}
-use Rattle.nic_device.specs.RegTable.declared.rows.RowId.{RowId}
 use Rattle.nic_device.specs.RegTable.declared.rows.RowId.TheVariants as row
-use Rattle.nic_device.specs.IntrUnit.declared.group.Group.{Group}
-use Rattle.nic_device.specs.IntrUnit.declared.group.Group.TheVariants.{Pf, Vf}
 use Rattle.nic_device.specs.VfMap.Owner.{is_of_pool}
 use Rattle.nic_device.specs.RegisterFile.Access.{after_read, asks_reset, asks_pool_reset}
-use Rattle.nic_device.specs.RegisterFile.Bits.{has_bit}
-use Rattle.nic_device.specs.RegisterFile.Columns.{place}
-use Rattle.nic_device.specs.RegisterFile.Groups.{interrupts_of}
-use Rattle.nic_device.specs.RegisterFile.Owner.{owner_of, is_owner}
-use Rattle.nic_device.specs.RegisterFile.Pools.{mode_in}
-use Rattle.nic_device.specs.RegisterFile.Words.{word_at}
 use Rattle.nic_device.specs.RegisterFile.declared.owner.Owner.TheVariants as owner
 use Rattle.nic_device.specs.RegisterLaws.Footprint.{is_own, of_owner, of_group, of_read, of_write}
 use Rattle.nic_device.specs.RegisterLaws.Laws.{after_write as word_written}
-use Rattle.nic_device.proofs.RegisterLaws.Accessed.{covers-of_read, covers-of_write}
-use Rattle.nic_device.proofs.RegisterLaws.Covers.{misses-narrower, misses-owner}
-use Rattle.nic_device.proofs.RegisterLaws.Owners.{is_owner-same}
-use Rattle.nic_device.proofs.RegisterLaws.Footprints.{word_stands}
-use Rattle.nic_device.proofs.RegisterLaws.PoolReset.{within-pool_reset}
-use Rattle.nic_device.proofs.RegisterLaws.Stands.{group_stands}
-use Rattle.nic_device.proofs.RegisterLaws.Within.{within-after_read, within-written}
-use Rattle.nic_device.specs.Access.{state_read, state_written}
-use Rattle.nic_device.specs.Eeprom.{reset}
-use Rattle.nic_device.specs.PoolReset.{with_pool_reset, written_below_reset}
-use Rattle.nic_device.specs.Sound.{IsSound}
-use Rattle.nic_device.specs.State.{State}
 use Rattle.device_laws.proofs.Reaching.{IsAway, write_lacks}
+use Rattle.interrupt_laws.specs.Prelude.{Group, IsSound, Pf, Place, RowId, State, Vf, has_bit, interrupts_of, is_owner}
+use Rattle.interrupt_laws.specs.Prelude.{mode_in, owner_of, place, reset, row_of, state_read, state_written}
+use Rattle.interrupt_laws.specs.Prelude.{with_pool_reset, word_at, written_below_reset}
+use Rattle.interrupt_laws.proofs.Prelude.{both_ways, cases_Bool, cond_both, covers-of_read, covers-of_write}
+use Rattle.interrupt_laws.proofs.Prelude.{group_stands, is_owner-same, misses-narrower, misses-owner, ne_eqb, or_left}
+use Rattle.interrupt_laws.proofs.Prelude.{within-after_read, within-pool_reset, within-written, word_stands}
 use Rattle.interrupt_laws.specs.Lasting.{masks_itself, SparesMask}
 use Rattle.interrupt_laws.specs.Names.{IsGroup, bits_in, cause_register, mask_register, mask_clear_register}
 use Rattle.interrupt_laws.specs.Shown.{Bit, bit_of, masks_by_access}

@@ -26,6 +26,7 @@ pub mod OtherBits
 pub mod Owned
 pub mod Plain
 pub mod Pools
+pub mod Prelude
 pub mod Raised
 pub mod Raising
 pub mod Reading

@@ -1,41 +1,21 @@
 -- Which events change a bit of a mailbox.
 use Rattle.std.proofs.Common.{◌≡◌, ◌≢◌, ℕ, ◌<◌, Bool, true, false, ◌==◌, ◌&&◌, ◌||◌, List, [], ◌∷◌, refl, ap, sym, ◌∙◌}
 use Rattle.std.specs.Prelude.{IsFalse}
-use Rattle.std.proofs.lemmas.Bool.{cond_both, both_ways}
-use Rattle.nic_device.specs.DmaArena.Block.{Block}
-use Rattle.nic_device.specs.RegTable.Rows.{row_of}
-use Rattle.nic_device.specs.RegTable.declared.kind.Kind.{Kind}
 use Rattle.nic_device.specs.RegTable.declared.kind.Kind.TheVariants as kind
-use Rattle.nic_device.specs.RegTable.declared.place.Place.{Place}
-use Rattle.nic_device.specs.RegTable.declared.rows.RowId.{RowId}
 use Rattle.nic_device.specs.RegTable.declared.rows.RowId.TheVariants as row
 use Rattle.nic_device.specs.RegisterFile.Access.{asks_reset, asks_pool_reset}
-use Rattle.nic_device.specs.RegisterFile.Bits.{has_bit}
-use Rattle.nic_device.specs.RegisterFile.Columns.{place}
 use Rattle.nic_device.specs.RegisterFile.Mailbox.{mail_of}
-use Rattle.nic_device.specs.RegisterFile.Owner.{owner_of}
-use Rattle.nic_device.specs.DmaRing.declared.dir.Dir.{Dir}
-use Rattle.nic_device.specs.DmaRing.declared.dir.Dir.TheVariants.{Rx, Tx}
 use Rattle.nic_device.specs.RegisterLaws.Footprint.{is_place, read_by, written_by}
 use Rattle.nic_device.specs.RegisterLaws.Laws.{after_write as word_written}
 use Rattle.nic_device.proofs.RegisterLaws.MailPools.{mail_row}
-use Rattle.nic_device.proofs.RegisterLaws.Owners.{is_place-other}
 use Rattle.nic_device.proofs.RegisterLaws.Pending.{none_pending, none_pending_of}
-use Rattle.nic_device.proofs.RegisterLaws.Within.{within-written}
-use Rattle.nic_device.specs.Access.{state_written}
-use Rattle.nic_device.specs.Eeprom.{reset}
 use Rattle.nic_device.specs.Footprint.{reach_of, read_reach, receive_reach, switch_reach}
-use Rattle.nic_device.specs.Named.{named}
-use Rattle.nic_device.specs.PoolReset.{with_pool_reset, written_below_reset}
-use Rattle.nic_device.specs.State.{State, Waiting}
-use Rattle.nic_device.specs.Step.{after, step_of}
-use Rattle.nic_device.specs.declared.event.Event.{Event}
 use Rattle.nic_device.specs.declared.event.Event.TheVariants as event
-use Rattle.nic_device.specs.declared.event.Port.{Port}
-use Rattle.nic_device.specs.declared.event.Reply.{Reply}
-use Rattle.nic_device.specs.declared.named.Named.{Named}
-use Rattle.nic_device.specs.declared.named.Named.TheVariants.{Nothing, Register}
 use Rattle.device_laws.proofs.Standing.{stays_within}
+use Rattle.interrupt_laws.specs.Prelude.{Block, Dir, Event, Kind, Named, Nothing, Place, Port, Register, Reply, RowId}
+use Rattle.interrupt_laws.specs.Prelude.{Rx, State, Tx, Waiting, after, has_bit, named, owner_of, place, reset, row_of}
+use Rattle.interrupt_laws.specs.Prelude.{state_written, step_of, with_pool_reset, written_below_reset}
+use Rattle.interrupt_laws.proofs.Prelude.{both_ways, cond_both, is_place-other, within-written}
 use Rattle.interrupt_laws.proofs.LastingAccesses.{asks_device}
 
 -- a place of another kind is another place

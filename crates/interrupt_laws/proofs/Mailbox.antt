@@ -1,12 +1,9 @@
 -- Mailboxes, as reads of both sides show them.
 use Rattle.std.proofs.Common.{◌≡◌, ℕ, ◌<◌, true, ◌&&◌, refl, sym, ◌∙◌, lit<}
 use Rattle.std.proofs.Math.Bool.{and-true}
-use Rattle.nic_device.specs.RegTable.declared.rows.RowId.TheVariants.{Pfmailbox, Pvfmailbox}
-use Rattle.nic_device.proofs.RegTable.FirstAddresses.{first_address}
-use Rattle.nic_device.specs.RegisterFile.Bits.{has_bit}
-use Rattle.nic_device.specs.RegisterFile.Columns.{place}
 use Rattle.nic_device.specs.RegisterFile.Mailbox.{mail_of}
-use Rattle.nic_device.specs.State.{State}
+use Rattle.interrupt_laws.specs.Prelude.{Pfmailbox, Pvfmailbox, State, has_bit, place}
+use Rattle.interrupt_laws.proofs.Prelude.{first_address}
 use Rattle.interrupt_laws.specs.Mailbox.{MailboxesAreShared, function_mail, physical_mail}
 use Rattle.interrupt_laws.specs.Shown.{reads_one}
 use Rattle.interrupt_laws.proofs.Addresses.{address_of}

@@ -1,21 +1,13 @@
 -- What events leave of the reported marks.
 use Rattle.std.proofs.Common.{◌≡◌, ℕ, ◌<◌, ◌^◌, Bool, true, false, ◌&&◌, Option, Some, None, refl, ap, sym, ◌∙◌, subst}
-use Rattle.std.proofs.lemmas.Bool.{cond_both}
 use Rattle.nic_device.specs.RegTable.declared.rows.RowId.TheVariants as row
 use Rattle.nic_device.specs.IntrUnit.BitSet.{contains, intersection}
-use Rattle.nic_device.specs.IntrUnit.Interrupts.{Interrupts, raised}
-use Rattle.nic_device.specs.IntrUnit.declared.group.Group.{Group}
-use Rattle.nic_device.specs.IntrUnit.declared.group.Group.TheVariants.{Pf, Vf}
 use Rattle.nic_device.proofs.IntrUnit.SetLaws.{contains-intersection}
-use Rattle.nic_device.specs.RegisterFile.Bits.{has_bit}
 use Rattle.nic_device.specs.RegisterFile.Groups.{index_of, interrupts_of, with_interrupts, reported_by}
-use Rattle.nic_device.specs.RegisterFile.Owner.{is_group}
-use Rattle.nic_device.specs.RegisterFile.Registers.{word_of}
 use Rattle.nic_device.proofs.RegisterLaws.Settled.{IsSettled}
-use Rattle.nic_device.proofs.RegisterLaws.Standing.{interrupts_of-with_interrupts}
-use Rattle.nic_device.specs.Sound.{IsSound}
-use Rattle.nic_device.specs.State.{State}
-use Rattle.device_laws.specs.Raising.{Causes, after_causes}
+use Rattle.interrupt_laws.specs.Prelude.{Causes, Group, Interrupts, IsSound, Pf, State, Vf, after_causes, has_bit}
+use Rattle.interrupt_laws.specs.Prelude.{is_group, raised, word_of}
+use Rattle.interrupt_laws.proofs.Prelude.{cond_both, interrupts_of-with_interrupts}
 use Rattle.interrupt_laws.specs.Marks.{is_reported}
 use Rattle.interrupt_laws.specs.Names.{IsGroup, bits_in}
 use Rattle.interrupt_laws.specs.Shown.{Bit, bit_of}

@@ -1,50 +1,25 @@
 -- Every event but a message of the group and a reset leaves the marks of what is pending.
 use Rattle.std.proofs.Common.{◌≡◌, ◌≢◌, ℕ, ◌<◌, true, false, ◌||◌, refl, ap, sym, ◌∙◌, subst, inl, inr}
 use Rattle.std.specs.Prelude.{bit_and}
-use Rattle.std.proofs.lemmas.Bool.{cases_Bool, cond_both, both_ways, ne_eqb}
-use Rattle.nic_device.specs.DmaArena.Block.{Block}
-use Rattle.nic_device.specs.RegTable.Rows.{row_of}
-use Rattle.nic_device.specs.RegTable.declared.kind.Kind.{Kind}
 use Rattle.nic_device.specs.RegTable.declared.kind.Kind.TheVariants as kind
-use Rattle.nic_device.specs.RegTable.declared.place.Place.{Place}
 use Rattle.nic_device.specs.RegTable.declared.rows.RowId.TheVariants as row
 use Rattle.nic_device.specs.IntrUnit.Interrupts.{raised, after_read, after_write_one, after_mask_set, after_mask_clear}
-use Rattle.nic_device.specs.IntrUnit.declared.group.Group.{Group}
-use Rattle.nic_device.specs.IntrUnit.declared.group.Group.TheVariants.{Pf, Vf}
 use Rattle.nic_device.specs.RegisterFile.Access.{after_read as word_left, asks_reset, asks_pool_reset}
-use Rattle.nic_device.specs.RegisterFile.Bits.{has_bit}
-use Rattle.nic_device.specs.RegisterFile.Columns.{place}
 use Rattle.nic_device.specs.RegisterFile.Groups.{interrupts_of, reported_by, clears_others, auto_masks}
-use Rattle.nic_device.specs.RegisterFile.Owner.{owner_of, is_owner, is_group}
-use Rattle.nic_device.specs.RegisterFile.Pools.{mode_in}
 use Rattle.nic_device.specs.RegisterFile.declared.owner.Owner.TheVariants as owner
-use Rattle.nic_device.proofs.RegisterFile.Own.{intersection-lt}
 use Rattle.nic_device.specs.RegisterLaws.Footprint.{is_own, written_by, of_owner, of_group, of_read, of_write}
 use Rattle.nic_device.specs.RegisterLaws.Laws.{after_write as word_written}
-use Rattle.nic_device.proofs.RegisterLaws.Accessed.{covers-of_read, covers-of_write}
-use Rattle.nic_device.proofs.RegisterLaws.Covers.{misses-narrower, misses-owner}
-use Rattle.nic_device.proofs.RegisterLaws.GroupChanges.{settled}
-use Rattle.nic_device.proofs.RegisterLaws.Owners.{is_owner-same}
-use Rattle.nic_device.proofs.RegisterLaws.PoolReset.{within-pool_reset}
 use Rattle.nic_device.proofs.RegisterLaws.Settled.{settled-raised, settled-after_read, settled-after_write_one, settled-after_mask_set, settled-after_mask_clear}
-use Rattle.nic_device.proofs.RegisterLaws.Stands.{group_stands}
-use Rattle.nic_device.proofs.RegisterLaws.Within.{within-after_read, within-written}
-use Rattle.nic_device.specs.Access.{named_read, named_written, state_read, state_written}
-use Rattle.nic_device.specs.Eeprom.{reset}
-use Rattle.nic_device.specs.Named.{named}
-use Rattle.nic_device.specs.PoolReset.{with_pool_reset, written_below_reset}
-use Rattle.nic_device.specs.Sound.{IsSound}
-use Rattle.nic_device.specs.State.{State}
-use Rattle.nic_device.specs.Step.{step_of, after}
-use Rattle.nic_device.specs.declared.event.Event.{Event}
 use Rattle.nic_device.specs.declared.event.Event.TheVariants as event
-use Rattle.nic_device.specs.declared.event.Port.{Port}
-use Rattle.nic_device.specs.declared.named.Named.{Named}
-use Rattle.nic_device.specs.declared.named.Named.TheVariants.{Nothing, Register}
-use Rattle.nic_device.proofs.Steps.{keeps_sound}
-use Rattle.device_laws.specs.Raising.{IsOfTheDevice}
-use Rattle.device_laws.proofs.Causes.{events_raise}
 use Rattle.device_laws.proofs.StandingRest.{message_rest}
+use Rattle.interrupt_laws.specs.Prelude.{Block, Event, Group, IsOfTheDevice, IsSound, Kind, Named, Nothing, Pf, Place}
+use Rattle.interrupt_laws.specs.Prelude.{Port, Register, State, Vf, after, has_bit, is_group, is_owner, mode_in, named}
+use Rattle.interrupt_laws.specs.Prelude.{named_read, named_written, owner_of, place, reset, row_of, state_read}
+use Rattle.interrupt_laws.specs.Prelude.{state_written, step_of, with_pool_reset, written_below_reset}
+use Rattle.interrupt_laws.proofs.Prelude.{both_ways, cases_Bool, cond_both, covers-of_read, covers-of_write}
+use Rattle.interrupt_laws.proofs.Prelude.{events_raise, group_stands, intersection-lt, is_owner-same, keeps_sound}
+use Rattle.interrupt_laws.proofs.Prelude.{misses-narrower, misses-owner, ne_eqb, settled, within-after_read}
+use Rattle.interrupt_laws.proofs.Prelude.{within-pool_reset, within-written}
 use Rattle.interrupt_laws.specs.Marks.{SparesMarks, MarksLast}
 use Rattle.interrupt_laws.specs.Names.{IsGroup, bits_in, cause_register, cause_set_register, mask_register, mask_clear_register, auto_clear_register, auto_mask_register}
 use Rattle.interrupt_laws.proofs.Causes.{registers_set, registers_cleared, registers_read}

@@ -2,28 +2,17 @@
 use Rattle.std.proofs.Common.{◌≡◌, ℕ, ◌==◌, ◌||◌, Some, refl, ap, sym, ◌∙◌, arith}
 use Rattle.std.specs.Prelude.{is_some}
 use Rattle.std.specs.Option.{option_and_then}
-use Rattle.std.proofs.lemmas.Bool.{cond-true, cond-false}
-use Rattle.nic_device.specs.RegTable.declared.rows.RowId.TheVariants.{IvarMisc}
 use Rattle.nic_device.specs.IntrUnit.BitSet.{union, only}
-use Rattle.nic_device.specs.IntrUnit.Group.{vector_of}
 use Rattle.nic_device.specs.IntrUnit.Interrupts.{next_bit, after_telling, after_message_of}
 use Rattle.nic_device.specs.IntrUnit.Laws.{IsMessageOf}
-use Rattle.nic_device.specs.IntrUnit.declared.group.Group.{Group}
 use Rattle.nic_device.proofs.IntrUnit.Due.{next_bit-of}
 use Rattle.nic_device.proofs.IntrUnit.SetLaws.{contains-union, contains-only}
 use Rattle.nic_device.specs.RegisterFile.Groups.{interrupts_of, with_interrupts, message_of, message_made, masks_by_message}
-use Rattle.nic_device.specs.RegisterFile.Registers.{word_of}
-use Rattle.nic_device.specs.RegisterFile.Settings.{is_stopped}
-use Rattle.nic_device.proofs.RegisterFile.Own.{intersection-lt}
-use Rattle.nic_device.proofs.RegisterLaws.GroupChanges.{settled}
 use Rattle.nic_device.proofs.RegisterLaws.Settled.{settled-after_message_of}
-use Rattle.nic_device.specs.Interrupt.{message_reply}
-use Rattle.nic_device.specs.Outcome.{Outcome, gives}
-use Rattle.nic_device.specs.State.{State}
-use Rattle.nic_device.specs.Step.{after}
 use Rattle.nic_device.specs.declared.event.Event.TheVariants as event
-use Rattle.nic_device.specs.declared.event.Reply.TheVariants.{Idle}
-use Rattle.nic_device.proofs.Steps.{keeps_sound}
+use Rattle.interrupt_laws.specs.Prelude.{Group, Idle, IvarMisc, Outcome, State, after, gives, is_stopped, message_reply}
+use Rattle.interrupt_laws.specs.Prelude.{vector_of, word_of}
+use Rattle.interrupt_laws.proofs.Prelude.{cond-false, cond-true, intersection-lt, keeps_sound, settled}
 use Rattle.interrupt_laws.specs.Marks.{is_reported, MessagesMark}
 use Rattle.interrupt_laws.proofs.Groups.{index_small}
 use Rattle.interrupt_laws.proofs.Marks.{own_mark, put_with}

@@ -1,25 +1,13 @@
 -- What accesses of EIMS and EIMC, and of PVTEIMS and PVTEIMC, do to masks.
 use Rattle.std.proofs.Common.{◌≡◌, ◌≢◌, ℕ, ◌<◌, Bool, ◌&&◌, ◌||◌, refl}
 use Rattle.std.specs.Prelude.{bit_and, not}
-use Rattle.nic_device.specs.RegTable.Place.{Names, view_among}
-use Rattle.nic_device.specs.RegTable.Runs.{runs}
-use Rattle.nic_device.specs.RegTable.declared.rows.RowId.TheVariants.{Eics, Eims, Eimc, Pvteics, Pvteims, Pvteimc}
-use Rattle.nic_device.specs.IntrUnit.BitSet.{contains}
 use Rattle.nic_device.specs.IntrUnit.Interrupts.{after_mask_set, after_mask_clear}
-use Rattle.nic_device.specs.IntrUnit.declared.group.Group.{Group}
-use Rattle.nic_device.specs.IntrUnit.declared.group.Group.TheVariants.{Pf, Vf}
 use Rattle.nic_device.proofs.IntrUnit.BitLaws.{mask_sets_change, mask_clears_change}
-use Rattle.nic_device.specs.RegisterFile.Bits.{has_bit}
-use Rattle.nic_device.specs.RegisterFile.Columns.{place}
 use Rattle.nic_device.specs.RegisterFile.Groups.{interrupts_of, with_interrupts}
-use Rattle.nic_device.proofs.RegisterFile.Own.{intersection-lt}
-use Rattle.nic_device.proofs.RegisterLaws.GroupChanges.{settled}
 use Rattle.nic_device.proofs.RegisterLaws.Settled.{settled-after_mask_set, settled-after_mask_clear}
-use Rattle.nic_device.specs.Access.{state_written}
-use Rattle.nic_device.specs.Sound.{IsSound}
-use Rattle.nic_device.specs.State.{State}
-use Rattle.device_laws.specs.Laws.{after_write}
-use Rattle.device_laws.proofs.Accesses.{state-written}
+use Rattle.interrupt_laws.specs.Prelude.{Eics, Eimc, Eims, Group, IsSound, Names, Pf, Pvteics, Pvteimc, Pvteims, State}
+use Rattle.interrupt_laws.specs.Prelude.{Vf, after_write, contains, has_bit, place, runs, state_written, view_among}
+use Rattle.interrupt_laws.proofs.Prelude.{intersection-lt, settled, state-written}
 use Rattle.interrupt_laws.specs.Accesses.{writes_one, WriteOfMasksSets, WriteOfMaskClearClears, SetAndClearReadZero}
 use Rattle.interrupt_laws.specs.Names.{IsGroup, bits_in, mask_register, mask_clear_register}
 use Rattle.interrupt_laws.specs.Shown.{Bit, bit_of}

@@ -1,57 +1,31 @@
 -- The mailbox memory: what one side writes the other reads.
 use Rattle.std.proofs.Common.{◌≡◌, ◌≢◌, ℕ, ◌+◌, ◌-◌, ◌*◌, ◌/◌, ◌<◌, ◌||◌, false, cond, List, [], ◌∷◌, Some, None, refl, ap, sym, ◌∙◌, inl, inr, arith}
 use Rattle.std.specs.Prelude.{bit_and}
-use Rattle.std.proofs.lemmas.Bool.{cases_Bool, cond_both, both_ways, ne_eqb}
-use Rattle.nic_device.specs.DmaArena.Block.{Block}
-use Rattle.nic_device.specs.RegTable.Place.{view_among}
-use Rattle.nic_device.specs.RegTable.Runs.{runs}
-use Rattle.nic_device.specs.RegTable.Rows.{row_of}
-use Rattle.nic_device.specs.RegTable.declared.place.Place.{Place}
 use Rattle.nic_device.specs.RegTable.declared.rows.RowId.TheVariants as row
-use Rattle.nic_device.proofs.RegTable.FirstAddresses.{first_address}
 use Rattle.nic_device.specs.VfMap.Map.{own_entries, message_entries, located}
 use Rattle.nic_device.specs.VfMap.Parts.{place_at}
 use Rattle.nic_device.proofs.VfMap.LocatedAt.{located_at}
-use Rattle.nic_device.specs.VfMap.Pools.{mode_of, queues_of}
-use Rattle.nic_device.specs.VfMap.declared.mode.Mode.{Mode}
 use Rattle.nic_device.specs.VfMap.declared.located.Located.TheVariants as located_as
 use Rattle.nic_device.proofs.VfMap.Chains.{in_second}
 use Rattle.nic_device.proofs.VfMap.Places.{message_there}
 use Rattle.nic_device.proofs.VfMap.Whole.{entries_own, located_some}
 use Rattle.nic_device.specs.RegisterFile.Access.{asks_reset, asks_pool_reset}
-use Rattle.nic_device.specs.RegisterFile.Bits.{has_bit, merged}
-use Rattle.nic_device.specs.RegisterFile.Columns.{place}
-use Rattle.nic_device.specs.RegisterFile.Pools.{mode_in}
-use Rattle.nic_device.specs.RegisterFile.Registers.{word_of}
-use Rattle.nic_device.specs.RegisterFile.Words.{word_at}
-use Rattle.nic_device.specs.DmaRing.declared.dir.Dir.{Dir}
-use Rattle.nic_device.specs.DmaRing.declared.dir.Dir.TheVariants.{Rx, Tx}
 use Rattle.nic_device.specs.RegisterLaws.Footprint.{LacksWord, is_place, of_read}
 use Rattle.nic_device.specs.RegisterLaws.Laws.{after_write as word_written}
-use Rattle.nic_device.proofs.RegisterLaws.Footprints.{word_stands}
 use Rattle.nic_device.proofs.RegisterLaws.Keeps.{keeps}
 use Rattle.nic_device.proofs.RegisterLaws.Owners.{is_place-other, is_place-same}
 use Rattle.nic_device.proofs.RegisterLaws.Pending.{none_pending}
-use Rattle.nic_device.proofs.RegisterLaws.PoolReset.{renewed-pool}
-use Rattle.nic_device.proofs.RegisterLaws.Puts.{word_at-put_other}
-use Rattle.nic_device.proofs.RegisterLaws.Shape.{put_stands}
-use Rattle.nic_device.proofs.RegisterLaws.Within.{within-written}
-use Rattle.nic_device.specs.Access.{named_read, named_written, state_written}
-use Rattle.nic_device.specs.Eeprom.{reset}
 use Rattle.nic_device.specs.Footprint.{reach_of, read_reach, receive_reach, switch_reach}
-use Rattle.nic_device.specs.Named.{named, at_location}
-use Rattle.nic_device.specs.PoolReset.{with_pool_reset, written_below_reset}
-use Rattle.nic_device.specs.Sound.{IsSound}
-use Rattle.nic_device.specs.State.{State, Waiting}
-use Rattle.nic_device.specs.Step.{after, step_of, reply_to}
-use Rattle.nic_device.specs.declared.event.Event.{Event}
 use Rattle.nic_device.specs.declared.event.Event.TheVariants as event
-use Rattle.nic_device.specs.declared.event.Port.{Port}
 use Rattle.nic_device.specs.declared.event.Port.TheVariants as port
-use Rattle.nic_device.specs.declared.event.Reply.{Reply}
-use Rattle.nic_device.specs.declared.named.Named.{Named}
-use Rattle.nic_device.specs.declared.named.Named.TheVariants.{Nothing, Register}
 use Rattle.device_laws.proofs.Standing.{stays_within}
+use Rattle.interrupt_laws.specs.Prelude.{Block, Dir, Event, IsSound, Mode, Named, Nothing, Place, Port, Register, Reply}
+use Rattle.interrupt_laws.specs.Prelude.{Rx, State, Tx, Waiting, after, at_location, has_bit, merged, mode_in, mode_of}
+use Rattle.interrupt_laws.specs.Prelude.{named, named_read, named_written, place, queues_of, reply_to, reset, row_of}
+use Rattle.interrupt_laws.specs.Prelude.{runs, state_written, step_of, view_among, with_pool_reset, word_at, word_of}
+use Rattle.interrupt_laws.specs.Prelude.{written_below_reset}
+use Rattle.interrupt_laws.proofs.Prelude.{both_ways, cases_Bool, cond_both, first_address, ne_eqb, put_stands}
+use Rattle.interrupt_laws.proofs.Prelude.{renewed-pool, within-written, word_at-put_other, word_stands}
 use Rattle.interrupt_laws.proofs.Addresses.{address_of}
 use Rattle.interrupt_laws.proofs.Bits.{has_bit-all, has_bit-merged, has_bit-whole}
 use Rattle.interrupt_laws.proofs.Lasting.{in_range}

@@ -1,11 +1,10 @@
 -- Which pools VFTE lets send.
 use Rattle.std.proofs.Common.{ℕ, ◌+◌, ◌*◌, ◌/◌, ◌%◌, sym, ◌∙◌, arith, lit<}
 use Rattle.nic_device.specs.RegTable.declared.rows.RowId.TheVariants.{VtCtl, Vfte}
-use Rattle.nic_device.proofs.RegTable.FirstAddresses.{first_address}
 use Rattle.nic_device.proofs.VfMap.Numbers.{few_pools, placed}
-use Rattle.nic_device.specs.RegisterFile.Columns.{place}
-use Rattle.nic_device.specs.RegisterFile.Pools.{mode_in}
 use Rattle.device_laws.proofs.Muting.{muted_idle}
+use Rattle.interrupt_laws.specs.Prelude.{mode_in, place}
+use Rattle.interrupt_laws.proofs.Prelude.{first_address}
 use Rattle.interrupt_laws.specs.Queues.{VfteMutesPools}
 use Rattle.interrupt_laws.proofs.Addresses.{address_of}
 use Rattle.interrupt_laws.proofs.Pools.{is_in}

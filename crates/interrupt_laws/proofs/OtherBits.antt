@@ -1,13 +1,10 @@
 -- Bits that a group's registers don't have read as 0.
 use Rattle.std.proofs.Common.{◌≡◌, ℕ, false, ◌==◌, ap, ◌∙◌}
-use Rattle.std.proofs.lemmas.Bool.{false_from_ne_true, both_ways}
 use Rattle.std.proofs.lemmas.Nat.Bits.{bit_at_ones_above}
 use Rattle.nic_device.specs.RegTable.declared.rows.RowId.TheVariants.{Eicr, Eims, Eiac, Eiam, Pvteicr, Pvteims, Pvteiac, Pvteiam}
 use Rattle.nic_device.specs.IntrUnit.BitSet.{contains, IsSubset}
-use Rattle.nic_device.specs.IntrUnit.declared.group.Group.TheVariants.{Pf, Vf}
-use Rattle.nic_device.specs.RegisterFile.Bits.{has_bit}
-use Rattle.nic_device.specs.RegisterFile.Columns.{place}
-use Rattle.nic_device.specs.RegisterFile.Words.{word_at}
+use Rattle.interrupt_laws.specs.Prelude.{Pf, Vf, has_bit, place, word_at}
+use Rattle.interrupt_laws.proofs.Prelude.{both_ways, false_from_ne_true}
 use Rattle.interrupt_laws.specs.Accesses.{OtherBitsReadZero}
 use Rattle.interrupt_laws.proofs.Words.{bit_of-words}
 

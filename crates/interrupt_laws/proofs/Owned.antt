@@ -1,14 +1,8 @@
 -- The registers of a group are six.
 use Rattle.std.proofs.Common.{◌≡◌, ℕ, ◌<◌, ap, arith}
-use Rattle.nic_device.specs.RegTable.Rows.{row_of}
-use Rattle.nic_device.specs.RegTable.declared.place.Place.{Place}
-use Rattle.nic_device.specs.RegTable.declared.rows.RowId.{RowId}
 use Rattle.nic_device.specs.RegTable.declared.rows.RowId.TheVariants as row
-use Rattle.nic_device.specs.IntrUnit.declared.group.Group.{Group}
-use Rattle.nic_device.specs.IntrUnit.declared.group.Group.TheVariants.{Pf, Vf}
-use Rattle.nic_device.specs.RegisterFile.Columns.{place}
-use Rattle.nic_device.specs.RegisterFile.Owner.{owner_in, owner_of}
 use Rattle.nic_device.specs.RegisterFile.declared.owner.Owner.TheVariants as owner
+use Rattle.interrupt_laws.specs.Prelude.{Group, Pf, Place, RowId, Vf, owner_in, owner_of, place, row_of}
 use Rattle.interrupt_laws.specs.Names.{cause_register, cause_set_register, mask_register, mask_clear_register, auto_clear_register, auto_mask_register}
 
 pub data IsOne (g : Group) (p : Place) : Type 0 where

@@ -2,43 +2,20 @@
 use Rattle.std.proofs.Common.{◌≡◌, ◌≢◌, ℕ, ◌+◌, ◌-◌, ◌*◌, ◌<◌, Bool, true, false, ◌&&◌, nat_lt, cond, if◌then◌else◌, Some, refl, ap, sym, ◌∙◌, subst, arith}
 use Rattle.std.specs.Prelude.{bit_and, is_some}
 use Rattle.std.proofs.lemmas.Bool.{cond_both, ltb-true, ltb-false}
-use Rattle.nic_device.specs.DmaArena.Block.{Block}
-use Rattle.nic_device.specs.RegTable.Place.{Names, view_among, address_among}
-use Rattle.nic_device.specs.RegTable.Rows.{row_of}
-use Rattle.nic_device.specs.RegTable.Runs.{runs}
-use Rattle.nic_device.specs.RegTable.declared.kind.Kind.{Kind}
 use Rattle.nic_device.specs.RegTable.declared.kind.Kind.TheVariants as kind
-use Rattle.nic_device.specs.RegTable.declared.place.Place.{Place}
-use Rattle.nic_device.specs.RegTable.declared.rows.RowId.{RowId}
 use Rattle.nic_device.specs.RegTable.declared.rows.RowId.TheVariants as row
 use Rattle.nic_device.proofs.RegTable.FirstAddresses.{first_address, further_address}
 use Rattle.nic_device.specs.IntrUnit.Interrupts.{next_vector}
-use Rattle.nic_device.specs.IntrUnit.declared.group.Group.{Group}
-use Rattle.nic_device.specs.IntrUnit.declared.group.Group.TheVariants.{Pf, Vf}
-use Rattle.nic_device.specs.VfMap.Pools.{mode_of, queues_of}
 use Rattle.nic_device.specs.RegisterFile.Access.{read_word, calculated, written, stored, asks_reset, asks_pool_reset}
-use Rattle.nic_device.specs.RegisterFile.Bits.{has_bit, merged}
-use Rattle.nic_device.specs.RegisterFile.Columns.{place}
-use Rattle.nic_device.specs.RegisterFile.Groups.{message_of}
-use Rattle.nic_device.specs.RegisterFile.Registers.{Registers, word_of}
-use Rattle.nic_device.specs.RegisterFile.Settings.{is_stopped}
-use Rattle.nic_device.specs.RegisterFile.Words.{word_at}
-use Rattle.nic_device.specs.RegisterFile.declared.surroundings.Surroundings.{Surroundings}
-use Rattle.nic_device.proofs.RegisterLaws.Puts.{word_at-put_other}
-use Rattle.nic_device.specs.Access.{around}
-use Rattle.nic_device.specs.Eeprom.{reset}
-use Rattle.nic_device.specs.Interrupt.{has_group, message_reply}
-use Rattle.nic_device.specs.Outcome.{gives}
-use Rattle.nic_device.specs.PoolReset.{with_pool_reset}
-use Rattle.nic_device.specs.Sound.{IsSound}
-use Rattle.nic_device.specs.State.{State}
-use Rattle.nic_device.specs.Step.{step_of, reply_to}
 use Rattle.nic_device.specs.declared.event.Event.TheVariants as event
-use Rattle.nic_device.specs.declared.event.Reply.{Reply}
-use Rattle.nic_device.specs.declared.event.Reply.TheVariants.{Word, Idle, NoGroup}
-use Rattle.device_laws.specs.Laws.{IsPlain, reply_to_read, after_write}
 use Rattle.device_laws.proofs.Accesses.{state-written, write_shows}
 use Rattle.device_laws.proofs.CausesKept.{word_kept}
+use Rattle.interrupt_laws.specs.Prelude.{Block, Group, Idle, IsPlain, IsSound, Kind, Names, NoGroup, Pf, Place}
+use Rattle.interrupt_laws.specs.Prelude.{Registers, Reply, RowId, State, Surroundings, Vf, Word, address_among}
+use Rattle.interrupt_laws.specs.Prelude.{after_write, around, gives, has_bit, has_group, is_stopped, merged, message_of}
+use Rattle.interrupt_laws.specs.Prelude.{message_reply, mode_of, place, queues_of, reply_to, reply_to_read, reset}
+use Rattle.interrupt_laws.specs.Prelude.{row_of, runs, step_of, view_among, with_pool_reset, word_at, word_of}
+use Rattle.interrupt_laws.proofs.Prelude.{word_at-put_other}
 use Rattle.interrupt_laws.specs.Names.{IsAddressOf, auto_clear_register, auto_mask_register}
 use Rattle.interrupt_laws.specs.Plain.{PlainWriteIsAlone, ArePlain, TimersHaveNoEffect, timer_address}
 use Rattle.interrupt_laws.specs.Shown.{word_in}

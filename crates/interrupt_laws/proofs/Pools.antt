@@ -1,15 +1,10 @@
 -- Which queues of the device are a virtual function's, by the field of GCR_EXT.
 use Rattle.std.proofs.Common.{◌≡◌, ℕ, zero, suc, ◌+◌, ◌*◌, ◌%◌, ◌<◌, cond, nat_lt, Option, Some, None, refl, ap, sym, ◌∙◌, subst, arith, inl, inr}
 use Rattle.std.proofs.lemmas.Bool.{lt-ltb, ltb-true, cases_Bool}
-use Rattle.nic_device.specs.RegTable.declared.rows.RowId.TheVariants.{GcrExt}
-use Rattle.nic_device.specs.IntrUnit.declared.group.Group.TheVariants.{Pf, Vf}
 use Rattle.nic_device.specs.VfMap.Pools.{queues_each, pool_of}
 use Rattle.nic_device.proofs.VfMap.Numbers.{IsQueue, placed, queue_of_pool}
-use Rattle.nic_device.specs.RegisterFile.Pools.{mode_in}
-use Rattle.nic_device.specs.RegisterFile.Registers.{word_of}
 use Rattle.nic_device.specs.Interrupt.{function_in, function_of_queue, group_of, group_of_queue}
-use Rattle.nic_device.specs.Sound.{IsSound}
-use Rattle.nic_device.specs.State.{State}
+use Rattle.interrupt_laws.specs.Prelude.{GcrExt, IsSound, Pf, State, Vf, mode_in, word_of}
 use Rattle.interrupt_laws.specs.Queues.{queues_by, queues_in_pool, IsQueueOf, IsOfPf}
 use Rattle.interrupt_laws.specs.Steps.{pools_of}
 use Rattle.interrupt_laws.proofs.Settings.{mode_word, mode_by, pools_there}

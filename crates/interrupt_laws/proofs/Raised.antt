@@ -1,26 +1,12 @@
 -- The device raises causes 17, 18 and 20 by itself.
 use Rattle.std.proofs.Common.{◌≡◌, ◌≢◌, ℕ, ◌^◌, ◌==◌, false, cond, Option, Some, None, refl, ap, sym, ◌∙◌, inl, inr}
-use Rattle.std.proofs.lemmas.Bool.{cases_eq, eq-eqb, ne_eqb, false_from_ne_true}
 use Rattle.std.proofs.lemmas.Nat.Bits.{bit_at-pow_same, bit_at-pow_other}
-use Rattle.nic_device.specs.DmaArena.Block.{Block}
-use Rattle.nic_device.specs.IntrUnit.BitSet.{contains}
-use Rattle.nic_device.specs.IntrUnit.Interrupts.{raised}
-use Rattle.nic_device.specs.IntrUnit.declared.group.Group.{Group}
-use Rattle.nic_device.specs.IntrUnit.declared.group.Group.TheVariants.{Pf}
-use Rattle.nic_device.specs.RegisterFile.Groups.{interrupts_of}
-use Rattle.nic_device.specs.RegisterFile.Owner.{is_group}
-use Rattle.nic_device.proofs.RegisterLaws.Owners.{is_group-same}
-use Rattle.nic_device.specs.Sound.{IsSound}
-use Rattle.nic_device.specs.State.{State}
-use Rattle.nic_device.specs.Step.{after, reply_to}
-use Rattle.nic_device.specs.declared.event.Event.{Event}
 use Rattle.nic_device.specs.declared.event.Event.TheVariants as event
-use Rattle.nic_device.specs.declared.event.Reply.{Reply}
-use Rattle.nic_device.specs.declared.event.Reply.TheVariants.{Done, Dropped}
 use Rattle.nic_device.specs.declared.event.Why.{Why}
-use Rattle.nic_device.specs.declared.event.Why.TheVariants.{Full}
 use Rattle.device_laws.specs.Raising.{Causes, IsOfTheDevice, device_cause, raises, raised_dropped, raised_arrived, raised_linked, after_causes}
-use Rattle.device_laws.proofs.Causes.{events_raise}
+use Rattle.interrupt_laws.specs.Prelude.{Block, Done, Dropped, Event, Full, Group, IsSound, Pf, Reply, State, after}
+use Rattle.interrupt_laws.specs.Prelude.{contains, interrupts_of, is_group, raised, reply_to}
+use Rattle.interrupt_laws.proofs.Prelude.{cases_eq, eq-eqb, events_raise, false_from_ne_true, is_group-same, ne_eqb}
 use Rattle.interrupt_laws.specs.Queues.{raised_bit}
 use Rattle.interrupt_laws.specs.Raised.{Raises, RaisesNone, DeviceRaisesByNumber}
 use Rattle.interrupt_laws.proofs.Causes.{set_bit}

@@ -1,24 +1,11 @@
 -- What the end of a frame and a report raise.
 use Rattle.std.proofs.Common.{◌≡◌, ◌≢◌, ℕ, Bool, true, false, ◌||◌, cond, Some, refl, ap, sym, ◌∙◌, arith}
-use Rattle.std.proofs.lemmas.Bool.{false_from_ne_true}
-use Rattle.nic_device.specs.DmaArena.Block.{Block}
-use Rattle.nic_device.specs.DmaRing.declared.dir.Dir.{Dir}
-use Rattle.nic_device.specs.IntrUnit.BitSet.{contains}
 use Rattle.nic_device.specs.IntrUnit.Group.{last_queue_cause, queue_causes}
-use Rattle.nic_device.specs.IntrUnit.Interrupts.{raised}
-use Rattle.nic_device.specs.IntrUnit.declared.group.Group.{Group}
-use Rattle.nic_device.specs.IntrUnit.declared.group.Group.TheVariants.{Pf, Vf}
-use Rattle.nic_device.specs.RegisterFile.Groups.{interrupts_of, vector_entry}
-use Rattle.nic_device.specs.RegisterFile.Owner.{is_group}
-use Rattle.nic_device.proofs.RegisterLaws.Owners.{is_group-itself, is_group-same}
-use Rattle.nic_device.specs.Interrupt.{group_of_queue}
-use Rattle.nic_device.specs.Sound.{IsSound}
-use Rattle.nic_device.specs.State.{State}
-use Rattle.nic_device.specs.Step.{after, reply_to}
-use Rattle.nic_device.specs.declared.event.Event.{Event}
 use Rattle.nic_device.specs.declared.event.Event.TheVariants as event
 use Rattle.device_laws.specs.Raising.{Causes, IsOfTheDevice, queue_cause, raises, after_causes}
-use Rattle.device_laws.proofs.Causes.{events_raise}
+use Rattle.interrupt_laws.specs.Prelude.{Block, Dir, Event, Group, IsSound, Pf, State, Vf, after, contains}
+use Rattle.interrupt_laws.specs.Prelude.{group_of_queue, interrupts_of, is_group, raised, reply_to, vector_entry}
+use Rattle.interrupt_laws.proofs.Prelude.{events_raise, false_from_ne_true, is_group-itself, is_group-same}
 use Rattle.interrupt_laws.specs.Accesses.{cause_set}
 use Rattle.interrupt_laws.specs.Names.{IsGroup}
 use Rattle.interrupt_laws.specs.Queues.{RaisesFor, ended, sent, advanced, names_cause, raised_bit, pf_byte, vf_byte, IvarNamesCauses, PvtivarNamesCauses}

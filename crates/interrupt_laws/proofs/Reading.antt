@@ -2,14 +2,8 @@
 use Rattle.std.proofs.Common.{◌≡◌, ℕ, ◌<◌, ◌%◌, ◌^◌, ap, ◌∙◌, arith}
 use Rattle.std.specs.Prelude.{bit_and}
 use Rattle.std.proofs.lemmas.Nat.{and_mask}
-use Rattle.nic_device.specs.DmaArena.Block.{Block}
-use Rattle.nic_device.specs.RegTable.declared.place.Place.{Place}
-use Rattle.nic_device.specs.RegisterFile.Words.{word_at}
 use Rattle.nic_device.proofs.RegisterLaws.RowBits.{word_small}
-use Rattle.nic_device.specs.Access.{word_read}
-use Rattle.nic_device.specs.Sound.{IsSound}
-use Rattle.nic_device.specs.State.{State}
-use Rattle.nic_device.specs.declared.event.Reply.{Reply}
+use Rattle.interrupt_laws.specs.Prelude.{Block, IsSound, Place, Reply, State, word_at, word_read}
 use Rattle.interrupt_laws.specs.Names.{IsAddressOf}
 use Rattle.interrupt_laws.specs.Shown.{word_in, read_at}
 use Rattle.interrupt_laws.proofs.Words.{reply-read}

@@ -1,39 +1,20 @@
 -- A function is reported a reset once.
 use Rattle.std.proofs.Common.{◌≡◌, ◌≢◌, ℕ, suc, zero, ◌+◌, ◌<◌, ◌≤◌, Bool, true, false, cond, ◌&&◌, ◌||◌, ◌⊎◌, List, [], ◌∷◌, refl, ap, sym, ◌∙◌, subst, inl, inr, arith, lit<}
 use Rattle.std.specs.Prelude.{fold}
-use Rattle.std.specs.List.{range_with_len}
-use Rattle.std.proofs.Math.Bool.{and-false}
 use Rattle.std.proofs.lemmas.Bool.{cases_Bool, cases_eq, cond_both, cond-true, cond-false, both_ways, and_parts}
-use Rattle.nic_device.specs.DmaArena.Block.{Block}
-use Rattle.nic_device.specs.RegTable.Rows.{row_of}
-use Rattle.nic_device.specs.RegTable.declared.kind.Kind.{Kind}
 use Rattle.nic_device.specs.RegTable.declared.kind.Kind.TheVariants as kind
-use Rattle.nic_device.specs.RegTable.declared.place.Place.{Place}
 use Rattle.nic_device.specs.RegTable.declared.rows.RowId.TheVariants as row
 use Rattle.nic_device.specs.RegisterFile.Access.{stored, written}
-use Rattle.nic_device.specs.RegisterFile.Bits.{has_bit, bit_set, bit_cleared}
-use Rattle.nic_device.specs.RegisterFile.Columns.{place}
 use Rattle.nic_device.specs.RegisterFile.Mailbox.{mail_of, reported_once, reset_reported, done_reported, resets_reported}
-use Rattle.nic_device.specs.RegisterFile.Pools.{mode_in}
-use Rattle.nic_device.specs.RegisterFile.Registers.{Registers}
 use Rattle.nic_device.specs.RegisterLaws.Laws.{HasShape, after_write as word_written}
 use Rattle.nic_device.proofs.RegisterLaws.Bits.{has_bit-set, has_bit-clear}
 use Rattle.nic_device.proofs.RegisterLaws.MailBits.{has_bit-set_other, has_bit-clear_other, once_keeps}
-use Rattle.nic_device.proofs.RegisterLaws.Owners.{is_place-other}
-use Rattle.nic_device.proofs.RegisterLaws.PoolReset.{renewed-pool}
-use Rattle.nic_device.proofs.RegisterLaws.Puts.{word_at-put_other}
-use Rattle.nic_device.proofs.RegisterLaws.Shape.{put_stands, HasShape-put}
-use Rattle.nic_device.proofs.Steps.{keeps_sound}
-use Rattle.nic_device.specs.Access.{named_read, named_written}
-use Rattle.nic_device.specs.Named.{named}
-use Rattle.nic_device.specs.Sound.{IsSound}
-use Rattle.nic_device.specs.State.{State}
-use Rattle.nic_device.specs.Step.{after, step_of, reply_to}
-use Rattle.nic_device.specs.declared.event.Event.{Event}
 use Rattle.nic_device.specs.declared.event.Event.TheVariants as event
-use Rattle.nic_device.specs.declared.event.Port.{Port}
-use Rattle.nic_device.specs.declared.named.Named.{Named}
-use Rattle.nic_device.specs.declared.named.Named.TheVariants.{Nothing, Register}
+use Rattle.interrupt_laws.specs.Prelude.{Block, Event, IsSound, Kind, Named, Nothing, Place, Port, Register, Registers}
+use Rattle.interrupt_laws.specs.Prelude.{State, after, bit_cleared, bit_set, has_bit, mode_in, named, named_read}
+use Rattle.interrupt_laws.specs.Prelude.{named_written, place, range_with_len, reply_to, row_of, step_of}
+use Rattle.interrupt_laws.proofs.Prelude.{HasShape-put, and-false, is_place-other, keeps_sound, put_stands}
+use Rattle.interrupt_laws.proofs.Prelude.{renewed-pool, word_at-put_other}
 use Rattle.interrupt_laws.proofs.Bits.{has_bit-and}
 use Rattle.interrupt_laws.proofs.Lasting.{in_range}
 use Rattle.interrupt_laws.proofs.MailEvents.{apart_mail, still_holds, read_holds, word_holds, write_holds, mail_place, Side, function, physical, neither, side_of, Made, reading, writing, silent, made}

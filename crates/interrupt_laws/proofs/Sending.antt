@@ -1,24 +1,15 @@
 -- What functions send, as reads of PFMBICR show it.
 use Rattle.std.proofs.Common.{◌≡◌, ◌≢◌, ℕ, ◌<◌, ◌+◌, ◌/◌, ◌%◌, ◌^◌, Bool, true, false, ◌==◌, ◌&&◌, ◌||◌, ◌⊎◌, refl, ap, sym, ◌∙◌, inl, inr, arith}
 use Rattle.std.proofs.Math.Bool.{or-false}
-use Rattle.std.proofs.lemmas.Bool.{cases_eq, cond_both, eq-eqb, ne_eqb}
 use Rattle.nic_device.specs.RegTable.declared.rows.RowId.TheVariants as row
-use Rattle.nic_device.proofs.RegTable.FirstAddresses.{first_address}
-use Rattle.nic_device.specs.IntrUnit.declared.group.Group.TheVariants.{Pf}
-use Rattle.nic_device.specs.RegisterFile.Bits.{has_bit, bit_set}
-use Rattle.nic_device.specs.RegisterFile.Columns.{place}
 use Rattle.nic_device.specs.RegisterFile.Mailbox.{set_if, function_wrote, mail_of, with_mail, requests, with_requests, physical_signalled, function_writes, cause_set, sends}
-use Rattle.nic_device.specs.RegisterFile.Registers.{Registers, word_of}
-use Rattle.nic_device.specs.RegTable.declared.place.Place.{Place}
 use Rattle.nic_device.specs.RegisterLaws.Laws.{HasShape}
-use Rattle.nic_device.proofs.RegisterLaws.Bits.{has_bit-set}
 use Rattle.nic_device.proofs.RegisterLaws.MailBits.{has_bit-or, has_bit-zero, has_bit-set_other}
-use Rattle.nic_device.proofs.RegisterLaws.Puts.{word_at-put_other}
-use Rattle.nic_device.proofs.RegisterLaws.Shape.{put_stands, HasShape-put}
-use Rattle.nic_device.specs.Access.{named_written}
-use Rattle.nic_device.specs.State.{State}
-use Rattle.nic_device.specs.Step.{after, step_of}
 use Rattle.nic_device.specs.declared.event.Event.TheVariants as event
+use Rattle.interrupt_laws.specs.Prelude.{Pf, Place, Registers, State, after, bit_set, has_bit, named_written, place}
+use Rattle.interrupt_laws.specs.Prelude.{step_of, word_of}
+use Rattle.interrupt_laws.proofs.Prelude.{HasShape-put, cases_eq, cond_both, eq-eqb, first_address, has_bit-set, ne_eqb}
+use Rattle.interrupt_laws.proofs.Prelude.{put_stands, word_at-put_other}
 use Rattle.interrupt_laws.specs.Sending.{RequestsAreApart, asks_by, requests_address}
 use Rattle.interrupt_laws.specs.Shown.{reads_one}
 use Rattle.interrupt_laws.proofs.Addresses.{address_of}

@@ -1,16 +1,9 @@
 -- What reads of CTRL, GCR_EXT and IVAR_MISC show.
 use Rattle.std.proofs.Common.{◌≡◌, ℕ, zero, suc, ◌<◌, ◌%◌, ◌==◌, if◌then◌else◌, refl, ap, ◌∙◌, arith, lit<}
-use Rattle.nic_device.specs.RegTable.declared.rows.RowId.TheVariants.{Ctrl, GcrExt, IvarMisc}
-use Rattle.nic_device.proofs.RegTable.FirstAddresses.{first_address}
-use Rattle.nic_device.specs.VfMap.Pools.{pools_in}
-use Rattle.nic_device.specs.VfMap.declared.mode.Mode.{Mode}
 use Rattle.nic_device.specs.VfMap.declared.mode.Mode.TheVariants.{Off, Pools16, Pools32, Pools64}
-use Rattle.nic_device.specs.RegisterFile.Columns.{place}
-use Rattle.nic_device.specs.RegisterFile.Pools.{mode_in}
-use Rattle.nic_device.specs.RegisterFile.Registers.{word_of}
-use Rattle.nic_device.specs.RegisterFile.Settings.{is_stopped}
-use Rattle.nic_device.specs.Sound.{IsSound}
-use Rattle.nic_device.specs.State.{State}
+use Rattle.interrupt_laws.specs.Prelude.{Ctrl, GcrExt, IsSound, IvarMisc, Mode, State, is_stopped, mode_in, place}
+use Rattle.interrupt_laws.specs.Prelude.{pools_in, word_of}
+use Rattle.interrupt_laws.proofs.Prelude.{first_address}
 use Rattle.interrupt_laws.specs.Shown.{read_at, reads_one}
 use Rattle.interrupt_laws.specs.Steps.{control_address, mode_address, misc_address, pools_by, pools_of}
 use Rattle.interrupt_laws.proofs.Addresses.{address_of}

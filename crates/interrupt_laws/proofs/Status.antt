@@ -3,15 +3,10 @@ use Rattle.std.proofs.Common.{◌≡◌, ℕ, ◌<◌, ◌^◌, Bool, true, fals
 use Rattle.std.specs.Prelude.{bit_and}
 use Rattle.std.specs.Bool.{beq}
 use Rattle.nic_device.specs.RegTable.declared.rows.RowId.TheVariants.{Status, Links}
-use Rattle.nic_device.proofs.RegTable.FirstAddresses.{first_address}
-use Rattle.nic_device.specs.RegisterFile.Columns.{place}
-use Rattle.nic_device.specs.RegisterFile.Settings.{is_stopped}
 use Rattle.nic_device.specs.Interrupt.{device_raised, link_cause}
-use Rattle.nic_device.specs.Outcome.{gives}
-use Rattle.nic_device.specs.State.{State}
-use Rattle.nic_device.specs.Step.{step_of, after}
 use Rattle.nic_device.specs.declared.event.Event.TheVariants as event
-use Rattle.nic_device.specs.declared.event.Reply.TheVariants.{Word, Done, Idle}
+use Rattle.interrupt_laws.specs.Prelude.{Done, Idle, State, Word, after, gives, is_stopped, place, step_of}
+use Rattle.interrupt_laws.proofs.Prelude.{first_address}
 use Rattle.interrupt_laws.specs.Status.{StatusTellsOfSteps, LinksTellsTheLink, LinksTellsTheLinkSet, status_address, links_address, links_word}
 use Rattle.interrupt_laws.proofs.Addresses.{address_of}
 use Rattle.interrupt_laws.proofs.Reading.{whole_word}

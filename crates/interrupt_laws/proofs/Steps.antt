@@ -2,21 +2,11 @@
 use Rattle.std.proofs.Common.{◌≡◌, ℕ, ◌<◌, Bool, true, false, ◌&&◌, nat_lt, cond, Some, None, refl, ap, sym, ◌∙◌, arith}
 use Rattle.std.specs.Prelude.{is_some}
 use Rattle.std.proofs.lemmas.Bool.{and_from, and_left, and_parts, lt-ltb, ltb-true}
-use Rattle.nic_device.specs.RegTable.declared.rows.RowId.TheVariants.{IvarMisc}
 use Rattle.nic_device.specs.IntrUnit.BitSet.{contains, intersection}
-use Rattle.nic_device.specs.IntrUnit.Group.{vector_of}
-use Rattle.nic_device.specs.IntrUnit.Interrupts.{Interrupts}
 use Rattle.nic_device.specs.IntrUnit.Laws.{IsDueBy}
-use Rattle.nic_device.specs.IntrUnit.declared.group.Group.{Group}
-use Rattle.nic_device.specs.IntrUnit.declared.group.Group.TheVariants.{Pf, Vf}
 use Rattle.nic_device.proofs.IntrUnit.SetLaws.{contains-intersection}
-use Rattle.nic_device.specs.VfMap.Pools.{queues_of, pools_in}
-use Rattle.nic_device.specs.RegisterFile.Groups.{interrupts_of, reported_by}
-use Rattle.nic_device.specs.RegisterFile.Pools.{mode_in}
-use Rattle.nic_device.specs.RegisterFile.Registers.{word_of}
-use Rattle.nic_device.specs.Interrupt.{has_group}
-use Rattle.nic_device.specs.Sound.{IsSound}
-use Rattle.nic_device.specs.State.{State}
+use Rattle.interrupt_laws.specs.Prelude.{Group, Interrupts, IsSound, IvarMisc, Pf, State, Vf, has_group, interrupts_of}
+use Rattle.interrupt_laws.specs.Prelude.{mode_in, pools_in, queues_of, reported_by, vector_of, word_of}
 use Rattle.interrupt_laws.specs.Names.{IsGroup, bits_in}
 use Rattle.interrupt_laws.specs.Shown.{Bit, bit_of, read_at}
 use Rattle.interrupt_laws.specs.Steps.{HasGroup, IsDue, misc_address, vector_by, pools_of}

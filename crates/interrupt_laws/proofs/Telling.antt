@@ -2,26 +2,17 @@
 use Rattle.std.proofs.Common.{◌≡◌, ◌≢◌, ℕ, ◌<◌, ◌==◌, Bool, true, false, not, ◌&&◌, cond, Option, Some, None, refl, ap, sym, ◌∙◌, subst, arith, inl, inr}
 use Rattle.std.specs.Prelude.{is_some, IsFalse}
 use Rattle.std.proofs.lemmas.Bool.{cases_lt, false_from_ne_true}
-use Rattle.nic_device.specs.RegTable.declared.rows.RowId.TheVariants.{IvarMisc}
-use Rattle.nic_device.specs.IntrUnit.BitSet.{contains}
-use Rattle.nic_device.specs.IntrUnit.Group.{vector_of}
 use Rattle.nic_device.specs.IntrUnit.Interrupts.{Interrupts, after_message}
 use Rattle.nic_device.specs.IntrUnit.Laws.{IsMessageOf, Leaves, reported_bits}
-use Rattle.nic_device.specs.IntrUnit.declared.group.Group.{Group}
 use Rattle.nic_device.proofs.IntrUnit.Due.{is_due-by, next_bit-of, unreported, pending, routed}
 use Rattle.nic_device.proofs.IntrUnit.MessageLaws.{messages_tell}
 use Rattle.nic_device.specs.RegisterFile.Groups.{interrupts_of, with_interrupts, message_of, message_made, masks_by_message}
-use Rattle.nic_device.specs.RegisterFile.Registers.{word_of}
-use Rattle.nic_device.specs.RegisterFile.Settings.{is_stopped}
 use Rattle.nic_device.specs.Interrupt.{has_group, message_reply, messaged}
-use Rattle.nic_device.specs.Outcome.{Outcome, gives}
-use Rattle.nic_device.specs.Sound.{IsSound}
-use Rattle.nic_device.specs.State.{State}
-use Rattle.nic_device.specs.Step.{step_of, after}
 use Rattle.nic_device.specs.declared.event.Event.TheVariants as event
-use Rattle.nic_device.specs.declared.event.Reply.TheVariants.{Idle, NoGroup, Message}
 use Rattle.device_laws.proofs.Messages.{due_reported}
 use Rattle.device_laws.proofs.StandingRest.{message_rest}
+use Rattle.interrupt_laws.specs.Prelude.{Group, Idle, IsSound, IvarMisc, Message, NoGroup, Outcome, State, after}
+use Rattle.interrupt_laws.specs.Prelude.{contains, gives, is_stopped, step_of, vector_of, word_of}
 use Rattle.interrupt_laws.specs.Names.{IsGroup, bits_in}
 use Rattle.interrupt_laws.specs.Shown.{Bit, bit_of, reads_one}
 use Rattle.interrupt_laws.specs.Steps.{HasGroup, IsDue, NoneIsDue, NoneIsDueBelow, Tells, MessageStepsTellWhatIsDue, control_address, reported_bit}

@@ -3,11 +3,7 @@ use Rattle.std.proofs.Common.{◌≡◌, ℕ, ◌<◌, ◌%◌, ◌==◌, Bool, 
 use Rattle.std.proofs.Math.Nat.{div-one}
 use Rattle.std.proofs.lemmas.Bool.{cases_Bool, le-leb, leb-true, eqb-true}
 use Rattle.std.proofs.lemmas.Bool.Decides.{nat_tests}
-use Rattle.nic_device.specs.IntrUnit.BitSet.{contains}
-use Rattle.nic_device.specs.IntrUnit.Group.{vector_of}
-use Rattle.nic_device.specs.IntrUnit.declared.group.Group.{Group}
-use Rattle.nic_device.specs.IntrUnit.declared.group.Group.TheVariants.{Pf, Vf}
-use Rattle.nic_device.specs.RegisterFile.Bits.{has_bit}
+use Rattle.interrupt_laws.specs.Prelude.{Group, Pf, Vf, contains, has_bit, vector_of}
 use Rattle.interrupt_laws.specs.Names.{bits_in}
 use Rattle.interrupt_laws.specs.Steps.{valid_vector, vector_by}
 

@@ -1,28 +1,12 @@
 -- What reads of addresses show of the words of registers.
 use Rattle.std.proofs.Common.{◌≡◌, ℕ, ◌<◌, refl, ap, sym, ◌∙◌, ◌&&◌, not, arith}
 use Rattle.std.specs.Prelude.{bit_and}
-use Rattle.nic_device.specs.DmaArena.Block.{Block}
-use Rattle.nic_device.specs.RegTable.Place.{Names, view_among}
-use Rattle.nic_device.specs.RegTable.Runs.{runs}
-use Rattle.nic_device.specs.RegTable.declared.place.Place.{Place}
 use Rattle.nic_device.specs.RegTable.declared.rows.RowId.TheVariants.{Eicr, Eims, Eiac, Eiam, Gpie, Pvteicr, Pvteims, Pvteiac, Pvteiam}
 use Rattle.nic_device.proofs.RegTable.Finding.{found-named}
-use Rattle.nic_device.specs.IntrUnit.declared.group.Group.{Group}
-use Rattle.nic_device.specs.IntrUnit.declared.group.Group.TheVariants.{Pf, Vf}
-use Rattle.nic_device.specs.RegisterFile.Bits.{has_bit}
-use Rattle.nic_device.specs.RegisterFile.Columns.{place}
-use Rattle.nic_device.specs.RegisterFile.Groups.{auto_masks}
-use Rattle.nic_device.specs.RegisterFile.Registers.{Registers}
-use Rattle.nic_device.specs.RegisterFile.Words.{word_at}
-use Rattle.nic_device.specs.Access.{word_read, named_read}
-use Rattle.nic_device.specs.Named.{named, at_place}
-use Rattle.nic_device.specs.State.{State}
-use Rattle.nic_device.specs.Step.{step_of}
 use Rattle.nic_device.specs.declared.event.Port.TheVariants as port
-use Rattle.nic_device.specs.declared.event.Reply.{Reply}
-use Rattle.nic_device.specs.declared.event.Reply.TheVariants.{Word}
-use Rattle.nic_device.specs.declared.named.Named.TheVariants.{Register}
-use Rattle.device_laws.specs.Laws.{reply_to_read}
+use Rattle.interrupt_laws.specs.Prelude.{Block, Group, Names, Pf, Place, Register, Registers, Reply, State, Vf, Word}
+use Rattle.interrupt_laws.specs.Prelude.{at_place, auto_masks, has_bit, named, named_read, place, reply_to_read, runs}
+use Rattle.interrupt_laws.specs.Prelude.{step_of, view_among, word_at, word_read}
 use Rattle.interrupt_laws.specs.Names.{IsGroup, IsAddressOf, bits_in, cause_register, mask_register, auto_clear_register, auto_mask_register, general_address}
 use Rattle.interrupt_laws.specs.Shown.{Bit, bit_of, word_in, reads_one, masks_by_access}
 use Rattle.interrupt_laws.specs.Accesses.{ReadsShowTheView}

@@ -1,18 +1,9 @@
 -- What accesses of a group's registers do, as later reads show it.
 use Rattle.std.specs.Prelude.{ℕ, ◌≡◌, ◌<◌, ◌≤◌, Bool, false, not, ◌&&◌, ◌||◌, nat_le, if◌then◌else◌}
-use Rattle.nic_device.specs.RegTable.Place.{Names, view_among}
-use Rattle.nic_device.specs.RegTable.Runs.{runs}
-use Rattle.nic_device.specs.RegTable.declared.place.Place.{Place}
-use Rattle.nic_device.specs.IntrUnit.declared.group.Group.{Group}
-use Rattle.nic_device.specs.IntrUnit.declared.group.Group.TheVariants.{Pf, Vf}
-use Rattle.nic_device.specs.RegisterFile.Bits.{has_bit}
-use Rattle.nic_device.specs.Sound.{IsSound}
-use Rattle.nic_device.specs.State.{State}
-use Rattle.nic_device.specs.Step.{after}
 use Rattle.nic_device.specs.declared.event.Event.TheVariants as event
 use Rattle.nic_device.specs.declared.event.Port.TheVariants as port
-use Rattle.nic_device.specs.declared.event.Reply.TheVariants.{Word}
-use Rattle.device_laws.specs.Laws.{reply_to_read, after_write}
+use Rattle.interrupt_laws.specs.Prelude.{Group, IsSound, Names, Pf, Place, State, Vf, Word, after, after_write, has_bit}
+use Rattle.interrupt_laws.specs.Prelude.{reply_to_read, runs, view_among}
 use Rattle.interrupt_laws.specs.Names.{IsGroup, bits_in, cause_register, cause_set_register, mask_register, mask_clear_register, auto_clear_register, auto_mask_register, general_address}
 use Rattle.interrupt_laws.specs.Shown.{Bit, bit_of, reads_one, masks_by_access, ShowsThen}
 

@@ -1,13 +1,7 @@
 -- How accesses of registers are answered.
 use Rattle.std.specs.Prelude.{ℕ, ◌≡◌}
-use Rattle.nic_device.specs.RegTable.declared.place.Place.{Place}
-use Rattle.nic_device.specs.Named.{named}
-use Rattle.nic_device.specs.State.{State}
-use Rattle.nic_device.specs.Step.{reply_to}
 use Rattle.nic_device.specs.declared.event.Event.TheVariants as event
-use Rattle.nic_device.specs.declared.event.Port.{Port}
-use Rattle.nic_device.specs.declared.event.Reply.TheVariants.{Word, Done}
-use Rattle.nic_device.specs.declared.named.Named.TheVariants.{Register}
+use Rattle.interrupt_laws.specs.Prelude.{Done, Place, Port, Register, State, Word, named, reply_to}
 use Rattle.interrupt_laws.specs.Shown.{word_in}
 
 -- a read gives a word, and a write is done, whatever the register's kind and whatever is written

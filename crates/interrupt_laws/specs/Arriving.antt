@@ -1,11 +1,8 @@
 -- Which pools VFRE lets frames into.
 use Rattle.std.specs.Prelude.{ℕ, ◌≡◌, ◌≢◌, ◌⊎◌, ◌<◌, ◌*◌, ◌/◌, ◌%◌, List, [], ◌∷◌, ◌++◌, IsTrue, Some}
 use Rattle.nic_device.specs.RxFilter.Pools.{selected_pool}
-use Rattle.nic_device.specs.Sound.{IsSound}
-use Rattle.nic_device.specs.State.{State, Waiting}
-use Rattle.nic_device.specs.Step.{after, reply_to}
 use Rattle.nic_device.specs.declared.event.Event.TheVariants as event
-use Rattle.nic_device.specs.declared.event.Reply.TheVariants.{Done}
+use Rattle.interrupt_laws.specs.Prelude.{Done, IsSound, State, Waiting, after, reply_to}
 use Rattle.interrupt_laws.specs.Queues.{pool_bit_at}
 use Rattle.interrupt_laws.specs.Shown.{read_at, reads_one}
 use Rattle.interrupt_laws.specs.Steps.{mode_address}

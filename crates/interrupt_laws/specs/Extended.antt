@@ -1,18 +1,10 @@
 -- CTRL_EXT stores what is written, as a plain read/write register does; with bit 14 a write also reports the end of a
 -- reset to functions, in their mailboxes.
 use Rattle.std.specs.Prelude.{ℕ, ◌≡◌, ◌≢◌, ◌<◌, IsFalse}
-use Rattle.nic_device.specs.RegTable.Place.{Names}
-use Rattle.nic_device.specs.RegTable.declared.place.Place.{Place}
-use Rattle.nic_device.specs.RegTable.declared.rows.RowId.TheVariants.{CtrlExt, Pfmailbox, Pvfmailbox}
-use Rattle.nic_device.specs.RegisterFile.Bits.{has_bit}
-use Rattle.nic_device.specs.RegisterFile.Columns.{place}
-use Rattle.nic_device.specs.Sound.{IsSound}
-use Rattle.nic_device.specs.State.{State, new_state}
-use Rattle.nic_device.specs.Step.{after}
 use Rattle.nic_device.specs.declared.event.Event.TheVariants as event
 use Rattle.nic_device.specs.declared.event.Port.TheVariants.{Pf}
-use Rattle.nic_device.specs.declared.event.Reply.TheVariants.{Word}
-use Rattle.device_laws.specs.Laws.{reply_to_read, after_write}
+use Rattle.interrupt_laws.specs.Prelude.{CtrlExt, IsSound, Names, Pfmailbox, Place, Pvfmailbox, State, Word, after}
+use Rattle.interrupt_laws.specs.Prelude.{after_write, has_bit, new_state, place, reply_to_read}
 use Rattle.interrupt_laws.specs.Plain.{ChangesOneRegister}
 use Rattle.interrupt_laws.specs.Shown.{reads_one}
 

@@ -1,12 +1,8 @@
 -- Where the head of a ring moves, by the words of its registers.
 use Rattle.std.specs.Prelude.{ℕ, ◌≡◌, ◌+◌, ◌/◌, ◌%◌, ◌==◌, Bool, Option, if◌then◌else◌}
 use Rattle.nic_device.specs.RegTable.declared.rows.RowId.TheVariants.{Rdlen, Rdh, Tdlen, Tdh}
-use Rattle.nic_device.specs.RegisterFile.Registers.{Registers, word_of}
-use Rattle.nic_device.specs.Sound.{IsSound}
-use Rattle.nic_device.specs.State.{State}
-use Rattle.nic_device.specs.Step.{after, reply_to}
 use Rattle.nic_device.specs.declared.event.Event.TheVariants as event
-use Rattle.nic_device.specs.declared.event.Reply.TheVariants.{Wrote, Advanced, Sent}
+use Rattle.interrupt_laws.specs.Prelude.{Advanced, IsSound, Registers, Sent, State, Wrote, after, reply_to, word_of}
 
 -- the slot after one: slot 0 after the last, of which a ring has one for each 16 bytes of bits 19 to 0 of its length
 abbrev pub slot_after : (length slot : ℕ) → ℕ

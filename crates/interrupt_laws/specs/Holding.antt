@@ -1,17 +1,8 @@
 -- Who holds a mailbox keeps it, but for the few writes that end it.
 use Rattle.std.specs.Prelude.{ℕ, ◌≡◌, ◌<◌, ◌||◌, ⊤, IsTrue, IsFalse}
-use Rattle.nic_device.specs.DmaArena.Block.{Block}
-use Rattle.nic_device.specs.RegTable.declared.place.Place.{Place}
-use Rattle.nic_device.specs.RegTable.declared.rows.RowId.TheVariants.{Ctrl, Pvfctrl, Pfmailbox, Pvfmailbox}
-use Rattle.nic_device.specs.RegisterFile.Bits.{has_bit}
-use Rattle.nic_device.specs.RegisterFile.Columns.{place}
-use Rattle.nic_device.specs.Named.{named}
-use Rattle.nic_device.specs.Sound.{IsSound}
-use Rattle.nic_device.specs.State.{State}
-use Rattle.nic_device.specs.Step.{after}
-use Rattle.nic_device.specs.declared.event.Event.{Event}
 use Rattle.nic_device.specs.declared.event.Event.TheVariants as event
-use Rattle.nic_device.specs.declared.named.Named.TheVariants.{Register}
+use Rattle.interrupt_laws.specs.Prelude.{Block, Ctrl, Event, IsSound, Pfmailbox, Place, Pvfctrl, Pvfmailbox, Register}
+use Rattle.interrupt_laws.specs.Prelude.{State, after, has_bit, named, place}
 use Rattle.interrupt_laws.specs.Mailbox.{function_mail}
 use Rattle.interrupt_laws.specs.Shown.{reads_one}
 

@@ -1,19 +1,8 @@
 -- A mask that is set stays set, but for the few events that clear it.
 use Rattle.std.specs.Prelude.{ℕ, ◌≡◌, ◌<◌, Bool, ◌&&◌, ◌||◌, ⊤, IsTrue, IsFalse}
-use Rattle.nic_device.specs.DmaArena.Block.{Block}
-use Rattle.nic_device.specs.RegTable.declared.place.Place.{Place}
-use Rattle.nic_device.specs.RegTable.declared.rows.RowId.TheVariants.{Ctrl, Pvfctrl}
-use Rattle.nic_device.specs.IntrUnit.declared.group.Group.{Group}
-use Rattle.nic_device.specs.IntrUnit.declared.group.Group.TheVariants.{Pf, Vf}
-use Rattle.nic_device.specs.RegisterFile.Bits.{has_bit}
-use Rattle.nic_device.specs.RegisterFile.Columns.{place}
-use Rattle.nic_device.specs.Named.{named}
-use Rattle.nic_device.specs.Sound.{IsSound}
-use Rattle.nic_device.specs.State.{State}
-use Rattle.nic_device.specs.Step.{after}
-use Rattle.nic_device.specs.declared.event.Event.{Event}
 use Rattle.nic_device.specs.declared.event.Event.TheVariants as event
-use Rattle.nic_device.specs.declared.named.Named.TheVariants.{Register}
+use Rattle.interrupt_laws.specs.Prelude.{Block, Ctrl, Event, Group, IsSound, Pf, Place, Pvfctrl, Register, State, Vf}
+use Rattle.interrupt_laws.specs.Prelude.{after, has_bit, named, place}
 use Rattle.interrupt_laws.specs.Names.{IsGroup, bits_in, cause_register, mask_clear_register, general_address}
 use Rattle.interrupt_laws.specs.Shown.{bit_of, reads_one, masks_by_access}
 

@@ -10,6 +10,7 @@ pub mod Marks
 pub mod Messages
 pub mod Names
 pub mod Plain
+pub mod Prelude
 pub mod Queues
 pub mod Raised
 pub mod Resets

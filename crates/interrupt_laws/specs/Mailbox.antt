@@ -1,7 +1,6 @@
 -- The mailboxes of virtual functions, as reads of both sides show them.
 use Rattle.std.specs.Prelude.{ℕ, ◌≡◌, ◌<◌, ◌+◌, ◌*◌, ◌&&◌, IsFalse}
-use Rattle.nic_device.specs.Sound.{IsSound}
-use Rattle.nic_device.specs.State.{State}
+use Rattle.interrupt_laws.specs.Prelude.{IsSound, State}
 use Rattle.interrupt_laws.specs.Shown.{reads_one}
 
 -- PVFMAILBOX[v], which is the function's, and PFMAILBOX[v]

@@ -1,19 +1,8 @@
 -- Which bits messages reported, the reported marks, and what events leave of them.
 use Rattle.std.specs.Prelude.{ℕ, ◌≡◌, ◌≢◌, ◌<◌, ◌==◌, Bool, ◌&&◌, ◌||◌, ⊤, IsFalse}
-use Rattle.nic_device.specs.DmaArena.Block.{Block}
-use Rattle.nic_device.specs.RegTable.declared.place.Place.{Place}
-use Rattle.nic_device.specs.RegTable.declared.rows.RowId.TheVariants.{Ctrl}
-use Rattle.nic_device.specs.IntrUnit.declared.group.Group.{Group}
-use Rattle.nic_device.specs.RegisterFile.Bits.{has_bit}
-use Rattle.nic_device.specs.RegisterFile.Columns.{place}
-use Rattle.nic_device.specs.RegisterFile.Groups.{reported_by}
-use Rattle.nic_device.specs.Named.{named}
-use Rattle.nic_device.specs.Sound.{IsSound, IsEvent}
-use Rattle.nic_device.specs.State.{State}
-use Rattle.nic_device.specs.Step.{after}
-use Rattle.nic_device.specs.declared.event.Event.{Event}
 use Rattle.nic_device.specs.declared.event.Event.TheVariants as event
-use Rattle.nic_device.specs.declared.named.Named.TheVariants.{Register}
+use Rattle.interrupt_laws.specs.Prelude.{Block, Ctrl, Event, Group, IsEvent, IsSound, Place, Register, State, after}
+use Rattle.interrupt_laws.specs.Prelude.{has_bit, named, place, reported_by}
 use Rattle.interrupt_laws.specs.Lasting.{IsPoolReset}
 use Rattle.interrupt_laws.specs.Names.{IsGroup, bits_in}
 use Rattle.interrupt_laws.specs.Shown.{bit_of, reads_one}

@@ -1,12 +1,7 @@
 -- The interrupt registers by the datasheet's names and addresses.
 use Rattle.std.specs.Prelude.{ℕ, ◌≡◌, ◌<◌, ◌+◌, ◌*◌, ⊤}
-use Rattle.nic_device.specs.RegTable.Place.{Names, view_among}
-use Rattle.nic_device.specs.RegTable.Runs.{runs}
-use Rattle.nic_device.specs.RegTable.declared.place.Place.{Place}
 use Rattle.nic_device.specs.RegTable.declared.rows.RowId.TheVariants.{Eicr, Eics, Eims, Eimc, Eiac, Eiam, Gpie, Pvteicr, Pvteics, Pvteims, Pvteimc, Pvteiac, Pvteiam}
-use Rattle.nic_device.specs.IntrUnit.declared.group.Group.{Group}
-use Rattle.nic_device.specs.IntrUnit.declared.group.Group.TheVariants.{Pf, Vf}
-use Rattle.nic_device.specs.RegisterFile.Columns.{place}
+use Rattle.interrupt_laws.specs.Prelude.{Group, Names, Pf, Place, Vf, place, runs, view_among}
 
 -- a group that has registers: that of the physical function, or of one of 64 virtual functions
 abbrev pub IsGroup : Group → Type 0

@@ -1,16 +1,9 @@
 -- Registers that keep what is written, and change nothing else.
 use Rattle.std.specs.Prelude.{ℕ, ◌≡◌, ◌≢◌, ◌<◌, ◌+◌, ◌-◌, ◌*◌, nat_lt, if◌then◌else◌}
-use Rattle.nic_device.specs.RegTable.Place.{Names}
-use Rattle.nic_device.specs.RegTable.declared.place.Place.{Place}
 use Rattle.nic_device.specs.RegTable.declared.rows.RowId.TheVariants.{Eitr}
-use Rattle.nic_device.specs.IntrUnit.declared.group.Group.{Group}
-use Rattle.nic_device.specs.RegisterFile.Bits.{has_bit}
-use Rattle.nic_device.specs.RegisterFile.Columns.{place}
-use Rattle.nic_device.specs.Sound.{IsSound}
-use Rattle.nic_device.specs.State.{State}
-use Rattle.nic_device.specs.Step.{reply_to}
 use Rattle.nic_device.specs.declared.event.Event.TheVariants as event
-use Rattle.device_laws.specs.Laws.{IsPlain, reply_to_read, after_write}
+use Rattle.interrupt_laws.specs.Prelude.{Group, IsPlain, IsSound, Names, Place, State, after_write, has_bit, place}
+use Rattle.interrupt_laws.specs.Prelude.{reply_to, reply_to_read}
 use Rattle.interrupt_laws.specs.Names.{IsGroup, auto_clear_register, auto_clear_address, auto_mask_register, auto_mask_address}
 use Rattle.interrupt_laws.specs.Shown.{reads_one}
 

@@ -1,18 +1,9 @@
 -- What the bits of written words decide for queues: what they raise, where they count, and whether they send.
 use Rattle.std.specs.Prelude.{ℕ, ◌≡◌, ◌<◌, ◌+◌, ◌*◌, ◌/◌, ◌%◌, ◌^◌, ◌==◌, Bool, true, ◌&&◌, ◌||◌, nat_le, IsTrue, IsFalse, List, ◌∷◌, Option, Some, if◌then◌else◌}
-use Rattle.nic_device.specs.DmaArena.Block.{Block}
-use Rattle.nic_device.specs.DmaRing.declared.dir.Dir.{Dir}
-use Rattle.nic_device.specs.DmaRing.declared.dir.Dir.TheVariants.{Rx, Tx}
-use Rattle.nic_device.specs.IntrUnit.declared.group.Group.TheVariants.{Pf, Vf}
-use Rattle.nic_device.specs.RegisterFile.Bits.{has_bit}
-use Rattle.nic_device.specs.Outcome.{gives}
-use Rattle.nic_device.specs.Sound.{IsSound}
-use Rattle.nic_device.specs.State.{State, Waiting}
-use Rattle.nic_device.specs.Step.{step_of, after, reply_to}
-use Rattle.nic_device.specs.declared.event.Event.{Event}
 use Rattle.nic_device.specs.declared.event.Event.TheVariants as event
-use Rattle.nic_device.specs.declared.event.Reply.TheVariants.{Idle, Dropped, Wrote, Advanced, Sent}
 use Rattle.nic_device.specs.declared.event.Why.TheVariants.{NoSlot}
+use Rattle.interrupt_laws.specs.Prelude.{Advanced, Block, Dir, Dropped, Event, Idle, IsSound, Pf, Rx, Sent, State, Tx}
+use Rattle.interrupt_laws.specs.Prelude.{Vf, Waiting, Wrote, after, gives, has_bit, reply_to, step_of}
 use Rattle.interrupt_laws.specs.Shown.{Bit, bit_of, read_at, reads_one, ShowsThen}
 use Rattle.interrupt_laws.specs.Steps.{mode_address, pools_of}
 

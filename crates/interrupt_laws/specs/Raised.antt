@@ -1,14 +1,9 @@
 -- Which causes of EICR the device raises by itself, by their numbers.
 use Rattle.std.specs.Prelude.{ℕ, ◌≡◌, ◌≢◌, ◌<◌, ◌==◌, Bool, List}
 use Rattle.nic_device.specs.DmaRing.declared.fault.RingFault.{RingFault}
-use Rattle.nic_device.specs.IntrUnit.declared.group.Group.{Group}
-use Rattle.nic_device.specs.IntrUnit.declared.group.Group.TheVariants.{Pf}
-use Rattle.nic_device.specs.Sound.{IsSound}
-use Rattle.nic_device.specs.State.{State}
-use Rattle.nic_device.specs.Step.{after, reply_to}
 use Rattle.nic_device.specs.declared.event.Event.TheVariants as event
 use Rattle.nic_device.specs.declared.event.Reply.TheVariants.{Done, Dropped, Fault}
-use Rattle.nic_device.specs.declared.event.Why.TheVariants.{Full}
+use Rattle.interrupt_laws.specs.Prelude.{Full, Group, IsSound, Pf, State, after, reply_to}
 use Rattle.interrupt_laws.specs.Names.{IsGroup, bits_in}
 use Rattle.interrupt_laws.specs.Queues.{raised_bit}
 use Rattle.interrupt_laws.specs.Shown.{bit_of, ShowsThen}

@@ -1,21 +1,10 @@
 -- A reset is reported to a function once: by RSTI, bit 6 of PVFMAILBOX[v], until the physical function reports that it
 -- is done, and then by RSTD, bit 7, at one read.
 use Rattle.std.specs.Prelude.{ℕ, ◌≡◌, ◌<◌, ◌≤◌, ◌+◌, Bool, false, ◌&&◌, ◌||◌, List, [], ◌∷◌, ⊤, if◌then◌else◌, IsTrue, IsFalse}
-use Rattle.nic_device.specs.DmaArena.Block.{Block}
-use Rattle.nic_device.specs.RegTable.declared.place.Place.{Place}
-use Rattle.nic_device.specs.RegTable.declared.rows.RowId.TheVariants.{Ctrl, CtrlExt, Pvfmailbox}
-use Rattle.nic_device.specs.RegisterFile.Bits.{has_bit}
-use Rattle.nic_device.specs.RegisterFile.Columns.{place}
 use Rattle.nic_device.specs.RegisterLaws.Footprint.{is_place}
-use Rattle.nic_device.specs.Named.{named}
-use Rattle.nic_device.specs.Sound.{IsSound, IsEvent}
-use Rattle.nic_device.specs.State.{State}
-use Rattle.nic_device.specs.Step.{after, reply_to}
-use Rattle.nic_device.specs.declared.event.Event.{Event}
 use Rattle.nic_device.specs.declared.event.Event.TheVariants as event
-use Rattle.nic_device.specs.declared.event.Port.{Port}
-use Rattle.nic_device.specs.declared.named.Named.{Named}
-use Rattle.nic_device.specs.declared.named.Named.TheVariants.{Nothing, Register}
+use Rattle.interrupt_laws.specs.Prelude.{Block, Ctrl, CtrlExt, Event, IsEvent, IsSound, Named, Nothing, Place, Port}
+use Rattle.interrupt_laws.specs.Prelude.{Pvfmailbox, Register, State, after, has_bit, named, place, reply_to}
 use Rattle.interrupt_laws.specs.Holding.{IsSparing}
 use Rattle.interrupt_laws.specs.Mailbox.{function_mail}
 use Rattle.interrupt_laws.specs.Shown.{word_in, reads_one}

@@ -1,15 +1,7 @@
 -- What a function's requests and acknowledgements change in the mailbox interrupt causes, PFMBICR.
 use Rattle.std.specs.Prelude.{ℕ, ◌≡◌, ◌<◌, ◌+◌, ◌*◌, ◌/◌, ◌%◌, Bool, ◌==◌, ◌&&◌, ◌||◌}
-use Rattle.nic_device.specs.RegTable.declared.rows.RowId.TheVariants.{Pvfmailbox}
-use Rattle.nic_device.specs.RegisterFile.Bits.{has_bit}
-use Rattle.nic_device.specs.RegisterFile.Columns.{place}
-use Rattle.nic_device.specs.Named.{named}
-use Rattle.nic_device.specs.Sound.{IsSound}
-use Rattle.nic_device.specs.State.{State}
-use Rattle.nic_device.specs.Step.{after}
 use Rattle.nic_device.specs.declared.event.Event.TheVariants as event
-use Rattle.nic_device.specs.declared.event.Port.{Port}
-use Rattle.nic_device.specs.declared.named.Named.TheVariants.{Register}
+use Rattle.interrupt_laws.specs.Prelude.{IsSound, Port, Pvfmailbox, Register, State, after, has_bit, named, place}
 use Rattle.interrupt_laws.specs.Shown.{reads_one}
 
 -- PFMBICR[k], in which functions 16k to 16k+15 have a request each, in bits 0 to 15, and an acknowledgement each, in

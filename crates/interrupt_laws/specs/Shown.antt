@@ -1,13 +1,6 @@
 -- What reads show a driver of the interrupts of a group.
 use Rattle.std.specs.Prelude.{ℕ, ◌≡◌, ◌≢◌, ◌<◌, Bool, true, not}
-use Rattle.nic_device.specs.DmaArena.Block.{Block}
-use Rattle.nic_device.specs.IntrUnit.declared.group.Group.{Group}
-use Rattle.nic_device.specs.IntrUnit.declared.group.Group.TheVariants.{Pf, Vf}
-use Rattle.nic_device.specs.RegisterFile.Bits.{has_bit}
-use Rattle.nic_device.specs.State.{State}
-use Rattle.nic_device.specs.declared.event.Reply.{Reply}
-use Rattle.nic_device.specs.declared.event.Reply.TheVariants.{Word}
-use Rattle.device_laws.specs.Laws.{reply_to_read}
+use Rattle.interrupt_laws.specs.Prelude.{Block, Group, Pf, Reply, State, Vf, Word, has_bit, reply_to_read}
 use Rattle.interrupt_laws.specs.Names.{IsGroup, bits_in, cause_address, mask_address, auto_clear_address, auto_mask_address, general_address}
 
 -- the word in a reply, and 0 where it has none

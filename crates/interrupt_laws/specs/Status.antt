@@ -1,10 +1,7 @@
 -- What STATUS and LINKS read.
 use Rattle.std.specs.Prelude.{ℕ, ◌≡◌, Bool, if◌then◌else◌}
-use Rattle.nic_device.specs.State.{State}
-use Rattle.nic_device.specs.Step.{after}
 use Rattle.nic_device.specs.declared.event.Event.TheVariants as event
-use Rattle.nic_device.specs.declared.event.Reply.TheVariants.{Word}
-use Rattle.device_laws.specs.Laws.{reply_to_read}
+use Rattle.interrupt_laws.specs.Prelude.{State, Word, after, reply_to_read}
 use Rattle.interrupt_laws.specs.Shown.{reads_one}
 use Rattle.interrupt_laws.specs.Steps.{control_address}
 

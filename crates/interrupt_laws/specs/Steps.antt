@@ -1,15 +1,8 @@
 -- What a message step of a group does, by what reads show before it.
 use Rattle.std.specs.Prelude.{ℕ, ◌≡◌, ◌≢◌, ◌<◌, ◌/◌, ◌%◌, ◌^◌, ◌==◌, Bool, not, ◌&&◌, nat_lt, nat_le, ⊤, IsTrue, IsFalse, Option, Some, None, if◌then◌else◌}
-use Rattle.nic_device.specs.IntrUnit.declared.group.Group.{Group}
-use Rattle.nic_device.specs.IntrUnit.declared.group.Group.TheVariants.{Pf, Vf}
-use Rattle.nic_device.specs.RegisterFile.Bits.{has_bit}
-use Rattle.nic_device.specs.RegisterFile.Groups.{reported_by}
-use Rattle.nic_device.specs.Outcome.{gives}
-use Rattle.nic_device.specs.Sound.{IsSound}
-use Rattle.nic_device.specs.State.{State}
-use Rattle.nic_device.specs.Step.{step_of, after, reply_to}
 use Rattle.nic_device.specs.declared.event.Event.TheVariants as event
-use Rattle.nic_device.specs.declared.event.Reply.TheVariants.{Idle, NoGroup, Message}
+use Rattle.interrupt_laws.specs.Prelude.{Group, Idle, IsSound, Message, NoGroup, Pf, State, Vf, after, gives, has_bit}
+use Rattle.interrupt_laws.specs.Prelude.{reply_to, reported_by, step_of}
 use Rattle.interrupt_laws.specs.Names.{bits_in, general_address}
 use Rattle.interrupt_laws.specs.Shown.{Bit, bit_of, read_at, reads_one, ShowsThen}
 

@@ -1,14 +1,15 @@
 -- What writes of EIAC and EIAM, and of PVTEIAC and PVTEIAM, leave.
-use Rattle.std.proofs.Common.{◌≡◌, ◌≢◌, ℕ, ◌<◌, ◌^◌, true, ◌&&◌, if◌then◌else◌, cond, refl, ap, sym, ◌∙◌, arith, lit<, ◌==◌}
+use Rattle.std.proofs.Common.{◌≡◌, ◌≢◌, ℕ, ◌-◌, ◌<◌, ◌^◌, true, ◌&&◌, if◌then◌else◌, cond, refl, ap, sym, ◌∙◌, arith, lit<, ◌==◌}
 use Rattle.std.specs.Prelude.{bit_and}
 use Rattle.std.proofs.lemmas.Nat.{and_le_l}
 use Rattle.std.proofs.lemmas.Nat.Bits.{bit_at_ones}
 use Rattle.nic_device.specs.RegTable.declared.rows.RowId.TheVariants.{Eicr, Eims, Eiac, Eiam, Pvteicr, Pvteims, Pvteiac, Pvteiam}
 use Rattle.nic_device.specs.RegisterFile.Access.{stored}
-use Rattle.nic_device.specs.RegisterFile.Words.{word_at, put}
+use Rattle.nic_device.specs.RegisterFile.Words.{word_at}
 use Rattle.nic_device.specs.RegisterLaws.Sound.{HasShape}
 use Rattle.interrupt_laws.specs.Prelude.{Group, IsSound, Names, Pf, Place, Registers, State, Vf, after_write, has_bit}
 use Rattle.interrupt_laws.specs.Prelude.{interrupts_of, merged, place, row_of, runs, state_written, view_among}
+use Rattle.interrupt_laws.specs.Prelude.{RowId}
 use Rattle.interrupt_laws.proofs.Prelude.{put_stands, state-written, word_at-put_other}
 use Rattle.interrupt_laws.specs.Accesses.{written_bit, WriteOfAutoClearIsKept, WriteOfAutoMaskIsKept}
 use Rattle.interrupt_laws.specs.Names.{IsGroup, bits_in, auto_clear_register, auto_mask_register}
@@ -27,70 +28,59 @@ stored_bit mask view old word bit b small own =
     ∙ ap (λ x. cond x (has_bit bit word) (has_bit bit old))
     (has_bit-and mask view bit ∙ ap (λ x. x && has_bit bit view) own)
 
--- the row has the bits of its group
-mask_bit : (g : Group) (bit : ℕ) → bit < bits_in g → has_bit bit (row_of (auto_mask_register g).row).mask ≡ true
-mask_bit Pf bit b = ap (λ n. n == 1) (bit_at_ones 31 bit b)
-mask_bit (Vf v) bit b = ap (λ n. n == 1) (bit_at_ones 3 bit b)
+-- the words of row x and of another row, once a word was stored at place i of row x
+module _ (r : Registers) (h : HasShape r) (i view word bit : ℕ) where
+  own : (x : RowId) → i < (row_of x).count → bit < 32 → (row_of x).mask < 2 ^ 32 → has_bit bit (row_of x).mask ≡ true
+      → has_bit bit (word_at (stored r (place x i) view word).words (place x i))
+      ≡ (if has_bit bit view then has_bit bit word else has_bit bit (word_at r.words (place x i)))
+  own x there low small has =
+      ap (has_bit bit) (put_stands r (place x i) _ h there)
+      ∙ stored_bit (row_of x).mask view (word_at r.words (place x i)) word bit low small has
 
-clear_bit : (g : Group) (bit : ℕ) → bit < bits_in g → has_bit bit (row_of (auto_clear_register g).row).mask ≡ true
-clear_bit Pf bit b = ap (λ n. n == 1) (bit_at_ones 31 bit b)
-clear_bit (Vf v) bit b = ap (λ n. n == 1) (bit_at_ones 3 bit b)
+  stays : (x y : RowId) → y ≢ x
+      → has_bit bit (word_at (stored r (place x i) view word).words (place y i)) ≡ has_bit bit (word_at r.words (place y i))
+  stays x y apart =
+      ap (has_bit bit) (word_at-put_other r.words (place x i) (place y i) _ (λ e. apart (ap (λ (p : Place). p.row) e)))
 
-apart : (p q : Place) → (q.row ≡ p.row → ⊥) → q ≢ p
-apart p q rows e = rows (ap (λ (x : Place). x.row) e)
-
--- a word of another row stands
-stands : (r : Registers) (p q : Place) (word bit : ℕ) → (q.row ≡ p.row → ⊥)
-    → has_bit bit (word_at (record r { words = put r.words p word }).words q) ≡ has_bit bit (word_at r.words q)
-stands r p q word bit rows = ap (has_bit bit) (word_at-put_other r.words p q word (apart p q rows))
-
--- the word that a write leaves
-abbrev new_word : Registers → Place → ℕ → ℕ → ℕ
-new_word r p view word = merged (bit_and (row_of p.row).mask view) (word_at r.words p) word
+-- the rows have the bits of their group
+own_bits : (n : ℕ) (bit : ℕ) → bit < n → has_bit bit (2 ^ n - 1) ≡ true
+own_bits n bit b = ap (λ n. n == 1) (bit_at_ones n bit b)
 
 clear_stored : (r : Registers) (g : Group) (view word : ℕ) → HasShape r → IsGroup g → (bit : ℕ) → bit < bits_in g
     → by_words (stored r (auto_clear_register g) view word) g bit
     ≡ record (by_words r g bit) {
       auto_clear = if has_bit bit view then has_bit bit word else (by_words r g bit).auto_clear;
     }
-clear_stored r Pf view word h there bit b =
-    let p = place Eiac 0 in
-    let cause = stands r p (place Eicr 0) (new_word r p view word) bit (λ e. cc) in
-    let mask = stands r p (place Eims 0) (new_word r p view word) bit (λ e. cc) in
-    let auto = stands r p (place Eiam 0) (new_word r p view word) bit (λ e. cc) in
-    let own = ap (has_bit bit) (put_stands r p (new_word r p view word) h (lit< tt))
-    ∙ stored_bit 0x7FFFFFFF view (word_at r.words p) word bit (small Pf bit b) (lit< tt) (clear_bit Pf bit b) in
-    λ k. record { cause = cause k; mask = mask k; auto_clear = own k; auto_mask = auto k }
-clear_stored r (Vf v) view word h there bit b =
-    let p = place Pvteiac v in
-    let cause = stands r p (place Pvteicr v) (new_word r p view word) bit (λ e. cc) in
-    let mask = stands r p (place Pvteims v) (new_word r p view word) bit (λ e. cc) in
-    let auto = stands r p (place Pvteiam v) (new_word r p view word) bit (λ e. cc) in
-    let own = ap (has_bit bit) (put_stands r p (new_word r p view word) h there)
-    ∙ stored_bit 7 view (word_at r.words p) word bit (small (Vf v) bit b) (lit< tt) (clear_bit (Vf v) bit b) in
-    λ k. record { cause = cause k; mask = mask k; auto_clear = own k; auto_mask = auto k }
+clear_stored r Pf view word h there bit b = λ k. record {
+  cause = stays r h 0 view word bit Eiac Eicr (λ e. cc) k;
+  mask = stays r h 0 view word bit Eiac Eims (λ e. cc) k;
+  auto_clear = own r h 0 view word bit Eiac (lit< tt) (small Pf bit b) (lit< tt) (own_bits 31 bit b) k;
+  auto_mask = stays r h 0 view word bit Eiac Eiam (λ e. cc) k;
+}
+clear_stored r (Vf v) view word h there bit b = λ k. record {
+  cause = stays r h v view word bit Pvteiac Pvteicr (λ e. cc) k;
+  mask = stays r h v view word bit Pvteiac Pvteims (λ e. cc) k;
+  auto_clear = own r h v view word bit Pvteiac there (small (Vf v) bit b) (lit< tt) (own_bits 3 bit b) k;
+  auto_mask = stays r h v view word bit Pvteiac Pvteiam (λ e. cc) k;
+}
 
 mask_stored : (r : Registers) (g : Group) (view word : ℕ) → HasShape r → IsGroup g → (bit : ℕ) → bit < bits_in g
     → by_words (stored r (auto_mask_register g) view word) g bit
     ≡ record (by_words r g bit) {
       auto_mask = if has_bit bit view then has_bit bit word else (by_words r g bit).auto_mask;
     }
-mask_stored r Pf view word h there bit b =
-    let p = place Eiam 0 in
-    let cause = stands r p (place Eicr 0) (new_word r p view word) bit (λ e. cc) in
-    let mask = stands r p (place Eims 0) (new_word r p view word) bit (λ e. cc) in
-    let clear = stands r p (place Eiac 0) (new_word r p view word) bit (λ e. cc) in
-    let own = ap (has_bit bit) (put_stands r p (new_word r p view word) h (lit< tt))
-    ∙ stored_bit 0x7FFFFFFF view (word_at r.words p) word bit (small Pf bit b) (lit< tt) (mask_bit Pf bit b) in
-    λ k. record { cause = cause k; mask = mask k; auto_clear = clear k; auto_mask = own k }
-mask_stored r (Vf v) view word h there bit b =
-    let p = place Pvteiam v in
-    let cause = stands r p (place Pvteicr v) (new_word r p view word) bit (λ e. cc) in
-    let mask = stands r p (place Pvteims v) (new_word r p view word) bit (λ e. cc) in
-    let clear = stands r p (place Pvteiac v) (new_word r p view word) bit (λ e. cc) in
-    let own = ap (has_bit bit) (put_stands r p (new_word r p view word) h there)
-    ∙ stored_bit 7 view (word_at r.words p) word bit (small (Vf v) bit b) (lit< tt) (mask_bit (Vf v) bit b) in
-    λ k. record { cause = cause k; mask = mask k; auto_clear = clear k; auto_mask = own k }
+mask_stored r Pf view word h there bit b = λ k. record {
+  cause = stays r h 0 view word bit Eiam Eicr (λ e. cc) k;
+  mask = stays r h 0 view word bit Eiam Eims (λ e. cc) k;
+  auto_clear = stays r h 0 view word bit Eiam Eiac (λ e. cc) k;
+  auto_mask = own r h 0 view word bit Eiam (lit< tt) (small Pf bit b) (lit< tt) (own_bits 31 bit b) k;
+}
+mask_stored r (Vf v) view word h there bit b = λ k. record {
+  cause = stays r h v view word bit Pvteiam Pvteicr (λ e. cc) k;
+  mask = stays r h v view word bit Pvteiam Pvteims (λ e. cc) k;
+  auto_clear = stays r h v view word bit Pvteiam Pvteiac (λ e. cc) k;
+  auto_mask = own r h v view word bit Pvteiam there (small (Vf v) bit b) (lit< tt) (own_bits 3 bit b) k;
+}
 
 -- writes of the auto-clear
 

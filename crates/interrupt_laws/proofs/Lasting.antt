@@ -168,16 +168,8 @@ masks_last s h g there bit b (event.Read w n) spares m =
 masks_last s h g there bit b (event.Write w n word) spares m =
     write_lasts s h g there bit b m w n word (named s w n) refl spares
 masks_last s h g there bit b (event.IntStep other) spares m = int_lasts s h g there bit b m other spares
-masks_last s h g there bit b (event.Lend block) spares m = device_lasts s h g there bit b m (event.Lend block) tt
-masks_last s h g there bit b (event.Take n) spares m = device_lasts s h g there bit b m (event.Take n) tt
-masks_last s h g there bit b (event.Peek16 a) spares m = device_lasts s h g there bit b m (event.Peek16 a) tt
 masks_last s h g there bit b (event.Poke16 a bytes) spares m =
     device_lasts s h g there bit b m (event.Poke16 a bytes) tt
-masks_last s h g there bit b (event.Arrive frame) spares m = device_lasts s h g there bit b m (event.Arrive frame) tt
-masks_last s h g there bit b event.RxStep spares m = device_lasts s h g there bit b m event.RxStep tt
-masks_last s h g there bit b (event.TxStep queue) spares m = device_lasts s h g there bit b m (event.TxStep queue) tt
 masks_last s h g there bit b (event.QueueStep dir queue) spares m =
     device_lasts s h g there bit b m (event.QueueStep dir queue) tt
-masks_last s h g there bit b event.EepromStep spares m = device_lasts s h g there bit b m event.EepromStep tt
-masks_last s h g there bit b (event.Link up) spares m = device_lasts s h g there bit b m (event.Link up) tt
-masks_last s h g there bit b event.Collect spares m = device_lasts s h g there bit b m event.Collect tt
+masks_last s h g there bit b other spares m = device_lasts s h g there bit b m other tt

@@ -228,25 +228,4 @@ marks_last s h g there (event.Write w n word) is spares bit b =
     write_marks s h g there bit b w n word (named s w n) refl spares (keeps_sound s h (event.Write w n word) is)
 marks_last s h g there (event.IntStep other) is spares bit b =
     message_marks s h g there bit b other spares (keeps_sound s h (event.IntStep other) is)
-marks_last s h g there (event.Lend block) is spares bit b =
-    device_marks s h g there bit b (event.Lend block) tt (keeps_sound s h (event.Lend block) is)
-marks_last s h g there (event.Take n) is spares bit b =
-    device_marks s h g there bit b (event.Take n) tt (keeps_sound s h (event.Take n) is)
-marks_last s h g there (event.Peek16 a) is spares bit b =
-    device_marks s h g there bit b (event.Peek16 a) tt (keeps_sound s h (event.Peek16 a) is)
-marks_last s h g there (event.Poke16 a bytes) is spares bit b =
-    device_marks s h g there bit b (event.Poke16 a bytes) tt (keeps_sound s h (event.Poke16 a bytes) is)
-marks_last s h g there (event.Arrive frame) is spares bit b =
-    device_marks s h g there bit b (event.Arrive frame) tt (keeps_sound s h (event.Arrive frame) is)
-marks_last s h g there event.RxStep is spares bit b =
-    device_marks s h g there bit b event.RxStep tt (keeps_sound s h event.RxStep is)
-marks_last s h g there (event.TxStep queue) is spares bit b =
-    device_marks s h g there bit b (event.TxStep queue) tt (keeps_sound s h (event.TxStep queue) is)
-marks_last s h g there (event.QueueStep dir queue) is spares bit b =
-    device_marks s h g there bit b (event.QueueStep dir queue) tt (keeps_sound s h (event.QueueStep dir queue) is)
-marks_last s h g there event.EepromStep is spares bit b =
-    device_marks s h g there bit b event.EepromStep tt (keeps_sound s h event.EepromStep is)
-marks_last s h g there (event.Link up) is spares bit b =
-    device_marks s h g there bit b (event.Link up) tt (keeps_sound s h (event.Link up) is)
-marks_last s h g there event.Collect is spares bit b =
-    device_marks s h g there bit b event.Collect tt (keeps_sound s h event.Collect is)
+marks_last s h g there other is spares bit b = device_marks s h g there bit b other tt (keeps_sound s h other is)

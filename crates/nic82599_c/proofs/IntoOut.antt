@@ -34,9 +34,23 @@ use Rattle.nic82599_c.specs.contracts.parts.Parts as Parts
 use Rattle.std.specs.Prelude.{Option, Some}
 use Rattle.std_alloc.specs.declared.boxed.Box.{Box}
 use Rattle.std_heap.specs.declared.Global.{Global}
-use Rattle.nic82599_c.proofs.OutForm.{Form, E, R, B, plainly}
+use Rattle.nic82599_c.proofs.HandleForm.{Out, E, R, B}
 
-module _ (F : Form) where
+-- the place whose record is that of the box itself
+abbrev plainly : Out → Out
+plainly F = record {
+  of = F.of;
+  laws = F.laws;
+  name = F.name;
+  D = Box (Option F.of.Denot) Global;
+  box = λ v. v;
+  made = λ v. v;
+  eta = λ v. refl;
+  beta = λ v. refl;
+  codes = F.codes;
+}
+
+module _ (F : Out) where
   abbrev From : RattleType
   From = Parts.the_row (R F) Heap.the_row ghosts
 
@@ -87,7 +101,7 @@ module _ (F : Form) where
           function closed (λ z are.
           let v : box.D (E F) = record { ptr = z.0.3.0.ptr; alloc = z.0.3.0.alloc; value = z.0.3.0.value } in
           let held : Box (Option F.of.Denot) Global = record { ptr = v.ptr; alloc = v.alloc; value = Some v.value } in
-          let made : F.D = F.out held in
+          let made : F.D = F.made held in
           let Post : Val → SProp 𝓤 = (walk_of 𝓛 ended stayed clauses).post z in
           let Run : List Val → SProp 𝓤 = λ ws. WpFn 𝓤 𝓛.H 𝓣.C 𝓣.Λ function ws Post in
           qed 𝓛 ((‵ ftrue ⊛ ‵ (fsep ((box.B (E F)).own_val v z.0.4.0) ftrue)) ∷ raw (emp 𝓤) ∷ []) ∵

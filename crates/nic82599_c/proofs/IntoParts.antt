@@ -30,9 +30,9 @@ use Rattle.std_alloc.proofs.BoxSteps.Steps.{box_out, box_in}
 use Rattle.std_heap.specs.contracts.Global as Heap
 use Rattle.std_heap.specs.contracts.GlobalAllocator.TheImpl.{ghosts}
 use Rattle.nic82599_c.specs.contracts.parts.Parts as Parts
-use Rattle.nic82599_c.proofs.HandleForm.{Form, E, R, B}
+use Rattle.nic82599_c.proofs.HandleForm.{Handle, E, R, B}
 
-module _ (F : Form) where
+module _ (F : Handle) where
   abbrev To : RattleType
   To = Parts.the_row (R F) Heap.the_row ghosts
 

@@ -37,9 +37,9 @@ use Rattle.std_alloc.proofs.BoxSteps.Form.{word, handle}
 use Rattle.std_alloc.proofs.BoxSteps.Form as box
 use Rattle.std_alloc.proofs.BoxSteps.Steps.{box_out, box_in}
 use Rattle.nic82599_c.specs.Lends.{lends}
-use Rattle.nic82599_c.proofs.HandleForm.{Form, E, R, B, with_value}
+use Rattle.nic82599_c.proofs.HandleForm.{Handle, E, R, B, with_value}
 
-module _ (F : Form) where
+module _ (F : Handle) where
   -- the code, at the types of any handle and its value
   abbrev pub function : Fn
   function = record {

@@ -5,6 +5,4 @@ mod Handles
 mod IntoOut
 mod IntoParts
 mod Lending
-mod OutForm
-mod Outs
 mod Texts

@@ -1,9 +1,9 @@
 -- `of` is that of any place.
 use Rattle.nic82599_c.specs.contracts.exchange.BlockHandleOut.of.Key.{name as #self}
-use Rattle.nic82599_c.proofs.Outs.{of_block}
+use Rattle.nic82599_c.proofs.Handles.{out_of_block}
 use Rattle.nic82599_c.proofs.IntoOut.{meets}
 use Rattle.nic82599_c.proofs.exchange.BlockHandleOut.of.Statement.{statement}
 use Rattle.nic82599_c.proofs.exchange.BlockHandleOut.of.Code.{unfolded}
 
 pub of_spec : {M : Type 1} → statement M
-of_spec 𝓤 𝓛 𝓜 𝓡 wired = meets of_block 𝓛 𝓜 𝓡 #self (unfolded 𝓤 𝓛.H 𝓜 𝓡 wired)
+of_spec 𝓤 𝓛 𝓜 𝓡 wired = meets out_of_block 𝓛 𝓜 𝓡 #self (unfolded 𝓤 𝓛.H 𝓜 𝓡 wired)

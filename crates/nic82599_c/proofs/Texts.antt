@@ -7,7 +7,7 @@ use Rattle.std.proofs.lemmas.Str.{is_utf8-from_IsUtf8, IsUtf8-from_is_utf8}
 use Rattle.nic_device.specs.EepromImage.Content.{Content}
 use Rattle.nic_device.specs.EepromImage.Text.{sound_content, Fails}
 use Rattle.nic_device.specs.EepromImage.declared.text.AsmFault.{AsmFault}
-use Rattle.nic_device.specs.EepromImage.declared.text.AsmFault.TheVariants.{Syntax, TwoValues, Reserved, DoesNotFit, PointerOutside, OutOfMemory}
+use Rattle.nic_device.specs.EepromImage.declared.text.AsmFault.TheVariants.{OutOfMemory}
 use Rattle.nic82599_c.specs.Images.{text_status, text_line, text_fault_status, line_of, content_status, content_line}
 
 -- what a text gives is answered so
@@ -25,12 +25,8 @@ told meant fault h = record { status = sym (ap content_status h); line = sym (ap
 
 pub bad_text : (meant : Result Content AsmFault) (fault : AsmFault) → Fails fault meant → text_fault_status fault ≢ 32
     → IsAnswered meant (text_fault_status fault) (line_of fault)
-bad_text meant (Syntax line) h some = told meant (Syntax line) h
-bad_text meant (TwoValues index) h some = told meant (TwoValues index) h
-bad_text meant (Reserved index) h some = told meant (Reserved index) h
-bad_text meant DoesNotFit h some = told meant DoesNotFit h
-bad_text meant PointerOutside h some = told meant PointerOutside h
 bad_text meant OutOfMemory h some = absurd (some refl)
+bad_text meant other h some = told meant other h
 
 -- bytes that are no text, and those that are
 pub no_text : (bytes : List ℕ) → ¬ (IsUtf8 bytes) → (102 ≡ text_status bytes) × (0 ≡ text_line bytes)

@@ -72,38 +72,18 @@ JumpsInside program (Arrive number) = ⊤
 
 jumps-inside : (program : Listing) (i : Instruction ℕ ℕ) → IsSound program.strings (length program.instructions) i
     → JumpsInside program (action_of program i)
-jumps-inside program (instr.Write address word) sound = tt
-jumps-inside program (instr.Read address) sound = tt
-jumps-inside program (instr.VfWrite function offset word) sound = tt
-jumps-inside program (instr.VfRead function offset) sound = tt
-jumps-inside program (instr.Lend block) sound = tt
-jumps-inside program (instr.Unlend block) sound = tt
-jumps-inside program (instr.Poke address number) sound = tt
-jumps-inside program (instr.Peek address word) sound = tt
-jumps-inside program (instr.Arrive number) sound = tt
-jumps-inside program instr.RxStep sound = tt
-jumps-inside program (instr.TxStep queue) sound = tt
-jumps-inside program (instr.IntStep group) sound = tt
-jumps-inside program (instr.QueueStep direction queue) sound = tt
-jumps-inside program instr.EepromStep sound = tt
-jumps-inside program (instr.Link up) sound = tt
-jumps-inside program instr.Collect sound = tt
-jumps-inside program (instr.Expect want mask) sound = tt
-jumps-inside program (instr.And word) sound = tt
 jumps-inside program (instr.JumpIfEqual word target) sound = sound
 jumps-inside program (instr.JumpUnlessEqual word target) sound = sound
 jumps-inside program (instr.Jump target) sound = sound
-jumps-inside program instr.Halt sound = tt
+jumps-inside program other sound = tt
 
 placed-done : (program : Listing) (s : MachineState) (action : Action) → s.pc < length program.instructions
     → JumpsInside program action → IsPlaced program (done program s action).state
-placed-done program s (Make event kept) below inside = placed-moved program s (s.pc + 1) (omega arith)
 placed-done program s (Lend block) below inside =
     placed_step program _ _ _ (placed-moved program s (s.pc + 1) (omega arith))
     (placed-moved program s (s.pc + 1) (omega arith))
-placed-done program s (TakeBack block) below inside = placed-moved program s (s.pc + 1) (omega arith)
-placed-done program s (Arrive number) below inside = placed-moved program s (s.pc + 1) (omega arith)
 placed-done program s (Local action) below inside = placed-acted program s action below inside
+placed-done program s other below inside = placed-moved program s (s.pc + 1) (omega arith)
 
 -- each instruction of a list that all are so is so
 each : (P : Instruction ℕ ℕ → Type 0) (xs : List (Instruction ℕ ℕ)) (k : ℕ) (i : Instruction ℕ ℕ)

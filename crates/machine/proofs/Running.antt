@@ -10,7 +10,7 @@ use Rattle.machine.specs.Laws.{StepsCount, RunningMachinesStep, StoppedMachinesS
 use Rattle.machine.specs.Machine.{Step, is_running, done, executed_if_some, next_instruction, machine_step, machine_at}
 use Rattle.machine.specs.MachineState.{MachineState}
 use Rattle.machine.specs.declared.action.Action.{Action}
-use Rattle.machine.specs.declared.action.Action.TheVariants.{Make, Lend, TakeBack, Arrive, Local}
+use Rattle.machine.specs.declared.action.Action.TheVariants.{Lend, Local}
 use Rattle.machine.specs.declared.machine.Status.{Status}
 use Rattle.machine.specs.declared.machine.Status.TheVariants.{Running, Ended, Failed}
 use Rattle.machine.specs.declared.machine.StepAnswer.TheVariants as answer
@@ -35,11 +35,9 @@ local_not_stopped e = cc
 
 done_not_stopped : (program : Listing) (s : MachineState) (action : Action)
     → (done program s action).answer ≢ answer.Stopped
-done_not_stopped program s (Make event kept) = made_not_stopped _
 done_not_stopped program s (Lend block) = answered _ _ _ (made_not_stopped _) no_block_not_stopped
-done_not_stopped program s (TakeBack block) = made_not_stopped _
-done_not_stopped program s (Arrive number) = made_not_stopped _
 done_not_stopped program s (Local action) = local_not_stopped
+done_not_stopped program s other = made_not_stopped _
 
 stays : (program : Listing) (s : MachineState) (next : Option (Instruction ℕ ℕ))
     → (executed_if_some program s next).answer ≡ answer.Stopped → (executed_if_some program s next).state ≡ s

@@ -11,7 +11,7 @@ use Rattle.machine.specs.Laws.{MachinesRunTheirDevice}
 use Rattle.machine.specs.Machine.{Step, acted, done, events_of, events_if_some, events_until, executed_if_some, next_instruction, machine_step, machine_at}
 use Rattle.machine.specs.MachineState.{MachineState}
 use Rattle.machine.specs.declared.action.Action.{Action}
-use Rattle.machine.specs.declared.action.Action.TheVariants.{Make, Lend, TakeBack, Arrive, Local}
+use Rattle.machine.specs.declared.action.Action.TheVariants.{Lend, Local}
 use Rattle.machine.specs.declared.action.LocalAction.{LocalAction}
 use Rattle.machine.specs.declared.action.LocalAction.TheVariants as act
 use Rattle.program.specs.Listing.{Listing}
@@ -25,11 +25,7 @@ device-either device false x y h k = k
 device-acted : (program : Listing) (s : MachineState) (action : LocalAction)
     → (acted program s action).device ≡ s.device
 device-acted program s (act.Expect want mask) = device-either s.device _ _ _ refl refl
-device-acted program s (act.And word) = refl
-device-acted program s (act.JumpIfEqual word target) = refl
-device-acted program s (act.JumpUnlessEqual word target) = refl
-device-acted program s (act.Jump target) = refl
-device-acted program s act.Halt = refl
+device-acted program s other = refl
 
 device-step : (device : State) (b : Bool) (x y : Step) (made : List (Event Block))
     → x.state.device ≡ state_after device made → y.state.device ≡ device
@@ -39,11 +35,9 @@ device-step device false x y made h k = k
 
 device-done : (program : Listing) (s : MachineState) (action : Action)
     → (done program s action).state.device ≡ state_after s.device (events_of program s action)
-device-done program s (Make event kept) = refl
 device-done program s (Lend block) = device-step s.device _ _ _ (event.Lend (zero_block block) ∷ []) refl refl
-device-done program s (TakeBack block) = refl
-device-done program s (Arrive number) = refl
 device-done program s (Local action) = device-acted program s action
+device-done program s other = refl
 
 device-next : (program : Listing) (s : MachineState) (next : Option (Instruction ℕ ℕ))
     → (executed_if_some program s next).state.device ≡ state_after s.device (events_if_some program s next)

@@ -7,7 +7,7 @@ use Rattle.machine.specs.MachineState.{MachineState}
 use Rattle.machine.specs.Machine.{Step, start_of, status_at, acted, done, executed_if_some, next_instruction, machine_step, machine_at}
 use Rattle.machine.specs.Processor.{state_with, IsWhereStepsLead}
 use Rattle.machine.specs.declared.action.Action.{Action}
-use Rattle.machine.specs.declared.action.Action.TheVariants.{Make, Lend, TakeBack, Arrive, Local}
+use Rattle.machine.specs.declared.action.Action.TheVariants.{Lend, Local}
 use Rattle.machine.specs.declared.action.LocalAction.{LocalAction}
 use Rattle.machine.specs.declared.action.LocalAction.TheVariants as act
 use Rattle.program.specs.Listing.{Listing}
@@ -26,20 +26,14 @@ either_step s false x y h k = k
 steps-acted : (program : Listing) (s : MachineState) (action : LocalAction)
     → (acted program s action).steps ≡ s.steps + 1
 steps-acted program s (act.Expect want mask) = either_state s _ _ _ refl refl
-steps-acted program s (act.And word) = refl
-steps-acted program s (act.JumpIfEqual word target) = refl
-steps-acted program s (act.JumpUnlessEqual word target) = refl
-steps-acted program s (act.Jump target) = refl
-steps-acted program s act.Halt = refl
+steps-acted program s other = refl
 
 -- an executed instruction counts one step
 pub steps-done : (program : Listing) (s : MachineState) (action : Action)
     → (done program s action).state.steps ≡ s.steps + 1
-steps-done program s (Make event kept) = refl
 steps-done program s (Lend block) = either_step s _ _ _ refl refl
-steps-done program s (TakeBack block) = refl
-steps-done program s (Arrive number) = refl
 steps-done program s (Local action) = steps-acted program s action
+steps-done program s other = refl
 
 -- a step counts, or leaves the machine as it is
 counts_or_stays : (program : Listing) (s : MachineState) (next : Option (Instruction ℕ ℕ))

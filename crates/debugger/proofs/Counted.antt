@@ -10,15 +10,13 @@ use Rattle.machine.specs.declared.machine.StepAnswer.TheVariants as answer
 use Rattle.program.specs.DmaArena.Numbers.{is_free}
 use Rattle.program.specs.Listing.{Listing}
 use Rattle.program.specs.declared.instruction.Instruction.{Instruction}
-use Rattle.program.specs.declared.instruction.Instruction.TheVariants.{Write, Read, VfWrite, VfRead, Lend, Unlend, Poke, Peek, Arrive, RxStep, TxStep, IntStep, QueueStep, EepromStep, Link, Collect, Expect, And, JumpIfEqual, JumpUnlessEqual, Jump, Halt}
+use Rattle.program.specs.declared.instruction.Instruction.TheVariants.{Lend}
 use Rattle.machine.proofs.Running.{steps_count, stopped_for_good}
 use Rattle.debugger.specs.Running.{is_stopped, stops_at, run_on}
 
 stopped-is : (a : StepAnswer) → is_stopped a ≡ true → a ≡ answer.Stopped
-stopped-is (answer.Made reply) e = cc
-stopped-is answer.Local e = cc
-stopped-is answer.NoBlock e = cc
 stopped-is answer.Stopped e = refl
+stopped-is other e = cc
 
 going-is : (a : StepAnswer) → is_stopped a ≡ false → a ≢ answer.Stopped
 going-is a going e = (let no : true ≡ false = sym (ap is_stopped e) ∙ going in cc)
@@ -40,28 +38,8 @@ either-goes false x y first second = second
 
 done-goes : (p : Listing) (s : MachineState) (i : Instruction ℕ ℕ)
     → is_stopped (done p s (action_of p i)).answer ≡ false
-done-goes p s (Write address word) = refl
-done-goes p s (Read address) = refl
-done-goes p s (VfWrite function offset word) = refl
-done-goes p s (VfRead function offset) = refl
 done-goes p s (Lend block) = either-goes (is_free s.arena block) _ _ refl refl
-done-goes p s (Unlend block) = refl
-done-goes p s (Poke address number) = refl
-done-goes p s (Peek address word) = refl
-done-goes p s (Arrive number) = refl
-done-goes p s RxStep = refl
-done-goes p s (TxStep queue) = refl
-done-goes p s (IntStep group) = refl
-done-goes p s (QueueStep direction queue) = refl
-done-goes p s EepromStep = refl
-done-goes p s (Link up) = refl
-done-goes p s Collect = refl
-done-goes p s (Expect want mask) = refl
-done-goes p s (And word) = refl
-done-goes p s (JumpIfEqual word target) = refl
-done-goes p s (JumpUnlessEqual word target) = refl
-done-goes p s (Jump target) = refl
-done-goes p s Halt = refl
+done-goes p s other = refl
 
 pub takes-goes : (p : Listing) (s : MachineState) → StepTakesMemory p s → is_stopped (machine_step p s).answer ≡ false
 unfolding machine_step

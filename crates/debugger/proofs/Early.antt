@@ -1,6 +1,6 @@
 -- Snapshots of a machine, and runs from one that isn't later.
 use Rattle.std.proofs.Common.{◌≡◌, refl, sym, subst, ◌∙◌, ap, ℕ, ◌+◌, ◌-◌, ◌<◌, ◌≤◌, Bool, true, false, if◌then◌else◌, List, [], ◌∷◌, ◌++◌, length, take, get_or, Result, Ok, Err, arith}
-use Rattle.std.specs.Prelude.{All, IsOk}
+use Rattle.std.specs.Prelude.{IsOk}
 use Rattle.std.proofs.lemmas.List.Elements.{All-nil, All-cons, All-append, All-take}
 use Rattle.nic_device.specs.declared.Config.{Config}
 use Rattle.machine.specs.Course.{Course}

@@ -1,9 +1,6 @@
 -- What an access of a place may change.
 use Rattle.std.proofs.Common.{◌≡◌, true, false, refl}
-use Rattle.register_file.specs.RegTable.Rows.{row_of}
-use Rattle.register_file.specs.RegTable.declared.place.Place.{Place}
-use Rattle.register_file.specs.RegTable.declared.kind.Kind.{Kind}
-use Rattle.register_file.specs.Owner.{owner_of}
+use Rattle.register_laws.specs.Prelude.{Kind, Place, owner_of, row_of}
 use Rattle.register_laws.specs.Footprint.{LacksWord, Covers, is_place, of_owner, is_alone, is_own, read_by, of_read, written_by, of_write}
 use Rattle.register_laws.specs.Laws.{ReadMissesSides}
 use Rattle.register_laws.proofs.Keeps.{keeps}

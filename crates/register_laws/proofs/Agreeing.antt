@@ -1,18 +1,10 @@
 -- Registers that agree, after the same change of both.
 use Rattle.std.proofs.Common.{◌≡◌, ℕ, Bool, true, false, cond, nat_lt, refl, ap, sym, ◌∙◌, subst, inl, inr}
-use Rattle.std.proofs.lemmas.Bool.{cases_Bool, and_parts, eqb-true, both_ways}
-use Rattle.register_file.specs.RegTable.Rows.{row_of}
-use Rattle.register_file.specs.RegTable.declared.place.Place.{Place}
-use Rattle.register_file.specs.IntrUnit.Interrupts.{Interrupts}
-use Rattle.register_file.specs.IntrUnit.declared.group.Group.{Group}
-use Rattle.register_file.specs.IntrUnit.declared.group.Group.TheVariants.{Pf, Vf}
-use Rattle.register_file.specs.Columns.{place}
-use Rattle.register_file.specs.Groups.{cause_row, mask_row, index_of, reported_by, with_reported, with_interrupts}
-use Rattle.register_file.specs.Owner.{is_owner, is_group}
-use Rattle.register_file.specs.Registers.{Registers, is_wanted, with_wanted}
-use Rattle.register_file.specs.Words.{word_at, put}
-use Rattle.register_file.specs.DmaRing.declared.dir.Dir.{Dir}
 use Rattle.register_file.specs.declared.owner.Owner.TheVariants as owner
+use Rattle.register_laws.specs.Prelude.{Dir, Group, Interrupts, Pf, Place, Registers, Vf, cause_row, index_of, is_group}
+use Rattle.register_laws.specs.Prelude.{is_owner, is_wanted, mask_row, place, put, reported_by, row_of, with_interrupts}
+use Rattle.register_laws.specs.Prelude.{with_reported, with_wanted, word_at}
+use Rattle.register_laws.proofs.Prelude.{and_parts, both_ways, cases_Bool, eqb-true}
 use Rattle.register_laws.specs.Footprint.{Part, AgreeWithin, is_place}
 use Rattle.register_laws.specs.Sound.{HasShape}
 use Rattle.register_laws.proofs.Fields.{is_wanted-put, reported_by-put, words-with_wanted, is_wanted-with_wanted_other, reported_by-with_wanted, words-with_reported, is_wanted-with_reported, reported_by-with_reported_other}

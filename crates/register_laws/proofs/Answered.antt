@@ -1,11 +1,7 @@
 -- What EERD holds after an answer of the EEPROM.
 use Rattle.std.proofs.Common.{◌≡◌, ℕ, ◌+◌, ◌*◌, ◌/◌, ◌%◌, ◌^◌, ◌<◌, None, ap, ◌∙◌, arith, lit<}
 use Rattle.std.proofs.lemmas.Bool.{cond-false, eq-eqb, ne_eqb}
-use Rattle.register_file.specs.RegTable.declared.rows.RowId.TheVariants.{Eerd}
-use Rattle.register_file.specs.Bits.{has_bit}
-use Rattle.register_file.specs.Columns.{place}
-use Rattle.register_file.specs.Eeprom.{eeprom_index, eeprom_answered}
-use Rattle.register_file.specs.Registers.{word_of}
+use Rattle.register_laws.specs.Prelude.{Eerd, eeprom_answered, eeprom_index, has_bit, place, word_of}
 use Rattle.register_laws.specs.Laws.{EepromAnswerIsRead}
 use Rattle.register_laws.proofs.Shape.{put_stands}
 

@@ -5,10 +5,9 @@ use Rattle.std.proofs.Math.Nat.{add-div_right, div-eq_of_lt, div-eq-sub-div}
 use Rattle.std.proofs.lemmas.Bool.{cases_Bool, cases_lt, cond-true, cond-false, eq-eqb, ne_eqb, eqb-true, eqb-false}
 use Rattle.std.specs.Int.{bit_at, w32}
 use Rattle.std.proofs.lemmas.Nat.{and_le_l, pow_pos}
-use Rattle.std.proofs.lemmas.Bool.Decides.{nat_tests}
 use Rattle.std.proofs.lemmas.Nat.Bits.{bit_at_and, bit_at_or, bit_at_xor, bit_at_not, bit_at-lt, same_from_bits}
-use Rattle.register_file.specs.Bits.{has_bit, bit_set, bit_cleared, merged}
-use Rattle.register_file.specs.PoolReset.{mixed}
+use Rattle.register_laws.specs.Prelude.{bit_cleared, bit_set, has_bit, merged, mixed}
+use Rattle.register_laws.proofs.Prelude.{nat_tests}
 
 -- numbers with the same bits are the same
 one_digit : (a b : ℕ) → a < 2 → b < 2 → (a == 1) ≡ (b == 1) → a ≡ b

@@ -1,16 +1,9 @@
 -- Which footprints have all that others have, and which have nothing of others.
 use Rattle.std.proofs.Common.{◌≡◌, ℕ, Bool, true, false, ◌||◌, refl, ap, sym, ◌∙◌, subst, inl, inr}
 use Rattle.std.proofs.lemmas.Bool.{both_ways, and_parts, or_cases, or_left, or_right}
-use Rattle.register_file.specs.RegTable.Rows.{row_of}
-use Rattle.register_file.specs.RegTable.declared.place.Place.{Place}
-use Rattle.register_file.specs.IntrUnit.declared.group.Group.{Group}
-use Rattle.register_file.specs.IntrUnit.declared.group.Group.TheVariants.{Pf, Vf}
-use Rattle.register_file.specs.Columns.{place}
-use Rattle.register_file.specs.Groups.{cause_row, mask_row, index_of}
-use Rattle.register_file.specs.Owner.{owner_of, is_owner}
-use Rattle.register_file.specs.PoolReset.{is_renewed}
-use Rattle.register_file.specs.declared.owner.Owner.{Owner}
 use Rattle.register_file.specs.declared.owner.Owner.TheVariants as owner
+use Rattle.register_laws.specs.Prelude.{Group, Owner, Pf, Place, Vf, cause_row, index_of, is_owner, is_renewed}
+use Rattle.register_laws.specs.Prelude.{mask_row, owner_of, place, row_of}
 use Rattle.register_laws.specs.Footprint.{Footprint, LacksWord, Covers, Misses, nothing, either, renewed_of, is_place, the_word, the_enable, of_owner, of_group, pending, any_pending, is_pending}
 use Rattle.register_laws.proofs.HasWord.{HasWord}
 use Rattle.register_laws.proofs.Owners.{is_group-itself, is_owner-itself, is_owner-same, is_place-itself, is_place-same}

@@ -1,14 +1,8 @@
 -- What a change of one part of the registers leaves of the others.
 use Rattle.std.proofs.Common.{◌≡◌, ◌≢◌, ℕ, Bool, false, refl, ap, sym}
-use Rattle.std.proofs.lemmas.List.{get_or-set_other}
-use Rattle.register_file.specs.RegTable.declared.place.Place.{Place}
-use Rattle.register_file.specs.IntrUnit.declared.group.Group.{Group}
-use Rattle.register_file.specs.IntrUnit.declared.group.Group.TheVariants.{Pf, Vf}
-use Rattle.register_file.specs.Groups.{reported_by, with_reported}
-use Rattle.register_file.specs.Registers.{Registers, is_wanted, with_wanted}
-use Rattle.register_file.specs.Words.{put}
-use Rattle.register_file.specs.DmaRing.declared.dir.Dir.{Dir}
-use Rattle.register_file.specs.DmaRing.declared.dir.Dir.TheVariants.{Rx, Tx}
+use Rattle.register_laws.specs.Prelude.{Dir, Group, Pf, Place, Registers, Rx, Tx, Vf, is_wanted, put, reported_by}
+use Rattle.register_laws.specs.Prelude.{with_reported, with_wanted}
+use Rattle.register_laws.proofs.Prelude.{get_or-set_other}
 
 pub is_wanted-put : (r : Registers) (p : Place) (v : ℕ) (dir : Dir) (queue : ℕ)
     → is_wanted (record r { words = put r.words p v }) dir queue ≡ is_wanted r dir queue

@@ -1,9 +1,7 @@
 -- Changes within footprints.
 use Rattle.std.proofs.Common.{◌≡◌, Bool, true, false, cond, refl, ◌∙◌}
 use Rattle.std.proofs.lemmas.Bool.{or_parts}
-use Rattle.register_file.specs.RegTable.declared.place.Place.{Place}
-use Rattle.register_file.specs.Registers.{Registers}
-use Rattle.register_file.specs.Words.{word_at}
+use Rattle.register_laws.specs.Prelude.{Place, Registers, word_at}
 use Rattle.register_laws.specs.Footprint.{Footprint, LacksWord, ChangesWithin, Covers, either}
 use Rattle.register_laws.proofs.Bits.{same_word}
 use Rattle.register_laws.proofs.Covers.{fails}

@@ -1,17 +1,10 @@
 -- Which words registers that agree of a pool give at its places.
 use Rattle.std.proofs.Common.{◌≡◌, ℕ, true, false, refl}
-use Rattle.register_file.specs.RegTable.Rows.{row_of}
-use Rattle.register_file.specs.RegTable.declared.kind.Kind.{Kind}
 use Rattle.register_file.specs.RegTable.declared.kind.Kind.TheVariants as kind
-use Rattle.register_file.specs.RegTable.declared.place.Place.{Place}
-use Rattle.register_file.specs.RegTable.declared.rows.RowId.{RowId}
 use Rattle.register_file.specs.RegTable.declared.rows.RowId.TheVariants as row
-use Rattle.register_file.specs.VfMap.Owner.{is_of_pool, is_of_pool_by}
-use Rattle.register_file.specs.VfMap.declared.mode.Mode.{Mode}
 use Rattle.register_file.specs.Access.{calculated}
-use Rattle.register_file.specs.Registers.{Registers}
-use Rattle.register_file.specs.Words.{word_at}
 use Rattle.register_file.specs.declared.surroundings.Surroundings.{Surroundings}
+use Rattle.register_laws.specs.Prelude.{Kind, Mode, Place, Registers, RowId, is_of_pool, is_of_pool_by, row_of, word_at}
 use Rattle.register_laws.specs.Footprint.{AgreeWithin, pool_agrees}
 
 -- what reads of a kind give is the same of registers that agree

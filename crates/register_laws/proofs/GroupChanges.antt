@@ -3,10 +3,9 @@ use Rattle.std.proofs.Common.{◌≡◌, ℕ, Bool, true, false, cond, Option, S
 use Rattle.std.specs.Prelude.{is_some}
 use Rattle.register_file.specs.RegTable.declared.rows.RowId.TheVariants.{IvarMisc}
 use Rattle.register_file.specs.IntrUnit.Interrupts.{Interrupts, after_message_of, next_bit}
-use Rattle.register_file.specs.IntrUnit.declared.group.Group.{Group}
 use Rattle.register_file.specs.Access.{group_read, causes_written, masks_set, causes_set, masks_cleared}
 use Rattle.register_file.specs.Groups.{cause_row, mask_row, auto_clear_row, auto_mask_row, index_of, reported_by, interrupts_of, with_interrupts, clears_others, masks_by_message, auto_masks, causes_raised, message_of, message_made}
-use Rattle.register_file.specs.Registers.{Registers, word_of}
+use Rattle.register_laws.specs.Prelude.{Group, Registers, word_of}
 use Rattle.register_laws.proofs.Settled.{IsSettled, settled-of_words, settled-raised, settled-after_read, settled-after_write_one, settled-after_mask_set, settled-after_mask_clear, settled-after_message_of}
 
 -- the registers are as they were, or have other interrupts of the group

@@ -1,6 +1,6 @@
 -- A footprint that has all bits of a word.
 use Rattle.std.specs.Prelude.{ℕ, IsTrue}
-use Rattle.register_file.specs.RegTable.declared.place.Place.{Place}
+use Rattle.register_laws.specs.Prelude.{Place}
 use Rattle.register_laws.specs.Footprint.{Footprint}
 
 abbrev pub HasWord : Footprint → Place → Type 0

@@ -1,18 +1,10 @@
 -- A mailbox is held by one side at most, and what keeps that.
 use Rattle.std.proofs.Common.{◌≡◌, ℕ, ◌<◌, Bool, true, false, cond, ◌&&◌, refl, ap, sym, ◌∙◌, subst, inl, inr, arith}
-use Rattle.std.proofs.lemmas.Bool.{cases_Bool, cases_lt, both_ways}
-use Rattle.std.proofs.lemmas.List.{get_or_past}
-use Rattle.register_file.specs.RegTable.Rows.{row_of}
-use Rattle.register_file.specs.RegTable.declared.kind.Kind.{Kind}
 use Rattle.register_file.specs.RegTable.declared.kind.Kind.TheVariants as kind
-use Rattle.register_file.specs.RegTable.declared.place.Place.{Place}
-use Rattle.register_file.specs.RegTable.declared.rows.RowId.TheVariants.{Pvfmailbox}
-use Rattle.register_file.specs.Bits.{has_bit, bit_set, bit_cleared}
-use Rattle.register_file.specs.Columns.{place}
 use Rattle.register_file.specs.Mailbox.{function_wrote, released, taken, physical_wrote, reported_once, reset_reported, mail_of}
-use Rattle.register_file.specs.Registers.{Registers, reset_registers}
-use Rattle.register_file.specs.Words.{word_at, put, row_words}
-use Rattle.register_file.proofs.ResetWords.{word_at-reset}
+use Rattle.register_laws.specs.Prelude.{Kind, Place, Pvfmailbox, Registers, bit_cleared, bit_set, has_bit, place, put}
+use Rattle.register_laws.specs.Prelude.{reset_registers, row_of, row_words, word_at}
+use Rattle.register_laws.proofs.Prelude.{both_ways, cases_Bool, cases_lt, get_or_past, word_at-reset}
 use Rattle.register_laws.specs.Footprint.{is_place}
 use Rattle.register_laws.specs.Sound.{IsMail}
 use Rattle.register_laws.proofs.Bits.{has_bit-clear}

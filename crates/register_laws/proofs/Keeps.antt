@@ -1,12 +1,10 @@
 -- What accesses of each kind of register keep: one record for each.
 use Rattle.std.proofs.Common.{◌^◌, true, refl}
 use Rattle.std.specs.Prelude.{bit_and}
-use Rattle.register_file.specs.RegTable.Rows.{row_of}
-use Rattle.register_file.specs.RegTable.declared.kind.Kind.{Kind}
 use Rattle.register_file.specs.RegTable.declared.kind.Kind.TheVariants as kind
-use Rattle.register_file.specs.IntrUnit.Interrupts.{raised, after_write_one, after_mask_set, after_mask_clear}
 use Rattle.register_file.proofs.IntrUnit.Subsets.{IsSubset-itself}
 use Rattle.register_file.specs.Access.{read_word, after_read, written, causes_written, masks_set, causes_set, masks_cleared}
+use Rattle.register_laws.specs.Prelude.{Kind, after_mask_clear, after_mask_set, after_write_one, raised, row_of}
 use Rattle.register_laws.specs.Footprint.{read_by, written_by}
 use Rattle.register_laws.proofs.Giving.{GivesTheSame, same_word, same_none, same_calculated}
 use Rattle.register_laws.proofs.GroupChanges.{change-causes_written, change-masks_set, change-causes_set, change-masks_cleared}

@@ -30,6 +30,7 @@ pub mod PoolReads
 pub mod PoolReset
 pub mod PoolSound
 pub mod PoolsApart
+pub mod Prelude
 pub mod Puts
 pub mod ReadBack
 pub mod Reading

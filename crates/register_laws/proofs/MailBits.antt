@@ -1,17 +1,14 @@
 -- Which bits of a mailbox's word the two sides change.
 use Rattle.std.proofs.Common.{◌≡◌, ◌≢◌, ℕ, ◌+◌, ◌-◌, ◌/◌, ◌%◌, ◌^◌, ◌<◌, ◌≤◌, Bool, true, false, cond, ◌==◌, ◌||◌, refl, ap, sym, ◌∙◌, subst, inl, inr, arith}
 use Rattle.std.specs.Prelude.{bit_or, max}
-use Rattle.std.specs.Int.{bit_at}
 use Rattle.std.proofs.Math.Nat.{div-eq_of_lt}
 use Rattle.std.proofs.lemmas.Bool.{cases_Bool, cases_lt, cond-true, cond-false, both_ways, eq-eqb, eqb-true, or_left, or_right}
-use Rattle.std.proofs.lemmas.Bool.Decides.{nat_tests}
-use Rattle.std.proofs.lemmas.Nat.{or_lt}
 use Rattle.std.proofs.lemmas.Nat.Bits.{bit_at_or, bit_at-lt, bit_at-zero, bit_at-pow_other}
 use Rattle.std.proofs.Math.Pow.{pow-lt}
-use Rattle.register_file.specs.IntrUnit.BitSet.{contains, IsSubset}
-use Rattle.register_file.specs.Bits.{has_bit, bit_set, bit_cleared}
 use Rattle.register_file.specs.Mailbox.{set_if, function_wrote, released, taken, physical_wrote, reported_once, reset_reported, requests}
 use Rattle.register_file.proofs.SingleBits.{or_pow}
+use Rattle.register_laws.specs.Prelude.{IsSubset, bit_at, bit_cleared, bit_set, contains, has_bit}
+use Rattle.register_laws.proofs.Prelude.{nat_tests, or_lt}
 use Rattle.register_laws.proofs.Bits.{has_bit-clear}
 
 -- the bits of two words together, of 0 and of a power of 2

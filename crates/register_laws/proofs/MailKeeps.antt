@@ -1,24 +1,15 @@
 -- What accesses of each kind of mailbox register keep.
 use Rattle.std.proofs.Common.{◌≡◌, ℕ, ◌+◌, ◌%◌, ◌/◌, true, false, ◌==◌, ◌&&◌, ◌||◌, refl, ap, sym, ◌∙◌, subst}
 use Rattle.std.specs.Prelude.{bit_and, if◌then◌else◌}
-use Rattle.std.proofs.lemmas.Bool.{both_ways, false_from_ne_true, and_parts, eqb-true}
-use Rattle.register_file.specs.RegTable.Rows.{row_of, number_of}
 use Rattle.register_file.specs.RegTable.declared.kind.Kind.TheVariants as kind
-use Rattle.register_file.specs.RegTable.declared.place.Place.{Place}
-use Rattle.register_file.specs.RegTable.declared.rows.RowId.{RowId}
 use Rattle.register_file.specs.RegTable.declared.rows.RowId.TheVariants.{Eicr, Pvteicr, Pfmbicr, Pvfmailbox}
-use Rattle.register_file.proofs.RegTable.FirstAddresses.{same_number}
 use Rattle.register_file.proofs.IntrUnit.Subsets.{IsSubset-itself}
-use Rattle.register_file.specs.VfMap.Owner.{is_of_pool, is_of_pool_by}
-use Rattle.register_file.specs.VfMap.declared.mode.Mode.{Mode}
 use Rattle.register_file.specs.Access.{stored, ones_cleared}
-use Rattle.register_file.specs.Bits.{has_bit}
-use Rattle.register_file.specs.Columns.{place}
 use Rattle.register_file.specs.Mailbox.{function_wrote, reported_once, with_mail, mail_of, mail_read, function_writes, physical_writes, holders, resets_reported, by_mail_read, by_sending, by_function, by_physical, by_telling}
-use Rattle.register_file.specs.Owner.{owner_in}
-use Rattle.register_file.specs.Registers.{Registers}
-use Rattle.register_file.specs.Words.{word_at}
 use Rattle.register_file.specs.declared.owner.Owner.TheVariants as owner
+use Rattle.register_laws.specs.Prelude.{Mode, Place, Registers, RowId, has_bit, is_of_pool, is_of_pool_by, number_of}
+use Rattle.register_laws.specs.Prelude.{owner_in, place, row_of, word_at}
+use Rattle.register_laws.proofs.Prelude.{and_parts, both_ways, eqb-true, false_from_ne_true, same_number}
 use Rattle.register_laws.specs.Footprint.{Footprint, ChangesWithin, Covers, either, is_place, the_word, of_owner, of_side, AgreeWithin, pool_agrees, is_alone, is_pending}
 use Rattle.register_laws.proofs.Agreeing.{agree-put}
 use Rattle.register_laws.proofs.Covers.{covers-trans, covers-first, covers-second, covers-the_word, misses-narrower, misses-owner}

@@ -2,15 +2,10 @@
 use Rattle.std.proofs.Common.{◌≡◌, ◌≢◌, ℕ, ◌+◌, ◌/◌, ◌%◌, Bool, true, false, ◌==◌, ◌&&◌, ◌||◌, refl, ap, sym, ◌∙◌, subst, inl, inr, arith}
 use Rattle.std.specs.Prelude.{IsTrue, ◌⊎◌}
 use Rattle.std.proofs.lemmas.Bool.{and_parts, or_cases, eqb-true, eq-eqb}
-use Rattle.register_file.specs.RegTable.Rows.{row_of}
 use Rattle.register_file.specs.RegTable.declared.kind.Kind.TheVariants as kind
-use Rattle.register_file.specs.RegTable.declared.place.Place.{Place}
-use Rattle.register_file.specs.RegTable.declared.rows.RowId.{RowId}
 use Rattle.register_file.specs.RegTable.declared.rows.RowId.TheVariants as row
-use Rattle.register_file.specs.VfMap.Owner.{is_of_pool, is_of_pool_by}
-use Rattle.register_file.specs.VfMap.declared.mode.Mode.{Mode}
-use Rattle.register_file.specs.Columns.{place}
 use Rattle.register_file.specs.Mailbox.{is_request, is_mail_cause, by_sending, by_function}
+use Rattle.register_laws.specs.Prelude.{Mode, Place, RowId, is_of_pool, is_of_pool_by, place, row_of}
 use Rattle.register_laws.specs.Footprint.{Footprint, Covers, Misses, is_place, the_bits, pool_has, pool_changes}
 use Rattle.register_laws.proofs.Covers.{fails, covers-trans, covers-first, covers-second, covers-either}
 use Rattle.register_laws.proofs.Owners.{is_place-same}

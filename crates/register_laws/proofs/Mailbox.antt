@@ -1,29 +1,19 @@
 -- What accesses of mailboxes change, and how registers stay sound.
 use Rattle.std.proofs.Common.{◌≡◌, ℕ, ◌/◌, ◌%◌, ◌^◌, ◌<◌, ◌≤◌, Bool, true, false, ◌==◌, ◌&&◌, ◌||◌, List, [], ◌∷◌, refl, ap, sym, ◌∙◌, subst, inl, inr, arith, lit<}
 use Rattle.std.specs.Prelude.{fold, bit_or}
-use Rattle.std.specs.List.{range_with_len}
 use Rattle.std.proofs.lemmas.Bool.{cases_Bool, cases_lt, both_ways, false_from_ne_true, and_parts, and_from, or_cases, or_left, or_right, eqb-true}
-use Rattle.std.proofs.lemmas.Bool.Decides.{nat_tests}
 use Rattle.std.proofs.lemmas.Nat.Bits.{bit_at_above}
-use Rattle.std.proofs.lemmas.Nat.{or_lt}
-use Rattle.register_file.specs.RegTable.Rows.{row_of, number_of}
-use Rattle.register_file.specs.RegTable.declared.place.Place.{Place}
 use Rattle.register_file.specs.RegTable.declared.rows.RowId.TheVariants.{Eicr, Pvteicr, Pfmbicr, Pfmbimr, Pvfmailbox, PvtivarMisc}
-use Rattle.register_file.specs.IntrUnit.BitSet.{BitSet, contains, intersection, IsSubset}
 use Rattle.register_file.specs.IntrUnit.Group.{group_bits, queue_causes}
-use Rattle.register_file.specs.IntrUnit.declared.group.Group.{Group}
-use Rattle.register_file.specs.IntrUnit.declared.group.Group.TheVariants.{Pf, Vf}
-use Rattle.register_file.specs.Bits.{has_bit}
-use Rattle.register_file.specs.Columns.{place}
-use Rattle.register_file.specs.Groups.{cause_row, mask_row, index_of, reported_by}
 use Rattle.register_file.specs.Mailbox.{function_wrote, physical_wrote, reported_once, with_mail, mail_of, cause_set, sends, requests, with_requests, physical_signalled, mail_read, function_writes, physical_writes, done_reported, resets_reported, by_mail_read, by_sending, by_function, by_physical, by_telling}
-use Rattle.register_file.specs.Owner.{is_group}
-use Rattle.register_file.specs.Registers.{Registers, word_of}
-use Rattle.register_file.specs.Words.{word_at}
 use Rattle.register_file.proofs.IntrUnit.Groups.{group_bits-Vf}
 use Rattle.register_file.proofs.IntrUnit.SetLaws.{contains-past, contains-intersection}
 use Rattle.register_file.proofs.Own.{intersection-lt}
 use Rattle.register_file.proofs.Raising.{mail_cause, queue_cause}
+use Rattle.register_laws.specs.Prelude.{BitSet, Group, IsSubset, Pf, Place, Registers, Vf, cause_row, contains, has_bit}
+use Rattle.register_laws.specs.Prelude.{index_of, intersection, is_group, mask_row, number_of, place, range_with_len}
+use Rattle.register_laws.specs.Prelude.{reported_by, row_of, word_at, word_of}
+use Rattle.register_laws.proofs.Prelude.{nat_tests, or_lt}
 use Rattle.register_laws.specs.Footprint.{Footprint, ChangesWithin, Covers, is_place, the_word, the_bits, pending}
 use Rattle.register_laws.specs.Sound.{AreSound, IsMail, bits_of_row, pending_bits}
 use Rattle.register_laws.proofs.Covers.{covers-first, covers-second, misses-narrower, cause_is_pending}

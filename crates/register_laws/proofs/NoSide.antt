@@ -1,11 +1,9 @@
 -- What no access and no count of an owner's register has: reads, counts and interrupts have nothing of a side.
 use Rattle.std.proofs.Common.{◌≡◌, ℕ, refl}
-use Rattle.register_file.specs.RegTable.Rows.{row_of}
 use Rattle.register_file.specs.RegTable.declared.kind.Kind.TheVariants as kind
-use Rattle.register_file.specs.RegTable.declared.rows.RowId.{RowId}
 use Rattle.register_file.specs.RegTable.declared.rows.RowId.TheVariants as row
-use Rattle.register_file.specs.Owner.{owner_in}
 use Rattle.register_file.specs.declared.owner.Owner.TheVariants as owner
+use Rattle.register_laws.specs.Prelude.{RowId, owner_in, row_of}
 use Rattle.register_laws.specs.Footprint.{of_side, of_group, pending}
 use Rattle.register_laws.specs.Laws.{CountersAreTheirOwn, PendingMissesSides}
 use Rattle.register_laws.proofs.Covers.{misses-narrower, misses-owner, covers-pending, misses-nothing}
@@ -26,12 +24,7 @@ pub counters_own : CountersAreTheirOwn
 counters_own p e = counter_owner p.row p.index e
 
 pub pending_misses_sides : PendingMissesSides
-pending_misses_sides owner.Device dir queue = misses-nothing (of_side dir queue)
-pending_misses_sides owner.Counters dir queue = misses-nothing (of_side dir queue)
-pending_misses_sides (owner.Side other number) dir queue = misses-nothing (of_side dir queue)
 pending_misses_sides (owner.Group g) dir queue =
     misses-narrower (of_group g) (pending g) (of_side dir queue) (covers-pending g)
     (misses-owner (owner.Group g) (owner.Side dir queue) refl)
-pending_misses_sides (owner.Pool number) dir queue = misses-nothing (of_side dir queue)
-pending_misses_sides (owner.VfCounters number) dir queue = misses-nothing (of_side dir queue)
-pending_misses_sides (owner.Vectors number) dir queue = misses-nothing (of_side dir queue)
+pending_misses_sides other dir queue = misses-nothing (of_side dir queue)

@@ -1,16 +1,10 @@
 -- Places and owners that are the same.
 use Rattle.std.proofs.Common.{◌≡◌, ◌≢◌, Bool, true, false, refl, ap, sym, ◌∙◌}
 use Rattle.std.proofs.lemmas.Bool.{both_ways, false_from_ne_true, and_parts, and_from, eqb-true, eq-eqb}
-use Rattle.register_file.specs.RegTable.Rows.{number_of}
-use Rattle.register_file.specs.RegTable.declared.place.Place.{Place}
-use Rattle.register_file.proofs.RegTable.FirstAddresses.{same_number}
-use Rattle.register_file.specs.IntrUnit.declared.group.Group.{Group}
-use Rattle.register_file.specs.IntrUnit.declared.group.Group.TheVariants.{Pf, Vf}
 use Rattle.register_file.specs.Owner.{is_dir, is_group, is_owner}
-use Rattle.register_file.specs.DmaRing.declared.dir.Dir.{Dir}
-use Rattle.register_file.specs.DmaRing.declared.dir.Dir.TheVariants.{Rx, Tx}
-use Rattle.register_file.specs.declared.owner.Owner.{Owner}
 use Rattle.register_file.specs.declared.owner.Owner.TheVariants as owner
+use Rattle.register_laws.specs.Prelude.{Dir, Group, Owner, Pf, Place, Rx, Tx, Vf, number_of}
+use Rattle.register_laws.proofs.Prelude.{same_number}
 use Rattle.register_laws.specs.Footprint.{is_place}
 
 -- what passes a test isn't what fails it

@@ -1,15 +1,9 @@
 -- What was put, wanted and reported, and what stands past the end.
 use Rattle.std.proofs.Common.{List, length, set, get_or, ◌≡◌, ℕ, ◌<◌, Bool, false, cond, nat_lt, sym, ◌∙◌, subst, inl, inr, arith}
 use Rattle.std.proofs.lemmas.Bool.{cases_lt, cond-true, cond-false, lt-ltb, le-ltb}
-use Rattle.std.proofs.lemmas.List.{get_or-set_same, get_or_past, length-set}
-use Rattle.register_file.specs.RegTable.Rows.{row_of}
-use Rattle.register_file.specs.RegTable.declared.place.Place.{Place}
-use Rattle.register_file.specs.IntrUnit.declared.group.Group.TheVariants.{Vf}
-use Rattle.register_file.specs.Groups.{reported_by, with_reported}
-use Rattle.register_file.specs.Registers.{Registers, is_wanted, with_wanted}
-use Rattle.register_file.specs.Words.{word_at, put, row_words}
-use Rattle.register_file.specs.DmaRing.declared.dir.Dir.{Dir}
-use Rattle.register_file.specs.DmaRing.declared.dir.Dir.TheVariants.{Rx, Tx}
+use Rattle.register_laws.specs.Prelude.{Dir, Place, Registers, Rx, Tx, Vf, is_wanted, put, reported_by, row_of}
+use Rattle.register_laws.specs.Prelude.{row_words, with_reported, with_wanted, word_at}
+use Rattle.register_laws.proofs.Prelude.{get_or-set_same, get_or_past, length-set}
 use Rattle.register_laws.specs.Sound.{HasShape}
 use Rattle.register_laws.proofs.Shape.{put_stands, HasShape-put}
 

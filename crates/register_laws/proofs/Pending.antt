@@ -1,12 +1,8 @@
 -- What is pending of an owner, and which places have nothing of it.
 use Rattle.std.proofs.Common.{◌≡◌, true, false, refl}
-use Rattle.register_file.specs.RegTable.Rows.{row_of}
-use Rattle.register_file.specs.RegTable.declared.place.Place.{Place}
-use Rattle.register_file.specs.RegTable.declared.kind.Kind.{Kind}
 use Rattle.register_file.specs.RegTable.declared.kind.Kind.TheVariants as kind
-use Rattle.register_file.specs.IntrUnit.declared.group.Group.{Group}
-use Rattle.register_file.specs.declared.owner.Owner.{Owner}
 use Rattle.register_file.specs.declared.owner.Owner.TheVariants as owner
+use Rattle.register_laws.specs.Prelude.{Group, Kind, Owner, Place, row_of}
 use Rattle.register_laws.specs.Footprint.{LacksWord, Covers, of_owner, pending, pending_of, any_pending, is_pending, is_alone}
 use Rattle.register_laws.proofs.Covers.{fails, covers-nothing, covers-pending, covers-any_pending}
 

@@ -1,30 +1,16 @@
 -- Registers that agree of a pool, after the same part of an access of one of its places.
 use Rattle.std.proofs.Common.{◌≡◌, ℕ, Bool, true, refl, ap, sym, ◌∙◌}
 use Rattle.std.specs.Prelude.{bit_and}
-use Rattle.std.specs.Option.{option_map_or}
 use Rattle.std.proofs.lemmas.Bool.{eq-eqb, eqb-true}
-use Rattle.register_file.specs.RegTable.Rows.{row_of}
-use Rattle.register_file.specs.RegTable.declared.bank.Bank.{Bank}
 use Rattle.register_file.specs.RegTable.declared.bank.Bank.TheVariants as bank
-use Rattle.register_file.specs.RegTable.declared.place.Place.{Place}
 use Rattle.register_file.specs.RegTable.declared.rows.RowId.TheVariants.{Pvteicr, Pvteims, Pvteiac, Pvteiam}
 use Rattle.register_file.specs.IntrUnit.Group.{bits_cleared_by_read}
 use Rattle.register_file.specs.IntrUnit.Interrupts.{Interrupts, of_words, after_read as causes_read}
-use Rattle.register_file.specs.IntrUnit.declared.group.Group.{Group}
-use Rattle.register_file.specs.IntrUnit.declared.group.Group.TheVariants.{Vf}
-use Rattle.register_file.specs.VfMap.Owner.{is_of_pool, is_of_pool_by, has_queue}
-use Rattle.register_file.specs.VfMap.declared.mode.Mode.{Mode}
 use Rattle.register_file.specs.Access.{stored, group_in, in_group, group_read, is_running, asked}
-use Rattle.register_file.specs.Bits.{has_bit, merged}
-use Rattle.register_file.specs.Columns.{place}
-use Rattle.register_file.specs.Groups.{interrupts_of, with_interrupts, clears_others}
-use Rattle.register_file.specs.Owner.{owner_in, owner_of}
-use Rattle.register_file.specs.Queue.{enable_row, is_on}
-use Rattle.register_file.specs.Registers.{Registers}
-use Rattle.register_file.specs.DmaRing.declared.dir.Dir.{Dir}
-use Rattle.register_file.specs.DmaRing.declared.dir.Dir.TheVariants.{Rx, Tx}
-use Rattle.register_file.specs.declared.owner.Owner.{Owner}
 use Rattle.register_file.specs.declared.owner.Owner.TheVariants as owner
+use Rattle.register_laws.specs.Prelude.{Bank, Dir, Group, Mode, Owner, Place, Registers, Rx, Tx, Vf, clears_others}
+use Rattle.register_laws.specs.Prelude.{enable_row, has_bit, has_queue, interrupts_of, is_of_pool, is_of_pool_by, is_on}
+use Rattle.register_laws.specs.Prelude.{merged, option_map_or, owner_in, owner_of, place, row_of, with_interrupts}
 use Rattle.register_laws.specs.Footprint.{AgreeWithin, pool_agrees}
 use Rattle.register_laws.specs.Sound.{HasShape}
 use Rattle.register_laws.proofs.Agreeing.{agree-put, agree-with_wanted, agree-with_interrupts}

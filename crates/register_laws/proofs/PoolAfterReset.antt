@@ -1,18 +1,8 @@
 -- Registers that agree of a pool do so after its reset.
 use Rattle.std.proofs.Common.{◌≡◌, ℕ, ◌<◌, false, ap, sym, ◌∙◌, inl, inr, arith}
-use Rattle.std.proofs.lemmas.Bool.{cases_Bool, cases_lt}
-use Rattle.std.proofs.lemmas.List.{get_or_past}
-use Rattle.register_file.specs.RegTable.Rows.{row_of}
-use Rattle.register_file.specs.RegTable.declared.place.Place.{Place}
-use Rattle.register_file.specs.IntrUnit.declared.group.Group.{Group}
-use Rattle.register_file.specs.IntrUnit.declared.group.Group.TheVariants.{Pf, Vf}
-use Rattle.register_file.specs.Bits.{has_bit}
-use Rattle.register_file.specs.Groups.{index_of, reported_by}
-use Rattle.register_file.specs.PoolReset.{pool_reset}
-use Rattle.register_file.specs.Registers.{Registers, is_wanted}
-use Rattle.register_file.specs.Words.{word_at, row_words}
-use Rattle.register_file.specs.DmaRing.declared.dir.Dir.{Dir}
-use Rattle.register_file.specs.DmaRing.declared.dir.Dir.TheVariants.{Rx, Tx}
+use Rattle.register_laws.specs.Prelude.{Dir, Group, Pf, Place, Registers, Rx, Tx, Vf, has_bit, index_of, is_wanted}
+use Rattle.register_laws.specs.Prelude.{pool_reset, reported_by, row_of, row_words, word_at}
+use Rattle.register_laws.proofs.Prelude.{cases_Bool, cases_lt, get_or_past}
 use Rattle.register_laws.specs.Agreement.{PoolResetKeepsAgreement}
 use Rattle.register_laws.specs.Footprint.{Footprint, pool_renews}
 use Rattle.register_laws.specs.Sound.{HasShape}

@@ -1,6 +1,6 @@
 -- Registers that agree of a pool, after the same access of one of its places.
 use Rattle.std.proofs.Common.{refl}
-use Rattle.register_file.specs.RegTable.Rows.{row_of}
+use Rattle.register_laws.specs.Prelude.{row_of}
 use Rattle.register_laws.specs.Agreement.{PoolReadsKeepAgreement, PoolWritesKeepAgreement}
 use Rattle.register_laws.proofs.Keeps.{keeps}
 

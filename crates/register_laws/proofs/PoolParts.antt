@@ -1,21 +1,13 @@
 -- What a reset of a pool does, part by part.
 use Rattle.std.proofs.Common.{◌≡◌, ℕ, ◌/◌, Bool, false, ◌==◌, ◌&&◌, ◌||◌, List, Option, Some, None, refl, ap, sym, ◌∙◌}
 use Rattle.std.specs.Prelude.{fold}
-use Rattle.std.specs.List.{range_with_len}
 use Rattle.std.proofs.Math.Bool.{or-false, and-false}
-use Rattle.register_file.specs.RegTable.Rows.{row_of}
-use Rattle.register_file.specs.RegTable.declared.bank.Bank.{Bank}
 use Rattle.register_file.specs.RegTable.declared.bank.Bank.TheVariants as bank
-use Rattle.register_file.specs.RegTable.declared.rows.RowId.{RowId}
 use Rattle.register_file.specs.RegTable.declared.rows.RowId.TheVariants as row
-use Rattle.register_file.specs.IntrUnit.declared.group.Group.{Group}
-use Rattle.register_file.specs.IntrUnit.declared.group.Group.TheVariants.{Vf}
-use Rattle.register_file.specs.Owner.{owner_in, is_owner, is_group}
 use Rattle.register_file.specs.PoolReset.{Renewal, function_renewals, side_renewals, vector_renewals, has_renewal, is_renewed, rows_reset, side_reset, queue_reset, vectors_reset, function_reset, queues_reset}
-use Rattle.register_file.specs.Registers.{Registers}
-use Rattle.register_file.specs.DmaRing.declared.dir.Dir.{Dir}
-use Rattle.register_file.specs.DmaRing.declared.dir.Dir.TheVariants.{Rx, Tx}
 use Rattle.register_file.specs.declared.owner.Owner.TheVariants as owner
+use Rattle.register_laws.specs.Prelude.{Bank, Dir, Group, Registers, RowId, Rx, Tx, Vf, is_group, is_owner, owner_in}
+use Rattle.register_laws.specs.Prelude.{range_with_len, row_of}
 use Rattle.register_laws.specs.Footprint.{Footprint, nothing, either, of_owner, of_side, renewed_of}
 use Rattle.register_laws.proofs.Renewed.{IsRenewed, IsSame, any_of, wanted_of, reported_of, renewed-either, renewed-same, renewed-with_wanted, renewed-with_reported, taken-refl, taken-either, taken-each}
 use Rattle.register_laws.proofs.RowsReset.{at_rows, rows_words, renewed-rows}

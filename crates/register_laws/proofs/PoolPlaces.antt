@@ -1,23 +1,13 @@
 -- The places of a pool, and what accesses of them may change.
 use Rattle.std.proofs.Common.{◌≡◌, ℕ, ◌*◌, Bool, true, false, ◌==◌, refl, ap, sym, ◌∙◌, subst, inl, inr}
-use Rattle.std.proofs.lemmas.Bool.{cases_Bool, or_cases, eqb-true}
-use Rattle.register_file.specs.RegTable.declared.kind.Kind.{Kind}
 use Rattle.register_file.specs.RegTable.declared.kind.Kind.TheVariants as kind
-use Rattle.register_file.specs.Mailbox.{by_sending, by_function}
-use Rattle.register_file.specs.RegTable.Rows.{row_of, number_of}
-use Rattle.register_file.specs.RegTable.declared.bank.Bank.{Bank}
 use Rattle.register_file.specs.RegTable.declared.bank.Bank.TheVariants as bank
-use Rattle.register_file.specs.RegTable.declared.place.Place.{Place}
-use Rattle.register_file.specs.RegTable.declared.rows.RowId.{RowId}
 use Rattle.register_file.specs.RegTable.declared.rows.RowId.TheVariants as row
-use Rattle.register_file.proofs.RegTable.FirstAddresses.{same_number}
-use Rattle.register_file.specs.IntrUnit.declared.group.Group.TheVariants.{Pf, Vf}
-use Rattle.register_file.specs.VfMap.Owner.{is_of_pool, is_of_pool_by, has_queue, is_shared}
-use Rattle.register_file.specs.VfMap.declared.mode.Mode.{Mode}
-use Rattle.register_file.specs.Access.{after_read}
-use Rattle.register_file.specs.Owner.{owner_in, owner_of, is_owner, is_group}
-use Rattle.register_file.specs.declared.owner.Owner.{Owner}
 use Rattle.register_file.specs.declared.owner.Owner.TheVariants as owner
+use Rattle.register_laws.specs.Prelude.{Bank, Kind, Mode, Owner, Pf, Place, RowId, Vf, after_read, by_function}
+use Rattle.register_laws.specs.Prelude.{by_sending, has_queue, is_group, is_of_pool, is_of_pool_by, is_owner, is_shared}
+use Rattle.register_laws.specs.Prelude.{number_of, owner_in, owner_of, row_of}
+use Rattle.register_laws.proofs.Prelude.{cases_Bool, eqb-true, or_cases, same_number}
 use Rattle.register_laws.specs.Agreement.{PoolReadsStayWithin, PoolWritesStayWithin, SharedReadsChangeNothing, SharedWritesChangeNothing}
 use Rattle.register_laws.specs.Footprint.{Footprint, Covers, pool_has, pool_changes, is_own, of_owner, of_read, written_by, of_write}
 use Rattle.register_laws.specs.Laws.{after_write}

@@ -1,12 +1,10 @@
 -- Which queues a pool has, of those from its first on.
 use Rattle.std.proofs.Common.{◌≡◌, ℕ, zero, suc, ◌+◌, ◌*◌, ◌/◌, ◌<◌, Bool, true, false, ◌==◌, nat_lt, ◌&&◌, ◌||◌, refl, ap, sym, ◌∙◌, arith}
 use Rattle.std.specs.Prelude.{nat_le}
-use Rattle.std.specs.List.{range_with_len}
-use Rattle.std.proofs.lemmas.Bool.Decides.{nat_tests}
-use Rattle.register_file.specs.VfMap.Owner.{has_queue}
 use Rattle.register_file.specs.VfMap.Pools.{pools_in, queues_each}
-use Rattle.register_file.specs.VfMap.declared.mode.Mode.{Mode}
 use Rattle.register_file.proofs.VfMap.Numbers.{has_queue-from, has_words-from}
+use Rattle.register_laws.specs.Prelude.{Mode, has_queue, range_with_len}
+use Rattle.register_laws.proofs.Prelude.{nat_tests}
 use Rattle.register_laws.specs.Footprint.{Footprint, nothing, either}
 use Rattle.register_laws.proofs.Renewed.{any_of}
 

@@ -1,7 +1,6 @@
 -- Registers that agree of a pool tell the same at its places.
 use Rattle.std.proofs.Common.{◌≡◌, cond, refl, ap}
-use Rattle.register_file.specs.RegTable.Rows.{row_of}
-use Rattle.register_file.specs.Access.{read_word}
+use Rattle.register_laws.specs.Prelude.{read_word, row_of}
 use Rattle.register_laws.specs.Agreement.{SharedReadsTellTheSame, PoolReadsTellTheSame}
 use Rattle.register_laws.proofs.PoolPlaces.{shared_rows}
 use Rattle.register_laws.proofs.Keeps.{keeps}

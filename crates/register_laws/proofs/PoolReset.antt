@@ -1,27 +1,16 @@
 -- The reset of a pool is one of all that is the pool's.
 use Rattle.std.proofs.Common.{◌≡◌, ℕ, ◌*◌, ◌/◌, Bool, true, false, cond, ◌==◌, nat_lt, ◌&&◌, ◌||◌, not, Option, Some, None, refl, ap, sym, ◌∙◌, subst, inl, inr}
-use Rattle.std.specs.List.{range_with_len}
 use Rattle.std.proofs.lemmas.Bool.{ltb-true, eqb-true, or_cases, or_left}
 use Rattle.std.proofs.Math.Bool.{or-false}
-use Rattle.register_file.specs.RegTable.Rows.{row_of}
-use Rattle.register_file.specs.RegTable.declared.bank.Bank.{Bank}
 use Rattle.register_file.specs.RegTable.declared.bank.Bank.TheVariants as bank
-use Rattle.register_file.specs.RegTable.declared.place.Place.{Place}
-use Rattle.register_file.specs.RegTable.declared.rows.RowId.{RowId}
 use Rattle.register_file.specs.RegTable.declared.rows.RowId.TheVariants as row
-use Rattle.register_file.specs.IntrUnit.declared.group.Group.{Group}
-use Rattle.register_file.specs.IntrUnit.declared.group.Group.TheVariants.{Vf}
 use Rattle.register_file.specs.VfMap.Owner.{has_queue, is_of_pool_by, is_receive_bank, is_transmit_bank}
 use Rattle.register_file.specs.VfMap.Pools.{queues_of, queues_each, pools_in}
-use Rattle.register_file.specs.VfMap.declared.mode.Mode.{Mode}
 use Rattle.register_file.proofs.VfMap.Numbers.{has_queue-none}
-use Rattle.register_file.specs.Owner.{owner_in, is_owner, is_group}
-use Rattle.register_file.specs.Bits.{has_bit}
 use Rattle.register_file.specs.PoolReset.{is_renewed, function_reset, pool_reset}
-use Rattle.register_file.specs.Registers.{Registers}
-use Rattle.register_file.specs.DmaRing.declared.dir.Dir.{Dir}
-use Rattle.register_file.specs.DmaRing.declared.dir.Dir.TheVariants.{Rx, Tx}
 use Rattle.register_file.specs.declared.owner.Owner.TheVariants as owner
+use Rattle.register_laws.specs.Prelude.{Bank, Dir, Group, Mode, Place, Registers, RowId, Rx, Tx, Vf, has_bit, is_group}
+use Rattle.register_laws.specs.Prelude.{is_owner, owner_in, range_with_len, row_of}
 use Rattle.register_laws.specs.Footprint.{Footprint, ChangesWithin, either, pool_has, pool_renews}
 use Rattle.register_laws.specs.PoolReset.{PoolResetTakesTheRest, is_left}
 use Rattle.register_laws.proofs.Covers.{covers-renewed}

@@ -1,27 +1,11 @@
 -- Registers stay sound where a pool is reset.
 use Rattle.std.proofs.Common.{◌≡◌, ℕ, true, false, refl, ap, sym, ◌∙◌, subst, inl, inr, arith}
-use Rattle.std.proofs.lemmas.Bool.{cases_Bool, cases_lt, both_ways}
-use Rattle.std.proofs.lemmas.List.{get_or_past}
-use Rattle.register_file.specs.RegTable.Rows.{row_of}
-use Rattle.register_file.specs.RegTable.declared.bank.Bank.{Bank}
 use Rattle.register_file.specs.RegTable.declared.bank.Bank.TheVariants as bank
-use Rattle.register_file.specs.IntrUnit.BitSet.{contains, IsSubset}
-use Rattle.register_file.specs.IntrUnit.declared.group.Group.{Group}
-use Rattle.register_file.specs.IntrUnit.declared.group.Group.TheVariants.{Vf}
-use Rattle.register_file.proofs.IntrUnit.Subsets.{IsSubset-no_bits}
-use Rattle.register_file.specs.RegTable.declared.place.Place.{Place}
-use Rattle.register_file.specs.RegTable.declared.rows.RowId.TheVariants.{Pvfmailbox}
-use Rattle.register_file.specs.VfMap.Owner.{is_of_pool, is_of_pool_by}
-use Rattle.register_file.specs.VfMap.declared.mode.Mode.{Mode}
-use Rattle.register_file.specs.Bits.{has_bit}
-use Rattle.register_file.specs.Columns.{place}
-use Rattle.register_file.specs.Groups.{reported_by}
-use Rattle.register_file.specs.Mailbox.{mail_of}
-use Rattle.register_file.specs.Owner.{owner_in, owner_of, is_group}
-use Rattle.register_file.specs.PoolReset.{pool_reset}
-use Rattle.register_file.specs.Registers.{Registers}
-use Rattle.register_file.specs.Words.{word_at, row_words}
 use Rattle.register_file.specs.declared.owner.Owner.TheVariants as owner
+use Rattle.register_laws.specs.Prelude.{Bank, Group, IsSubset, Mode, Place, Pvfmailbox, Registers, Vf, contains}
+use Rattle.register_laws.specs.Prelude.{has_bit, is_group, is_of_pool, is_of_pool_by, mail_of, owner_in, owner_of}
+use Rattle.register_laws.specs.Prelude.{place, pool_reset, reported_by, row_of, row_words, word_at}
+use Rattle.register_laws.proofs.Prelude.{IsSubset-no_bits, both_ways, cases_Bool, cases_lt, get_or_past}
 use Rattle.register_laws.specs.Footprint.{Misses, of_group, pool_has, pool_renews, pending}
 use Rattle.register_laws.specs.Sound.{AreSound, bits_of_row, pending_bits}
 use Rattle.register_laws.proofs.Footprints.{misses-within, covers-pending}

@@ -1,16 +1,10 @@
 -- Pools have nothing in common but the physical function's cause of mailboxes.
 use Rattle.std.proofs.Common.{◌≡◌, ◌≢◌, ℕ, ◌*◌, ◌/◌, true, false, ◌==◌, Option, Some, None, refl, sym, ◌∙◌, inl, inr}
 use Rattle.std.proofs.lemmas.Bool.{both_ways, or_cases, eqb-true, ne_eqb}
-use Rattle.register_file.specs.RegTable.Rows.{row_of}
-use Rattle.register_file.specs.RegTable.declared.bank.Bank.{Bank}
 use Rattle.register_file.specs.RegTable.declared.bank.Bank.TheVariants as bank
-use Rattle.register_file.specs.IntrUnit.declared.group.Group.{Group}
-use Rattle.register_file.specs.IntrUnit.declared.group.Group.TheVariants.{Pf, Vf}
 use Rattle.register_file.specs.VfMap.Owner.{is_pool, is_of_pool, is_of_pool_by, has_queue}
 use Rattle.register_file.specs.VfMap.Pools.{pool_of}
-use Rattle.register_file.specs.VfMap.declared.mode.Mode.{Mode}
-use Rattle.register_file.specs.Mailbox.{by_sending}
-use Rattle.register_file.specs.Owner.{is_group}
+use Rattle.register_laws.specs.Prelude.{Bank, Group, Mode, Pf, Vf, by_sending, is_group, row_of}
 use Rattle.register_laws.specs.Agreement.{IsShared, PoolsHaveNothingInCommon, MissedAgreementStands}
 use Rattle.register_laws.specs.Footprint.{Misses, pool_has, pool_changes}
 use Rattle.register_laws.proofs.Covers.{misses-either}

@@ -1,13 +1,9 @@
 -- Words that are put at places, one after another.
 use Rattle.std.proofs.Common.{◌≡◌, ◌≢◌, ℕ, ◌<◌, ◌≤◌, [], length, get_or, ap, sym, ◌∙◌, subst, inl, inr}
-use Rattle.std.proofs.Math.ListN.{set}
-use Rattle.std.proofs.lemmas.List.{get_or-set_same, get_or-set_other, get_or_past, length-set}
 use Rattle.std.proofs.lemmas.Bool.{cases_eq, cases_lt}
-use Rattle.register_file.specs.RegTable.Rows.{number_of}
-use Rattle.register_file.specs.RegTable.declared.place.Place.{Place}
-use Rattle.register_file.specs.RegTable.declared.rows.RowId.{RowId}
-use Rattle.register_file.proofs.RegTable.FirstAddresses.{same_number}
 use Rattle.register_file.specs.Words.{Words, word_at, put, row_words}
+use Rattle.register_laws.specs.Prelude.{Place, RowId, number_of}
+use Rattle.register_laws.proofs.Prelude.{get_or-set_other, get_or-set_same, get_or_past, length-set, same_number, set}
 
 pub same_parts : (p q : Place) → p.row ≡ q.row → p.index ≡ q.index → p ≡ q
 same_parts p q e f = λ k. record { row = e k; index = f k }

@@ -1,29 +1,15 @@
 -- What is read of words that were stored and counted, and of registers after a reset.
 use Rattle.std.proofs.Common.{◌≡◌, ℕ, ◌+◌, ◌-◌, ◌*◌, ◌/◌, ◌%◌, ◌^◌, ◌<◌, false, if◌then◌else◌, refl, ap}
-use Rattle.std.proofs.lemmas.List.{get_or-replicate}
-use Rattle.std.proofs.lemmas.Bool.{false_from_ne_true}
-use Rattle.register_file.specs.RegTable.Counter.{bumped}
-use Rattle.register_file.specs.RegTable.Rows.{row_of}
-use Rattle.register_file.specs.RegTable.declared.place.Place.{Place}
 use Rattle.register_file.specs.RegTable.declared.rows.RowId.TheVariants.{Ctrl, Rxctrl, Dmatxctl, Hlreg0, Maxfrs, Gpie, Srrctl, Rxdctl, Txdctl}
 use Rattle.register_file.specs.IntrUnit.BitSet.{bits_below, bits_where, bits_from_to}
 use Rattle.register_file.specs.IntrUnit.Group.{group_bits, auto_mask_acts}
-use Rattle.register_file.specs.IntrUnit.declared.group.Group.{Group}
-use Rattle.register_file.specs.IntrUnit.declared.group.Group.TheVariants.{Pf, Vf}
-use Rattle.register_file.specs.Bits.{has_bit}
-use Rattle.register_file.specs.Columns.{place}
-use Rattle.register_file.specs.Counters.{mapping_row}
-use Rattle.register_file.specs.Groups.{vector_row, vector_entry}
-use Rattle.register_file.specs.Owner.{is_owner}
-use Rattle.register_file.specs.Registers.{Registers, word_of}
-use Rattle.register_file.specs.Words.{word_at}
-use Rattle.register_file.specs.DmaRing.declared.dir.Dir.{Dir}
-use Rattle.register_file.specs.DmaRing.declared.dir.Dir.TheVariants.{Rx, Tx}
+use Rattle.register_laws.specs.Prelude.{Dir, Group, Pf, Place, Registers, Rx, Tx, Vf, bumped, has_bit, is_owner}
+use Rattle.register_laws.specs.Prelude.{mapping_row, place, row_of, vector_entry, vector_row, word_at, word_of}
+use Rattle.register_laws.proofs.Prelude.{false_from_ne_true, get_or-replicate, word_at-reset}
 use Rattle.register_laws.specs.Footprint.{Footprint, ChangesWithin}
 use Rattle.register_laws.specs.Laws.{HasShape, CountsAndClears, GoesRound, GroupBitsAreMasks, EnableReadTellsOn, ResetSwitchesOff, WordIsOnePlace, OwnersDiffer, SettingsStand}
 use Rattle.register_laws.proofs.Footprints.{word_stands}
 use Rattle.register_laws.proofs.Owners.{is_place-other, is_owner-same}
-use Rattle.register_file.proofs.ResetWords.{word_at-reset}
 use Rattle.register_laws.proofs.Shape.{put_stands}
 
 pub counts_and_clears : (r : Registers) (p : Place) → HasShape r → p.index < (row_of p.row).count → CountsAndClears r p

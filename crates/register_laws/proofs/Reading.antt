@@ -1,18 +1,10 @@
 -- What a read of a register keeps, by what it leaves and what it may change.
 use Rattle.std.proofs.Common.{◌≡◌, ℕ, true, false, refl, ap}
-use Rattle.register_file.specs.RegTable.Rows.{row_of}
-use Rattle.register_file.specs.RegTable.declared.kind.Kind.{Kind}
 use Rattle.register_file.specs.RegTable.declared.kind.Kind.TheVariants as kind
-use Rattle.register_file.specs.RegTable.declared.place.Place.{Place}
-use Rattle.register_file.proofs.IntrUnit.Subsets.{IsSubset-no_bits}
-use Rattle.register_file.specs.VfMap.Owner.{is_of_pool}
-use Rattle.register_file.specs.VfMap.declared.mode.Mode.{Mode}
 use Rattle.register_file.specs.Access.{group_in, in_group, group_read}
-use Rattle.register_file.specs.Owner.{owner_of, is_owner}
-use Rattle.register_file.specs.Registers.{Registers}
-use Rattle.register_file.specs.Words.{put}
-use Rattle.register_file.specs.DmaRing.declared.dir.Dir.{Dir}
 use Rattle.register_file.specs.declared.owner.Owner.TheVariants as owner
+use Rattle.register_laws.specs.Prelude.{Dir, Kind, Mode, Place, Registers, is_of_pool, is_owner, owner_of, put, row_of}
+use Rattle.register_laws.proofs.Prelude.{IsSubset-no_bits}
 use Rattle.register_laws.specs.Footprint.{Footprint, LacksWord, ChangesWithin, Covers, Misses, AgreeWithin, nothing, is_place, the_word, of_owner, of_side, pending_of, pool_agrees, is_pending, is_alone}
 use Rattle.register_laws.specs.Sound.{HasShape, AreSound}
 use Rattle.register_laws.proofs.Agreeing.{agree-put}

@@ -2,21 +2,11 @@
 use Rattle.std.proofs.Common.{◌≡◌, ℕ, ◌<◌, Bool, true, false, cond, ◌&&◌, ◌||◌, List, [], ◌∷◌, refl, ap, sym, ◌∙◌, subst, inl, inr}
 use Rattle.std.specs.Prelude.{fold}
 use Rattle.std.proofs.Math.Bool.{and-false}
-use Rattle.std.proofs.lemmas.Bool.{or_cases, and_parts, cond-true, cond-false, eqb-true}
-use Rattle.std.proofs.lemmas.List.{get_or-set_same}
-use Rattle.register_file.specs.RegTable.Rows.{row_of}
-use Rattle.register_file.specs.RegTable.declared.place.Place.{Place}
-use Rattle.register_file.specs.IntrUnit.declared.group.Group.{Group}
-use Rattle.register_file.specs.Bits.{has_bit}
-use Rattle.register_file.specs.Columns.{place}
-use Rattle.register_file.specs.Groups.{index_of, reported_by, with_reported}
-use Rattle.register_file.specs.Owner.{is_owner, is_group}
 use Rattle.register_file.specs.PoolReset.{Renewal, takes, mixed, renewed, word_reset, is_renewed}
-use Rattle.register_file.specs.Registers.{Registers, is_wanted, with_wanted}
-use Rattle.register_file.specs.Words.{word_at, put}
-use Rattle.register_file.specs.DmaRing.declared.dir.Dir.{Dir}
-use Rattle.register_file.specs.DmaRing.declared.dir.Dir.TheVariants.{Rx, Tx}
 use Rattle.register_file.specs.declared.owner.Owner.TheVariants as owner
+use Rattle.register_laws.specs.Prelude.{Dir, Group, Place, Registers, Rx, Tx, has_bit, index_of, is_group, is_owner}
+use Rattle.register_laws.specs.Prelude.{is_wanted, place, put, reported_by, row_of, with_reported, with_wanted, word_at}
+use Rattle.register_laws.proofs.Prelude.{and_parts, cond-false, cond-true, eqb-true, get_or-set_same, or_cases}
 use Rattle.register_laws.specs.Footprint.{Footprint, ChangesWithin, nothing, either, is_place, the_bits, renewed_of}
 use Rattle.register_laws.specs.Sound.{HasShape}
 use Rattle.register_laws.proofs.Bits.{has_bit-mixed}

@@ -1,21 +1,13 @@
 -- Words that have only bits which their row can have.
 use Rattle.std.proofs.Common.{◌≡◌, ℕ, ◌-◌, ◌<◌, ◌≤◌, ◌^◌, true, sym, ◌∙◌, subst, inl, inr, arith, lit<}
 use Rattle.std.specs.Prelude.{bit_and, bit_or, min, max, ◌⊎◌}
-use Rattle.std.specs.Int.{bit_at}
 use Rattle.std.proofs.lemmas.Bool.{cases_Bool, cases_lt, eq-eqb, eqb-true}
-use Rattle.std.proofs.lemmas.List.{get_or_past}
 use Rattle.std.proofs.lemmas.Nat.{and_le_r}
 use Rattle.std.proofs.lemmas.Nat.Bits.{bit_at_and, bit_at_or, bit_at-lt, bit_at_above, bit_at_ones, same_from_bits}
-use Rattle.register_file.specs.RegTable.Rows.{row_of}
-use Rattle.register_file.specs.RegTable.declared.place.Place.{Place}
-use Rattle.register_file.specs.RegTable.declared.rows.RowId.{RowId}
 use Rattle.register_file.specs.RegTable.declared.rows.RowId.TheVariants as row
-use Rattle.register_file.specs.IntrUnit.BitSet.{BitSet, contains, IsSubset}
-use Rattle.register_file.proofs.IntrUnit.Subsets.{IsSubset-no_bits}
-use Rattle.register_file.specs.Bits.{merged}
-use Rattle.register_file.specs.Registers.{Registers, reset_registers}
-use Rattle.register_file.specs.Words.{word_at, put, row_words}
-use Rattle.register_file.proofs.ResetWords.{word_at-reset}
+use Rattle.register_laws.specs.Prelude.{BitSet, IsSubset, Place, Registers, RowId, bit_at, contains, merged, put}
+use Rattle.register_laws.specs.Prelude.{reset_registers, row_of, row_words, word_at}
+use Rattle.register_laws.proofs.Prelude.{IsSubset-no_bits, get_or_past, word_at-reset}
 use Rattle.register_laws.specs.Footprint.{is_place}
 use Rattle.register_laws.specs.Sound.{HasShape, AreSound, bits_of_kind, bits_of_row}
 use Rattle.register_laws.proofs.Owners.{apart, is_place-itself, is_place-same}

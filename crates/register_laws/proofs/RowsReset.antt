@@ -1,9 +1,7 @@
 -- What a reset of rows at an index does.
 use Rattle.std.proofs.Common.{◌≡◌, ℕ, Bool, true, false, ◌==◌, ◌&&◌, ◌||◌, List, [], ◌∷◌, refl, ap, ◌∙◌}
-use Rattle.register_file.specs.RegTable.Rows.{number_of}
-use Rattle.register_file.specs.RegTable.declared.place.Place.{Place}
 use Rattle.register_file.specs.PoolReset.{Renewal, takes, has_renewal, word_reset, rows_reset}
-use Rattle.register_file.specs.Registers.{Registers}
+use Rattle.register_laws.specs.Prelude.{Place, Registers, number_of}
 use Rattle.register_laws.specs.Footprint.{Footprint}
 use Rattle.register_laws.proofs.Renewed.{IsRenewed, any_of, of_renewal, renewed-each, renewed-word}
 

@@ -1,12 +1,11 @@
 -- What accesses of a group make of its interrupts are words of 32 bits, and consistent.
 use Rattle.std.proofs.Common.{ℕ, ◌<◌, ◌^◌, Bool, Option, Some, None}
 use Rattle.register_file.specs.IntrUnit.BitSet.{BitSet, union, intersection, difference, only, IsSubset}
-use Rattle.register_file.specs.IntrUnit.Group.{group_bits}
 use Rattle.register_file.specs.IntrUnit.Interrupts.{Interrupts, IsConsistent, of_words, settled, auto_masked, raised, after_read, after_write_one, after_mask_set, after_mask_clear, after_message_of}
-use Rattle.register_file.specs.IntrUnit.declared.group.Group.{Group}
 use Rattle.register_file.proofs.IntrUnit.SetLaws.{bits_where-lt}
 use Rattle.register_file.proofs.IntrUnit.Subsets.{IsSubset-itself, IsSubset-union, IsSubset-intersection_right, IsSubset-difference, IsSubset-when}
 use Rattle.register_file.proofs.Own.{intersection-lt}
+use Rattle.register_laws.specs.Prelude.{Group, group_bits}
 
 -- what can be put into a group's registers
 pub record IsSettled (s : Interrupts) : Type 0 where

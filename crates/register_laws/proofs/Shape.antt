@@ -2,18 +2,10 @@
 use Rattle.std.proofs.Common.{◌≡◌, ℕ, ◌<◌, Bool, false, length, ap, sym, ◌∙◌, subst}
 use Rattle.std.specs.Prelude.{replicate, set}
 use Rattle.std.proofs.lemmas.List.{length-map, length-set, length-replicate}
-use Rattle.register_file.specs.RegTable.Rows.{row_of, rows, number_of}
-use Rattle.register_file.specs.RegTable.declared.place.Place.{Place}
-use Rattle.register_file.specs.RegTable.declared.rows.RowId.{RowId}
-use Rattle.register_file.specs.IntrUnit.Interrupts.{Interrupts}
-use Rattle.register_file.specs.IntrUnit.declared.group.Group.{Group}
-use Rattle.register_file.specs.IntrUnit.declared.group.Group.TheVariants.{Pf, Vf}
-use Rattle.register_file.specs.Columns.{place}
-use Rattle.register_file.specs.Groups.{cause_row, mask_row, index_of, with_reported, with_interrupts}
-use Rattle.register_file.specs.Registers.{Registers, reset_registers, with_wanted}
 use Rattle.register_file.specs.Words.{word_at, put, row_words, reset_words}
-use Rattle.register_file.specs.DmaRing.declared.dir.Dir.{Dir}
-use Rattle.register_file.specs.DmaRing.declared.dir.Dir.TheVariants.{Rx, Tx}
+use Rattle.register_laws.specs.Prelude.{Dir, Group, Interrupts, Pf, Place, Registers, RowId, Rx, Tx, Vf, cause_row}
+use Rattle.register_laws.specs.Prelude.{index_of, mask_row, number_of, place, reset_registers, row_of, rows}
+use Rattle.register_laws.specs.Prelude.{with_interrupts, with_reported, with_wanted}
 use Rattle.register_laws.specs.Laws.{HasShape}
 use Rattle.register_file.proofs.ResetWords.{number_small, row_words-reset}
 use Rattle.register_laws.proofs.Puts.{word_at-put_same, length-row_words-put}

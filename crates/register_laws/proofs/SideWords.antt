@@ -1,20 +1,12 @@
 -- A side of a queue through another word of one of its rows, and through what is wanted of it.
 use Rattle.std.proofs.Common.{◌≡◌, ℕ, ◌<◌, Bool, cond, ap, sym, ◌∙◌, inl, inr, ◌==◌}
-use Rattle.std.proofs.lemmas.Bool.{cases_Bool, cond-true, cond-false, eqb-true, eqb-false}
 use Rattle.std.proofs.Math.Nat.{mod-eq_of_lt}
-use Rattle.register_file.specs.RegTable.Rows.{row_of, number_of}
 use Rattle.register_file.specs.RegTable.declared.bank.Bank.TheVariants as bank
-use Rattle.register_file.specs.RegTable.declared.place.Place.{Place}
-use Rattle.register_file.specs.RegTable.declared.rows.RowId.{RowId}
 use Rattle.register_file.specs.RegTable.declared.rows.RowId.TheVariants.{Rdh, Tdh}
-use Rattle.register_file.proofs.RegTable.FirstAddresses.{same_number}
 use Rattle.register_file.specs.Access.{written, stored, is_running}
-use Rattle.register_file.specs.Columns.{place}
-use Rattle.register_file.specs.Owner.{owner_in}
-use Rattle.register_file.specs.Queue.{ring_of, is_on, with_head}
-use Rattle.register_file.specs.Registers.{Registers, word_of, with_word, is_wanted}
-use Rattle.register_file.specs.DmaRing.declared.dir.Dir.{Dir}
-use Rattle.register_file.specs.DmaRing.declared.dir.Dir.TheVariants.{Rx, Tx}
+use Rattle.register_laws.specs.Prelude.{Dir, Place, Registers, RowId, Rx, Tx, is_on, is_wanted, number_of, owner_in}
+use Rattle.register_laws.specs.Prelude.{place, ring_of, row_of, with_head, with_word, word_of}
+use Rattle.register_laws.proofs.Prelude.{cases_Bool, cond-false, cond-true, eqb-false, eqb-true, same_number}
 use Rattle.register_laws.specs.Laws.{HasShape, after_write, word_after, IsOpen}
 use Rattle.register_laws.specs.Sides.{receive_queue_of, transmit_queue_of, with_row, receive_queue_by, transmit_queue_by}
 use Rattle.register_laws.proofs.Puts.{word_at-put_other}

@@ -1,9 +1,7 @@
 -- Words of 32 bits.
 use Rattle.std.proofs.Common.{◌≡◌, ℕ, ◌+◌, ◌*◌, ◌/◌, ◌%◌, ◌<◌, ◌^◌, inl, inr, arith}
-use Rattle.std.proofs.lemmas.Bool.{cases_Bool, eqb-false}
-use Rattle.std.proofs.lemmas.Bool.Decides.{nat_tests}
-use Rattle.register_file.specs.RegTable.Counter.{bumped}
-use Rattle.register_file.specs.Bits.{has_bit, bit_set, bit_cleared}
+use Rattle.register_laws.specs.Prelude.{bit_cleared, bit_set, bumped, has_bit}
+use Rattle.register_laws.proofs.Prelude.{cases_Bool, eqb-false, nat_tests}
 
 pub bumped-lt : (w : ℕ) → w < 2 ^ 32 → bumped w < 2 ^ 32
 bumped-lt w small = grind (arith, nat_tests)

@@ -1,22 +1,10 @@
 -- Registers stay sound.
 use Rattle.std.proofs.Common.{◌≡◌, ℕ, ◌<◌, ◌^◌, false, refl, ap, sym, ◌∙◌, subst, arith}
-use Rattle.register_file.specs.RegTable.Rows.{row_of}
-use Rattle.register_file.specs.RegTable.declared.place.Place.{Place}
-use Rattle.register_file.specs.RegTable.declared.kind.Kind.{Kind}
 use Rattle.register_file.specs.RegTable.declared.kind.Kind.TheVariants as kind
-use Rattle.register_file.specs.RegTable.declared.rows.RowId.{RowId}
-use Rattle.register_file.specs.RegTable.declared.rows.RowId.TheVariants.{Eerd}
-use Rattle.register_file.specs.IntrUnit.BitSet.{IsSubset}
-use Rattle.register_file.specs.IntrUnit.declared.group.Group.{Group}
-use Rattle.register_file.specs.Access.{after_read}
-use Rattle.register_file.specs.Columns.{place}
-use Rattle.register_file.specs.Counters.{counted, counted_wrapping}
-use Rattle.register_file.specs.Eeprom.{eeprom_answered}
-use Rattle.register_file.specs.Groups.{message_made, causes_raised, queue_raised}
 use Rattle.register_file.specs.Queue.{head_row, enable_row, with_head, switched, switched_on, switched_off, shut}
-use Rattle.register_file.specs.Registers.{Registers, word_of, is_wanted}
-use Rattle.register_file.specs.DmaRing.declared.dir.Dir.{Dir}
-use Rattle.register_file.specs.DmaRing.declared.dir.Dir.TheVariants.{Rx, Tx}
+use Rattle.register_laws.specs.Prelude.{Dir, Eerd, Group, IsSubset, Kind, Place, Registers, RowId, Rx, Tx, after_read}
+use Rattle.register_laws.specs.Prelude.{causes_raised, counted, counted_wrapping, eeprom_answered, is_wanted}
+use Rattle.register_laws.specs.Prelude.{message_made, place, queue_raised, row_of, word_of}
 use Rattle.register_laws.specs.Footprint.{is_pending}
 use Rattle.register_laws.specs.Laws.{after_write}
 use Rattle.register_laws.specs.Sound.{AreSound, bits_of_kind, bits_of_row}

@@ -1,21 +1,11 @@
 -- Registers stay sound where a word is put at a place, another side is wanted on, or a group has other interrupts.
 use Rattle.std.proofs.Common.{◌≡◌, ℕ, ◌<◌, Bool, true, false, refl, ap, sym, ◌∙◌, subst, inl, inr}
-use Rattle.std.proofs.lemmas.Bool.{cases_Bool, both_ways}
-use Rattle.register_file.specs.RegTable.Rows.{row_of}
-use Rattle.register_file.specs.RegTable.declared.place.Place.{Place}
-use Rattle.register_file.specs.IntrUnit.BitSet.{intersection, IsSubset}
-use Rattle.register_file.specs.IntrUnit.Group.{group_bits}
-use Rattle.register_file.specs.IntrUnit.Interrupts.{Interrupts, IsConsistent}
-use Rattle.register_file.specs.IntrUnit.declared.group.Group.{Group}
-use Rattle.register_file.specs.IntrUnit.declared.group.Group.TheVariants.{Pf, Vf}
-use Rattle.register_file.specs.Columns.{place}
-use Rattle.register_file.specs.Groups.{cause_row, mask_row, index_of, reported_by, with_interrupts}
-use Rattle.register_file.specs.Owner.{is_group}
-use Rattle.register_file.specs.Registers.{Registers, with_wanted}
-use Rattle.register_file.specs.Words.{word_at, put}
-use Rattle.register_file.specs.DmaRing.declared.dir.Dir.{Dir}
 use Rattle.register_file.specs.declared.owner.Owner.TheVariants as owner
-use Rattle.register_file.specs.RegTable.declared.rows.RowId.TheVariants.{Pvfmailbox}
+use Rattle.register_laws.specs.Prelude.{Dir, Group, Interrupts, IsConsistent, IsSubset, Kind, Owner, Pf, Place}
+use Rattle.register_laws.specs.Prelude.{Pvfmailbox, Registers, Vf, asked, cause_row, group_bits, index_of, intersection}
+use Rattle.register_laws.specs.Prelude.{is_group, mask_row, option_map_or, place, put, reported_by, row_of, stored}
+use Rattle.register_laws.specs.Prelude.{with_interrupts, with_wanted, word_at}
+use Rattle.register_laws.proofs.Prelude.{both_ways, cases_Bool}
 use Rattle.register_laws.proofs.Holders.{is_mail, mail_same, mail-put}
 use Rattle.register_laws.proofs.Pending.{none_pending}
 use Rattle.register_laws.proofs.Settled.{IsSettled}
@@ -31,11 +21,7 @@ use Rattle.register_laws.proofs.WithinParts.{within-put, within-with_wanted, wit
 use Rattle.register_laws.proofs.ReadBack.{masks}
 use Rattle.register_laws.proofs.RowBits.{HaveRowBits, row_bits-put}
 use Rattle.std.specs.Prelude.{Option, Some, None, bit_and}
-use Rattle.std.specs.Option.{option_map_or}
 use Rattle.std.proofs.Common.{cond}
-use Rattle.register_file.specs.RegTable.declared.kind.Kind.{Kind}
-use Rattle.register_file.specs.Access.{stored, asked}
-use Rattle.register_file.specs.declared.owner.Owner.{Owner}
 use Rattle.register_laws.specs.Sound.{bits_of_kind}
 use Rattle.register_laws.proofs.GroupChanges.{GroupChange, kept, changed}
 use Rattle.register_laws.proofs.RowBits.{IsSubset-trans, IsSubset-and_left, IsSubset-merged, within_row}

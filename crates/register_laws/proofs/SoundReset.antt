@@ -1,12 +1,7 @@
 -- Registers are sound after a reset.
 use Rattle.std.proofs.Common.{◌≡◌, ◌<◌, refl, sym, subst}
-use Rattle.std.proofs.lemmas.List.{get_or-replicate}
-use Rattle.register_file.specs.IntrUnit.BitSet.{IsSubset}
-use Rattle.register_file.specs.IntrUnit.declared.group.Group.{Group}
-use Rattle.register_file.specs.IntrUnit.declared.group.Group.TheVariants.{Pf, Vf}
-use Rattle.register_file.proofs.IntrUnit.Subsets.{IsSubset-no_bits}
-use Rattle.register_file.specs.Groups.{index_of, reported_by}
-use Rattle.register_file.specs.Registers.{reset_registers}
+use Rattle.register_laws.specs.Prelude.{Group, IsSubset, Pf, Vf, index_of, reported_by, reset_registers}
+use Rattle.register_laws.proofs.Prelude.{IsSubset-no_bits, get_or-replicate}
 use Rattle.register_laws.specs.Sound.{AreSound, pending_bits}
 use Rattle.register_laws.proofs.Holders.{mail-reset}
 use Rattle.register_laws.proofs.Shape.{HasShape-reset}

@@ -2,18 +2,11 @@
 use Rattle.std.proofs.Common.{◌≡◌, ℕ, ◌+◌, ◌*◌, ◌%◌, ◌^◌, ◌||◌, true, false, refl, ap, sym, ◌∙◌, arith}
 use Rattle.std.specs.Prelude.{bit_and}
 use Rattle.std.specs.Int.Bits.{and_zero_r}
-use Rattle.std.proofs.lemmas.Bool.{both_ways, false_from_ne_true}
 use Rattle.std.proofs.lemmas.Nat.{and_mod}
-use Rattle.register_file.specs.RegTable.Rows.{row_of}
-use Rattle.register_file.specs.RegTable.declared.rows.RowId.{RowId}
 use Rattle.register_file.specs.RegTable.declared.rows.RowId.TheVariants as row
-use Rattle.register_file.specs.IntrUnit.BitSet.{contains, IsSubset}
-use Rattle.register_file.specs.Access.{asks_reset}
-use Rattle.register_file.specs.Bits.{has_bit}
-use Rattle.register_file.specs.Columns.{place}
-use Rattle.register_file.specs.Registers.{Registers, word_of}
-use Rattle.register_file.specs.Words.{word_at}
-use Rattle.register_file.specs.DmaRing.declared.dir.Dir.TheVariants.{Rx, Tx}
+use Rattle.register_laws.specs.Prelude.{IsSubset, Registers, RowId, Rx, Tx, asks_reset, contains, has_bit, place}
+use Rattle.register_laws.specs.Prelude.{row_of, word_at, word_of}
+use Rattle.register_laws.proofs.Prelude.{both_ways, false_from_ne_true}
 use Rattle.register_laws.specs.Sound.{AreSound, bits_of_row}
 use Rattle.register_laws.specs.SoundWords.{keeps_none, ActingWordsAreNone, NoWordAsksReset, RingsAreAligned}
 use Rattle.register_laws.proofs.RowBits.{and-within}

@@ -1,19 +1,11 @@
 -- The interrupts of a group that were put into its registers.
 use Rattle.std.proofs.Common.{◌≡◌, ◌≢◌, ℕ, ◌^◌, ◌<◌, length, refl, ap, sym, ◌∙◌, subst, lit<}
-use Rattle.std.proofs.lemmas.List.{get_or-set_same}
-use Rattle.register_file.specs.RegTable.Rows.{row_of}
-use Rattle.register_file.specs.RegTable.declared.place.Place.{Place}
 use Rattle.register_file.specs.RegTable.declared.rows.RowId.TheVariants.{Eicr, Eims, Pvteicr, Pvteims}
-use Rattle.register_file.specs.IntrUnit.BitSet.{intersection}
-use Rattle.register_file.specs.IntrUnit.Group.{group_bits}
-use Rattle.register_file.specs.IntrUnit.Interrupts.{Interrupts, IsConsistent}
-use Rattle.register_file.specs.IntrUnit.declared.group.Group.{Group}
-use Rattle.register_file.specs.IntrUnit.declared.group.Group.TheVariants.{Pf, Vf}
-use Rattle.register_file.specs.Columns.{place}
 use Rattle.register_file.specs.Groups.{cause_row, mask_row, auto_clear_row, auto_mask_row, index_of, reported_by, with_reported, interrupts_of, with_interrupts}
-use Rattle.register_file.specs.Registers.{Registers, word_of, with_word}
-use Rattle.register_file.specs.Words.{word_at}
 use Rattle.register_file.proofs.Own.{intersection-within}
+use Rattle.register_laws.specs.Prelude.{Group, Interrupts, IsConsistent, Pf, Place, Registers, Vf, group_bits}
+use Rattle.register_laws.specs.Prelude.{intersection, place, row_of, with_word, word_at, word_of}
+use Rattle.register_laws.proofs.Prelude.{get_or-set_same}
 use Rattle.register_laws.specs.Footprint.{LacksWord, pending}
 use Rattle.register_laws.specs.Laws.{HasShape}
 use Rattle.register_laws.proofs.Footprints.{word_stands}

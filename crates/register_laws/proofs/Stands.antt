@@ -1,21 +1,12 @@
 -- Sides of queues and groups stand where a footprint misses them.
 use Rattle.std.proofs.Common.{◌≡◌, ℕ, ◌+◌, ◌*◌, ◌/◌, ◌%◌, ◌^◌, if◌then◌else◌, Option, Some, None, refl, ap, ◌∙◌}
-use Rattle.register_file.specs.RegTable.Rows.{row_of}
 use Rattle.register_file.specs.RegTable.declared.bank.Bank.TheVariants as bank
-use Rattle.register_file.specs.RegTable.declared.place.Place.{Place}
-use Rattle.register_file.specs.RegTable.declared.rows.RowId.{RowId}
 use Rattle.register_file.specs.RegTable.declared.rows.RowId.TheVariants.{Rdbal, Rdbah, Rdlen, Rdh, Rdt, Srrctl, Rxdctl, Tdbal, Tdbah, Tdlen, Tdh, Tdt, Tdwbal, Tdwbah, Txdctl}
 use Rattle.register_file.specs.IntrUnit.Interrupts.{of_words}
-use Rattle.register_file.specs.IntrUnit.declared.group.Group.{Group}
-use Rattle.register_file.specs.IntrUnit.declared.group.Group.TheVariants.{Pf, Vf}
-use Rattle.register_file.specs.Bits.{has_bit}
-use Rattle.register_file.specs.Columns.{place}
 use Rattle.register_file.specs.Groups.{cause_row, mask_row, auto_clear_row, auto_mask_row, index_of, interrupts_of}
-use Rattle.register_file.specs.Owner.{owner_in, owner_of, is_owner}
-use Rattle.register_file.specs.Registers.{Registers, word_of, is_wanted}
-use Rattle.register_file.specs.Words.{word_at}
-use Rattle.register_file.specs.DmaRing.declared.dir.Dir.TheVariants.{Rx, Tx}
 use Rattle.register_file.specs.declared.owner.Owner.TheVariants as owner
+use Rattle.register_laws.specs.Prelude.{Group, Pf, Place, Registers, RowId, Rx, Tx, Vf, has_bit, is_owner, is_wanted}
+use Rattle.register_laws.specs.Prelude.{owner_in, owner_of, place, row_of, word_at, word_of}
 use Rattle.register_laws.specs.Footprint.{Footprint, ChangesWithin, Misses, of_side, of_group}
 use Rattle.register_laws.specs.Sides.{receive_queue_of, transmit_queue_of}
 use Rattle.register_laws.proofs.Footprints.{word_stands}

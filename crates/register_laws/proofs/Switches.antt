@@ -1,19 +1,11 @@
 -- A side of a queue through its switches, a fault, and a write of its enable word.
 use Rattle.std.proofs.Common.{[], ◌≡◌, ℕ, ◌<◌, Bool, true, false, cond, refl, ap, sym, ◌∙◌, subst}
-use Rattle.std.proofs.Math.ListN.{set}
 use Rattle.std.proofs.lemmas.List.{get_or-set_same, set-get_or}
-use Rattle.std.proofs.lemmas.Bool.{cond-true, cond-false}
-use Rattle.register_file.specs.RegTable.Rows.{number_of}
-use Rattle.register_file.specs.RegTable.declared.place.Place.{Place}
-use Rattle.register_file.specs.RegTable.declared.rows.RowId.{RowId}
 use Rattle.register_file.specs.RegTable.declared.rows.RowId.TheVariants.{Rxdctl, Txdctl}
-use Rattle.register_file.specs.Bits.{has_bit, bit_set, bit_cleared}
-use Rattle.register_file.specs.Columns.{place}
 use Rattle.register_file.specs.Queue.{is_on, enable_row, switched, shut}
-use Rattle.register_file.specs.Registers.{Registers, word_of, with_word, is_wanted, with_wanted}
-use Rattle.register_file.specs.Words.{word_at, put, row_words}
-use Rattle.register_file.specs.DmaRing.declared.dir.Dir.{Dir}
-use Rattle.register_file.specs.DmaRing.declared.dir.Dir.TheVariants.{Rx, Tx}
+use Rattle.register_laws.specs.Prelude.{Dir, Place, Registers, RowId, Rx, Tx, bit_cleared, bit_set, has_bit, is_wanted}
+use Rattle.register_laws.specs.Prelude.{number_of, place, put, row_words, with_wanted, with_word, word_at, word_of}
+use Rattle.register_laws.proofs.Prelude.{cond-false, cond-true, set}
 use Rattle.register_laws.specs.Laws.{HasShape, after_write, word_after}
 use Rattle.register_laws.specs.Sides.{ReceiveQueue, TransmitQueue, receive_queue_of, transmit_queue_of}
 use Rattle.register_laws.proofs.Bits.{has_bit-switch, has_bit-cleared, has_bit-enable}

@@ -1,16 +1,9 @@
 -- What a word that is put at a place, a side that is wanted on, and other interrupts of a group change.
 use Rattle.std.proofs.Common.{◌≡◌, ℕ, Bool, true, false, ◌&&◌, refl, ap, sym, ◌∙◌, subst, inl, inr}
-use Rattle.std.proofs.lemmas.Bool.{both_ways, cases_Bool}
-use Rattle.register_file.specs.RegTable.declared.place.Place.{Place}
-use Rattle.register_file.specs.RegTable.declared.rows.RowId.{RowId}
-use Rattle.register_file.specs.IntrUnit.Interrupts.{Interrupts}
-use Rattle.register_file.specs.IntrUnit.declared.group.Group.{Group}
-use Rattle.register_file.specs.Bits.{has_bit}
-use Rattle.register_file.specs.Columns.{place}
-use Rattle.register_file.specs.Groups.{cause_row, mask_row, index_of, with_reported, with_interrupts}
-use Rattle.register_file.specs.Registers.{Registers, with_word, with_wanted}
-use Rattle.register_file.specs.Words.{word_at, put}
-use Rattle.register_file.specs.DmaRing.declared.dir.Dir.{Dir}
+use Rattle.register_laws.specs.Prelude.{Dir, Group, Interrupts, Owner, Place, Registers, RowId, asked, cause_row}
+use Rattle.register_laws.specs.Prelude.{group_in, has_bit, index_of, is_owner, mask_row, option_map_or, place, put}
+use Rattle.register_laws.specs.Prelude.{stored, with_interrupts, with_reported, with_wanted, with_word, word_at}
+use Rattle.register_laws.proofs.Prelude.{both_ways, cases_Bool}
 use Rattle.register_laws.specs.Footprint.{Footprint, ChangesWithin, is_place, the_word, the_bits, pending}
 use Rattle.register_laws.proofs.HasWord.{HasWord}
 use Rattle.register_laws.proofs.Fields.{is_wanted-put, reported_by-put, words-with_wanted, is_wanted-with_wanted_other, reported_by-with_wanted, words-with_reported, is_wanted-with_reported, reported_by-with_reported_other}
@@ -18,10 +11,6 @@ use Rattle.register_laws.proofs.Covers.{cause_is_pending, mask_is_pending}
 use Rattle.register_laws.proofs.Footprints.{within-trans}
 use Rattle.register_laws.proofs.Owners.{apart, is_group-itself, is_place-itself, is_place-same}
 use Rattle.register_laws.proofs.Puts.{word_at-put_other, put_cases}
-use Rattle.std.specs.Option.{option_map_or}
-use Rattle.register_file.specs.Access.{stored, group_in, asked}
-use Rattle.register_file.specs.Owner.{is_owner}
-use Rattle.register_file.specs.declared.owner.Owner.{Owner}
 use Rattle.register_file.specs.declared.owner.Owner.TheVariants as owner
 use Rattle.register_laws.proofs.GroupChanges.{GroupChange, kept as unchanged, changed}
 use Rattle.register_laws.proofs.Owners.{is_owner-itself}

@@ -1,16 +1,8 @@
 -- What a write of a register keeps, by what it leaves and what it may change, where it asks for no reset.
 use Rattle.std.proofs.Common.{◌≡◌, ℕ, true, false, refl}
 use Rattle.std.specs.Prelude.{bit_and, if◌then◌else◌}
-use Rattle.register_file.specs.RegTable.Rows.{row_of}
-use Rattle.register_file.specs.RegTable.declared.kind.Kind.{Kind}
-use Rattle.register_file.specs.RegTable.declared.place.Place.{Place}
-use Rattle.register_file.specs.RegTable.declared.rows.RowId.{RowId}
-use Rattle.register_file.specs.IntrUnit.BitSet.{IsSubset}
-use Rattle.register_file.specs.IntrUnit.declared.group.Group.{Group}
 use Rattle.register_file.specs.Access.{group_in, in_group, is_running, asked, stored}
-use Rattle.register_file.specs.Bits.{has_bit}
-use Rattle.register_file.specs.Owner.{owner_of}
-use Rattle.register_file.specs.Registers.{Registers}
+use Rattle.register_laws.specs.Prelude.{Group, IsSubset, Kind, Place, Registers, RowId, has_bit, owner_of, row_of}
 use Rattle.register_laws.specs.Footprint.{Footprint, LacksWord, ChangesWithin, Covers, nothing, is_place, the_word, the_enable, of_owner, pending_of, pool_agrees, is_pending, is_alone, is_own}
 use Rattle.register_laws.specs.Sound.{AreSound, bits_of_kind}
 use Rattle.register_laws.proofs.Agreeing.{agree-if}

@@ -1,15 +1,9 @@
 -- What accesses of a pool's registers, and the pool's reset, change and return: of all registers only the pool's.
 use Rattle.std.specs.Prelude.{ℕ, ◌≡◌, ◌≢◌, IsTrue}
-use Rattle.register_file.specs.RegTable.Rows.{row_of}
-use Rattle.register_file.specs.RegTable.declared.place.Place.{Place}
-use Rattle.register_file.specs.VfMap.Owner.{is_of_pool, is_shared}
-use Rattle.register_file.specs.VfMap.declared.mode.Mode.{Mode}
-use Rattle.register_file.specs.Access.{read_word, after_read}
-use Rattle.register_file.specs.Mailbox.{is_mail_cause}
-use Rattle.register_file.specs.PoolReset.{pool_reset}
-use Rattle.register_file.specs.Registers.{Registers}
 use Rattle.register_file.specs.Settings.{is_stopped}
 use Rattle.register_file.specs.declared.surroundings.Surroundings.{Surroundings}
+use Rattle.register_laws.specs.Prelude.{Mode, Place, Registers, after_read, is_mail_cause, is_of_pool, is_shared}
+use Rattle.register_laws.specs.Prelude.{pool_reset, read_word, row_of}
 use Rattle.register_laws.specs.Footprint.{Footprint, Part, ChangesWithin, Covers, Misses, AgreeWithin, all_of, pool_agrees, pool_has, pool_changes, of_read, of_write}
 use Rattle.register_laws.specs.Laws.{HasShape, after_write}
 

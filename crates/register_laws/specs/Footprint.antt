@@ -1,25 +1,11 @@
 -- What of the registers an operation may change.
 use Rattle.std.specs.Prelude.{ℕ, ◌≡◌, Bool, true, false, ◌&&◌, IsTrue, IsFalse}
-use Rattle.register_file.specs.RegTable.Rows.{row_of}
-use Rattle.register_file.specs.RegTable.declared.place.Place.{Place}
-use Rattle.register_file.specs.RegTable.declared.kind.Kind.{Kind}
-use Rattle.register_file.specs.IntrUnit.declared.group.Group.{Group}
-use Rattle.register_file.specs.IntrUnit.declared.group.Group.TheVariants.{Vf}
-use Rattle.register_file.specs.VfMap.Owner.{is_of_pool, has_queue}
-use Rattle.register_file.specs.VfMap.declared.mode.Mode.{Mode}
-use Rattle.register_file.specs.Behaviour.{behaviour_of}
-use Rattle.register_file.specs.Bits.{has_bit}
-use Rattle.register_file.specs.Groups.{reported_by}
-use Rattle.register_file.specs.Mailbox.{by_sending}
-use Rattle.register_file.specs.Owner.{owner_of, is_owner, is_group}
-use Rattle.register_file.specs.PoolReset.{is_renewed}
-use Rattle.register_file.specs.Registers.{Registers, is_wanted}
-use Rattle.register_file.specs.Words.{word_at}
-use Rattle.register_file.specs.DmaRing.declared.dir.Dir.{Dir}
-use Rattle.register_file.specs.declared.owner.Owner.{Owner}
 use Rattle.register_file.specs.declared.owner.Owner.TheVariants as owner
 pub use Rattle.register_file.specs.Footprint.{Footprint, nothing, either, is_place, the_word, the_bits, the_enable}
 pub use Rattle.register_file.specs.Footprint.{pending, pending_of}
+use Rattle.register_laws.specs.Prelude.{Dir, Group, Kind, Mode, Owner, Place, Registers, Vf, behaviour_of, by_sending}
+use Rattle.register_laws.specs.Prelude.{has_bit, has_queue, is_group, is_of_pool, is_owner, is_renewed, is_wanted}
+use Rattle.register_laws.specs.Prelude.{owner_of, reported_by, row_of, word_at}
 
 -- a part of the registers: whole words at places, which sides are asked to be enabled, and the causes, masks and
 -- reported bits of groups

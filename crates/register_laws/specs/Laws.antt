@@ -1,31 +1,18 @@
 -- What the registers promise as a whole, whatever happened before. `view` is the bits that an address shows.
 use Rattle.std.specs.Prelude.{ℕ, ◌+◌, ◌/◌, ◌%◌, ◌^◌, ◌≡◌, ◌≢◌, ◌<◌, ◌⊎◌, false, IsTrue, IsFalse, List, [], ◌∷◌, All, None, bit_and}
-use Rattle.register_file.specs.RegTable.Rows.{row_of}
 use Rattle.register_file.specs.RegTable.declared.bank.Bank.TheVariants as bank
-use Rattle.register_file.specs.RegTable.declared.place.Place.{Place}
 use Rattle.register_file.specs.RegTable.declared.kind.Kind.TheVariants as kind
-use Rattle.register_file.specs.RegTable.declared.rows.RowId.{RowId}
 use Rattle.register_file.specs.RegTable.declared.rows.RowId.TheVariants.{Ctrl, Status, Links, Eec, Eerd, Rxctrl, Dmatxctl, Hlreg0, Maxfrs, Gpie, Srrctl, Rxdctl, Txdctl}
-use Rattle.register_file.specs.IntrUnit.Group.{group_bits}
-use Rattle.register_file.specs.IntrUnit.declared.group.Group.{Group}
-use Rattle.register_file.specs.IntrUnit.Interrupts.{Interrupts, IsConsistent}
-use Rattle.register_file.specs.RegTable.Counter.{bumped}
-use Rattle.register_file.specs.Access.{read_word, after_read, written}
-use Rattle.register_file.specs.Bits.{merged, has_bit}
-use Rattle.register_file.specs.Columns.{place}
 use Rattle.register_file.specs.Counters.{counted, counted_wrapping, mapping_row, counter_of}
 use Rattle.register_file.specs.Eeprom.{eeprom_index, eeprom_asked, eeprom_answered}
 use Rattle.register_file.specs.Groups.{cause_row, mask_row, auto_clear_row, auto_mask_row, index_of, reported_by, interrupts_of, with_interrupts, clears_others, auto_masks, vector_row, vector_entry, causes_raised, queue_raised, message_made}
-use Rattle.register_file.specs.Owner.{owner_of, is_owner}
 use Rattle.register_file.specs.Queue.{ring_of, is_on, base_low_row, base_high_row, length_row, head_row, enable_row, with_head, switched, shut}
-use Rattle.register_file.specs.Registers.{Registers, reset_registers, word_of, with_word, is_wanted}
 use Rattle.register_file.specs.Settings.{is_stopped, can_receive, can_transmit, frame_limit, pads, drops}
-use Rattle.register_file.specs.Words.{word_at}
-use Rattle.register_file.specs.DmaRing.declared.dir.Dir.{Dir}
-use Rattle.register_file.specs.DmaRing.declared.dir.Dir.TheVariants.{Rx, Tx}
-use Rattle.register_file.specs.declared.owner.Owner.{Owner}
 use Rattle.register_file.specs.declared.owner.Owner.TheVariants as owner
 use Rattle.register_file.specs.declared.surroundings.Surroundings.{Surroundings}
+use Rattle.register_laws.specs.Prelude.{Dir, Group, Interrupts, IsConsistent, Owner, Place, Registers, RowId, Rx, Tx}
+use Rattle.register_laws.specs.Prelude.{after_read, bumped, group_bits, has_bit, is_owner, is_wanted, merged, owner_of}
+use Rattle.register_laws.specs.Prelude.{place, read_word, reset_registers, row_of, with_word, word_at, word_of, written}
 use Rattle.register_laws.specs.Footprint.{Footprint, LacksWord, ChangesWithin, Covers, Misses, the_word, the_enable, of_owner, of_side, of_group, pending, pending_of, any_pending, is_own, of_read, of_write}
 use Rattle.register_laws.specs.Sides.{receive_queue_of, transmit_queue_of, with_row, receive_queue_by, transmit_queue_by}
 use Rattle.register_laws.specs.Sound.{AreSound}

@@ -1,17 +1,8 @@
 -- What the reset of a pool promises.
 use Rattle.std.specs.Prelude.{ℕ, ◌≡◌, ◌<◌, ◌==◌, Bool, not, ◌&&◌, ◌||◌, IsTrue, IsFalse}
-use Rattle.register_file.specs.RegTable.Rows.{row_of, number_of}
-use Rattle.register_file.specs.RegTable.declared.rows.RowId.{RowId}
 use Rattle.register_file.specs.RegTable.declared.rows.RowId.TheVariants.{Pfmbmem, Pvfmailbox}
-use Rattle.register_file.specs.RegTable.declared.place.Place.{Place}
-use Rattle.register_file.specs.IntrUnit.declared.group.Group.{Group}
-use Rattle.register_file.specs.VfMap.declared.mode.Mode.{Mode}
-use Rattle.register_file.specs.Bits.{has_bit}
-use Rattle.register_file.specs.Groups.{index_of, reported_by}
-use Rattle.register_file.specs.PoolReset.{pool_reset}
-use Rattle.register_file.specs.Registers.{Registers, is_wanted}
-use Rattle.register_file.specs.Words.{word_at}
-use Rattle.register_file.specs.DmaRing.declared.dir.Dir.{Dir}
+use Rattle.register_laws.specs.Prelude.{Dir, Group, Mode, Place, Registers, RowId, has_bit, index_of, is_wanted}
+use Rattle.register_laws.specs.Prelude.{number_of, pool_reset, reported_by, row_of, word_at}
 use Rattle.register_laws.specs.Footprint.{Footprint, ChangesWithin, Covers, nothing, either, pool_has, pool_renews}
 use Rattle.register_laws.specs.Sound.{HasShape, AreSound}
 

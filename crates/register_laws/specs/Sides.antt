@@ -1,14 +1,10 @@
 -- What the steps of a queue look at.
 use Rattle.std.specs.Prelude.{ℕ, ◌+◌, ◌*◌, ◌/◌, ◌%◌, ◌^◌, ◌==◌, Bool, Option, Some, None, if◌then◌else◌}
-use Rattle.register_file.specs.RegTable.Rows.{number_of}
-use Rattle.register_file.specs.RegTable.declared.rows.RowId.{RowId}
 use Rattle.register_file.specs.RegTable.declared.rows.RowId.TheVariants.{Rdbal, Rdbah, Rdlen, Rdh, Rdt, Srrctl, Rxdctl, Tdbal, Tdbah, Tdlen, Tdh, Tdt, Tdwbal, Tdwbah, Txdctl}
 use Rattle.register_file.specs.DmaRing.declared.ring.Ring.{Ring}
-use Rattle.register_file.specs.Bits.{has_bit}
-use Rattle.register_file.specs.Registers.{Registers, word_of, is_wanted}
-use Rattle.register_file.specs.Queue.{ring_of, is_on}
 use Rattle.register_file.specs.Settings.{writeback_of}
-use Rattle.register_file.specs.DmaRing.declared.dir.Dir.TheVariants.{Rx, Tx}
+use Rattle.register_laws.specs.Prelude.{Registers, RowId, Rx, Tx, has_bit, is_on, is_wanted, number_of, ring_of}
+use Rattle.register_laws.specs.Prelude.{word_of}
 
 -- the receive side of a queue: its ring, its control word SRRCTL, whether it is on, and whether it is wanted on
 pub record ReceiveQueue : Type 0 where

@@ -1,17 +1,8 @@
 -- Registers that a device can have.
 use Rattle.std.specs.Prelude.{ℕ, ◌≡◌, ◌<◌, ◌&&◌, IsFalse, length, bit_or}
-use Rattle.register_file.specs.RegTable.Rows.{row_of, rows}
-use Rattle.register_file.specs.RegTable.declared.kind.Kind.{Kind}
-use Rattle.register_file.specs.RegTable.declared.place.Place.{Place}
-use Rattle.register_file.specs.RegTable.declared.rows.RowId.{RowId}
-use Rattle.register_file.specs.IntrUnit.BitSet.{intersection, IsSubset}
-use Rattle.register_file.specs.IntrUnit.declared.group.Group.{Group}
-use Rattle.register_file.specs.Behaviour.{behaviour_of}
-use Rattle.register_file.specs.Bits.{has_bit}
-use Rattle.register_file.specs.Groups.{cause_row, mask_row, index_of, reported_by}
-use Rattle.register_file.specs.Mailbox.{mail_of}
-use Rattle.register_file.specs.Registers.{Registers, word_of}
-use Rattle.register_file.specs.Words.{row_words, word_at}
+use Rattle.register_laws.specs.Prelude.{Group, IsSubset, Kind, Place, Registers, RowId, behaviour_of, cause_row}
+use Rattle.register_laws.specs.Prelude.{has_bit, index_of, intersection, mail_of, mask_row, reported_by, row_of}
+use Rattle.register_laws.specs.Prelude.{row_words, rows, word_at, word_of}
 
 -- the registers have each place of the table, what is wanted of each queue, and what is reported each virtual function
 pub record HasShape (r : Registers) : Type 0 where

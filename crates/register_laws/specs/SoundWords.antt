@@ -1,15 +1,7 @@
 -- What the words of sound registers are.
 use Rattle.std.specs.Prelude.{ℕ, ◌%◌, ◌^◌, ◌≡◌, ◌<◌, Bool, IsTrue, IsFalse}
-use Rattle.register_file.specs.RegTable.Rows.{row_of}
-use Rattle.register_file.specs.RegTable.declared.kind.Kind.{Kind}
-use Rattle.register_file.specs.RegTable.declared.place.Place.{Place}
-use Rattle.register_file.specs.Access.{asks_reset}
-use Rattle.register_file.specs.Behaviour.{behaviour_of}
-use Rattle.register_file.specs.Queue.{ring_of}
-use Rattle.register_file.specs.Registers.{Registers}
-use Rattle.register_file.specs.Words.{word_at}
-use Rattle.register_file.specs.DmaRing.declared.dir.Dir.{Dir}
 use Rattle.register_file.specs.DmaRing.declared.ring.Ring.{Ring}
+use Rattle.register_laws.specs.Prelude.{Dir, Kind, Place, Registers, asks_reset, behaviour_of, ring_of, row_of, word_at}
 use Rattle.register_laws.specs.Sound.{AreSound}
 
 -- each has 32 bits

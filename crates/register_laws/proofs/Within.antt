@@ -74,3 +74,18 @@ within-shut r dir queue =
     within-wider (of_side dir queue) (the_enable p) r (shut r dir queue)
     (subst (λ o. Covers (of_owner o) (the_enable p)) (enable_owner dir queue) (covers-the_enable p))
     (within-shut_enable r dir queue)
+
+-- what each change is within
+pub ruleset changes_within = (
+  within-after_read,
+  within-written,
+  within-counted,
+  within-counted_wrapping,
+  within-answered,
+  within-causes_raised,
+  within-queue_raised,
+  within-message_made,
+  within-with_head,
+  within-switched,
+  within-shut_enable,
+)

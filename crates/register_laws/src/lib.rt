@@ -78,6 +78,7 @@ pub fn stored_word_reads_back()
 /// What an operation changes is in its footprint: for a read and a write that of its place; for a count, an answer of
 /// the EEPROM and a moved head the one word; for raised causes and a message the causes, masks and reported bits of the
 /// group; for a switch the enable word; for a fault the enable word and whether the side is asked to be enabled.
+#[tactic(auto, using(crate::proofs::Within::changes_within))]
 pub fn changes_stay_in_their_footprint()
     ensures read { ReadStaysWithin }
     // a write changes nothing outside it
@@ -188,6 +189,7 @@ pub fn read_only_counters_go_round()
 
 /// The rows that are calculated are STATUS, LINKS and EEC, and each has its formula over the registers, the link and
 /// the size of the EEPROM image.
+#[tactic(auto, using(crate::proofs::Formulas::calculated_rows))]
 pub fn calculated_rows_have_formulas()
     ensures { CalculatedRowsHaveFormulas }
 {}

@@ -1,4 +1,4 @@
-use Rattle.register_file.proofs.ResetWords.{word_at-reset}
+use Rattle.register_laws.proofs.Prelude.{word_at-reset}
 use Rattle.register_laws.proofs.ReadBack.{off-reset}
 use Rattle.register_laws.proofs.SoundReset.{none_reported}
 use Rattle.register_laws.proofs.reset_is_the_tables.Goals as goal

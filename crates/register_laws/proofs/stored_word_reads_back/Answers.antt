@@ -1,5 +1,5 @@
 use Rattle.std.proofs.Common.{ap, ◌∙◌}
-use Rattle.register_file.specs.Access.{read_word, written}
+use Rattle.register_laws.specs.Prelude.{read_word, written}
 use Rattle.register_laws.proofs.Shape.{put_stands}
 use Rattle.register_laws.proofs.stored_word_reads_back.Goals as goal
 

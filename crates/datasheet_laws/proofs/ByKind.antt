@@ -1,5 +1,5 @@
 -- What accesses do to a register's word, by the kind that is listed for it.
-use Rattle.std.proofs.Common.{◌≡◌, ℕ, zero, suc, ◌+◌, ◌-◌, ◌*◌, ◌/◌, ◌%◌, ◌^◌, ◌<◌, ◌==◌, Bool, true, false, cond, ◌&&◌, Some, None, if◌then◌else◌, refl, ap, sym, ◌∙◌, subst, arith, lit<}
+use Rattle.std.proofs.Common.{◌≡◌, ℕ, ◌+◌, ◌-◌, ◌*◌, ◌/◌, ◌%◌, ◌^◌, ◌<◌, ◌==◌, Bool, true, false, cond, ◌&&◌, Some, None, if◌then◌else◌, refl, ap, sym, ◌∙◌, subst, arith, lit<}
 use Rattle.std.specs.Prelude.{bit_and, min, max}
 use Rattle.std.proofs.lemmas.List.{get_or-set_same}
 use Rattle.std.proofs.lemmas.Nat.{and_le_r}
@@ -78,13 +78,9 @@ module _ (around : Surroundings) (r : Registers) (h : HasShape r) (x : RowId) (i
 
 asked_words : (s : Registers) (o : Owner) (b : Bool) → (asked s o b).words ≡ s.words
 asked_words s owner.Device b = refl
-asked_words s owner.Counters b = refl
 asked_words s (owner.Side Rx queue) b = refl
 asked_words s (owner.Side Tx queue) b = refl
-asked_words s (owner.Group g) b = refl
-asked_words s (owner.Pool number) b = refl
-asked_words s (owner.VfCounters number) b = refl
-asked_words s (owner.Vectors number) b = refl
+asked_words s other b = refl
 
 -- the masks of CTRL and of the enable words
 control_mask : (x : RowId) → (line_of x).kind ≡ kind.Ctrl → (line_of x).mask ≡ 0xFBFFFFF7

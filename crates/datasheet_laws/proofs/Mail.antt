@@ -140,22 +140,7 @@ cleared n word bit =
     ]
 
 three : (b x y z : Bool) → (b && not z && not y && not x) ≡ (b && not (x || y || z))
-three true true true true = refl
-three true true true false = refl
-three true true false true = refl
-three true true false false = refl
-three true false true true = refl
-three true false true false = refl
-three true false false true = refl
-three true false false false = refl
-three false true true true = refl
-three false true true false = refl
-three false true false true = refl
-three false true false false = refl
-three false false true true = refl
-three false false true false = refl
-three false false false true = refl
-three false false false false = refl
+three b x y z = grind arith
 
 pub reported : (mail bit : ℕ) → has_bit bit (reported_once mail)
     ≡ (has_bit bit mail && not (bit == 4 || bit == 5 || bit == 7))

@@ -1,8 +1,9 @@
 -- The hand-shake of the mailboxes, by their addresses.
-use Rattle.std.proofs.Common.{◌≡◌, ◌≢◌, ℕ, zero, suc, ◌+◌, ◌-◌, ◌*◌, ◌/◌, ◌%◌, ◌^◌, ◌<◌, Bool, true, false, cond, ◌==◌, ◌&&◌, ◌||◌, nat_le, ◌⊎◌, refl, ap, sym, ◌∙◌, inl, inr, arith, lit<}
+use Rattle.std.proofs.Common.{◌≡◌, ◌≢◌, ℕ, ◌+◌, ◌-◌, ◌*◌, ◌/◌, ◌%◌, ◌^◌, ◌<◌, Bool, true, false, cond, ◌==◌, ◌&&◌, ◌||◌, nat_le, ◌⊎◌, refl, ap, sym, ◌∙◌, inl, inr, arith, lit<}
 use Rattle.std.specs.Prelude.{not, bit_and, min}
 use Rattle.std.proofs.Math.Nat.{div-one}
 use Rattle.std.proofs.lemmas.Bool.{cond_both, cases_eq, eq-eqb, ne_eqb, eqb-true, agree_below_at}
+use Rattle.std.proofs.lemmas.Bool.Decides.{nat_tests}
 use Rattle.std.proofs.lemmas.Nat.{and_le_r}
 use Rattle.std.proofs.lemmas.Nat.Bits.{bit_at_and, bit_at_not, bit_at-lt}
 use Rattle.intr_unit.specs.BitSet.{contains, only, no_bits}
@@ -25,9 +26,7 @@ use Rattle.datasheet_laws.proofs.Table.{at}
 
 -- a digit that a mask hasn't
 unmasked : (a b : ℕ) → b < 2 → (b == 1) ≡ false → (min a b == 1) ≡ false
-unmasked a zero small off = let none : min a 0 ≡ 0 = omega arith in ap (λ n. n == 1) none
-unmasked a (suc zero) small off = cc
-unmasked a (suc (suc b)) small off = absurd (omega arith)
+unmasked a b small off = grind (arith, nat_tests)
 
 -- a word that is put stands, and another row's words stay
 put_here : (r : Registers) → HasShape r → (x : RowId) (i w : ℕ) → i < (row_of x).count
@@ -168,12 +167,7 @@ shake around r h v w there = record {
 -- ---- a written 1 clears
 
 cleared_digit : (a b : ℕ) → a < 2 → b < 2 → (min a (1 - b) == 1) ≡ ((a == 1) && not (b == 1))
-cleared_digit zero zero p q = refl
-cleared_digit zero (suc zero) p q = refl
-cleared_digit (suc zero) zero p q = refl
-cleared_digit (suc zero) (suc zero) p q = refl
-cleared_digit (suc (suc a)) b p q = absurd (omega arith)
-cleared_digit a (suc (suc b)) p q = absurd (omega arith)
+cleared_digit a b p q = grind (arith, nat_tests)
 
 cleared : (old w bit : ℕ) → bit < 32
     → has_bit bit (bit_and old (0xFFFFFFFF - bit_and w whole)) ≡ (has_bit bit old && not (has_bit bit w))
@@ -283,11 +277,7 @@ module _ (around : Surroundings) (r : Registers) (h : HasShape r) (v w bit : ℕ
 
   -- the cause that a vector names
   valid : (c l e now : Bool) → (e ≡ true → now ≡ l) → cond (c && l) e false ≡ (c && e && now)
-  valid false l e now same = refl
-  valid true true true now same = sym (same refl)
-  valid true false true now same = sym (same refl)
-  valid true true false now same = refl
-  valid true false false now same = refl
+  valid c l e now same = grind arith
 
   chosen : (b : Bool) (f : ℕ) → contains (cond b (only f) no_bits) bit ≡ cond b (bit == f) false
   chosen true f = contains-only f bit low

@@ -1,6 +1,7 @@
 -- Each offset of a virtual function is the one that is listed by hand.
 use Rattle.std.proofs.Common.{◌≡◌, ℕ, zero, suc, ◌+◌, ◌*◌, ◌/◌, ◌%◌, ◌<◌, ◌≤◌, ◌==◌, true, nat_lt, Some, None, if◌then◌else◌, refl, ap, ◌∙◌, arith, lit<}
 use Rattle.std.proofs.lemmas.Bool.{cond-true, lt-ltb, ne_eqb}
+use Rattle.std.proofs.lemmas.Bool.Decides.{nat_tests}
 use Rattle.reg_table.specs.declared.rows.RowId.TheVariants as row
 use Rattle.vf_map.specs.Map.{mapped, mapped_to, at_address, located, function_entries, own_entries, message_entries, distance}
 use Rattle.vf_map.specs.Owner.{is_receive, is_transmit}
@@ -29,26 +30,14 @@ parted (suc (suc (suc zero))) v small h = cond-true (nat_lt v 64) _ _ (lt-ltb v 
 parted (suc (suc (suc (suc n)))) v small h = absurd (omega arith)
 
 few_pools : (n : ℕ) → n < 4 → pools_by n ≤ 64
-few_pools zero small = omega arith
-few_pools (suc zero) small = omega arith
-few_pools (suc (suc zero)) small = omega arith
-few_pools (suc (suc (suc zero))) small = omega arith
-few_pools (suc (suc (suc (suc n)))) small = absurd (omega arith)
+few_pools n small = grind (arith, nat_tests)
 
 -- the pool's queues are queues of the device, and its vectors words of PVTIVAR
 within : (n v x : ℕ) → n < 4 → v < pools_by n → x < queues_by n → v * queues_by n + x < 128
-within zero v x small h l = absurd (omega arith)
-within (suc zero) v x small h l = omega arith
-within (suc (suc zero)) v x small h l = omega arith
-within (suc (suc (suc zero))) v x small h l = omega arith
-within (suc (suc (suc (suc n)))) v x small h l = absurd (omega arith)
+within n v x small h l = grind (arith, nat_tests)
 
 words : (n v x : ℕ) → n < 4 → v < pools_by n → x < queues_by n / 2 → v * queues_by n / 2 + x < 64
-words zero v x small h l = absurd (omega arith)
-words (suc zero) v x small h l = omega arith
-words (suc (suc zero)) v x small h l = omega arith
-words (suc (suc (suc zero))) v x small h l = omega arith
-words (suc (suc (suc (suc n)))) v x small h l = absurd (omega arith)
+words n v x small h l = grind (arith, nat_tests)
 
 module _ (mode : Mode) (vfs v k : ℕ) (there : v < vfs) (inside : v < 64)
     (pool : queues_of mode v ≡ Some (v * k, k)) where

@@ -26,6 +26,7 @@ pub fn registers_are_listed()
 {}
 
 /// No other address has a register: each that has one is listed by hand.
+#[tactic(auto, using(crate::proofs::Addresses::others))]
 pub fn other_addresses_meet_none()
     ensures { OtherAddressesMeetNone }
 {}
@@ -39,6 +40,7 @@ pub fn offsets_are_listed()
 
 /// An offset that isn't listed is a hole. For a function from the number of functions on, and for one whose pool
 /// GCR_EXT bits 1 to 0 don't make, each offset is absent.
+#[tactic(auto, using(crate::proofs::Holes::holes))]
 pub fn other_offsets_are_holes()
     ensures { OtherOffsetsAreHoles }
 {}
@@ -55,6 +57,7 @@ pub fn mailboxes_shake()
 
 /// A write of PVFMAILBOX[v] changes its bit 2 alone, and one of PFMAILBOX[v] bits 5 to 2: every other bit there, and
 /// the mailbox of every other function, reads as before. A read of one leaves the others.
+#[tactic(auto, using(crate::proofs::MailOthers::others_stay))]
 pub fn mailboxes_keep_other_bits()
     ensures { OtherBitsStay }
 {}
@@ -62,12 +65,14 @@ pub fn mailboxes_keep_other_bits()
 /// A write of PVFMAILBOX[v] changes of all registers PVFMAILBOX[v], PFMBICR[v / 16] and EICR alone, one of PFMAILBOX[v]
 /// PVFMAILBOX[v] and PVTEICR[v], and a read of PVFMAILBOX[v] that register. A write of EERD or of PFMBICR[k], or one of
 /// CTRL that asks for no reset, changes no other register.
+#[tactic(auto, using(crate::proofs::Others::mailboxes_leave, crate::proofs::Others::writes_leave))]
 pub fn accesses_leave_other_registers()
     ensures mailboxes { MailboxesLeaveOthers }
     ensures writes { WritesLeaveOthers }
 {}
 
 /// A 1 that is written to 0x00710 + 4k, PFMBICR[k], clears its bit there, and no other.
+#[tactic(auto, using(crate::proofs::Mailbox::ones))]
 pub fn ones_are_cleared()
     ensures { OnesAreCleared }
 {}
@@ -76,12 +81,14 @@ pub fn ones_are_cleared()
 /// at 0x00720 + 4(v / 32), is 1. One of PFMAILBOX[v] raises in PVTEICR[v], at 0x00B00 + 4v, the cause that
 /// PVTIVAR_MISC[v], at 0x04E00 + 4v, names in bits 5 to 0, 2 at most, where its bit 7 is 1. No other cause is raised
 /// there.
+#[tactic(auto, using(crate::proofs::Mailbox::function_raises_all, crate::proofs::Mailbox::physical_raises_all))]
 pub fn mailboxes_raise_causes()
     ensures physical { FunctionsRaise }
     ensures function { PhysicalRaises }
 {}
 
 /// The reset of function v's pool clears bits 2, 4 and 5 of PVFMAILBOX[v], and no other bit there.
+#[tactic(auto, using(crate::proofs::MailReset::left))]
 pub fn pool_resets_leave_mailboxes()
     ensures { PoolResetsLeave }
 {}
@@ -91,6 +98,7 @@ pub fn pool_resets_leave_mailboxes()
 /// and 5 in bits 7 to 0 and 15 to 8 of 0x0A204 + 8i, whose bit 31 marks it as valid. A multicast frame is accepted by
 /// bit 8, by a receive address, or by its bit of MTA, from 0x05200 on, where bit 2 of MCSTCTRL, at 0x05090, is 1; a
 /// broadcast frame by bit 10 or bit 8.
+#[tactic(auto, using(crate::proofs::Filter::frames_let_in))]
 pub fn frames_are_let_in()
     ensures { FramesAreLetIn }
 {}
@@ -106,6 +114,7 @@ pub fn pools_are_chosen()
 /// Codes 1, 0xA and 0xB of MRQC bits 3 to 0 enable hashing, and no other does, ports before addresses: bit 16 for TCP
 /// over IPv4, type 1; bit 22 for UDP over IPv4, type 7; bit 17 for IPv4 by its addresses, type 2; bit 21 for TCP over
 /// IPv6, type 3; bit 23 for UDP over IPv6, type 8; bit 20 for IPv6 by its addresses, type 5; else type 0.
+#[tactic(auto, using(crate::proofs::Choice::types_chosen))]
 pub fn types_are_chosen()
     ensures { TypesAreChosen }
 {}
@@ -115,24 +124,28 @@ pub fn types_are_chosen()
 /// 1 to 0 are 1, 8p with 8, and 8p and three bits of the entry with 0xA and 0xB. The entry of a frame with a type is in
 /// bits 8(n mod 4) + 3 to 8(n mod 4) of 0x05C00 + 4(n/4), n the low seven bits of its hash. The hash is reported where
 /// RXCSUM bit 13, at 0x05000, is 1, else 0.
+#[tactic(auto, using(crate::proofs::Choice::queues_chosen))]
 pub fn queues_are_chosen()
     ensures { QueuesAreChosen }
 {}
 
 /// A write of CTRL asks for a reset of the device with bit 3 or bit 26, one of PVFCTRL for a reset of its pool with bit
 /// 26, and no other write asks for one.
+#[tactic(auto, using(crate::proofs::Choice::resets))]
 pub fn resets_are_asked()
     ensures { ResetsAreAsked }
 {}
 
 /// A plain read/write register, CTRL and the enable words store what is written to the bits of the mask that is listed:
 /// CTRL all but bits 3 and 26, RXDCTL and TXDCTL all but bit 25. No other bit of the word changes.
+#[tactic(auto, using(crate::proofs::ByKind::stored_words))]
 pub fn words_are_stored()
     ensures { WordsAreStored }
 {}
 
 /// A ring's base, length and head are stored by their masks while bit 25 of RXDCTL[q] or TXDCTL[q] reads 0, and a write
 /// changes nothing while it reads 1.
+#[tactic(auto, using(crate::proofs::Rings::held_rings))]
 pub fn rings_are_held()
     ensures { RingsAreHeld }
 {}
@@ -140,6 +153,7 @@ pub fn rings_are_held()
 /// A counter that a read clears reads 0 after it, and no write changes it, nor one VFGPRC, VFGPTC, STATUS, LINKS or
 /// EEC. A read of any other register but EICR, PVTEICR and PVFMAILBOX changes nothing. What sets and clears causes and
 /// masks, and PVFCTRL, reads 0. A write of PVFCTRL that asks for no reset changes nothing.
+#[tactic(auto, using(crate::proofs::ByKind::read_kinds))]
 pub fn kinds_are_read()
     ensures { KindsAreRead }
 {}
@@ -158,6 +172,7 @@ pub fn eeprom_is_read()
 /// Bit 31 - j of a frame's hash is 1 where an odd number of bits k of what is hashed are 1 for which bit k + j of the
 /// key is: bit 7 - k mod 8 of byte k / 8, and bit 8((k / 8) mod 4) + 7 - k mod 8 of RSSRK[k / 32], at 0x0EB80 + 4(k /
 /// 32).
+#[tactic(auto, using(crate::proofs::Hash::of_the_key))]
 pub fn hash_is_of_the_key()
     ensures { HashIsOfTheKey }
 {}

@@ -27,10 +27,7 @@ room-in frame n some = let rest = length-drop 14 frame in grind (arith, nat_test
 
 regrouped : (type version whole room room' : Bool) → (whole ≡ true → room ≡ room')
     → (type && (version && whole && room)) ≡ (type && version && whole && room')
-regrouped false version whole room room' same = refl
-regrouped true false whole room room' same = refl
-regrouped true true false room room' same = refl
-regrouped true true true room room' same = same refl
+regrouped type version whole room room' same = grind arith
 
 ipv4-is : (frame : List ℕ) → (ether_type frame == 0x0800 && four.is_ipv4 (packet_of frame)) ≡ is_ipv4 frame
 unfolding four.is_ipv4

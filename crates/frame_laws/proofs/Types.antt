@@ -50,22 +50,10 @@ number a b c d e f = cond a 1 (cond b 7 (cond c 3 (cond d 8 (cond e 2 (cond f 5 
 first-of-six : (a b c d e f : Bool)
     → unwrap_or (cond a (Some TcpIpv4) (cond b (Some UdpIpv4) (cond c (Some TcpIpv6) (cond d (Some UdpIpv6)
     (cond e (Some Ipv4) (cond f (Some Ipv6) None)))))) NoHash ≡ chosen a b c d e f
-first-of-six true b c d e f = refl
-first-of-six false true c d e f = refl
-first-of-six false false true d e f = refl
-first-of-six false false false true e f = refl
-first-of-six false false false false true f = refl
-first-of-six false false false false false true = refl
-first-of-six false false false false false false = refl
+first-of-six a b c d e f = grind arith
 
 number-is : (a b c d e f : Bool) → code_of (chosen a b c d e f) ≡ number a b c d e f
-number-is true b c d e f = refl
-number-is false true c d e f = refl
-number-is false false true d e f = refl
-number-is false false false true e f = refl
-number-is false false false false true f = refl
-number-is false false false false false true = refl
-number-is false false false false false false = refl
+number-is a b c d e f = grind arith
 
 module _ (mrqc : ℕ) (frame : List ℕ) where
   first-is : first_enabled mrqc (flow_of frame)

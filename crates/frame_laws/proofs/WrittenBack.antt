@@ -4,7 +4,7 @@ use Rattle.nic_device.proofs.DmaArena.Bus.{is_lent-same, SameLent-write_at, IsWh
 use Rattle.nic_device.specs.DmaRing.Receive.{reported_of, written_back, buffer_of}
 use Rattle.nic_device.specs.DmaRing.declared.receive.Packet.{Packet}
 use Rattle.nic_device.proofs.DmaRing.Fields.{halves_come_back, packet_is_reported}
-use Rattle.nic_device.specs.RssHash.declared.choice.RssType.TheVariants.{NoHash, TcpIpv4, Ipv4, TcpIpv6, Ipv6, UdpIpv4, UdpIpv6}
+use Rattle.nic_device.specs.RssHash.declared.choice.RssType.TheVariants.{NoHash}
 use Rattle.nic_device.proofs.RxRing.Fills.{takes_piece, driver_reads, fill_keeps_blocks}
 use Rattle.nic_device.proofs.RegisterLaws.SoundWords.{rings_aligned}
 use Rattle.nic_device.specs.Receive.{packet_of, rest_of, slot_done}
@@ -107,12 +107,7 @@ byte-small s h a k =
 
 code-small : (type : RssType) → code_of type < 16
 code-small NoHash = omega arith
-code-small TcpIpv4 = omega arith
-code-small Ipv4 = omega arith
-code-small TcpIpv6 = omega arith
-code-small Ipv6 = omega arith
-code-small UdpIpv4 = omega arith
-code-small UdpIpv6 = omega arith
+code-small other = omega arith
 
 module _ (s : State) (h : IsSound s) (w : Waiting) (others : List Waiting) (e : s.waiting ≡ w ∷ others) (f : Filled)
     (is : (filled_by s w).answer ≡ Ok f) where

@@ -19,11 +19,7 @@ use Rattle.interrupt_laws.proofs.Reading.{read-word, word_lt}
 -- the cause that a byte names
 
 valid : (c l e now : Bool) → (e ≡ true → now ≡ l) → cond (c && l) e false ≡ (c && e && now)
-valid false l e now same = refl
-valid true true true now same = sym (same refl)
-valid true false true now same = sym (same refl)
-valid true true false now same = refl
-valid true false false now same = refl
+valid c l e now same = grind arith
 
 chosen : (b : Bool) (f bit : ℕ) → bit < 32 → contains (cond b (only f) no_bits) bit ≡ cond b (bit == f) false
 chosen true f bit h = contains-only f bit h

@@ -96,10 +96,7 @@ device_lasts s h g there bit b m e is =
 
 unreported : (mask eiame one has : Bool) → mask ≡ true → (eiame && has) ≡ false
     → (mask && not (eiame && one && has)) ≡ true
-unreported true true true has m none = ap not none
-unreported true true false has m none = refl
-unreported true false one has m none = refl
-unreported false eiame one has m none = m
+unreported mask eiame one has m none = grind arith
 
 reported_mask : (i : Interrupts) (eiame : Bool) (next : Option ℕ) (bit : ℕ) → bit < 32 → contains i.enabled bit ≡ true
     → (eiame && contains i.auto_mask bit) ≡ false → contains (after_message_of i eiame next).enabled bit ≡ true

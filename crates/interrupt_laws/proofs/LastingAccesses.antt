@@ -30,10 +30,7 @@ keeps true gone m none = ap not none
 keeps false gone m none = m
 
 spared : (one acts has : Bool) → (one && (acts && has)) ≡ false → (acts && one && has) ≡ false
-spared true true has e = e
-spared true false has e = refl
-spared false true has e = refl
-spared false false has e = refl
+spared one acts has e = grind arith
 
 -- the mask of a group that an access isn't of
 

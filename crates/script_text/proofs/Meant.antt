@@ -1,7 +1,7 @@
 -- What an instruction of a line is in the program.
 use Rattle.std.proofs.Common.{◌≡◌, refl, sym, ◌∙◌, ap, ℕ, List, length, Option, Some, None, Ok, ◌==◌, eq-eqb, eqb-true}
 use Rattle.program.specs.declared.instruction.Instruction.{Instruction as Step}
-use Rattle.program.specs.declared.instruction.Instruction.TheVariants.{Write, Read, VfWrite, VfRead, Lend, Unlend, Poke, Peek, Arrive, RxStep, TxStep, IntStep, QueueStep, EepromStep, Link, Collect, Expect, And, JumpIfEqual, JumpUnlessEqual, Jump, Halt}
+use Rattle.program.specs.declared.instruction.Instruction.TheVariants.{Poke, Arrive, JumpIfEqual, JumpUnlessEqual, Jump}
 use Rattle.script_text.specs.Prelude.{ok_or, string_at}
 use Rattle.script_text.specs.Fault.{◌then◌}
 use Rattle.script_text.specs.Laws.{Means}
@@ -52,28 +52,12 @@ poked-Ok o line address name i e =
     )
 
 pub resolved-Means : (o : Outline) (line : ℕ) (d : Draft) (i : Step ℕ ℕ) → resolved o line d ≡ Ok i → Meant o d i
-resolved-Means o line (Write address word) i e = cc
-resolved-Means o line (Read address) i e = cc
-resolved-Means o line (VfWrite function offset word) i e = cc
-resolved-Means o line (VfRead function offset) i e = cc
-resolved-Means o line (Lend block) i e = cc
-resolved-Means o line (Unlend block) i e = cc
 resolved-Means o line (Poke address name) i e = poked-Ok o line address name i e
-resolved-Means o line (Peek address word) i e = cc
 resolved-Means o line (Arrive name) i e = data-Ok o line name i Arrive (λ n. refl) e
-resolved-Means o line RxStep i e = cc
-resolved-Means o line (TxStep queue) i e = cc
-resolved-Means o line (IntStep group) i e = cc
-resolved-Means o line (QueueStep direction queue) i e = cc
-resolved-Means o line EepromStep i e = cc
-resolved-Means o line (Link up) i e = cc
-resolved-Means o line Collect i e = cc
-resolved-Means o line (Expect want mask) i e = cc
-resolved-Means o line (And word) i e = cc
 resolved-Means o line (JumpIfEqual word name) i e = label-Ok o line name i (JumpIfEqual word) (λ n. refl) e
 resolved-Means o line (JumpUnlessEqual word name) i e = label-Ok o line name i (JumpUnlessEqual word) (λ n. refl) e
 resolved-Means o line (Jump name) i e = label-Ok o line name i Jump (λ n. refl) e
-resolved-Means o line Halt i e = cc
+resolved-Means o line other i e = cc
 
 Ok-label : (o : Outline) (line : ℕ) (name : List ℕ) (i : Step ℕ ℕ) (f : ℕ → Step ℕ ℕ)
     → ((n : ℕ) → fitting o line (f n) ≡ Ok (f n)) → (pc : ℕ) → i ≡ f pc → place_of o.labels name ≡ Some pc
@@ -99,27 +83,11 @@ Ok-poked o line address name i n is at long =
     ∙ of_16 o line address n long ∙ ap Ok (sym is)
 
 pub Means-resolved : (o : Outline) (line : ℕ) (d : Draft) (i : Step ℕ ℕ) → Meant o d i → resolved o line d ≡ Ok i
-Means-resolved o line (Write address word) i is = ap Ok (sym is)
-Means-resolved o line (Read address) i is = ap Ok (sym is)
-Means-resolved o line (VfWrite function offset word) i is = ap Ok (sym is)
-Means-resolved o line (VfRead function offset) i is = ap Ok (sym is)
-Means-resolved o line (Lend block) i is = ap Ok (sym is)
-Means-resolved o line (Unlend block) i is = ap Ok (sym is)
 Means-resolved o line (Poke address name) i is = Ok-poked o line address name i is.0 is.1 is.2 is.3
-Means-resolved o line (Peek address word) i is = ap Ok (sym is)
 Means-resolved o line (Arrive name) i is = Ok-data o line name i Arrive (λ n. refl) is.0 is.1 is.2
-Means-resolved o line RxStep i is = ap Ok (sym is)
-Means-resolved o line (TxStep queue) i is = ap Ok (sym is)
-Means-resolved o line (IntStep group) i is = ap Ok (sym is)
-Means-resolved o line (QueueStep direction queue) i is = ap Ok (sym is)
-Means-resolved o line EepromStep i is = ap Ok (sym is)
-Means-resolved o line (Link up) i is = ap Ok (sym is)
-Means-resolved o line Collect i is = ap Ok (sym is)
-Means-resolved o line (Expect want mask) i is = ap Ok (sym is)
-Means-resolved o line (And word) i is = ap Ok (sym is)
 Means-resolved o line (JumpIfEqual word name) i is =
     Ok-label o line name i (JumpIfEqual word) (λ n. refl) is.0 is.1 is.2
 Means-resolved o line (JumpUnlessEqual word name) i is =
     Ok-label o line name i (JumpUnlessEqual word) (λ n. refl) is.0 is.1 is.2
 Means-resolved o line (Jump name) i is = Ok-label o line name i Jump (λ n. refl) is.0 is.1 is.2
-Means-resolved o line Halt i is = ap Ok (sym is)
+Means-resolved o line other i is = ap Ok (sym is)

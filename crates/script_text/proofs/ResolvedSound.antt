@@ -1,13 +1,12 @@
 -- What was resolved is sound, and is a program.
-use Rattle.std.proofs.Common.{◌≡◌, ◌<◌, ◌≤◌, refl, sym, ◌∙◌, ap, subst, ℕ, ◌+◌, List, [], ◌∷◌, ◌++◌, length, Result, Ok, Err, IfOk, inl, inr, arith, length-append, zero-add}
-use Rattle.program.specs.declared.instruction.Instruction.TheVariants.{Write, Read, VfWrite, VfRead, Lend, Unlend, Poke, Peek, Arrive, RxStep, TxStep, IntStep, QueueStep, EepromStep, Link, Collect, Expect, And, JumpIfEqual, JumpUnlessEqual, Jump, Halt}
+use Rattle.std.proofs.Common.{◌≡◌, ◌<◌, ◌≤◌, sym, ◌∙◌, ap, subst, ℕ, ◌+◌, List, [], ◌∷◌, ◌++◌, length, Ok, IfOk, inl, inr, arith, length-append, zero-add}
+use Rattle.program.specs.declared.instruction.Instruction.TheVariants.{VfWrite, VfRead, Lend, Unlend, Poke, Peek, Arrive, TxStep, IntStep, QueueStep, JumpIfEqual, JumpUnlessEqual, Jump}
 use Rattle.script_text.specs.Prelude.{AllByRecursion, IsListing, IsSound, string_at}
 use Rattle.script_text.proofs.Prelude.{eqb_tells}
 use Rattle.script_text.specs.Operation.{Draft}
 use Rattle.script_text.specs.Outline.{Outline}
 use Rattle.script_text.specs.Places.{place_of}
 use Rattle.script_text.specs.Resolved.{resolved, with_resolved, label_named, data_named, fitting, IsInRange, IsReady}
-use Rattle.script_text.specs.declared.faults.ScriptFault.{ScriptFault}
 use Rattle.script_text.specs.declared.faults.ScriptFault.TheVariants.{UnknownLabel}
 use Rattle.script_text.specs.declared.sheet.DraftLine.{DraftLine}
 use Rattle.script_text.proofs.Outcomes.{then_then-IfOk, ok_or-IfOk, IfOk-of, stepped}
@@ -35,8 +34,6 @@ poked-sound o line address number = elim (eqb_tells (length (string_at o.strings
 
 -- what an instruction names is there
 resolved-sound : (o : Outline) (line : ℕ) (d : Draft) → IsReady o → IsInRange d → IfOk (resolved o line d) (Sound o)
-resolved-sound o line (Write address word) ready h = tt
-resolved-sound o line (Read address) ready h = tt
 resolved-sound o line (VfWrite function offset word) ready h = h
 resolved-sound o line (VfRead function offset) ready h = h
 resolved-sound o line (Lend block) ready h = h
@@ -48,15 +45,9 @@ resolved-sound o line (Peek address word) ready h = h
 resolved-sound o line (Arrive name) ready h =
     then_then-IfOk (Sound o) (λ number. number < length o.strings) (data_named o line name) Arrive (fitting o line)
     (data_named-IfOk o line name ready) (λ number is. is)
-resolved-sound o line RxStep ready h = tt
 resolved-sound o line (TxStep queue) ready h = h
 resolved-sound o line (IntStep group) ready h = h
 resolved-sound o line (QueueStep direction queue) ready h = h
-resolved-sound o line EepromStep ready h = tt
-resolved-sound o line (Link up) ready h = tt
-resolved-sound o line Collect ready h = tt
-resolved-sound o line (Expect want mask) ready h = tt
-resolved-sound o line (And word) ready h = tt
 resolved-sound o line (JumpIfEqual word name) ready h =
     then_then-IfOk (Sound o) (λ pc. pc ≤ length o.drafts) (label_named o line name) (JumpIfEqual word) (fitting o line)
     (label_named-IfOk o line name ready) (λ pc is. is)
@@ -66,7 +57,7 @@ resolved-sound o line (JumpUnlessEqual word name) ready h =
 resolved-sound o line (Jump name) ready h =
     then_then-IfOk (Sound o) (λ pc. pc ≤ length o.drafts) (label_named o line name) Jump (fitting o line)
     (label_named-IfOk o line name ready) (λ pc is. is)
-resolved-sound o line Halt ready h = tt
+resolved-sound o line other ready h = tt
 
 pub AllByRecursion-push : {X : Type 0} (P : X → Type 0) (xs : List X) (x : X) → AllByRecursion P xs → P x
     → AllByRecursion P (xs ++ x ∷ [])

@@ -2,7 +2,7 @@
 use Rattle.std.proofs.Common.{◌≡◌, refl, sym, ◌∙◌, ℕ, zero, suc, ◌==◌, ◌<◌, Bool, true, false, ◌||◌, List, [], ◌∷◌, length, map, arith, eq-eqb}
 use Rattle.std.specs.Str.Lines.{lines}
 use Rattle.program.specs.declared.instruction.Instruction.{Instruction as Step}
-use Rattle.program.specs.declared.instruction.Instruction.TheVariants.{Write, Read, VfWrite, VfRead, Lend, Unlend, Poke, Peek, Arrive, RxStep, TxStep, IntStep, QueueStep, EepromStep, Link, Collect, Expect, And, JumpIfEqual, JumpUnlessEqual, Jump, Halt}
+use Rattle.program.specs.declared.instruction.Instruction.TheVariants.{Poke, Arrive, JumpIfEqual, JumpUnlessEqual, Jump}
 use Rattle.script_text.specs.Prelude.{AllByRecursion, IsListing, IsSound, Listing, lines_of, string_at}
 use Rattle.script_text.specs.Disassembly.{jumps_to, is_target, code_lines, text_of}
 use Rattle.script_text.specs.Laws.{label_from, data_from, Means, Mean, IsSaid}
@@ -51,29 +51,13 @@ itself m = eq-eqb m m refl
 means : (p : Listing) (i : Step ℕ ℕ) → IsListing p → IsSound p.strings (length p.instructions) i
     → Targets p.instructions i
     → Means (label_from 0 (statements_of p)) (data_from 0 (statements_of p)) p.strings (named i) i
-means p (Write address word) is sound targets = refl
-means p (Read address) is sound targets = refl
-means p (VfWrite function offset word) is sound targets = refl
-means p (VfRead function offset) is sound targets = refl
-means p (Lend block) is sound targets = refl
-means p (Unlend block) is sound targets = refl
 means p (Poke address number) is sound targets =
     (number, refl, data_number p number is (there p.strings number sound), sound)
-means p (Peek address word) is sound targets = refl
 means p (Arrive number) is sound targets = (number, refl, data_number p number is sound)
-means p RxStep is sound targets = refl
-means p (TxStep queue) is sound targets = refl
-means p (IntStep group) is sound targets = refl
-means p (QueueStep direction queue) is sound targets = refl
-means p EepromStep is sound targets = refl
-means p (Link up) is sound targets = refl
-means p Collect is sound targets = refl
-means p (Expect want mask) is sound targets = refl
-means p (And word) is sound targets = refl
 means p (JumpIfEqual word pc) is sound targets = (pc, refl, label_place p pc is sound (targets pc (itself pc)))
 means p (JumpUnlessEqual word pc) is sound targets = (pc, refl, label_place p pc is sound (targets pc (itself pc)))
 means p (Jump pc) is sound targets = (pc, refl, label_place p pc is sound (targets pc (itself pc)))
-means p Halt is sound targets = refl
+means p other is sound targets = refl
 
 mean : (p : Listing) (rest : List (Step ℕ ℕ)) → IsListing p
     → AllByRecursion (IsSound p.strings (length p.instructions)) rest → AllByRecursion (Targets p.instructions) rest

@@ -38,7 +38,8 @@ module _ (r : Registers) (h : HasShape r) (i view word bit : ℕ) where
       ∙ stored_bit (row_of x).mask view (word_at r.words (place x i)) word bit low small has
 
   stays : (x y : RowId) → y ≢ x
-      → has_bit bit (word_at (stored r (place x i) view word).words (place y i)) ≡ has_bit bit (word_at r.words (place y i))
+      → has_bit bit (word_at (stored r (place x i) view word).words (place y i))
+      ≡ has_bit bit (word_at r.words (place y i))
   stays x y apart =
       ap (has_bit bit) (word_at-put_other r.words (place x i) (place y i) _ (λ e. apart (ap (λ (p : Place). p.row) e)))
 

@@ -1,24 +1,19 @@
 -- Single bits of words that were cut by a view, and of words that were merged.
-use Rattle.std.proofs.Common.{◌≡◌, ℕ, zero, suc, ◌-◌, ◌^◌, ◌<◌, Bool, true, false, ◌&&◌, if◌then◌else◌, refl, ap, ◌∙◌, arith, ◌==◌}
+use Rattle.std.proofs.Common.{◌≡◌, ℕ, ◌-◌, ◌^◌, ◌<◌, Bool, true, false, ◌&&◌, if◌then◌else◌, ap, ◌∙◌, arith, ◌==◌}
 use Rattle.std.specs.Prelude.{bit_and, min, max}
 use Rattle.std.specs.Int.{bit_at, w32}
+use Rattle.std.proofs.lemmas.Bool.Decides.{nat_tests}
 use Rattle.std.proofs.lemmas.Nat.Bits.{bit_at_and, bit_at_or, bit_at_not, bit_at_ones, bit_at-lt}
 use Rattle.interrupt_laws.specs.Prelude.{has_bit, merged}
 
 pub and_true : (x : Bool) → (x && true) ≡ x
-and_true true = refl
-and_true false = refl
+and_true x = grind arith
 
 pub and_false : (x : Bool) → (x && false) ≡ false
-and_false true = refl
-and_false false = refl
+and_false x = grind arith
 
 both_one : (x y : ℕ) → x < 2 → y < 2 → (min x y == 1) ≡ ((x == 1) && (y == 1))
-both_one zero y p q = let e : min 0 y ≡ 0 = omega arith in ap (λ n. n == 1) e
-both_one (suc zero) zero p q = refl
-both_one (suc zero) (suc zero) p q = refl
-both_one (suc zero) (suc (suc y)) p q = absurd (omega arith)
-both_one (suc (suc x)) y p q = absurd (omega arith)
+both_one x y p q = grind (arith, nat_tests)
 
 -- a bit of a word that is cut by a view
 pub has_bit-and : (word view bit : ℕ) → has_bit bit (bit_and word view) ≡ (has_bit bit word && has_bit bit view)
@@ -35,11 +30,7 @@ has_bit-whole word bit h =
 
 chosen : (m old new : ℕ) → m < 2 → old < 2 → new < 2
     → (max (min old (1 - m)) (min new m) == 1) ≡ (if m == 1 then new == 1 else old == 1)
-chosen zero old new a b c =
-    let e : max (min old (1 - 0)) (min new 0) ≡ old = omega arith in ap (λ n. n == 1) e
-chosen (suc zero) old new a b c =
-    let e : max (min old (1 - 1)) (min new 1) ≡ new = omega arith in ap (λ n. n == 1) e
-chosen (suc (suc m)) old new a b c = absurd (omega arith)
+chosen m old new a b c = grind (arith, nat_tests)
 
 -- a bit of a merged word is the new one where the mask has it
 pub has_bit-merged : (bit mask old new : ℕ) → bit < 32 → mask < 2 ^ 32

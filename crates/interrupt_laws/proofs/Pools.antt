@@ -1,6 +1,7 @@
 -- Which queues of the device are a virtual function's, by the field of GCR_EXT.
-use Rattle.std.proofs.Common.{◌≡◌, ℕ, zero, suc, ◌+◌, ◌*◌, ◌%◌, ◌<◌, cond, nat_lt, Option, Some, None, refl, ap, sym, ◌∙◌, subst, arith, inl, inr}
+use Rattle.std.proofs.Common.{◌≡◌, ℕ, ◌+◌, ◌*◌, ◌%◌, ◌<◌, cond, nat_lt, Option, Some, None, refl, ap, sym, ◌∙◌, subst, arith, inl, inr}
 use Rattle.std.proofs.lemmas.Bool.{lt-ltb, ltb-true, cases_Bool}
+use Rattle.std.proofs.lemmas.Bool.Decides.{nat_tests}
 use Rattle.nic_device.specs.VfMap.Pools.{queues_each, pool_of}
 use Rattle.nic_device.proofs.VfMap.Numbers.{IsQueue, placed, queue_of_pool}
 use Rattle.nic_device.specs.Interrupt.{function_in, function_of_queue, group_of, group_of_queue}
@@ -10,11 +11,7 @@ use Rattle.interrupt_laws.specs.Steps.{pools_of}
 use Rattle.interrupt_laws.proofs.Settings.{mode_word, mode_by, pools_there}
 
 queues_same : (n : ℕ) → n < 4 → queues_by n ≡ queues_each (mode_by n)
-queues_same zero h = refl
-queues_same (suc zero) h = refl
-queues_same (suc (suc zero)) h = refl
-queues_same (suc (suc (suc zero))) h = refl
-queues_same (suc (suc (suc (suc n)))) h = absurd (omega arith)
+queues_same n h = grind (arith, nat_tests)
 
 pub queues_there : (s : State) → IsSound s → queues_in_pool s ≡ queues_each (mode_in s.registers)
 queues_there s h =

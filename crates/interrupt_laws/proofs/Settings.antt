@@ -1,5 +1,6 @@
 -- What reads of CTRL, GCR_EXT and IVAR_MISC show.
-use Rattle.std.proofs.Common.{◌≡◌, ℕ, zero, suc, ◌<◌, ◌%◌, ◌==◌, if◌then◌else◌, refl, ap, ◌∙◌, arith, lit<}
+use Rattle.std.proofs.Common.{◌≡◌, ℕ, ◌<◌, ◌%◌, ◌==◌, if◌then◌else◌, ap, ◌∙◌, arith, lit<}
+use Rattle.std.proofs.lemmas.Bool.Decides.{nat_tests}
 use Rattle.nic_device.specs.VfMap.declared.mode.Mode.TheVariants.{Off, Pools16, Pools32, Pools64}
 use Rattle.interrupt_laws.specs.Prelude.{Ctrl, GcrExt, IsSound, IvarMisc, Mode, State, is_stopped, mode_in, place}
 use Rattle.interrupt_laws.specs.Prelude.{pools_in, word_of}
@@ -33,11 +34,7 @@ mode_by n =
     if n == 0 then Off else (if n == 1 then Pools16 else (if n == 2 then Pools32 else Pools64))
 
 pools_same : (n : ℕ) → n < 4 → pools_by n ≡ pools_in (mode_by n)
-pools_same zero h = refl
-pools_same (suc zero) h = refl
-pools_same (suc (suc zero)) h = refl
-pools_same (suc (suc (suc zero))) h = refl
-pools_same (suc (suc (suc (suc n)))) h = absurd (omega arith)
+pools_same n h = grind (arith, nat_tests)
 
 pub pools_there : (s : State) → IsSound s → pools_of s ≡ pools_in (mode_in s.registers)
 pools_there s h =

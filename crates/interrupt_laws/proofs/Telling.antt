@@ -2,6 +2,7 @@
 use Rattle.std.proofs.Common.{◌≡◌, ◌≢◌, ℕ, ◌<◌, ◌==◌, Bool, true, false, not, ◌&&◌, cond, Option, Some, None, refl, ap, sym, ◌∙◌, subst, arith, inl, inr}
 use Rattle.std.specs.Prelude.{is_some, IsFalse}
 use Rattle.std.proofs.lemmas.Bool.{cases_lt, false_from_ne_true}
+use Rattle.std.proofs.lemmas.Option.{same_Some}
 use Rattle.nic_device.specs.IntrUnit.Interrupts.{Interrupts, after_message}
 use Rattle.nic_device.specs.IntrUnit.Laws.{IsMessageOf, Leaves, reported_bits}
 use Rattle.nic_device.proofs.IntrUnit.Due.{is_due-by, next_bit-of, unreported, pending, routed}
@@ -73,9 +74,6 @@ none_due s g h small_g none (Some vector) is =
 
 -- the bit that is reported
 
-Some-one : {A : Type 0} {x y : A} → Some x ≡ Some y → x ≡ y
-Some-one e = cc
-
 -- a bit that is due has a vector
 due_vector : (o : Option ℕ) → is_some o ≡ true → (v : ℕ) × (o ≡ Some v)
 due_vector None is = cc
@@ -106,7 +104,7 @@ same_bit : (i : Interrupts) (w vector other bit reported : ℕ) → IsMessageOf 
     IsMessageOf i w other reported
     → bit ≡ reported
 same_bit i w vector other bit reported a b =
-    Some-one (sym (next_bit-of i w vector bit a) ∙ next_bit-of i w other reported b)
+    same_Some _ _ (sym (next_bit-of i w vector bit a) ∙ next_bit-of i w other reported b)
 
 reported_or_kept : (b eiame : Bool) (x : Bit)
     → record x { cause = x.cause && not (b && x.auto_clear); mask = x.mask && not (eiame && b && x.auto_mask) }
@@ -163,7 +161,7 @@ tells s g h is runs bit vector due none =
     let sent = due_reported s h (sym (stops s) ∙ runs) g (has_from s g h is) bit m.within
     (is_due-by i w bit vector m.due) in
     let same = same_bit i w vector sent.vector bit sent.bit m sent.lowest in
-    let one : sent.vector ≡ vector = Some-one (sym sent.lowest.due.routed ∙ ap (vector_of g w) (sym same)
+    let one : sent.vector ≡ vector = same_Some _ _ (sym sent.lowest.due.routed ∙ ap (vector_of g w) (sym same)
     ∙ m.due.routed) in
     let left = subst (λ n. Leaves i (interrupts_of (after s (event.IntStep g)).registers g)
     (reported_bits i (masks_by_message s.registers) n)) (sym same) sent.leaves in

@@ -1,5 +1,5 @@
 -- Which queues a pool has, of those from its first on.
-use Rattle.std.proofs.Common.{◌≡◌, ℕ, zero, suc, ◌+◌, ◌*◌, ◌/◌, ◌<◌, Bool, true, false, ◌==◌, nat_lt, ◌&&◌, ◌||◌, refl, ap, sym, ◌∙◌, arith}
+use Rattle.std.proofs.Common.{◌≡◌, ℕ, zero, suc, ◌+◌, ◌*◌, ◌/◌, ◌<◌, Bool, false, ◌==◌, nat_lt, ◌&&◌, ◌||◌, ap, sym, ◌∙◌, arith}
 use Rattle.std.specs.Prelude.{nat_le}
 use Rattle.register_file.specs.VfMap.Pools.{pools_in, queues_each}
 use Rattle.register_file.proofs.VfMap.Numbers.{has_queue-from, has_words-from}
@@ -36,11 +36,7 @@ words-among mode v i small =
 -- what the footprints of numbers have, where each has it of its own number alone, and only of some kind
 
 both_of : (a b kind : Bool) → ((a && kind) || (b && kind)) ≡ ((a || b) && kind)
-both_of true true true = refl
-both_of true true false = refl
-both_of true false true = refl
-both_of true false false = refl
-both_of false b kind = refl
+both_of a b kind = grind arith
 
 pub any-among : (f : ℕ → Footprint) (has : Footprint → Bool) (i : ℕ) (kind : Bool)
     → has nothing ≡ false → ((g h : Footprint) → has (either g h) ≡ (has g || has h))

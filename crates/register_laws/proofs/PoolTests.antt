@@ -1,5 +1,5 @@
 -- Tests of which some say nothing.
-use Rattle.std.proofs.Common.{◌≡◌, Bool, true, false, ◌&&◌, ◌||◌, refl}
+use Rattle.std.proofs.Common.{◌≡◌, Bool, true, false, ◌&&◌, ◌||◌, refl, arith}
 
 pub and-true : (a : Bool) → (a && true) ≡ a
 and-true true = refl
@@ -14,19 +14,10 @@ both_ways_round true = refl
 both_ways_round false = refl
 
 pub first_alone : (a b : Bool) → ((a && true) || (b && false)) ≡ a
-first_alone true b = refl
-first_alone false true = refl
-first_alone false false = refl
+first_alone a b = grind arith
 
 pub second_alone : (a b : Bool) → ((a && false) || (b && true)) ≡ b
-second_alone true true = refl
-second_alone true false = refl
-second_alone false true = refl
-second_alone false false = refl
+second_alone a b = grind arith
 
 pub own_alone : (c a b : Bool) → (c || ((a && false) || (b && false))) ≡ c
-own_alone true a b = refl
-own_alone false true true = refl
-own_alone false true false = refl
-own_alone false false true = refl
-own_alone false false false = refl
+own_alone c a b = grind arith

@@ -1,5 +1,5 @@
 -- What a reset of rows at an index does.
-use Rattle.std.proofs.Common.{◌≡◌, ℕ, Bool, true, false, ◌==◌, ◌&&◌, ◌||◌, List, [], ◌∷◌, refl, ap, ◌∙◌}
+use Rattle.std.proofs.Common.{◌≡◌, ℕ, Bool, ◌==◌, ◌&&◌, ◌||◌, List, [], ◌∷◌, refl, ap, ◌∙◌, arith}
 use Rattle.register_file.specs.PoolReset.{Renewal, takes, has_renewal, word_reset, rows_reset}
 use Rattle.register_laws.specs.Prelude.{Place, Registers, number_of}
 use Rattle.register_laws.specs.Footprint.{Footprint}
@@ -7,12 +7,7 @@ use Rattle.register_laws.proofs.Renewed.{IsRenewed, any_of, of_renewal, renewed-
 
 distribute : (row at bit rest : Bool)
     → (((row && at) && bit) || (rest && at)) ≡ (((row && bit) || rest) && at)
-distribute true true true rest = refl
-distribute true true false rest = refl
-distribute true false true true = refl
-distribute true false true false = refl
-distribute true false false rest = refl
-distribute false at bit rest = refl
+distribute row at bit rest = grind arith
 
 -- renewals at an index
 abbrev pub at_rows : List Renewal → ℕ → Footprint

@@ -2,14 +2,14 @@
 use Rattle.std.proofs.Common.{◌≡◌, ℕ, ◌+◌, ◌%◌, ◌<◌, true, false, List, [], ◌∷◌, length, map, Some, None, Ok, Err, refl, ap, ◌∙◌, arith}
 use Rattle.std.proofs.lemmas.Bool.{and_from, lt-ltb, le-leb, eq-eqb, cond-true}
 use Rattle.std.specs.List.{AllByRecursion}
-use Rattle.intr_unit.specs.declared.Group.TheVariants.{Pf, Vf}
+use Rattle.intr_unit.specs.declared.Group.TheVariants.{Vf}
 use Rattle.dma_ring.specs.declared.Dir.TheVariants.{Rx, Tx}
 use Rattle.program.specs.declared.fields.Fields.{Fields}
 use Rattle.program.specs.declared.instruction.Instruction.{Instruction}
-use Rattle.program.specs.declared.instruction.Instruction.TheVariants.{Write, Read, VfWrite, VfRead, Lend, Unlend}
-use Rattle.program.specs.declared.instruction.Instruction.TheVariants.{Poke, Peek, Arrive, RxStep, TxStep, IntStep}
-use Rattle.program.specs.declared.instruction.Instruction.TheVariants.{QueueStep, EepromStep, Link, Collect, Expect}
-use Rattle.program.specs.declared.instruction.Instruction.TheVariants.{And, JumpIfEqual, JumpUnlessEqual, Jump, Halt}
+use Rattle.program.specs.declared.instruction.Instruction.TheVariants.{VfWrite, VfRead}
+use Rattle.program.specs.declared.instruction.Instruction.TheVariants.{Poke, Peek, Arrive, IntStep}
+use Rattle.program.specs.declared.instruction.Instruction.TheVariants.{QueueStep, Link}
+use Rattle.program.specs.declared.instruction.Instruction.TheVariants.{JumpIfEqual, JumpUnlessEqual, Jump}
 use Rattle.program.specs.declared.meaning.FieldFault.TheVariants.{Operand, Target}
 use Rattle.program.specs.Encoding.{fields_of, same_fields}
 use Rattle.program.specs.Listing.{IsSound, string_at}
@@ -22,62 +22,32 @@ low v small = omega arith
 
 fields-said : (strings : List (List ℕ)) (count : ℕ) (i : Instruction ℕ ℕ) → IsSound strings count i
     → instruction_in (fields_of i) ≡ Some i
-fields-said strings count (Write address word) sound = refl
-fields-said strings count (Read address) sound = refl
 fields-said strings count (VfWrite function offset word) sound =
     ap (λ v. Some (VfWrite v offset word)) (low function sound)
 fields-said strings count (VfRead function offset) sound = ap (λ v. Some (VfRead v offset)) (low function sound)
-fields-said strings count (Lend block) sound = refl
-fields-said strings count (Unlend block) sound = refl
-fields-said strings count (Poke address number) sound = refl
-fields-said strings count (Peek address word) sound = refl
-fields-said strings count (Arrive number) sound = refl
-fields-said strings count RxStep sound = refl
-fields-said strings count (TxStep queue) sound = refl
-fields-said strings count (IntStep Pf) sound = refl
 fields-said strings count (IntStep (Vf function)) sound = ap (λ v. Some (IntStep (Vf v))) (low function sound)
 fields-said strings count (QueueStep Rx queue) sound = refl
 fields-said strings count (QueueStep Tx queue) sound = refl
-fields-said strings count EepromStep sound = refl
 fields-said strings count (Link false) sound = refl
 fields-said strings count (Link true) sound = refl
-fields-said strings count Collect sound = refl
-fields-said strings count (Expect want mask) sound = refl
-fields-said strings count (And word) sound = refl
-fields-said strings count (JumpIfEqual word target) sound = refl
-fields-said strings count (JumpUnlessEqual word target) sound = refl
-fields-said strings count (Jump target) sound = refl
-fields-said strings count Halt sound = refl
+fields-said strings count other sound = refl
 
 none-faulty : (strings : List (List ℕ)) (count : ℕ) (i : Instruction ℕ ℕ) → IsSound strings count i
     → fault_in strings count i ≡ None
-none-faulty strings count (Write address word) sound = refl
-none-faulty strings count (Read address) sound = refl
 none-faulty strings count (VfWrite function offset word) sound =
     ap (λ fits. unless fits Operand) (lt-ltb function 63 sound)
 none-faulty strings count (VfRead function offset) sound = ap (λ fits. unless fits Operand) (lt-ltb function 63 sound)
-none-faulty strings count (Lend block) sound = refl
-none-faulty strings count (Unlend block) sound = refl
 none-faulty strings count (Poke address number) sound =
     ap (λ fits. unless fits Operand) (eq-eqb (length (string_at strings number)) 16 sound)
 none-faulty strings count (Peek address word) sound = ap (λ fits. unless fits Operand) (lt-ltb word 4 sound)
 none-faulty strings count (Arrive number) sound =
     ap (λ fits. unless fits Operand) (lt-ltb number (length strings) sound)
-none-faulty strings count RxStep sound = refl
-none-faulty strings count (TxStep queue) sound = refl
-none-faulty strings count (IntStep Pf) sound = refl
 none-faulty strings count (IntStep (Vf function)) sound = ap (λ fits. unless fits Operand) (lt-ltb function 63 sound)
-none-faulty strings count (QueueStep direction queue) sound = refl
-none-faulty strings count EepromStep sound = refl
-none-faulty strings count (Link up) sound = refl
-none-faulty strings count Collect sound = refl
-none-faulty strings count (Expect want mask) sound = refl
-none-faulty strings count (And word) sound = refl
 none-faulty strings count (JumpIfEqual word target) sound = ap (λ fits. unless fits Target) (le-leb target count sound)
 none-faulty strings count (JumpUnlessEqual word target) sound =
     ap (λ fits. unless fits Target) (le-leb target count sound)
 none-faulty strings count (Jump target) sound = ap (λ fits. unless fits Target) (le-leb target count sound)
-none-faulty strings count Halt sound = refl
+none-faulty strings count other sound = refl
 
 same_fields-same : (f : Fields) → same_fields f f ≡ true
 same_fields-same f =

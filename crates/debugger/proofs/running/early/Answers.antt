@@ -1,4 +1,4 @@
-use Rattle.std.proofs.Common.{◌≡◌, sym, ap, ◌∙◌, arith, Ok}
+use Rattle.std.proofs.Common.{sym, ap, ◌∙◌, arith, Ok}
 use Rattle.machine.specs.Course.{Course}
 use Rattle.debugger.proofs.Early.{early-is, at-early}
 use Rattle.debugger.proofs.running.early.Goals as goal

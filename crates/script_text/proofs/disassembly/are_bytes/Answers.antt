@@ -1,4 +1,4 @@
-use Rattle.std.proofs.Common.{◌<◌, arith}
+use Rattle.std.proofs.Common.{arith}
 use Rattle.script_text.proofs.Texts.{each_byte}
 use Rattle.script_text.proofs.disassembly.are_bytes.Goals as goal
 

@@ -1,7 +1,7 @@
 -- The halves as both sides of a queue are on: each has lent its ring's blocks, and no other; and what a driver lends
 -- from there on. What it handed out and what it sent once both sides went on, and so in its life; and within a longer
 -- history: what begins a life is one too.
-use Rattle.start_laws.proofs.DeviceLock.Histories.{events_before, events_behind, legal_before}
+use Rattle.start_laws.proofs.Histories.{events_before, events_behind, legal_before}
 use Rattle.start_laws.proofs.HistoryLaws.Alone.{beginning_alone, histories_sound, rest_alone}
 use Rattle.start_laws.proofs.InOrder.{Led, counted_where_up, handed_is_prefix, none_is_all, none_is_all_taken}
 use Rattle.start_laws.proofs.On.{on, on_some, other_lent, ring_lent, switched_sides_agree, switched_sides_go_on}
@@ -13,7 +13,8 @@ use Rattle.start_laws.specs.NicDevice.DmaArena.Numbers.{with_free}
 use Rattle.start_laws.proofs.PmdDriver.{PmdAccess.Rings.each_ring_block, PmdAccess.Rings.ring_block_is}
 use Rattle.start_laws.proofs.PmdDriver.{PmdAccess.Rings.ring_block_out}
 use Rattle.start_laws.specs.PmdDriver.PmdRx.Receive.{at_start}
-use Rattle.start_laws.{proofs.PmdDriver.Whole.all_drawn, specs.PmdDriver.Apart.MayLend, specs.PmdDriver.PmdRx.PmdAccess.Frames.most_blocks}
+use Rattle.start_laws.proofs.PmdDriver.Whole.{all_drawn}
+use Rattle.start_laws.specs.{PmdDriver.Apart.MayLend, PmdDriver.PmdAccess.Frames.most_blocks}
 use Rattle.driver_laws.proofs.Prelude.{AllOwn, AreOn, AtPort, BeforeLast, Blocks, BothAgree, Call, Course, Dir, Doer}
 use Rattle.driver_laws.proofs.Prelude.{DrivesApart, Entry, FindsNone, Halves, HasGround, IsAlong, IsDrawn, IsLife}
 use Rattle.driver_laws.proofs.Prelude.{IsPrefixOf, IsReceiveReady, IsSettled, IsTransmitReady, IsTrue, Leads, Life}

@@ -1,5 +1,5 @@
 -- The names that the proofs here cite most, passed on from one place. Declares nothing.
-pub use Rattle.start_laws.proofs.DeviceLock.Histories.{events-append, leads-append, legal-append, legal_behind}
+pub use Rattle.start_laws.proofs.Histories.{events-append, leads-append, legal-append, legal_behind}
 pub use Rattle.start_laws.specs.DeviceLock.Alone.{has_begun, lent_in}
 pub use Rattle.driver_laws.specs.Places.{Balances, EachInOnePlace, IsReportedAlone, LentIsOut, OutIsLent, is_out}
 pub use Rattle.driver_laws.specs.Places.{memory_after}

@@ -3,7 +3,8 @@
 -- on there. So it is of what a driver left that lived, and was stopped.
 use Rattle.start_laws.proofs.Reached.{LeadsOver, all_lead, free_left, reached, reached_next}
 use Rattle.start_laws.proofs.RingLaws.DeviceLaws.{KeptSettings.settings_stand, Standing.stays_within}
-use Rattle.start_laws.proofs.RingLaws.{Foreign.no_registers, HistoryLaws.Steady.deed_settles, InOrder.first_sent}
+use Rattle.start_laws.proofs.{RingLaws.Foreign.no_registers, HistoryLaws.Steady.deed_settles}
+use Rattle.start_laws.proofs.{RingLaws.InOrder.first_sent}
 use Rattle.start_laws.proofs.SwitchedOff.{ending_does, quiet_queue_is_silent, switching_off_leads}
 use Rattle.start_laws.proofs.{Ground.ground_names, InOrder.Runs, InOrder.driven_runs, InOrder.goes as entry_goes}
 use Rattle.start_laws.proofs.{InOrder.runs_on, Meeting.Meets, Meeting.driven_meets, Meeting.enable_words_keep}
@@ -24,7 +25,7 @@ use Rattle.driver_laws.proofs.Prelude.{sent_is_counted, sent_since, since-append
 use Rattle.driver_laws.proofs.Prelude.{◌∙◌, ◌∷◌, ◌≡◌, ◌≢◌}
 use Rattle.driver_laws.proofs.StopCalls.{first_made, off_asks, stopped_ends}
 use Rattle.driver_laws.proofs.{Order.some_on, Order.there_is, Order.whole, Prelude.AreLent, Prelude.Asks}
-use Rattle.start_laws.proofs.RingLaws.HistoryLaws.Steady as steady
+use Rattle.start_laws.proofs.HistoryLaws.Steady as steady
 use Rattle.start_laws.specs.RingLaws.Delivered as receive
 use Rattle.start_laws.specs.NicDevice.declared.event.Event.TheVariants as event
 

@@ -1,7 +1,7 @@
 -- Which blocks of an arena are its driver's over a history, so that others may have the rest in hand, and lend them.
 use Rattle.std.specs.Prelude.{◌&&◌, ◌++◌, ◌∷◌, ◌≡◌, ◌≢◌, IsTrue, List, ℕ}
 use Rattle.start_laws.specs.{Before.is_asked, Prelude.Blocks, Prelude.Entry, Prelude.Numbers, Prelude.Watched}
-use Rattle.start_laws.specs.{Prelude.calls_of, Prelude.is_own, RingLaws.HistoryLaws.Lent.LendsNone}
+use Rattle.start_laws.specs.{HistoryLaws.Lent.LendsNone, Prelude.calls_of, Prelude.is_own}
 use Rattle.start_laws.specs.DeviceLock.Alone.{has_begun}
 
 -- those that the driver's pass asks to lend, whatever the reply

@@ -1,14 +1,14 @@
 -- A burst that is sent once room was made for it.
 use Rattle.std.proofs.Common.{◌≡◌, ◌⊎◌, inl, inr, ℕ, ◌<◌, ◌≤◌, List, [], ◌++◌, Option, Some, None, Result, Ok, Err, refl, sym, ap, subst, ◌∙◌, map, append-nil, arith}
-use Rattle.pmd_rx.specs.NicDevice.DmaArena.Numbers.{is_own}
-use Rattle.pmd_rx.specs.DeviceLock.Alone.{Blocks}
-use Rattle.pmd_rx.specs.DeviceLock.declared.entry.Call.{Call}
-use Rattle.pmd_rx.specs.PmdAccess.Packet.{Kept}
-use Rattle.pmd_rx.specs.PmdAccess.declared.fault.PmdFault.{PmdFault}
-use Rattle.pmd_rx.specs.PmdAccess.declared.fault.PmdFault.TheVariants as fault
-use Rattle.pmd_rx.specs.PmdAccess.declared.packet.Packet.{Packet}
+use Rattle.device_lock.specs.NicDevice.DmaArena.Numbers.{is_own}
+use Rattle.device_lock.specs.Alone.{Blocks}
+use Rattle.device_lock.specs.declared.entry.Call.{Call}
+use Rattle.pmd_access.specs.Packet.{Kept}
+use Rattle.pmd_access.specs.declared.fault.PmdFault.{PmdFault}
+use Rattle.pmd_access.specs.declared.fault.PmdFault.TheVariants as fault
+use Rattle.pmd_access.specs.declared.packet.Packet.{Packet}
 use Rattle.pmd_rx.specs.Keeping.{numbers_of_all}
-use Rattle.pmd_rx.specs.PmdAccess.Asks.{fault_in}
+use Rattle.pmd_access.specs.Asks.{fault_in}
 use Rattle.pmd_tx.specs.Sending.{Layout}
 use Rattle.pmd_tx.specs.Sends.{IsLate, accepted_of}
 use Rattle.pmd_tx.specs.declared.answer.Reaped.{Reaped}

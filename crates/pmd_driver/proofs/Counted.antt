@@ -2,14 +2,14 @@
 use Rattle.std.proofs.Common.{◌≡◌, ℕ, ◌&&◌, not, true, List, [], ◌++◌, Option, Some, None, Result, Ok, Err, OnOk, refl, ap, subst, sym, arith}
 use Rattle.std.specs.List.{list_any}
 use Rattle.std.proofs.lemmas.Bool.Decides.{nat_tests}
-use Rattle.pmd_rx.specs.NicDevice.DmaArena.Numbers.{Numbers}
-use Rattle.pmd_rx.specs.NicDevice.DmaArena.Whereabouts.{times_in_hand}
-use Rattle.pmd_rx.specs.PmdAccess.Bufs.{numbers_of, with_all_free}
-use Rattle.pmd_rx.specs.PmdAccess.Fresh.{IsFresh}
-use Rattle.pmd_rx.specs.PmdAccess.Home.{AreOut}
-use Rattle.pmd_rx.specs.PmdAccess.declared.packet.Packet.{Packet}
-use Rattle.pmd_rx.proofs.PmdAccess.Outside.{times-append}
-use Rattle.pmd_rx.proofs.PmdAccess.Outside.{all_drawn as drawn_out}
+use Rattle.device_lock.specs.NicDevice.DmaArena.Numbers.{Numbers}
+use Rattle.device_lock.specs.NicDevice.DmaArena.Whereabouts.{times_in_hand}
+use Rattle.pmd_access.specs.Bufs.{numbers_of, with_all_free}
+use Rattle.pmd_access.specs.Fresh.{IsFresh}
+use Rattle.pmd_access.specs.Home.{AreOut}
+use Rattle.pmd_access.specs.declared.packet.Packet.{Packet}
+use Rattle.pmd_access.proofs.Outside.{times-append}
+use Rattle.pmd_access.proofs.Outside.{all_drawn as drawn_out}
 use Rattle.pmd_rx.specs.Keeping.{Keeps, blocks_held, blocks_out, lent_of, numbers_in}
 use Rattle.pmd_tx.specs.Leaving as transmit
 use Rattle.pmd_tx.specs.Sending.{Sender}

@@ -1,9 +1,9 @@
 -- A driver as a whole, from what its rings are.
 use Rattle.std.proofs.Common.{◌≡◌, Option, Some, None, Result, Ok, Err, IfOk, IfErr, IfSome, sym, subst}
 use Rattle.pmd_driver.specs.Halted.{Halted}
-use Rattle.pmd_rx.specs.PmdAccess.Named.{AtPort}
-use Rattle.pmd_rx.specs.PmdAccess.declared.fault.PmdFault.{PmdFault}
-use Rattle.pmd_rx.specs.PmdAccess.Asks.{fault_in}
+use Rattle.pmd_access.specs.Named.{AtPort}
+use Rattle.pmd_access.specs.declared.fault.PmdFault.{PmdFault}
+use Rattle.pmd_access.specs.Asks.{fault_in}
 use Rattle.pmd_driver.specs.Driver.{Driver, IsDown, halted_of}
 use Rattle.pmd_driver.specs.Running.{Running}
 use Rattle.pmd_driver.specs.declared.driver.Rings.{Rings}

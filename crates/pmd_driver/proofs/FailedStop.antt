@@ -1,14 +1,14 @@
 -- Where the blocks of a driver are whose stop failed.
 use Rattle.std.proofs.Common.{◌≡◌, ℕ, zero, suc, inl, inr, cond, List, [], ◌++◌, refl, sym, ap, subst, ◌∙◌, arith}
 use Rattle.std.proofs.lemmas.List.{append-nil}
-use Rattle.pmd_rx.specs.NicDevice.DmaArena.Numbers.{Numbers, is_free}
-use Rattle.pmd_rx.specs.NicDevice.DmaArena.Whereabouts.{times_in_hand}
-use Rattle.pmd_rx.specs.DeviceLock.declared.entry.Call.{Call}
-use Rattle.pmd_rx.specs.PmdAccess.Bufs.{with_all_free}
-use Rattle.pmd_rx.specs.PmdAccess.Home.{AreOut, Bringing, BringsOne, Brings}
-use Rattle.pmd_rx.specs.PmdAccess.declared.fault.PmdFault.{PmdFault}
-use Rattle.pmd_rx.proofs.PmdAccess.Outside.{times-append, out_fewer, out_first}
-use Rattle.pmd_rx.specs.PmdAccess.Named.{AtPort}
+use Rattle.device_lock.specs.NicDevice.DmaArena.Numbers.{Numbers, is_free}
+use Rattle.device_lock.specs.NicDevice.DmaArena.Whereabouts.{times_in_hand}
+use Rattle.device_lock.specs.declared.entry.Call.{Call}
+use Rattle.pmd_access.specs.Bufs.{with_all_free}
+use Rattle.pmd_access.specs.Home.{AreOut, Bringing, BringsOne, Brings}
+use Rattle.pmd_access.specs.declared.fault.PmdFault.{PmdFault}
+use Rattle.pmd_access.proofs.Outside.{times-append, out_fewer, out_first}
+use Rattle.pmd_access.specs.Named.{AtPort}
 use Rattle.pmd_driver.specs.Halted.{Halted, all_out}
 use Rattle.pmd_driver.specs.Stopping.{StopFails, IsInPart, IsLeft, IsLeftAmid, bringing, closed}
 use Rattle.pmd_driver.proofs.Bringing.{brings_out, brings_own, brings_few}

@@ -2,10 +2,10 @@
 use Rattle.std.proofs.Common.{ℕ, ◌+◌, ◌-◌, ◌≤◌, Bool, true, false, cond, List, [], ◌∷◌, length, arith}
 use Rattle.std.proofs.lemmas.List.{length-set}
 use Rattle.std.proofs.lemmas.List.Sums.{sum_by-cons}
-use Rattle.pmd_rx.specs.NicDevice.DmaArena.Numbers.{Numbers, free_count, with_free}
-use Rattle.pmd_rx.proofs.NicDevice.DmaArena.Arenas.{free_count_given}
-use Rattle.pmd_rx.specs.PmdAccess.Home.{AreOut}
-use Rattle.pmd_rx.proofs.PmdAccess.Outside.{out_first, out_given}
+use Rattle.device_lock.specs.NicDevice.DmaArena.Numbers.{Numbers, free_count, with_free}
+use Rattle.device_lock.proofs.NicDevice.DmaArena.Arenas.{free_count_given}
+use Rattle.pmd_access.specs.Home.{AreOut}
+use Rattle.pmd_access.proofs.Outside.{out_first, out_given}
 
 few_free : (first : ℕ) (free : List Bool) → free_count (record { first = first; free = free }) ≤ length free
 few_free first [] = omega arith

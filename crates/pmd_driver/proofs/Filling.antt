@@ -1,13 +1,13 @@
 -- Packets that are made of bytes.
 use Rattle.std.proofs.Common.{◌≡◌, ℕ, ◌+◌, ◌-◌, ◌*◌, List, [], ◌∷◌, ◌++◌, map, replicate, length, drop, Some, refl, sym, ap, ◌∙◌, subst, arith}
 use Rattle.std.proofs.lemmas.List.{drop-replicate, length-map, replicate-append-replicate}
-use Rattle.pmd_rx.specs.NicDevice.DmaArena.Block.{Block, zero_block}
-use Rattle.pmd_rx.specs.NicDevice.DmaArena.Memory.{put_bytes}
-use Rattle.pmd_rx.specs.NicDevice.DmaArena.Numbers.{Numbers}
-use Rattle.pmd_rx.specs.PmdAccess.Bufs.{bytes_of, numbers_of}
-use Rattle.pmd_rx.specs.PmdAccess.Fresh.{IsFresh}
-use Rattle.pmd_rx.specs.PmdAccess.Home.{IsDrawn}
-use Rattle.pmd_rx.specs.PmdAccess.declared.packet.Packet.{Packet}
+use Rattle.device_lock.specs.NicDevice.DmaArena.Block.{Block, zero_block}
+use Rattle.device_lock.specs.NicDevice.DmaArena.Memory.{put_bytes}
+use Rattle.device_lock.specs.NicDevice.DmaArena.Numbers.{Numbers}
+use Rattle.pmd_access.specs.Bufs.{bytes_of, numbers_of}
+use Rattle.pmd_access.specs.Fresh.{IsFresh}
+use Rattle.pmd_access.specs.Home.{IsDrawn}
+use Rattle.pmd_access.specs.declared.packet.Packet.{Packet}
 use Rattle.pmd_driver.specs.Blocks.{KeepsBlocks}
 use Rattle.pmd_driver.specs.Driver.{arena_of, with_arena}
 use Rattle.pmd_driver.specs.Filled.{IsFilled}

@@ -1,16 +1,16 @@
 -- A call of a half whose reply isn't that of a healthy queue.
 use Rattle.std.proofs.Common.{◌≡◌, ℕ, true, false, List, [], ◌∷◌, ◌++◌, length, length-append, refl, sym, ap, ◌∙◌, subst, arith}
 use Rattle.std.specs.Prelude.{IsTrue}
-use Rattle.pmd_rx.specs.NicDevice.DmaArena.Block.{Block}
-use Rattle.pmd_rx.specs.NicDevice.DmaArena.Numbers.{Numbers, is_free}
-use Rattle.pmd_rx.specs.NicDevice.declared.event.Event.{Event}
-use Rattle.pmd_rx.specs.NicDevice.declared.event.Reply.{Reply}
-use Rattle.pmd_rx.specs.DeviceLock.Alone.{Blocks}
-use Rattle.pmd_rx.specs.DeviceLock.Pass.{call_of}
-use Rattle.pmd_rx.specs.DeviceLock.declared.entry.Call.{Call}
-use Rattle.pmd_rx.specs.PmdAccess.Events.{is_step}
-use Rattle.pmd_rx.specs.PmdAccess.declared.fault.PmdFault.{PmdFault}
-use Rattle.pmd_rx.specs.PmdAccess.declared.fault.PmdFault.TheVariants.{DeviceFault}
+use Rattle.device_lock.specs.NicDevice.DmaArena.Block.{Block}
+use Rattle.device_lock.specs.NicDevice.DmaArena.Numbers.{Numbers, is_free}
+use Rattle.device_lock.specs.NicDevice.declared.event.Event.{Event}
+use Rattle.device_lock.specs.NicDevice.declared.event.Reply.{Reply}
+use Rattle.device_lock.specs.Alone.{Blocks}
+use Rattle.device_lock.specs.Pass.{call_of}
+use Rattle.device_lock.specs.declared.entry.Call.{Call}
+use Rattle.pmd_access.specs.Events.{is_step}
+use Rattle.pmd_access.specs.declared.fault.PmdFault.{PmdFault}
+use Rattle.pmd_access.specs.declared.fault.PmdFault.TheVariants.{DeviceFault}
 use Rattle.pmd_rx.specs.Receive.{Receive}
 use Rattle.pmd_rx.specs.Wrong.{EndsWrong, FailsBy}
 use Rattle.pmd_tx.specs.Plays.{Faults, FaultsBy, is_elsewhere}

@@ -1,14 +1,14 @@
 -- The first packet of a burst: it was accepted, or it is back at the front.
 use Rattle.std.proofs.Common.{◌≡◌, ◌⊎◌, inl, inr, ℕ, ◌+◌, ◌≤◌, true, false, List, [], ◌∷◌, ◌++◌, length, length-append, Option, Some, None, Result, Ok, Err, IfErr, IfSome, IfNone, refl, sym, ap, subst, arith}
 use Rattle.std.specs.Prelude.{⊤}
-use Rattle.pmd_rx.specs.NicDevice.DmaArena.Numbers.{Numbers, is_own}
-use Rattle.pmd_rx.specs.DeviceLock.declared.entry.Call.{Call}
-use Rattle.pmd_rx.specs.PmdAccess.Bufs.{numbers_of}
-use Rattle.pmd_rx.specs.PmdAccess.declared.fault.PmdFault.{PmdFault}
-use Rattle.pmd_rx.specs.PmdAccess.declared.fault.PmdFault.TheVariants as fault
-use Rattle.pmd_rx.specs.PmdAccess.declared.packet.Packet.{Packet}
+use Rattle.device_lock.specs.NicDevice.DmaArena.Numbers.{Numbers, is_own}
+use Rattle.device_lock.specs.declared.entry.Call.{Call}
+use Rattle.pmd_access.specs.Bufs.{numbers_of}
+use Rattle.pmd_access.specs.declared.fault.PmdFault.{PmdFault}
+use Rattle.pmd_access.specs.declared.fault.PmdFault.TheVariants as fault
+use Rattle.pmd_access.specs.declared.packet.Packet.{Packet}
 use Rattle.pmd_rx.specs.Keeping.{numbers_in, numbers_of_all}
-use Rattle.pmd_rx.proofs.PmdAccess.Outside.{times-append}
+use Rattle.pmd_access.proofs.Outside.{times-append}
 use Rattle.pmd_tx.specs.Acts.{failed_in}
 use Rattle.pmd_tx.specs.Sending.{Layout, Segment}
 use Rattle.pmd_tx.specs.Sends.{IsBack, IsFullWhereReported, IsLate, returned}

@@ -1,20 +1,20 @@
 -- Where the blocks of a driver are that isn't running.
 use Rattle.std.proofs.Common.{◌≡◌, ℕ, ◌+◌, ◌<◌, ◌||◌, nat_lt, Bool, true, false, cond, List, [], ◌++◌, length, length-append, sym, ap, ◌∙◌, subst, arith}
 use Rattle.std.proofs.lemmas.Bool.Decides.{nat_tests}
-use Rattle.pmd_rx.specs.NicDevice.DmaArena.Numbers.{Numbers, is_own, is_free}
-use Rattle.pmd_rx.specs.NicDevice.DmaArena.Whereabouts.{times_in_hand}
-use Rattle.pmd_rx.specs.PmdAccess.Bufs.{with_all_free}
-use Rattle.pmd_rx.specs.PmdAccess.Home.{AreOut}
-use Rattle.pmd_rx.specs.PmdAccess.Packet.{Kept}
-use Rattle.pmd_rx.proofs.PmdAccess.Outside.{times-append, out_fewer}
+use Rattle.device_lock.specs.NicDevice.DmaArena.Numbers.{Numbers, is_own, is_free}
+use Rattle.device_lock.specs.NicDevice.DmaArena.Whereabouts.{times_in_hand}
+use Rattle.pmd_access.specs.Bufs.{with_all_free}
+use Rattle.pmd_access.specs.Home.{AreOut}
+use Rattle.pmd_access.specs.Packet.{Kept}
+use Rattle.pmd_access.proofs.Outside.{times-append, out_fewer}
 use Rattle.pmd_rx.specs.Keeping as receive
 use Rattle.pmd_rx.specs.Receive.{Receive}
 use Rattle.pmd_tx.specs.Leaving as transmit
 use Rattle.pmd_tx.specs.Sending.{Sender}
 use Rattle.pmd_driver.specs.Halted.{Halted, IsHalted, all_out, is_free_or_out, way_of}
 use Rattle.pmd_driver.specs.Running.{kept_out}
-use Rattle.pmd_rx.specs.DeviceLock.declared.entry.Call.{Call}
-use Rattle.pmd_rx.specs.PmdAccess.Named.{AtPort}
+use Rattle.device_lock.specs.declared.entry.Call.{Call}
+use Rattle.pmd_access.specs.Named.{AtPort}
 use Rattle.pmd_driver.specs.Stopping.{closed, bringing, brought, GoesHome, IsInPart}
 use Rattle.pmd_driver.specs.declared.home.Home.{Home}
 use Rattle.pmd_driver.proofs.Bringing.{all_free_again, all_own}

@@ -1,12 +1,12 @@
 -- A packet that is handed out can go home.
 use Rattle.std.proofs.Common.{◌≡◌, ℕ, nat_lt, true, false, List, ◌++◌, Option, Some, None, Result, Ok, Err, IfOk, IfSome, refl, sym, subst, arith}
 use Rattle.std.specs.List.{list_any}
-use Rattle.pmd_rx.specs.NicDevice.DmaArena.Whereabouts.{times_in_hand}
-use Rattle.pmd_rx.specs.PmdAccess.Bufs.{numbers_of}
-use Rattle.pmd_rx.specs.PmdAccess.Home.{AreOut}
-use Rattle.pmd_rx.specs.PmdAccess.declared.fault.PmdFault.{PmdFault}
-use Rattle.pmd_rx.specs.PmdAccess.declared.packet.Packet.{Packet}
-use Rattle.pmd_rx.proofs.PmdAccess.Outside.{times-append, out_fewer, out_exchanged}
+use Rattle.device_lock.specs.NicDevice.DmaArena.Whereabouts.{times_in_hand}
+use Rattle.pmd_access.specs.Bufs.{numbers_of}
+use Rattle.pmd_access.specs.Home.{AreOut}
+use Rattle.pmd_access.specs.declared.fault.PmdFault.{PmdFault}
+use Rattle.pmd_access.specs.declared.packet.Packet.{Packet}
+use Rattle.pmd_access.proofs.Outside.{times-append, out_fewer, out_exchanged}
 use Rattle.pmd_rx.specs.Keeping.{Keeps, blocks_out, handed_blocks}
 use Rattle.pmd_tx.specs.Sending.{Sender, keeps}
 use Rattle.pmd_tx.specs.Sends.{are_out}

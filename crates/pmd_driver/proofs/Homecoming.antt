@@ -1,11 +1,11 @@
 -- The arena that comes home from a driver that had all blocks of another.
 use Rattle.std.proofs.Common.{◌≡◌, ℕ, ◌+◌, ◌||◌, nat_lt, Bool, true, false, cond, List, [], refl, ◌∙◌, arith}
 use Rattle.std.proofs.lemmas.Bool.Decides.{nat_tests}
-use Rattle.pmd_rx.specs.NicDevice.DmaArena.Numbers.{Numbers, is_own, is_free}
-use Rattle.pmd_rx.specs.NicDevice.DmaArena.Whereabouts.{times_in_hand}
-use Rattle.pmd_rx.specs.DeviceLock.declared.entry.Call.{Call}
-use Rattle.pmd_rx.proofs.PmdAccess.Outside.{times-append}
-use Rattle.pmd_rx.specs.PmdAccess.Named.{AtPort}
+use Rattle.device_lock.specs.NicDevice.DmaArena.Numbers.{Numbers, is_own, is_free}
+use Rattle.device_lock.specs.NicDevice.DmaArena.Whereabouts.{times_in_hand}
+use Rattle.device_lock.specs.declared.entry.Call.{Call}
+use Rattle.pmd_access.proofs.Outside.{times-append}
+use Rattle.pmd_access.specs.Named.{AtPort}
 use Rattle.pmd_driver.specs.Halted.{Halted, all_out, is_free_or_out}
 use Rattle.pmd_driver.specs.Stopping.{Stops, bringing, brought, closed}
 use Rattle.pmd_driver.specs.declared.home.Home.{Home}

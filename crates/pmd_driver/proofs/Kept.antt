@@ -4,13 +4,13 @@ use Rattle.std.specs.List.{list_any}
 use Rattle.std.proofs.lemmas.Bool.{or_from}
 use Rattle.std.proofs.lemmas.Bool.Decides.{nat_tests}
 use Rattle.std.proofs.lemmas.List.{map-append, take-append-drop}
-use Rattle.pmd_rx.specs.NicDevice.DmaArena.Whereabouts.{times_in_hand}
-use Rattle.pmd_rx.specs.PmdAccess.Bufs.{numbers_of}
-use Rattle.pmd_rx.specs.PmdAccess.Home.{AreOut}
-use Rattle.pmd_rx.specs.PmdAccess.Slots.{is_ring_block, ring_blocks}
-use Rattle.pmd_rx.specs.PmdAccess.declared.packet.Packet.{Packet}
-use Rattle.pmd_rx.proofs.PmdAccess.Outside.{times-append}
-use Rattle.pmd_rx.proofs.PmdAccess.Rings.{ring_block_among, times_among}
+use Rattle.device_lock.specs.NicDevice.DmaArena.Whereabouts.{times_in_hand}
+use Rattle.pmd_access.specs.Bufs.{numbers_of}
+use Rattle.pmd_access.specs.Home.{AreOut}
+use Rattle.pmd_access.specs.Slots.{is_ring_block, ring_blocks}
+use Rattle.pmd_access.specs.declared.packet.Packet.{Packet}
+use Rattle.pmd_access.proofs.Outside.{times-append}
+use Rattle.pmd_access.proofs.Rings.{ring_block_among, times_among}
 use Rattle.pmd_rx.specs.Keeping.{blocks_out}
 use Rattle.pmd_tx.specs.Leaving.{lent_of, waiting_of}
 use Rattle.pmd_tx.specs.Sending.{Sender, Segment, blocks_of, has_lent, keeps}

@@ -1,10 +1,10 @@
 -- The tail is moved after the packets that were queued.
 use Rattle.std.proofs.Common.{◌≡◌, inl, inr, ◌==◌, ℕ, if◌then◌else◌, Bool, true, false, List, [], ◌∷◌, ◌++◌, length, Option, Some, None, Result, Ok, Err, IfOk, IfErr, IfSome, refl, sym, ap, subst, ◌∙◌, append-nil, arith}
 use Rattle.std.proofs.lemmas.Bool.Decides.{nat_tests}
-use Rattle.pmd_rx.specs.NicDevice.DmaArena.Numbers.{is_own}
-use Rattle.pmd_rx.specs.DeviceLock.declared.entry.Call.{Call}
-use Rattle.pmd_rx.specs.PmdAccess.declared.fault.PmdFault.{PmdFault}
-use Rattle.pmd_rx.specs.PmdAccess.declared.packet.Packet.{Packet}
+use Rattle.device_lock.specs.NicDevice.DmaArena.Numbers.{is_own}
+use Rattle.device_lock.specs.declared.entry.Call.{Call}
+use Rattle.pmd_access.specs.declared.fault.PmdFault.{PmdFault}
+use Rattle.pmd_access.specs.declared.packet.Packet.{Packet}
 use Rattle.pmd_rx.specs.Keeping.{numbers_of_all}
 use Rattle.pmd_tx.specs.Sends.{IsLate}
 use Rattle.pmd_tx.specs.declared.answer.TxAnswer.{TxAnswer}

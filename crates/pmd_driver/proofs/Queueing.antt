@@ -2,13 +2,13 @@
 use Rattle.std.proofs.Common.{◌≡◌, ◌<◌, ◌≤◌, ◌+◌, ◌*◌, if◌then◌else◌, ◌&&◌, not, ℕ, All, Bool, true, false, List, [], ◌∷◌, ◌++◌, length, drop, map, Option, Some, None, Result, IfSome, IfNone, length-append, refl, sym, ap, subst, ◌∙◌, append-nil, append_assoc, arith}
 use Rattle.std.proofs.lemmas.Bool.Decides.{nat_tests}
 use Rattle.std.proofs.lemmas.List.{length-map, length-take-le, map-append}
-use Rattle.pmd_rx.specs.NicDevice.DmaArena.Block.{Block, IsBlock}
-use Rattle.pmd_rx.specs.NicDevice.DmaArena.Numbers.{Numbers}
-use Rattle.pmd_rx.specs.DeviceLock.declared.entry.Call.{Call}
-use Rattle.pmd_rx.specs.PmdAccess.Bufs.{numbers_of, with_all_free}
-use Rattle.pmd_rx.specs.PmdAccess.Packet.{Kept}
-use Rattle.pmd_rx.specs.PmdAccess.declared.fault.PmdFault.{PmdFault}
-use Rattle.pmd_rx.specs.PmdAccess.declared.packet.Packet.{Packet}
+use Rattle.device_lock.specs.NicDevice.DmaArena.Block.{Block, IsBlock}
+use Rattle.device_lock.specs.NicDevice.DmaArena.Numbers.{Numbers}
+use Rattle.device_lock.specs.declared.entry.Call.{Call}
+use Rattle.pmd_access.specs.Bufs.{numbers_of, with_all_free}
+use Rattle.pmd_access.specs.Packet.{Kept}
+use Rattle.pmd_access.specs.declared.fault.PmdFault.{PmdFault}
+use Rattle.pmd_access.specs.declared.packet.Packet.{Packet}
 use Rattle.pmd_rx.specs.Keeping.{numbers_of_all}
 use Rattle.pmd_tx.specs.Sending.{Layout, Sender, Segment, blocks_of, parts_for, segments_of}
 use Rattle.pmd_tx.specs.Sends.{accepted_of, IsAccepted, IsAnswer, IsNoneAccepted, SendsHome, gate_of, goes_home, is_bad_size, is_full, outgoing_of, returned}

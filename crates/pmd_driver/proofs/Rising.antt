@@ -1,14 +1,14 @@
 -- Where the blocks of a driver are as its rings come up.
 use Rattle.std.proofs.Common.{ℕ, List, [], ◌∷◌, ◌++◌, refl, sym, subst, arith}
-use Rattle.pmd_rx.specs.NicDevice.DmaArena.Numbers.{Numbers}
-use Rattle.pmd_rx.specs.NicDevice.DmaRing.declared.dir.Dir.TheVariants.{Tx}
-use Rattle.pmd_rx.specs.DeviceLock.declared.entry.Call.{Call}
-use Rattle.pmd_rx.specs.PmdAccess.Home.{IsDrawn}
-use Rattle.pmd_rx.specs.PmdAccess.Slots.{ring_blocks}
-use Rattle.pmd_rx.specs.PmdAccess.declared.fault.PmdFault.{PmdFault}
-use Rattle.pmd_rx.proofs.PmdAccess.Outside.{times-append}
+use Rattle.device_lock.specs.NicDevice.DmaArena.Numbers.{Numbers}
+use Rattle.device_lock.specs.NicDevice.DmaRing.declared.dir.Dir.TheVariants.{Tx}
+use Rattle.device_lock.specs.declared.entry.Call.{Call}
+use Rattle.pmd_access.specs.Home.{IsDrawn}
+use Rattle.pmd_access.specs.Slots.{ring_blocks}
+use Rattle.pmd_access.specs.declared.fault.PmdFault.{PmdFault}
+use Rattle.pmd_access.proofs.Outside.{times-append}
 use Rattle.pmd_driver.specs.Halted.{Halted, with_rings, with_receive_ring, with_blocks}
-use Rattle.pmd_rx.specs.PmdAccess.Named.{AtPort}
+use Rattle.pmd_access.specs.Named.{AtPort}
 use Rattle.pmd_rx.specs.Keeping.{Keeps, blocks_held, blocks_out, lent_of}
 use Rattle.pmd_rx.specs.Receive.{Receive}
 use Rattle.pmd_tx.specs.Leaving as transmit

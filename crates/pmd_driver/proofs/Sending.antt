@@ -2,15 +2,15 @@
 use Rattle.std.proofs.Common.{◌≡◌, ℕ, ◌+◌, ◌<◌, ◌≤◌, ◌*◌, ◌&&◌, not, if◌then◌else◌, Bool, true, false, cond, All, List, [], ◌++◌, length, take, drop, Option, Some, None, Result, Ok, Err, IfSome, IfNone, IfOk, OnErr, refl, sym, ap, subst, ◌∙◌, arith}
 use Rattle.std.proofs.lemmas.Bool.Decides.{nat_tests}
 use Rattle.std.proofs.lemmas.List.{drop-map, take-append-drop}
-use Rattle.pmd_rx.specs.NicDevice.DmaArena.Block.{Block, IsBlock}
-use Rattle.pmd_rx.specs.NicDevice.DmaArena.Numbers.{Numbers, is_own, is_free}
-use Rattle.pmd_rx.specs.NicDevice.DmaArena.Whereabouts.{times_in_hand}
-use Rattle.pmd_rx.specs.PmdAccess.Bufs.{numbers_of, with_all_free}
-use Rattle.pmd_rx.specs.PmdAccess.Home.{AreOut}
-use Rattle.pmd_rx.specs.PmdAccess.declared.fault.PmdFault.{PmdFault}
-use Rattle.pmd_rx.specs.PmdAccess.declared.packet.Packet.{Packet}
-use Rattle.pmd_rx.specs.PmdAccess.Slots.{ring_blocks}
-use Rattle.pmd_rx.proofs.PmdAccess.Outside.{times-append, out_fewer}
+use Rattle.device_lock.specs.NicDevice.DmaArena.Block.{Block, IsBlock}
+use Rattle.device_lock.specs.NicDevice.DmaArena.Numbers.{Numbers, is_own, is_free}
+use Rattle.device_lock.specs.NicDevice.DmaArena.Whereabouts.{times_in_hand}
+use Rattle.pmd_access.specs.Bufs.{numbers_of, with_all_free}
+use Rattle.pmd_access.specs.Home.{AreOut}
+use Rattle.pmd_access.specs.declared.fault.PmdFault.{PmdFault}
+use Rattle.pmd_access.specs.declared.packet.Packet.{Packet}
+use Rattle.pmd_access.specs.Slots.{ring_blocks}
+use Rattle.pmd_access.proofs.Outside.{times-append, out_fewer}
 use Rattle.pmd_rx.specs.Keeping.{blocks_out, numbers_in}
 use Rattle.pmd_rx.specs.Receive.{Receive}
 use Rattle.pmd_tx.specs.Sending.{Sender, Layout, Segment, blocks_of, parts_for}

@@ -1,11 +1,11 @@
 -- Where the blocks of a driver are once a packet was to be sent.
 use Rattle.std.proofs.Common.{◌≡◌, ◌&&◌, not, Bool, All, Option, Some, None, Result, Ok, Err, IfErr, IfSome, IfNone, refl, sym, ap, subst}
-use Rattle.pmd_rx.specs.NicDevice.DmaArena.Block.{Block, IsBlock}
-use Rattle.pmd_rx.specs.NicDevice.DmaArena.Numbers.{Numbers}
-use Rattle.pmd_rx.specs.PmdAccess.Bufs.{numbers_of}
-use Rattle.pmd_rx.specs.PmdAccess.declared.fault.PmdFault.{PmdFault}
-use Rattle.pmd_rx.specs.PmdAccess.declared.fault.PmdFault.TheVariants as fault
-use Rattle.pmd_rx.specs.PmdAccess.declared.packet.Packet.{Packet}
+use Rattle.device_lock.specs.NicDevice.DmaArena.Block.{Block, IsBlock}
+use Rattle.device_lock.specs.NicDevice.DmaArena.Numbers.{Numbers}
+use Rattle.pmd_access.specs.Bufs.{numbers_of}
+use Rattle.pmd_access.specs.declared.fault.PmdFault.{PmdFault}
+use Rattle.pmd_access.specs.declared.fault.PmdFault.TheVariants as fault
+use Rattle.pmd_access.specs.declared.packet.Packet.{Packet}
 use Rattle.pmd_rx.specs.Keeping.{numbers_in}
 use Rattle.pmd_tx.specs.Sending.{Sender}
 use Rattle.pmd_tx.specs.Sends.{IsAccepted, IsNoneAccepted, IsAnswer, IsBack, SendsHome, gate_of, goes_home, is_bad_size, is_full, returned}

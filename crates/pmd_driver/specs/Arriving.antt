@@ -1,13 +1,13 @@
 -- Frames that arrive.
 use Rattle.std.specs.Prelude.{ℕ, List, ⊤}
-use Rattle.pmd_rx.specs.NicDevice.DmaArena.Block.{Block}
-use Rattle.pmd_rx.specs.NicDevice.declared.event.Event.TheVariants as event
-use Rattle.pmd_rx.specs.NicDevice.declared.event.Reply.{Reply}
-use Rattle.pmd_rx.specs.NicDevice.declared.event.Reply.TheVariants as reply
-use Rattle.pmd_rx.specs.DeviceLock.declared.entry.Call.{Call}
-use Rattle.pmd_rx.specs.PmdAccess.Made.{Adds}
-use Rattle.pmd_rx.specs.PmdAccess.declared.fault.PmdFault.{PmdFault}
-use Rattle.pmd_rx.specs.PmdAccess.declared.fault.PmdFault.TheVariants as fault
+use Rattle.device_lock.specs.NicDevice.DmaArena.Block.{Block}
+use Rattle.device_lock.specs.NicDevice.declared.event.Event.TheVariants as event
+use Rattle.device_lock.specs.NicDevice.declared.event.Reply.{Reply}
+use Rattle.device_lock.specs.NicDevice.declared.event.Reply.TheVariants as reply
+use Rattle.device_lock.specs.declared.entry.Call.{Call}
+use Rattle.pmd_access.specs.Made.{Adds}
+use Rattle.pmd_access.specs.declared.fault.PmdFault.{PmdFault}
+use Rattle.pmd_access.specs.declared.fault.PmdFault.TheVariants as fault
 use Rattle.pmd_driver.specs.declared.arriving.Arrived.{Arrived}
 use Rattle.pmd_driver.specs.declared.arriving.Arrived.TheVariants.{Taken, Dropped}
 

@@ -1,9 +1,9 @@
 -- A driver of one queue, which runs or doesn't.
 use Rattle.std.specs.Prelude.{Bool, List, ⊤}
-use Rattle.pmd_rx.specs.NicDevice.DmaArena.Numbers.{Numbers}
-use Rattle.pmd_rx.specs.PmdAccess.Packet.{Kept}
-use Rattle.pmd_rx.specs.PmdAccess.Named.{AtPort}
-use Rattle.pmd_rx.specs.PmdAccess.declared.packet.Packet.{Packet}
+use Rattle.device_lock.specs.NicDevice.DmaArena.Numbers.{Numbers}
+use Rattle.pmd_access.specs.Packet.{Kept}
+use Rattle.pmd_access.specs.Named.{AtPort}
+use Rattle.pmd_access.specs.declared.packet.Packet.{Packet}
 use Rattle.pmd_driver.specs.Halted as halted
 use Rattle.pmd_driver.specs.Halted.{Halted, with_rings}
 use Rattle.pmd_driver.specs.Running as running

@@ -1,12 +1,12 @@
 -- What each call of a driver whose rings are up answers and leaves: from the calls that were made before it and the
 -- driver there, to those that were made after it and the driver there.
 use Rattle.std.specs.Prelude.{ℕ, ◌≡◌, ◌↔◌, ◌++◌, ◌∷◌, [], false, length, List, Option, Result, Ok, Err, IfOk, IfErr, IfSome, IfNone, OnErr, IsTrue}
-use Rattle.pmd_rx.specs.NicDevice.DmaArena.Numbers.{is_own}
-use Rattle.pmd_rx.specs.DeviceLock.declared.entry.Call.{Call}
-use Rattle.pmd_rx.specs.PmdAccess.Packet.{kept_of}
-use Rattle.pmd_rx.specs.PmdAccess.declared.fault.PmdFault.{PmdFault}
-use Rattle.pmd_rx.specs.PmdAccess.declared.fault.PmdFault.TheVariants.{NoBuffer}
-use Rattle.pmd_rx.specs.PmdAccess.declared.packet.Packet.{Packet}
+use Rattle.device_lock.specs.NicDevice.DmaArena.Numbers.{is_own}
+use Rattle.device_lock.specs.declared.entry.Call.{Call}
+use Rattle.pmd_access.specs.Packet.{kept_of}
+use Rattle.pmd_access.specs.declared.fault.PmdFault.{PmdFault}
+use Rattle.pmd_access.specs.declared.fault.PmdFault.TheVariants.{NoBuffer}
+use Rattle.pmd_access.specs.declared.packet.Packet.{Packet}
 use Rattle.pmd_rx.specs.Keeping.{Keeps, handed_blocks}
 use Rattle.pmd_rx.specs.Plays.{LooksInVain}
 use Rattle.pmd_rx.specs.Wrong.{FailsBy, PacketWaits}

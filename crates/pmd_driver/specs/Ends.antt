@@ -1,10 +1,10 @@
 -- The two halves of a driver that isn't running: a ring, or its blocks on their way home with its records.
 use Rattle.std.specs.Prelude.{ℕ, List, [], ◌++◌}
-use Rattle.pmd_rx.specs.PmdAccess.Home.{Homebound}
-use Rattle.pmd_rx.specs.PmdAccess.Packet.{Kept}
+use Rattle.pmd_access.specs.Home.{Homebound}
+use Rattle.pmd_access.specs.Packet.{Kept}
 use Rattle.pmd_rx.specs.Keeping as receive
 use Rattle.pmd_tx.specs.Leaving as transmit
-use Rattle.pmd_rx.specs.NicDevice.DmaArena.Numbers.{Numbers}
+use Rattle.device_lock.specs.NicDevice.DmaArena.Numbers.{Numbers}
 use Rattle.pmd_driver.specs.Halted.{Halted, both_ways, way_of}
 use Rattle.pmd_driver.specs.declared.ends.Receiving.{Receiving}
 use Rattle.pmd_driver.specs.declared.ends.Receiving.TheVariants as received

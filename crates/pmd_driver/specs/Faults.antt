@@ -1,8 +1,8 @@
 -- The fault that a step ended with, where it did.
 use Rattle.std.specs.Prelude.{Option, Some, None, Result, Ok, Err}
-use Rattle.pmd_rx.specs.DeviceLock.declared.fault.CallFault.{CallFault}
-use Rattle.pmd_rx.specs.PmdAccess.declared.fault.PmdFault.{PmdFault}
-use Rattle.pmd_rx.specs.PmdAccess.declared.fault.PmdFault.TheVariants as fault
+use Rattle.device_lock.specs.declared.fault.CallFault.{CallFault}
+use Rattle.pmd_access.specs.declared.fault.PmdFault.{PmdFault}
+use Rattle.pmd_access.specs.declared.fault.PmdFault.TheVariants as fault
 use Rattle.pmd_driver.specs.declared.home.StopFailed.{StopFailed}
 use Rattle.pmd_driver.specs.declared.rings.Unprepared.{Unprepared}
 use Rattle.pmd_driver.specs.declared.start.StartRefused.{StartRefused}

@@ -1,10 +1,10 @@
 -- Packets that are made of bytes.
 use Rattle.std.specs.Prelude.{ℕ, ◌≡◌, ◌-◌, ◌*◌, ◌++◌, List, length, replicate, Option, Some, None}
-use Rattle.pmd_rx.specs.NicDevice.DmaArena.Numbers.{Numbers}
-use Rattle.pmd_rx.specs.PmdAccess.Bufs.{bytes_of, numbers_of}
-use Rattle.pmd_rx.specs.PmdAccess.Fresh.{bufs_for}
-use Rattle.pmd_rx.specs.PmdAccess.Home.{IsDrawn}
-use Rattle.pmd_rx.specs.PmdAccess.declared.packet.Packet.{Packet}
+use Rattle.device_lock.specs.NicDevice.DmaArena.Numbers.{Numbers}
+use Rattle.pmd_access.specs.Bufs.{bytes_of, numbers_of}
+use Rattle.pmd_access.specs.Fresh.{bufs_for}
+use Rattle.pmd_access.specs.Home.{IsDrawn}
+use Rattle.pmd_access.specs.declared.packet.Packet.{Packet}
 
 -- a packet of just these bytes was made in free blocks of the arena, and each byte of them after is 0
 pub record IsFilled (a : Numbers) (bytes : List ℕ) (p : Packet) (b : Numbers) : Type 0 where

@@ -1,12 +1,12 @@
 -- A driver that isn't running: its blocks are on their way home.
 use Rattle.std.specs.Prelude.{ℕ, ◌+◌, ◌<◌, ◌&&◌, ◌||◌, nat_lt, not, Bool, List, [], ◌++◌, length}
 use Rattle.std.specs.List.{list_any}
-use Rattle.pmd_rx.specs.NicDevice.DmaArena.Numbers.{Numbers, is_free}
-use Rattle.pmd_rx.specs.NicDevice.DmaArena.Whereabouts.{times_in_hand}
-use Rattle.pmd_rx.specs.PmdAccess.Bufs.{numbers_of}
-use Rattle.pmd_rx.specs.PmdAccess.Home.{AreOut, Homebound}
-use Rattle.pmd_rx.specs.PmdAccess.Packet.{Kept}
-use Rattle.pmd_rx.specs.PmdAccess.declared.packet.Packet.{Packet}
+use Rattle.device_lock.specs.NicDevice.DmaArena.Numbers.{Numbers, is_free}
+use Rattle.device_lock.specs.NicDevice.DmaArena.Whereabouts.{times_in_hand}
+use Rattle.pmd_access.specs.Bufs.{numbers_of}
+use Rattle.pmd_access.specs.Home.{AreOut, Homebound}
+use Rattle.pmd_access.specs.Packet.{Kept}
+use Rattle.pmd_access.specs.declared.packet.Packet.{Packet}
 use Rattle.pmd_rx.specs.Keeping as receive
 use Rattle.pmd_rx.specs.Receive.{Receive}
 use Rattle.pmd_tx.specs.Leaving as transmit

@@ -1,17 +1,17 @@
 -- What the steps of a start need, and what each of them leaves.
 use Rattle.std.specs.Prelude.{ℕ, ◌≡◌, ◌≤◌, ◌+◌, ◌-◌, ◌*◌, true, false, List, [], None, Result, Ok, Err, OnOk, IfErr}
-use Rattle.pmd_rx.specs.NicDevice.DmaArena.Block.{zero_block}
-use Rattle.pmd_rx.specs.NicDevice.DmaArena.Numbers.{Numbers, free_count, with_free}
-use Rattle.pmd_rx.specs.NicDevice.DmaArena.Run.{IsFreeRun}
-use Rattle.pmd_rx.specs.NicDevice.DmaRing.declared.dir.Dir.{Dir}
-use Rattle.pmd_rx.specs.NicDevice.DmaRing.declared.dir.Dir.TheVariants.{Tx}
-use Rattle.pmd_rx.specs.DeviceLock.declared.entry.Call.{Call}
-use Rattle.pmd_rx.specs.PmdAccess.Accesses.{IsLent}
-use Rattle.pmd_rx.specs.PmdAccess.Frames.{is_frame}
-use Rattle.pmd_rx.specs.PmdAccess.Home.{AreOut, IsDrawn}
-use Rattle.pmd_rx.specs.PmdAccess.Named.{AtPort}
-use Rattle.pmd_rx.specs.PmdAccess.Slots.{blocks_for, ring_blocks}
-use Rattle.pmd_rx.specs.PmdAccess.declared.fault.PmdFault.{PmdFault}
+use Rattle.device_lock.specs.NicDevice.DmaArena.Block.{zero_block}
+use Rattle.device_lock.specs.NicDevice.DmaArena.Numbers.{Numbers, free_count, with_free}
+use Rattle.device_lock.specs.NicDevice.DmaArena.Run.{IsFreeRun}
+use Rattle.device_lock.specs.NicDevice.DmaRing.declared.dir.Dir.{Dir}
+use Rattle.device_lock.specs.NicDevice.DmaRing.declared.dir.Dir.TheVariants.{Tx}
+use Rattle.device_lock.specs.declared.entry.Call.{Call}
+use Rattle.pmd_access.specs.Accesses.{IsLent}
+use Rattle.pmd_access.specs.Frames.{is_frame}
+use Rattle.pmd_access.specs.Home.{AreOut, IsDrawn}
+use Rattle.pmd_access.specs.Named.{AtPort}
+use Rattle.pmd_access.specs.Slots.{blocks_for, ring_blocks}
+use Rattle.pmd_access.specs.declared.fault.PmdFault.{PmdFault}
 use Rattle.pmd_rx.specs.Keeping.{blocks_out, IsRunning, Keeps}
 use Rattle.pmd_rx.specs.Receive.{Receive, no_packet}
 use Rattle.pmd_rx.specs.declared.ring.Stage.TheVariants.{Looks}

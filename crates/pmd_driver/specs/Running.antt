@@ -1,12 +1,12 @@
 -- A driver whose two rings are up.
 use Rattle.std.specs.Prelude.{◌≡◌, ℕ, ◌<◌, ◌&&◌, nat_lt, not, Bool, List, ◌++◌}
 use Rattle.std.specs.List.{list_any}
-use Rattle.pmd_rx.specs.NicDevice.DmaArena.Numbers.{Numbers}
-use Rattle.pmd_rx.specs.NicDevice.DmaArena.Whereabouts.{times_in_hand}
-use Rattle.pmd_rx.specs.PmdAccess.Bufs.{numbers_of, with_all_free}
-use Rattle.pmd_rx.specs.PmdAccess.Home.{AreOut}
-use Rattle.pmd_rx.specs.PmdAccess.Slots.{ring_blocks}
-use Rattle.pmd_rx.specs.PmdAccess.declared.packet.Packet.{Packet}
+use Rattle.device_lock.specs.NicDevice.DmaArena.Numbers.{Numbers}
+use Rattle.device_lock.specs.NicDevice.DmaArena.Whereabouts.{times_in_hand}
+use Rattle.pmd_access.specs.Bufs.{numbers_of, with_all_free}
+use Rattle.pmd_access.specs.Home.{AreOut}
+use Rattle.pmd_access.specs.Slots.{ring_blocks}
+use Rattle.pmd_access.specs.declared.packet.Packet.{Packet}
 use Rattle.pmd_rx.specs.Receive.{Receive}
 use Rattle.pmd_rx.specs.Keeping.{blocks_out, IsRunning}
 use Rattle.pmd_tx.specs.Sending.{Sender, blocks_of}

@@ -1,14 +1,14 @@
 -- What a start leaves, and why it is refused.
 use Rattle.std.specs.Prelude.{true, ℕ, ◌≡◌, ◌⊎◌, ◌&&◌, ◌==◌, ◌+◌, ◌-◌, ◌*◌, ◌%◌, nat_le, nat_lt, is_some, Bool, List, [], ◌∷◌, Option, Some, None, Result, Ok, Err, ⊤, if◌then◌else◌}
-use Rattle.pmd_rx.specs.NicDevice.DmaArena.Numbers.{Numbers, free_count}
-use Rattle.pmd_rx.specs.DeviceLock.declared.entry.Call.{Call}
-use Rattle.pmd_rx.specs.NicDevice.DmaRing.declared.dir.Dir.TheVariants.{Tx}
-use Rattle.pmd_rx.specs.PmdAccess.Packet.{Kept}
-use Rattle.pmd_rx.specs.PmdAccess.declared.fault.PmdFault.{PmdFault}
-use Rattle.pmd_rx.specs.PmdAccess.declared.fault.PmdFault.TheVariants.{BadSize, NoBuffer, DeviceFault}
-use Rattle.pmd_rx.specs.PmdAccess.Frames.{is_frame}
-use Rattle.pmd_rx.specs.PmdAccess.Named.{AtPort, queues_named}
-use Rattle.pmd_rx.specs.PmdAccess.Slots.{blocks_for}
+use Rattle.device_lock.specs.NicDevice.DmaArena.Numbers.{Numbers, free_count}
+use Rattle.device_lock.specs.declared.entry.Call.{Call}
+use Rattle.device_lock.specs.NicDevice.DmaRing.declared.dir.Dir.TheVariants.{Tx}
+use Rattle.pmd_access.specs.Packet.{Kept}
+use Rattle.pmd_access.specs.declared.fault.PmdFault.{PmdFault}
+use Rattle.pmd_access.specs.declared.fault.PmdFault.TheVariants.{BadSize, NoBuffer, DeviceFault}
+use Rattle.pmd_access.specs.Frames.{is_frame}
+use Rattle.pmd_access.specs.Named.{AtPort, queues_named}
+use Rattle.pmd_access.specs.Slots.{blocks_for}
 use Rattle.pmd_rx.specs.Receive.{Receive}
 use Rattle.pmd_tx.specs.Sending.{Sender}
 use Rattle.pmd_driver.specs.Halted.{Halted, with_rings, with_receive_ring, with_blocks}

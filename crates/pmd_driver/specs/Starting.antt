@@ -1,29 +1,29 @@
 -- How the rings of a driver come up, one after the other.
 use Rattle.std.specs.Prelude.{ℕ, ◌≡◌, ◌⊎◌, ⊤, true, List, [], ◌∷◌, ◌++◌, Some, None}
-use Rattle.pmd_rx.specs.NicDevice.DmaArena.Block.{Block, zero_block}
-use Rattle.pmd_rx.specs.NicDevice.DmaArena.Numbers.{Numbers, is_free}
-use Rattle.pmd_rx.specs.DeviceLock.declared.entry.Call.{Call}
-use Rattle.pmd_rx.specs.NicDevice.RegisterFile.Queue.{tail_row}
-use Rattle.pmd_rx.specs.NicDevice.DmaRing.declared.dir.Dir.{Dir}
-use Rattle.pmd_rx.specs.NicDevice.DmaRing.declared.dir.Dir.TheVariants.{Rx, Tx}
-use Rattle.pmd_rx.specs.PmdAccess.Accesses.{IsLent}
-use Rattle.pmd_rx.specs.PmdAccess.Made.{AddsSome}
-use Rattle.pmd_rx.specs.PmdAccess.declared.fault.PmdFault.{PmdFault}
-use Rattle.pmd_rx.specs.PmdAccess.declared.fault.PmdFault.TheVariants as fault
-use Rattle.pmd_rx.specs.PmdAccess.Both.{both_quiet, IsSwitched, SwitchFails}
-use Rattle.pmd_rx.specs.PmdAccess.QueueMade.{AreMade, StopsBy}
-use Rattle.pmd_rx.specs.PmdAccess.Frames.{most_blocks, packet_limit}
-use Rattle.pmd_rx.specs.PmdAccess.Home.{IsDrawn}
-use Rattle.pmd_rx.specs.PmdAccess.Named.{AtPort, IsNumberOf}
-use Rattle.pmd_rx.specs.PmdAccess.Sides.{ring_words}
-use Rattle.pmd_rx.specs.PmdAccess.Slots.{blocks_for, ring_blocks}
+use Rattle.device_lock.specs.NicDevice.DmaArena.Block.{Block, zero_block}
+use Rattle.device_lock.specs.NicDevice.DmaArena.Numbers.{Numbers, is_free}
+use Rattle.device_lock.specs.declared.entry.Call.{Call}
+use Rattle.device_lock.specs.NicDevice.RegisterFile.Queue.{tail_row}
+use Rattle.device_lock.specs.NicDevice.DmaRing.declared.dir.Dir.{Dir}
+use Rattle.device_lock.specs.NicDevice.DmaRing.declared.dir.Dir.TheVariants.{Rx, Tx}
+use Rattle.pmd_access.specs.Accesses.{IsLent}
+use Rattle.pmd_access.specs.Made.{AddsSome}
+use Rattle.pmd_access.specs.declared.fault.PmdFault.{PmdFault}
+use Rattle.pmd_access.specs.declared.fault.PmdFault.TheVariants as fault
+use Rattle.pmd_access.specs.Both.{both_quiet, IsSwitched, SwitchFails}
+use Rattle.pmd_access.specs.QueueMade.{AreMade, StopsBy}
+use Rattle.pmd_access.specs.Frames.{most_blocks, packet_limit}
+use Rattle.pmd_access.specs.Home.{IsDrawn}
+use Rattle.pmd_access.specs.Named.{AtPort, IsNumberOf}
+use Rattle.pmd_access.specs.Sides.{ring_words}
+use Rattle.pmd_access.specs.Slots.{blocks_for, ring_blocks}
 use Rattle.pmd_rx.specs.Filling.{Fills, StopsFilling}
 use Rattle.pmd_rx.specs.Plays.{PlaysFrom}
 use Rattle.pmd_rx.specs.Receive.{Receive}
 use Rattle.pmd_rx.specs.Receive as receive
 use Rattle.pmd_tx.specs.Sending.{Sender}
 use Rattle.pmd_tx.specs.Sending as transmit
-use Rattle.pmd_rx.specs.NicDevice.DmaArena.Run.{IsFreeRun}
+use Rattle.device_lock.specs.NicDevice.DmaArena.Run.{IsFreeRun}
 
 -- a fault that comes once events are made
 abbrev pub ComesLate : PmdFault → Type 0

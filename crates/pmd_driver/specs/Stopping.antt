@@ -1,14 +1,14 @@
 -- How a driver stops: both sides of its queue go off, and its blocks come home.
 use Rattle.std.specs.Prelude.{ℕ, ◌≡◌, ◌⊎◌, false, List, [], ◌++◌}
-use Rattle.pmd_rx.specs.DeviceLock.declared.entry.Call.{Call}
-use Rattle.pmd_rx.specs.DeviceLock.declared.fault.CallFault.{CallFault}
-use Rattle.pmd_rx.specs.DeviceLock.declared.fault.CallFault.TheVariants as refused
-use Rattle.pmd_rx.specs.PmdAccess.Bufs.{with_all_free}
-use Rattle.pmd_rx.specs.PmdAccess.Home.{Bringing, BringsAll, StopsBringing}
-use Rattle.pmd_rx.specs.PmdAccess.declared.fault.PmdFault.{PmdFault}
-use Rattle.pmd_rx.specs.PmdAccess.declared.fault.PmdFault.TheVariants as fault
-use Rattle.pmd_rx.specs.PmdAccess.Both.{IsSwitched, SwitchFails}
-use Rattle.pmd_rx.specs.PmdAccess.Named.{AtPort}
+use Rattle.device_lock.specs.declared.entry.Call.{Call}
+use Rattle.device_lock.specs.declared.fault.CallFault.{CallFault}
+use Rattle.device_lock.specs.declared.fault.CallFault.TheVariants as refused
+use Rattle.pmd_access.specs.Bufs.{with_all_free}
+use Rattle.pmd_access.specs.Home.{Bringing, BringsAll, StopsBringing}
+use Rattle.pmd_access.specs.declared.fault.PmdFault.{PmdFault}
+use Rattle.pmd_access.specs.declared.fault.PmdFault.TheVariants as fault
+use Rattle.pmd_access.specs.Both.{IsSwitched, SwitchFails}
+use Rattle.pmd_access.specs.Named.{AtPort}
 use Rattle.pmd_driver.specs.Halted.{Halted}
 use Rattle.pmd_driver.specs.declared.home.Home.{Home}
 

@@ -1,15 +1,16 @@
 //! A frame that arrives from the link.
 
 ghost use Rattle.std.specs.Prelude.{◌≡◌, None, IfOk, IfErr, OnErr};
-ghost use Rattle.pmd_rx.specs.NicDevice.Step.{lent_block};
-ghost use Rattle.pmd_rx.specs.DeviceLock.Fault.{event_of, fault_with};
-ghost use Rattle.pmd_rx.specs.PmdAccess.Begun.{BeganAs};
-ghost use Rattle.pmd_rx.specs.PmdAccess.Made.{AddsSome};
-ghost use Rattle.pmd_rx.specs.PmdAccess.Refusals.{CanFail};
-ghost use Rattle.pmd_rx.specs.PmdAccess.Asks.{Asks, fault_in};
+ghost use Rattle.device_lock.specs.NicDevice.Step.{lent_block};
+ghost use Rattle.device_lock.specs.Fault.{event_of, fault_with};
+ghost use Rattle.pmd_access.specs.Begun.{BeganAs};
+ghost use Rattle.pmd_access.specs.Made.{AddsSome};
+ghost use Rattle.pmd_access.specs.Refusals.{CanFail};
+ghost use Rattle.pmd_access.specs.Asks.{Asks, fault_in};
 ghost use Rattle.pmd_driver.specs.Arriving.{Arrives, IsRefusal};
 
-use pmd_rx::{CallFault, Event, Nic, Octets, PmdFault, Reply, Why};
+use device_lock::{CallFault, Event, Octets, Reply, Why};
+use pmd_access::{Nic, PmdFault};
 use std::alloc::Global;
 
 /// What became of a frame that arrived.

@@ -2,16 +2,16 @@
 
 ghost use Rattle.std.specs.Prelude.{◌≡◌, ◌<◌, ◌+◌, ◌==◌, if◌then◌else◌, true, false, None, length, IfErr};
 ghost use Rattle.pmd_rx.specs.Keeping.{numbers_of_all};
-ghost use Rattle.pmd_rx.specs.PmdAccess.Asks.{Asks, fault_in};
+ghost use Rattle.pmd_access.specs.Asks.{Asks, fault_in};
 ghost use Rattle.pmd_driver.specs.Apart.{DrivesRings};
 ghost use Rattle.pmd_driver.specs.Blocks.{KeepsUp};
 ghost use Rattle.pmd_driver.specs.Bursts.{IsSendBurst};
 ghost use Rattle.pmd_driver.specs.Queueing.{HasRoom, Posts, QueuesUpTo};
-ghost use Rattle.pmd_rx.specs.PmdAccess.Begun.{BeganAs};
-ghost use Rattle.pmd_rx.specs.PmdAccess.Refusals.{CanFail};
+ghost use Rattle.pmd_access.specs.Begun.{BeganAs};
+ghost use Rattle.pmd_access.specs.Refusals.{CanFail};
 
 use crate::running::Running;
-use pmd_rx::{Nic, Packet, PmdFault};
+use pmd_access::{Nic, Packet, PmdFault};
 use pmd_tx::{TxAnswer, TxFault};
 use std::alloc::Global;
 use std::collections::VecDeque;

@@ -1,10 +1,10 @@
 //! A packet with given bytes.
 
 ghost use Rattle.std.specs.Prelude.{◌≡◌, ◌≤◌, ◌*◌, length, min};
-ghost use Rattle.pmd_rx.specs.NicDevice.DmaArena.Memory.{put_bytes};
-ghost use Rattle.pmd_rx.specs.PmdAccess.Bufs.{bytes_of, numbers_of};
+ghost use Rattle.device_lock.specs.NicDevice.DmaArena.Memory.{put_bytes};
+ghost use Rattle.pmd_access.specs.Bufs.{bytes_of, numbers_of};
 
-use pmd_rx::Packet;
+use pmd_access::Packet;
 
 /// A packet with these bytes over its first. They fit.
 pub(crate) fn with_bytes(packet: Packet, bytes: &[u8]) -> Packet

@@ -1,11 +1,11 @@
 //! A driver of one queue.
 
 ghost use Rattle.std.specs.Prelude.{ℕ, ◌≡◌, ◌<◌, ◌⊎◌, ◌++◌, ◌∷◌, ◌↔◌, [], true, Some, Err, All, drop, length, IfOk, IfErr, IfSome, IsNone, IsOk, OnOk, OnErr};
-ghost use Rattle.pmd_rx.specs.NicDevice.DmaArena.Numbers.{free_count, is_own, is_free};
-ghost use Rattle.pmd_rx.specs.PmdAccess.Begun.{BeganAs};
-ghost use Rattle.pmd_rx.specs.PmdAccess.Bufs.{numbers_of, with_all_free};
-ghost use Rattle.pmd_rx.specs.PmdAccess.Fresh.{IsFresh, bufs_for};
-ghost use Rattle.pmd_rx.specs.PmdAccess.Packet.{kept_of};
+ghost use Rattle.device_lock.specs.NicDevice.DmaArena.Numbers.{free_count, is_own, is_free};
+ghost use Rattle.pmd_access.specs.Begun.{BeganAs};
+ghost use Rattle.pmd_access.specs.Bufs.{numbers_of, with_all_free};
+ghost use Rattle.pmd_access.specs.Fresh.{IsFresh, bufs_for};
+ghost use Rattle.pmd_access.specs.Packet.{kept_of};
 ghost use Rattle.pmd_rx.specs.Keeping.{handed_blocks, numbers_in, numbers_of_all};
 ghost use Rattle.pmd_rx.specs.Receive.{records_of};
 ghost use Rattle.pmd_tx.specs.Sends.{returned};
@@ -19,13 +19,13 @@ ghost use Rattle.pmd_driver.specs.Filled.{IsMadeOf};
 ghost use Rattle.pmd_driver.specs.Life.{KeepsHalves, RunsOn};
 ghost use Rattle.pmd_driver.specs.Driver.{arena_of, handed_of, accepted_of, goes_back_to, with_arena, halted_of};
 ghost use Rattle.pmd_driver.specs.Driver.{WhereUp, IsDown};
-ghost use Rattle.pmd_rx.specs.PmdAccess.Refusals.{CanFail};
+ghost use Rattle.pmd_access.specs.Refusals.{CanFail};
 
 use crate::bytes::with_bytes;
 use crate::halted::Halted;
 use crate::home::{Home, StopFailed};
 use crate::running::Running;
-use pmd_rx::{Nic, Packet, PmdFault, Queue, Record};
+use pmd_access::{Nic, Packet, PmdFault, Queue, Record};
 use pmd_tx::{Reaped, TxAnswer, TxFault};
 use std::alloc::Global;
 use std::collections::VecDeque;

@@ -2,11 +2,11 @@
 
 ghost use Rattle.std.specs.Prelude.{◌≡◌, ◌↔◌, ◌<◌, ◌++◌, ◌⊎◌, ℕ, [], true, None, IfOk, IfErr, IsOk, IsNone, OnOk, OnErr};
 ghost use Rattle.std.specs.List.{list_any};
-ghost use Rattle.pmd_rx.specs.NicDevice.DmaArena.Numbers.{free_count, is_own, is_free};
-ghost use Rattle.pmd_rx.specs.PmdAccess.Begun.{BeganAs};
-ghost use Rattle.pmd_rx.specs.PmdAccess.Bufs.{numbers_of, with_all_free};
-ghost use Rattle.pmd_rx.specs.PmdAccess.Home.{AreOut};
-ghost use Rattle.pmd_rx.specs.PmdAccess.Fresh.{IsFresh, bufs_for};
+ghost use Rattle.device_lock.specs.NicDevice.DmaArena.Numbers.{free_count, is_own, is_free};
+ghost use Rattle.pmd_access.specs.Begun.{BeganAs};
+ghost use Rattle.pmd_access.specs.Bufs.{numbers_of, with_all_free};
+ghost use Rattle.pmd_access.specs.Home.{AreOut};
+ghost use Rattle.pmd_access.specs.Fresh.{IsFresh, bufs_for};
 ghost use Rattle.pmd_rx.specs.Keeping.{blocks_out};
 ghost use Rattle.pmd_driver.specs.Running.{kept_out};
 ghost use Rattle.pmd_driver.specs.Blocks.{KeepsEach};
@@ -14,15 +14,14 @@ ghost use Rattle.pmd_driver.specs.Halted.{IsHalted, all_out, is_out, goes_back, 
 ghost use Rattle.pmd_driver.specs.Halted.{with_receive_ring, with_blocks};
 ghost use Rattle.pmd_driver.specs.Stopping.{Stops, StopFails, IsInPart, IsUnclosed, closed};
 ghost use Rattle.pmd_driver.specs.Leaving.{leaving_as};
-ghost use Rattle.pmd_rx.specs.PmdAccess.Refusals.{CanFail};
+ghost use Rattle.pmd_access.specs.Refusals.{CanFail};
 
 use crate::ends::{Receiving, Sending};
 use crate::home::{Home, StopFailed};
 use crate::stopping::Leaving;
-use pmd_rx::{
-    Arena, Bufs, CallFault, Nic, Packet, PmdFault, Queue, ReceiveRing, Reclaim, Record,
-    fresh_packet, give_packet,
-};
+use device_lock::{Arena, CallFault};
+use pmd_access::{Bufs, Nic, Packet, PmdFault, Queue, Reclaim, Record, fresh_packet, give_packet};
+use pmd_rx::ReceiveRing;
 use pmd_tx::{TransmitRing, are_out};
 use std::alloc::Global;
 use std::collections::VecDeque;

@@ -1,7 +1,8 @@
 //! What a driver leaves.
 
 use crate::halted::Halted;
-use pmd_rx::{Arena, PmdFault, Record};
+use device_lock::Arena;
+use pmd_access::{PmdFault, Record};
 
 /// What a driver leaves that has stopped. It can't be dropped, as its arena can't.
 pub struct Home {

@@ -2,13 +2,13 @@
 
 ghost use Rattle.std.specs.Prelude.{◌≡◌, ◌<◌, ◌⊎◌, ◌↔◌, [], nat_lt, true, drop, length, All, IfOk, IfErr, IfSome, IsNone, IsOk, OnOk, OnErr};
 ghost use Rattle.std.specs.List.{list_any};
-ghost use Rattle.pmd_rx.specs.NicDevice.DmaArena.Numbers.{free_count};
-ghost use Rattle.pmd_rx.specs.NicDevice.DmaArena.Whereabouts.{times_in_hand};
-ghost use Rattle.pmd_rx.specs.PmdAccess.Begun.{BeganAs};
-ghost use Rattle.pmd_rx.specs.PmdAccess.Bufs.{numbers_of};
-ghost use Rattle.pmd_rx.specs.PmdAccess.Fresh.{IsFresh, bufs_for};
+ghost use Rattle.device_lock.specs.NicDevice.DmaArena.Numbers.{free_count};
+ghost use Rattle.device_lock.specs.NicDevice.DmaArena.Whereabouts.{times_in_hand};
+ghost use Rattle.pmd_access.specs.Begun.{BeganAs};
+ghost use Rattle.pmd_access.specs.Bufs.{numbers_of};
+ghost use Rattle.pmd_access.specs.Fresh.{IsFresh, bufs_for};
 ghost use Rattle.pmd_rx.specs.Keeping.{blocks_out, handed_blocks, numbers_in, numbers_of_all};
-ghost use Rattle.pmd_rx.specs.PmdAccess.Asks.{Asks, fault_in};
+ghost use Rattle.pmd_access.specs.Asks.{Asks, fault_in};
 ghost use Rattle.pmd_tx.specs.Acts.{failed_in};
 ghost use Rattle.pmd_tx.specs.Counted.{packets_in};
 ghost use Rattle.pmd_tx.specs.Sends.{returned};
@@ -19,10 +19,12 @@ ghost use Rattle.pmd_driver.specs.DriverCalls.{IsReceiveCall, IsSendCall, IsReap
 ghost use Rattle.pmd_driver.specs.Halves.{halves_of};
 ghost use Rattle.pmd_driver.specs.Queueing.{Continues, QueuesOne};
 ghost use Rattle.pmd_driver.specs.Running.{IsUp, IsReleased, goes_back, receives};
-ghost use Rattle.pmd_rx.specs.PmdAccess.Refusals.{CanFail};
+ghost use Rattle.pmd_access.specs.Refusals.{CanFail};
 
-use pmd_rx::{Arena, Bufs, Nic, Packet, PmdFault, ReceiveRing, Record, fresh_packet, give_packet};
-use pmd_tx::{Reaped, TransmitRing, TxAnswer, TxFault, bytes_in};
+use device_lock::Arena;
+use pmd_access::{Bufs, Nic, Packet, PmdFault, Record, bytes_in, fresh_packet, give_packet};
+use pmd_rx::ReceiveRing;
+use pmd_tx::{Reaped, TransmitRing, TxAnswer, TxFault};
 use std::alloc::Global;
 use std::collections::VecDeque;
 use std::marker::Model;

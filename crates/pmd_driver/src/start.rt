@@ -1,10 +1,10 @@
 //! How a driver starts.
 
 ghost use Rattle.std.specs.Prelude.{◌≡◌, ◌↔◌, ◌≤◌, ◌+◌, ◌-◌, ◌*◌, ◌++◌, [], true, None, Some, IsSome, IfSome, OnSome, IfOk, IfErr};
-ghost use Rattle.pmd_rx.specs.NicDevice.DmaArena.Numbers.{free_count};
+ghost use Rattle.device_lock.specs.NicDevice.DmaArena.Numbers.{free_count};
 ghost use Rattle.pmd_driver.specs.Halted.{Halted, with_receive_ring};
 ghost use Rattle.pmd_rx.specs.Keeping.{blocks_out};
-ghost use Rattle.pmd_rx.specs.PmdAccess.Asks.{Asks};
+ghost use Rattle.pmd_access.specs.Asks.{Asks};
 ghost use Rattle.pmd_driver.specs.Starting.{ComesLate};
 ghost use Rattle.pmd_driver.specs.Blocks.{HasAll, IsWhole};
 ghost use Rattle.pmd_driver.specs.Driver.{handed_of, halted_of};
@@ -13,18 +13,20 @@ ghost use Rattle.pmd_driver.specs.Rising.{HasPlaces, IsOpen, StartsUp, StopsShor
 ghost use Rattle.pmd_driver.specs.Runs.{AreRuns};
 ghost use Rattle.pmd_driver.specs.Started.{is_size, has_room, start_gate, left_accepted, left_handed, IsHome, IsShut};
 ghost use Rattle.pmd_driver.specs.Started.{HasStarted, IsLeftWith, StopsStarting};
-ghost use Rattle.pmd_rx.specs.PmdAccess.Begun.{BeganAs};
-ghost use Rattle.pmd_rx.specs.PmdAccess.Frames.{is_frame};
-ghost use Rattle.pmd_rx.specs.PmdAccess.Home.{AreOut};
-ghost use Rattle.pmd_rx.specs.PmdAccess.Slots.{blocks_for};
-ghost use Rattle.pmd_rx.specs.PmdAccess.Refusals.{Refusals, CanFail};
+ghost use Rattle.pmd_access.specs.Begun.{BeganAs};
+ghost use Rattle.pmd_access.specs.Frames.{is_frame};
+ghost use Rattle.pmd_access.specs.Home.{AreOut};
+ghost use Rattle.pmd_access.specs.Slots.{blocks_for};
+ghost use Rattle.pmd_access.specs.Refusals.{Refusals, CanFail};
 
 use crate::driver::{Pmd, Rings};
 use crate::halted::Halted;
 use crate::home::Home;
 use crate::rings::{Unprepared, go_on, receive_ring, transmit_ring};
 use crate::running::Running;
-use pmd_rx::{Arena, Nic, PmdFault, Port, Queue, ReceiveRing, blocks_for, is_frame};
+use device_lock::{Arena, Port};
+use pmd_access::{Nic, PmdFault, Queue, blocks_for, is_frame};
+use pmd_rx::ReceiveRing;
 use std::alloc::Global;
 
 /// What a start leaves that is refused.

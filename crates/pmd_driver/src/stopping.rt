@@ -1,8 +1,8 @@
 //! A driver whose rings are closed, on its way home.
 
 ghost use Rattle.std.specs.Prelude.{◌++◌, IfOk, IfErr, OnOk, OnErr};
-ghost use Rattle.pmd_rx.specs.PmdAccess.Home.{AreOut, BringsAll, StopsBringing};
-ghost use Rattle.pmd_rx.specs.PmdAccess.Asks.{Asks};
+ghost use Rattle.pmd_access.specs.Home.{AreOut, BringsAll, StopsBringing};
+ghost use Rattle.pmd_access.specs.Asks.{Asks};
 ghost use Rattle.pmd_driver.specs.Faults.{called_in, stopped_in};
 ghost use Rattle.pmd_driver.specs.Halted.{IsHalted};
 ghost use Rattle.pmd_driver.specs.Leaving.{leaving_as, bringing_both};
@@ -10,7 +10,8 @@ ghost use Rattle.pmd_driver.specs.Stopping.{ComesHome, GoesHome, IsLeft, IsLeftA
 
 use crate::halted::Halted;
 use crate::home::{Home, StopFailed};
-use pmd_rx::{Arena, CallFault, Nic, PmdFault, Queue, Reclaim, Record};
+use device_lock::{Arena, CallFault};
+use pmd_access::{Nic, PmdFault, Queue, Reclaim, Record};
 use std::alloc::Global;
 
 /// A driver whose rings are closed: their blocks are on their way home.

@@ -1,6 +1,3 @@
-pub use Rattle.pmd_access.proofs as PmdAccess
-pub use Rattle.pmd_access.proofs.DeviceLock
-pub use Rattle.pmd_access.proofs.NicDevice
 pub mod Acting
 pub mod Bursts
 pub mod Closing

@@ -12,12 +12,4 @@ mod receive;
 mod ring;
 mod tail;
 
-pub use pmd_access::{
-    Arena, BLOCK_BYTES, BLOCK_NUMBERS, Bufs, Call, CallFault, Calls, CloseFault, CloseRefused,
-    Closed, Dir, Direct, Entry, Event, EventNote, Finished, Interleaved, LONGEST_FRAME, Made, Mode,
-    NewFault, Nic, Octets, POLLS, Packet, Pass, Place, PmdFault, Port, QUEUES, Queue, Reclaim,
-    Record, Reply, RowId, SHORTEST_FRAME, Settings, Setup, Shared, ThroughLock, Watched, Why,
-    blocks_for, fresh_packet, give_bufs, give_packet, history_of, is_frame, leave, left_alone,
-    lend, marked_history, most_blocks, packet_limit, pf_setup, place_at, queues_of,
-};
 pub use ring::ReceiveRing;

@@ -1,4 +1,3 @@
-pub use Rattle.pmd_access.proofs as PmdAccess
 pub mod Acting
 pub mod Counting
 pub mod Distinct

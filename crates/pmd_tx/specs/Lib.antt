@@ -1,4 +1,3 @@
-pub use Rattle.pmd_access.specs as PmdAccess
 pub mod Acts
 pub mod Counted
 pub mod Leaving

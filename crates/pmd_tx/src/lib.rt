@@ -13,6 +13,5 @@ mod ring;
 mod sending;
 
 pub use answer::{Reaped, TxAnswer, TxFault};
-pub use pmd_access::bytes_in;
 pub use ring::TransmitRing;
 pub use sending::are_out;

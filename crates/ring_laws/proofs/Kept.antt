@@ -2,9 +2,9 @@
 -- packets that it saw, and how the pieces are cut after those that were consumed.
 use Rattle.history_laws.specs.Prelude.{Block, Memory, ends_packet}
 use Rattle.history_laws.{proofs.Leaving.named-same, specs.Prelude.State, specs.Prelude.bytes_in, specs.Prelude.mode_in}
-use Rattle.pmd_rx.{proofs.PmdAccess.Copying.bytes-more, proofs.PmdAccess.Rings.each_ring_block}
-use Rattle.pmd_rx.{proofs.PmdAccess.Rings.ring_block_among, specs.Keeping.fresh_block, specs.Keeping.has_lent}
-use Rattle.pmd_rx.{specs.PmdAccess.Bufs.bytes_of}
+use Rattle.pmd_access.proofs.{Copying.bytes-more, Rings.each_ring_block, Rings.ring_block_among}
+use Rattle.pmd_rx.specs.Keeping.{fresh_block, has_lent}
+use Rattle.pmd_access.specs.Bufs.{bytes_of}
 use Rattle.ring_laws.specs.Joint.{AreOpen, AreSeen, InOrder, IsRing, StageHolds, still_held}
 use Rattle.ring_laws.specs.ReceivePrelude.{EachRingBlock, Layout, Lent, Takes, Reported, block_at, ended_of, reach, slot_at}
 use Rattle.ring_laws.specs.ReceivePrelude.{Receive, Stage, is_ring_block, kept_of, left_of, no_packet, records_of, took}

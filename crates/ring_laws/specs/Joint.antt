@@ -10,7 +10,7 @@ use Rattle.ring_laws.specs.ReceivePrelude.{block_at, blocks_for, descriptor_at, 
 use Rattle.ring_laws.specs.ReceivePrelude.{left_of}
 use Rattle.ring_laws.specs.ReceivePrelude.{no_packet, reach, records_of, slot_at, vacant}
 use Rattle.pmd_rx.specs.declared.ring.Stage.TheVariants.{Owes}
-use Rattle.pmd_rx.specs.PmdAccess.Bufs.{bytes_of}
+use Rattle.pmd_access.specs.Bufs.{bytes_of}
 use Rattle.ring_laws.specs.Pieces.{Piece, open_after, packets_after, packets_of, piece_at}
 
 -- a descriptor that waits: it names its block, and isn't done

@@ -16,7 +16,8 @@ use Rattle.start_laws.specs.Prelude.{LeavesBlocks, LeavesRegisters, Memory, Mode
 use Rattle.start_laws.specs.Prelude.{Rxdctl, Sends, State, Tx, Watched, WritesNoSetting, WritesOutside, after}
 use Rattle.start_laws.specs.Prelude.{after_call, call_of, calls_of, doers_other, has_block, has_lent, is_neither}
 use Rattle.start_laws.specs.Prelude.{is_step, leads_to, lent_by, mode_in, pieces, place, played_by, reply_to, sent_by}
-use Rattle.pmd_driver.{proofs.NicDevice.Steps.step_leads, specs.NicDevice.RegTable.declared.rows.RowId.TheVariants.Txdctl}
+use Rattle.device_lock.proofs.NicDevice.Steps.{step_leads}
+use Rattle.device_lock.specs.{Alone.place_at, NicDevice.RegTable.declared.rows.RowId.TheVariants.Txdctl}
 use Rattle.pmd_driver.proofs.Followed.{both_own, both_played, others_own, others_played, own_length}
 use Rattle.ring_laws.proofs.Foreign.{alone_stays_up, left_keeps, left_up, own_stays_up}
 use Rattle.ring_laws.proofs.{HistoryLaws.Written.place_named, Off.enable_words_keep as transmit_word_keeps}
@@ -26,9 +27,10 @@ use Rattle.ring_laws.specs.{Agreeing.Agrees, HistoryLaws.Lent.LendsOneOf, Fittin
 use Rattle.std.proofs.Common.{Bool, List, [], ap, append_assoc, arith, false, length, refl, rules, subst, sym, true, ℕ}
 use Rattle.std.proofs.lemmas.{Bool.eq-eqb, Grind.common_steps, List.append-nil}
 use Rattle.std.{proofs.Common.◌++◌, proofs.Common.◌∙◌, proofs.Common.◌∷◌, proofs.Common.◌≡◌, specs.Prelude.◌==◌}
-use Rattle.{pmd_driver.specs.DeviceLock.Alone.place_at, ring_laws.specs.Moves.MayMove, start_laws.specs.Enabling.EnableWordsKeep}
+use Rattle.ring_laws.specs.Moves.{MayMove}
+use Rattle.start_laws.specs.Enabling.{EnableWordsKeep}
 use Rattle.{pmd_driver.specs.Halves.OthersStep, pmd_driver.specs.PmdTx.Sending.moved, std.specs.Prelude.IsTrue}
-use Rattle.pmd_driver.specs.NicDevice.declared.event.Event.TheVariants as event
+use Rattle.device_lock.specs.NicDevice.declared.event.Event.TheVariants as event
 use Rattle.pmd_driver.specs.PmdRx.Keeping as received_half
 use Rattle.pmd_driver.specs.PmdTx.Sending as sending
 use Rattle.ring_laws.specs.ReceiveUp as received

@@ -8,7 +8,8 @@ use crate::cell::TaskCell;
 use crate::fault::WorkerFault;
 use crate::job::Job;
 use crate::reports::{Collector, Report};
-use pmd_driver::{Pass, Rest};
+use device_lock::Pass;
+use pmd_driver::Rest;
 
 /// What a worker leaves. It can't be dropped.
 pub struct WorkerEnd {

@@ -58,12 +58,16 @@ pub use hosted::run;
 pub use job::{Job, overlap};
 pub use lending::others_lend_none;
 pub use meeting::{Lockstep, MAX_MEMBERS};
+pub use device_lock::{
+    Call, CallFault, Calls, CloseFault, CloseRefused, Closed, Entry, Made, NewFault, Pass, Settings,
+    Shared, Watched, leave, left_alone,
+};
+pub use pmd_access::{
+    Bufs, Direct, Finished, Interleaved, LONGEST_FRAME, Nic, POLLS, Packet, PmdFault, Queue, Record,
+    SHORTEST_FRAME, Setup, ThroughLock, history_of, marked_history, pf_setup,
+};
 pub use pmd_driver::{
-    Arrived, Bufs, Call, CallFault, Calls, CloseFault, CloseRefused, Closed, Direct, Entry,
-    Finished, Home, Interleaved, LONGEST_FRAME, Made, NewFault, Nic, POLLS, Packet, Pass, Pmd,
-    PmdFault, Queue, Reaped, Record, Rest, SHORTEST_FRAME, Settings, Setup, Shared, StartRefused,
-    StopRefused, ThroughLock, TxAnswer, TxFault, Watched, arrive, history_of, leave, left_alone,
-    marked_history, pf_setup,
+    Arrived, Home, Pmd, Reaped, Rest, StartRefused, StopRefused, TxAnswer, TxFault, arrive,
 };
 pub use quiet::never_asked_on;
 pub use reports::{Collector, Report};

@@ -5,7 +5,7 @@ use Rattle.driver_laws.proofs.Prelude.{calls_of, calls_other, common_steps, even
 use Rattle.driver_laws.proofs.Prelude.{leads-append, leads_to, led, legal-append, refl, ℕ, ◌++◌, ◌<◌, ◌==◌, ◌∷◌, ◌≡◌}
 use Rattle.driver_laws.proofs.{Beside.own_are, Closed.calls_stand, Faultless.made, Order.along_before, Prelude.Call}
 use Rattle.driver_laws.proofs.{Prelude.Entry, Prelude.IsTrue, Prelude.new_sound, Prelude.new_state}
-use Rattle.driver_laws.proofs.{StartLaws.HistoryLaws.Alone.new_is_left_alone}
+use Rattle.start_laws.proofs.HistoryLaws.Alone.{new_is_left_alone}
 use Rattle.driver_laws.specs.InHand.{IsClosed, IsHistoryAtLock, IsHistoryOf, WasMade, at_lock, in_hand}
 use Rattle.driver_laws.specs.Closed.{UpTo}
 use Rattle.start_laws.specs.DeviceLock.{Alone.LeavesAlone, Pass.PassValue}

@@ -1,6 +1,6 @@
-use Rattle.pmd_rx.specs.NicDevice.declared.event.Event.TheVariants as event
-use Rattle.pmd_rx.proofs.PmdAccess.Refusals.{without_refuses}
-use Rattle.pmd_rx.proofs.PmdAccess.Replying.{adds_as}
+use Rattle.device_lock.specs.NicDevice.declared.event.Event.TheVariants as event
+use Rattle.pmd_access.proofs.Refusals.{without_refuses}
+use Rattle.pmd_access.proofs.Replying.{adds_as}
 use Rattle.pmd_driver.proofs.arriving.bring.Goals as goal
 
 pub returns-in-Done-clause-arrives : goal.returns-in-Done-clause-arrives

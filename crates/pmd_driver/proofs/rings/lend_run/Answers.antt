@@ -1,9 +1,9 @@
 use Rattle.std.proofs.Common.{ℕ, ◌+◌, List, [], ◌∷◌, ◌++◌, sym, ap, subst, ◌∙◌, arith}
 use Rattle.std.specs.List.{range_with_len}
-use Rattle.pmd_rx.specs.NicDevice.DmaArena.Numbers.{Numbers}
-use Rattle.pmd_rx.specs.PmdAccess.Home.{IsDrawn}
-use Rattle.pmd_rx.proofs.PmdAccess.Rings.{range_more}
-use Rattle.pmd_rx.proofs.PmdAccess.Asking.{asks_then}
+use Rattle.device_lock.specs.NicDevice.DmaArena.Numbers.{Numbers}
+use Rattle.pmd_access.specs.Home.{IsDrawn}
+use Rattle.pmd_access.proofs.Rings.{range_more}
+use Rattle.pmd_access.proofs.Asking.{asks_then}
 use Rattle.pmd_driver.specs.Starting.{StopsLending}
 use Rattle.pmd_driver.proofs.Lending.{drawn_next, lends_next, stops_next, next_free}
 use Rattle.pmd_driver.proofs.rings.lend_run.Goals as goal

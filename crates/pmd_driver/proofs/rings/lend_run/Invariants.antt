@@ -1,8 +1,8 @@
 use Rattle.std.proofs.Common.{◌≡◌, ◌+◌, ◌≤◌, None}
 use Rattle.std.specs.List.{range_with_len}
 use Rattle.std.specs.VecDeque.{deque_len, deque_capacity}
-use Rattle.pmd_rx.specs.PmdAccess.Home.{IsDrawn}
-use Rattle.pmd_rx.specs.PmdAccess.Asks.{Asks}
+use Rattle.pmd_access.specs.Home.{IsDrawn}
+use Rattle.pmd_access.specs.Asks.{Asks}
 use Rattle.pmd_driver.specs.Starting.{LendsEach}
 use Rattle.pmd_driver.proofs.rings.lend_run.Given as goal
 

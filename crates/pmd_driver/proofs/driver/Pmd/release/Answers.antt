@@ -1,6 +1,6 @@
 use Rattle.std.proofs.Common.{ℕ, List, [], ap}
 use Rattle.std.proofs.lemmas.Result.{on_err_weaker}
-use Rattle.pmd_rx.specs.PmdAccess.Bufs.{numbers_of}
+use Rattle.pmd_access.specs.Bufs.{numbers_of}
 use Rattle.pmd_driver.specs.Halted.{Halted}
 use Rattle.pmd_driver.specs.Running.{Running}
 use Rattle.pmd_driver.specs.declared.driver.Rings.TheVariants.{Up, Down}

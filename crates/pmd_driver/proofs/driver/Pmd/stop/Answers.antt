@@ -1,11 +1,11 @@
 use Rattle.std.proofs.Common.{◌∙◌, ap, ◌≡◌, ℕ}
 use Rattle.pmd_driver.specs.Halted.{Halted, all_out, is_free_or_out}
 use Rattle.pmd_driver.specs.Stopping.{Stops, StopFails}
-use Rattle.pmd_rx.specs.PmdAccess.Named.{AtPort}
+use Rattle.pmd_access.specs.Named.{AtPort}
 use Rattle.pmd_driver.specs.Driver.{Driver}
 use Rattle.pmd_driver.specs.declared.driver.Rings.TheVariants.{Down}
 use Rattle.pmd_driver.proofs.Driving.{stops_as}
-use Rattle.pmd_rx.specs.NicDevice.DmaArena.Numbers.{is_free}
+use Rattle.device_lock.specs.NicDevice.DmaArena.Numbers.{is_free}
 use Rattle.pmd_driver.proofs.driver.Pmd.stop.Goals as goal
 
 pub returns-in-Ok-clause-home : goal.returns-in-Ok-clause-home

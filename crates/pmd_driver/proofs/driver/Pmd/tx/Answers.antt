@@ -1,5 +1,5 @@
 use Rattle.std.proofs.Common.{refl}
-use Rattle.pmd_rx.specs.PmdAccess.Bufs.{numbers_of}
+use Rattle.pmd_access.specs.Bufs.{numbers_of}
 use Rattle.pmd_driver.specs.Driver.{Driver}
 use Rattle.pmd_driver.proofs.Driving.{never_up}
 use Rattle.pmd_rx.specs.Keeping.{numbers_in}

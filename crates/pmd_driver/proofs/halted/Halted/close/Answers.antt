@@ -1,6 +1,6 @@
 use Rattle.std.proofs.Common.{[], refl, sym, subst}
-use Rattle.pmd_rx.specs.NicDevice.DmaArena.Numbers.{Numbers}
-use Rattle.pmd_rx.specs.PmdAccess.Home.{AreOut}
+use Rattle.device_lock.specs.NicDevice.DmaArena.Numbers.{Numbers}
+use Rattle.pmd_access.specs.Home.{AreOut}
 use Rattle.pmd_driver.specs.Ends.{halted_as, held_of, received_way, sent_way, waiting_of}
 use Rattle.pmd_driver.specs.Halted.{Halted}
 use Rattle.pmd_driver.specs.declared.ends.Receiving.TheVariants.{Leaves}

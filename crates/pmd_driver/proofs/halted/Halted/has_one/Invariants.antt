@@ -1,6 +1,6 @@
 use Rattle.std.proofs.Common.{◌≡◌, drop}
 use Rattle.std.specs.List.{list_any}
-use Rattle.pmd_rx.specs.PmdAccess.Bufs.{numbers_of}
+use Rattle.pmd_access.specs.Bufs.{numbers_of}
 use Rattle.pmd_driver.specs.Halted.{is_out}
 use Rattle.pmd_driver.proofs.halted.Halted.has_one.Given as goal
 

@@ -1,5 +1,5 @@
 use Rattle.std.proofs.Common.{ℕ, List, ◌<◌, ◌++◌, length, [], arith}
-use Rattle.pmd_rx.proofs.PmdAccess.Outside.{out_fewer, times-append}
+use Rattle.pmd_access.proofs.Outside.{out_fewer, times-append}
 use Rattle.pmd_driver.proofs.Few.{out_few}
 use Rattle.pmd_driver.proofs.HaltedBlocks.{first_halted}
 use Rattle.pmd_driver.proofs.halted.Halted.of_blocks.Goals as goal

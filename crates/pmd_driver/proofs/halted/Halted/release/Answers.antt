@@ -1,6 +1,6 @@
 use Rattle.std.proofs.Common.{◌≡◌, true, sym, subst, refl}
-use Rattle.pmd_rx.specs.NicDevice.DmaArena.Numbers.{Numbers}
-use Rattle.pmd_rx.specs.PmdAccess.Bufs.{numbers_of}
+use Rattle.device_lock.specs.NicDevice.DmaArena.Numbers.{Numbers}
+use Rattle.pmd_access.specs.Bufs.{numbers_of}
 use Rattle.pmd_driver.specs.Ends.{halted_as}
 use Rattle.pmd_driver.specs.Halted.{Halted, IsHalted, all_out, goes_back}
 use Rattle.pmd_driver.proofs.Counted.{down_out, released_kept}

@@ -1,7 +1,7 @@
 use Rattle.std.proofs.Common.{◌+◌, Option, subst, arith}
-use Rattle.pmd_rx.specs.PmdAccess.declared.fault.PmdFault.{PmdFault}
-use Rattle.pmd_rx.specs.PmdAccess.Asks.{Asks}
-use Rattle.pmd_rx.proofs.PmdAccess.Asking.{asks_none, asks_then}
+use Rattle.pmd_access.specs.declared.fault.PmdFault.{PmdFault}
+use Rattle.pmd_access.specs.Asks.{Asks}
+use Rattle.pmd_access.proofs.Asking.{asks_none, asks_then}
 use Rattle.pmd_driver.specs.Queueing.{Queues}
 use Rattle.pmd_driver.proofs.Queueing.{queues_all, queues_none, queues_then}
 use Rattle.pmd_driver.proofs.running.Running.queue_burst.Goals as goal

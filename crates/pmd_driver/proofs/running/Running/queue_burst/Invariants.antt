@@ -1,5 +1,5 @@
 use Rattle.std.proofs.Common.{◌≡◌, ◌+◌, None, length}
-use Rattle.pmd_rx.specs.PmdAccess.Asks.{Asks}
+use Rattle.pmd_access.specs.Asks.{Asks}
 use Rattle.pmd_driver.specs.Queueing.{Queues}
 use Rattle.pmd_driver.proofs.running.Running.queue_burst.Given as goal
 

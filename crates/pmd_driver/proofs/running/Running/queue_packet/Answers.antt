@@ -1,5 +1,5 @@
 use Rattle.std.proofs.Common.{◌≡◌, refl, sym, ◌∙◌, ap}
-use Rattle.pmd_rx.specs.PmdAccess.declared.packet.Packet.{Packet}
+use Rattle.pmd_access.specs.declared.packet.Packet.{Packet}
 use Rattle.pmd_tx.specs.Sends.{returned}
 use Rattle.pmd_driver.specs.Bursts.{IsKeptOut, MayAnswer}
 use Rattle.pmd_driver.specs.Running.{Running, receives}

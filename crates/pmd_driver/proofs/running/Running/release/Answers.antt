@@ -1,6 +1,6 @@
 use Rattle.std.proofs.Common.{◌≡◌, ℕ, true, List, refl, sym, subst}
-use Rattle.pmd_rx.specs.NicDevice.DmaArena.Numbers.{Numbers}
-use Rattle.pmd_rx.specs.PmdAccess.Bufs.{numbers_of}
+use Rattle.device_lock.specs.NicDevice.DmaArena.Numbers.{Numbers}
+use Rattle.pmd_access.specs.Bufs.{numbers_of}
 use Rattle.pmd_driver.specs.Running.{Running, IsUp, goes_back, rings_out}
 use Rattle.pmd_driver.proofs.Counted.{released_kept}
 use Rattle.pmd_driver.proofs.HaltedBlocks.{never_back}

@@ -1,5 +1,5 @@
 use Rattle.std.proofs.Common.{◌≡◌, refl, sym, ◌∙◌, ap}
-use Rattle.pmd_rx.specs.PmdAccess.declared.packet.Packet.{Packet}
+use Rattle.pmd_access.specs.declared.packet.Packet.{Packet}
 use Rattle.pmd_tx.specs.Sends.{gate_of, returned, IsAnswer, IsShut}
 use Rattle.pmd_driver.specs.Running.{Running, receives}
 use Rattle.pmd_driver.proofs.Driving.{err_later}

@@ -1,5 +1,5 @@
 use Rattle.std.proofs.Common.{refl, sym, subst, arith}
-use Rattle.pmd_rx.specs.PmdAccess.declared.fault.PmdFault.TheVariants as fault
+use Rattle.pmd_access.specs.declared.fault.PmdFault.TheVariants as fault
 use Rattle.pmd_driver.specs.Halted.{Halted}
 use Rattle.pmd_driver.specs.Leaving.{leaving_as}
 use Rattle.pmd_driver.specs.Stopping.{IsLeftAmid}

@@ -26,7 +26,7 @@ pub enum PmdFault {
 }
 
 /// A refusal without its event, where the event holds no block.
-pub(crate) fn without_event(fault: CallFault) -> CallFault<()>
+pub fn without_event(fault: CallFault) -> CallFault<()>
     requires { lent_block (event_of fault) ≡ None }
     ensures fault { result ≡ fault_with fault tt }
     ensures refusal { (way : Refusals) → CanRefuse way fault → CanRefuse way result }

@@ -40,7 +40,7 @@ pub use device_lock::{
     reported_hash, reported_length, reported_rss, second_half,
 };
 pub use direct::Direct;
-pub use fault::PmdFault;
+pub use fault::{PmdFault, without_event};
 pub use frames::{LONGEST_FRAME, SHORTEST_FRAME, is_frame, most_blocks, packet_limit};
 pub use history::{history_of, marked_history};
 pub use home::Reclaim;

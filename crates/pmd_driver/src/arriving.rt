@@ -1,8 +1,6 @@
 //! A frame that arrives from the link.
 
-ghost use Rattle.std.specs.Prelude.{◌≡◌, None, IfOk, IfErr, OnErr};
-ghost use Rattle.device_lock.specs.NicDevice.Step.{lent_block};
-ghost use Rattle.device_lock.specs.Fault.{event_of, fault_with};
+ghost use Rattle.std.specs.Prelude.{◌≡◌, IfOk, IfErr, OnErr};
 ghost use Rattle.pmd_access.specs.Begun.{BeganAs};
 ghost use Rattle.pmd_access.specs.Made.{AddsSome};
 ghost use Rattle.pmd_access.specs.Refusals.{CanFail};
@@ -10,7 +8,7 @@ ghost use Rattle.pmd_access.specs.Asks.{Asks, fault_in};
 ghost use Rattle.pmd_driver.specs.Arriving.{Arrives, IsRefusal};
 
 use device_lock::{CallFault, Event, Octets, Reply, Why};
-use pmd_access::{Nic, PmdFault};
+use pmd_access::{Nic, PmdFault, without_event};
 use std::alloc::Global;
 
 /// What became of a frame that arrived.
@@ -47,23 +45,9 @@ fn bring<N: Nic>(alloc: Global, nic: &mut N, frame: Octets) -> Result<Arrived, P
     ensures call { IfErr result (λ f. IsRefusal f) }
 {
     match nic.call(alloc, Event::Arrive(frame)) {
-        Ok(reply) => match reply {
-            Reply::Done => Ok(Arrived::Taken),
-            Reply::Dropped(why) => Ok(Arrived::Dropped(why)),
-            _ => unreachable!(),
-        },
+        Ok(Reply::Done) => Ok(Arrived::Taken),
+        Ok(Reply::Dropped(why)) => Ok(Arrived::Dropped(why)),
+        Ok(_reply) => unreachable!(),
         Err(fault) => Err(PmdFault::Call(without_event(fault))),
-    }
-}
-
-/// A refusal without its event, where the event lends no block.
-fn without_event(fault: CallFault) -> CallFault<()>
-    requires { lent_block (event_of fault) ≡ None }
-    ensures { result ≡ fault_with fault tt }
-{
-    let (fault, event) = fault.replace(());
-    match event.into_buf() {
-        None => fault,
-        Some(_buf) => unreachable!(),
     }
 }

@@ -23,17 +23,17 @@ mod start;
 mod stopping;
 
 pub use arriving::{Arrived, arrive};
-pub use driver::{Pmd, StopRefused};
-pub use halted::Halted;
-pub use home::{Home, StopFailed};
 pub use device_lock::{
     Arena, BLOCK_BYTES, BLOCK_NUMBERS, Call, CallFault, Calls, CloseFault, CloseRefused, Closed,
     Entry, Event, EventNote, Made, Mode, NewFault, Octets, Pass, Place, Port, QUEUES, Reply, RowId,
     Settings, Shared, Watched, leave, left_alone, place_at, queues_of,
 };
+pub use driver::{Pmd, StopRefused};
+pub use halted::Halted;
+pub use home::{Home, StopFailed};
 pub use pmd_access::{
-    Bufs, Direct, Finished, Interleaved, LONGEST_FRAME, Nic, POLLS, Packet, PmdFault, Queue, Record,
-    SHORTEST_FRAME, Setup, ThroughLock, bytes_in, history_of, marked_history, pf_setup,
+    Bufs, Direct, Finished, Interleaved, LONGEST_FRAME, Nic, POLLS, Packet, PmdFault, Queue,
+    Record, SHORTEST_FRAME, Setup, ThroughLock, bytes_in, history_of, marked_history, pf_setup,
 };
 pub use pmd_tx::{Reaped, TxAnswer, TxFault};
 pub use running::Running;

@@ -48,6 +48,10 @@ mod worker_task;
 
 pub use beginning::{Given, begins_well, queue_at};
 pub use cell::{Task, TaskCell};
+pub use device_lock::{
+    Call, CallFault, Calls, CloseFault, CloseRefused, Closed, Entry, Made, NewFault, Pass,
+    Settings, Shared, Watched, leave, left_alone,
+};
 pub use driving::{Order, run_worker};
 pub use ends::{Ran, RunFault, RunRefused, WorkerEnd};
 pub use fault::WorkerFault;
@@ -58,13 +62,9 @@ pub use hosted::run;
 pub use job::{Job, overlap};
 pub use lending::others_lend_none;
 pub use meeting::{Lockstep, MAX_MEMBERS};
-pub use device_lock::{
-    Call, CallFault, Calls, CloseFault, CloseRefused, Closed, Entry, Made, NewFault, Pass, Settings,
-    Shared, Watched, leave, left_alone,
-};
 pub use pmd_access::{
-    Bufs, Direct, Finished, Interleaved, LONGEST_FRAME, Nic, POLLS, Packet, PmdFault, Queue, Record,
-    SHORTEST_FRAME, Setup, ThroughLock, history_of, marked_history, pf_setup,
+    Bufs, Direct, Finished, Interleaved, LONGEST_FRAME, Nic, POLLS, Packet, PmdFault, Queue,
+    Record, SHORTEST_FRAME, Setup, ThroughLock, history_of, marked_history, pf_setup,
 };
 pub use pmd_driver::{
     Arrived, Home, Pmd, Reaped, Rest, StartRefused, StopRefused, TxAnswer, TxFault, arrive,

@@ -9,9 +9,8 @@
 
 /* as in driver_frames.rt.in */
 enum { RUNS = 50, FRAMES = 2000 };
-/* the entries of a frame: 12 events, and the four device steps before two of them, one of which does something; where
-   all four are idle they take no room of their own */
-enum { ENTRIES = 12 + 2 * 4 };
+/* the entries of a frame: 12 events, and the two device steps that do something; idle ones take no room of their own */
+enum { ENTRIES = 12 + 2 };
 /* the bytes of a call, in hand or of a pass, and of an entry of the history, each with the idle steps before it */
 enum { MADE = 88, ENTRY = 88 };
 /* the notes of a frame with its bytes: it arrives and is collected, noted in each list of calls; the notes of its

@@ -1,8 +1,9 @@
 -- The calls of one pass in a history, against calls as they are kept.
-use Rattle.std.proofs.Common.{suc, ◌≡◌, ◌≢◌, ◌↔◌, ℕ, ◌+◌, ◌<◌, Option, List, [], ◌∷◌, ◌++◌, length, get_or, take, drop, refl, sym, ◌∙◌, ap, arith, drop-cons, append_assoc, append-nil}
+use Rattle.std.proofs.Common.{suc, ◌≡◌, ◌≢◌, ◌↔◌, ℕ, ◌+◌, ◌<◌, List, [], ◌∷◌, ◌++◌, length, get_or, take, drop, refl, sym, ◌∙◌, ap, arith, drop-cons, append_assoc, append-nil}
 use Rattle.std.proofs.lemmas.List.{append_cancel_left, take_more, take-append-drop}
 use Rattle.device_lock.specs.declared.calls.Made.{Made}
 use Rattle.device_lock.specs.declared.entry.Call.{Call}
+use Rattle.device_lock.specs.declared.resting.IdleSteps.{IdleSteps}
 use Rattle.device_lock.specs.Calls.{rested_calls, made_calls, calls_in}
 
 -- calls as they are kept, up to one of them and from it on
@@ -24,7 +25,7 @@ made_further made i m d lt is all rest more are next =
     ∙ ap (λ (x : Made). made_calls (take i made ++ x ∷ [])) is
     ∙ ap (λ (l : List Made). made_calls l) (sym (take_more made i d lt)))
 
-made_parts : (made : List Made) (i : ℕ) (m : Made) (d : Made) (rested : Option ℕ) → i < length made
+made_parts : (made : List Made) (i : ℕ) (m : Made) (d : Made) (rested : IdleSteps) → i < length made
     → m ≡ get_or made i d
     → calls_in made rested
     ≡ made_calls (take i made) ++ (made_calls (m ∷ []) ++ (made_calls (drop (i + 1) made) ++ rested_calls rested))
@@ -45,7 +46,7 @@ made_parts made i m d rested lt is =
     (append_assoc (made_calls (m ∷ [])) (made_calls rest) last)
 
 -- where the calls don't go on as those that are kept, the lists differ
-pub made_differ : (made : List Made) (i : ℕ) (m : Made) (d : Made) (rested : Option ℕ) → i < length made
+pub made_differ : (made : List Made) (i : ℕ) (m : Made) (d : Made) (rested : IdleSteps) → i < length made
     → m ≡ get_or made i d → (all rest : List Call) → all ≡ made_calls (take i made) ++ rest
     → ((more : List Call) → rest ≢ made_calls (m ∷ []) ++ more) → all ≢ calls_in made rested
 made_differ made i m d rested lt is all rest are none same =
@@ -53,14 +54,14 @@ made_differ made i m d rested lt is all rest are none same =
     (append_cancel_left (made_calls (take i made)) rest _ (sym are ∙ same ∙ made_parts made i m d rested lt is))
 
 -- nor where the idle steps after the last call aren't there
-pub rest_differs : (made : List Made) (rested : Option ℕ) (all rest : List Call) → all ≡ made_calls made ++ rest
+pub rest_differs : (made : List Made) (rested : IdleSteps) (all rest : List Call) → all ≡ made_calls made ++ rest
     → ((more : List Call) → rest ≢ rested_calls rested ++ more) → all ≢ calls_in made rested
 rest_differs made rested all rest are none same =
     none [] (append_cancel_left (made_calls made) rest _
     (sym are ∙ same ∙ ap (λ (l : List Call). made_calls made ++ l) (sym (append-nil (rested_calls rested)))))
 
 -- and where they are, the lists are the same just where no call is after them
-pub rest_stands : (made : List Made) (rested : Option ℕ) (all rest more : List Call) → all ≡ made_calls made ++ rest
+pub rest_stands : (made : List Made) (rested : IdleSteps) (all rest more : List Call) → all ≡ made_calls made ++ rest
     → rest ≡ rested_calls rested ++ more → (more ≡ []) ↔ (all ≡ calls_in made rested)
 rest_stands made rested all rest more are then = (
   λ none. are ∙ ap (λ (l : List Call). made_calls made ++ l)

@@ -19,7 +19,7 @@ use crate::entry::Call;
 use crate::fault::CallFault;
 use crate::locked::Locked;
 use crate::noting::{note_of, ready};
-use crate::resting::{STEPS, keep_idle};
+use crate::resting::{IdleSteps, STEPS, keep_idle};
 use nic_device::{Device, Event, EventNote, Notes, OutOfMemory, Reply, ReplyNote};
 use std::alloc::Global;
 use std::marker::Model;
@@ -30,18 +30,18 @@ const FIRST_ROOM: usize = 65_536;
 /// A call, and what was made before it.
 #[derive(Debug, Drop)]
 pub struct Made {
-    /// The queue whose device steps were made before the call, each of them idle. None where they weren't.
-    pub rested: Option<u16>,
+    /// The device steps that were made before the call, each of them idle.
+    pub rested: IdleSteps,
     /// The call that was made then.
     pub call: Call,
 }
 
-/// The calls that were made of a device, with their replies, the oldest first. The device steps of a queue at rest take
-/// no room of their own.
+/// The calls that were made of a device, with their replies, the oldest first. Device steps of a queue that are idle
+/// take no room of their own.
 #[derive(Debug, Drop)]
 pub struct Calls {
     made: Vec<Made>,
-    rested: Option<u16>,
+    rested: IdleSteps,
     spare: Vec<u8>,
     notes: Notes,
 }
@@ -63,15 +63,15 @@ impl Calls {
     {
         Calls {
             made: Vec::new(alloc),
-            rested: None,
+            rested: IdleSteps::none(),
             spare: Vec::new(alloc),
             notes: Notes::new(alloc),
         }
     }
 
-    /// The calls as they are kept: each with what was made before it, and the queue whose device steps were made after
-    /// the last and were idle. None where they weren't.
-    pub fn kept(&self) -> (&[Made], Option<u16>)
+    /// The calls as they are kept: each with what was made before it, and the device steps that were made after the
+    /// last and were idle.
+    pub fn kept(&self) -> (&[Made], IdleSteps)
         ensures { calls_in result.0.now result.1 ≡ self.now }
     {
         (self.made.as_slice(), self.rested)
@@ -84,11 +84,13 @@ impl Calls {
         ensures idle { result ≡ true → Rests device.now queue }
         ensures unchanged { result ≡ false → self.new ≡ self.old }
     {
-        if self.rested.is_some() || !device.is_at_rest(queue) {
-            return false;
+        match IdleSteps::all(queue) {
+            Some(steps) if self.rested.is_none() && device.is_at_rest(queue) => {
+                self.rested = steps;
+                true
+            }
+            _ => false,
         }
-        self.rested = Some(queue);
-        true
     }
 
     /// Makes one event of a device, and keeps the call.
@@ -141,7 +143,7 @@ impl Calls {
             return Err(OutOfMemory(event));
         }
         end_event(event);
-        put_call(&mut self.made, &mut self.rested, note, Reply::Idle);
+        put_idle(&mut self.made, &mut self.rested, note);
         Ok(Reply::Idle)
     }
 
@@ -163,11 +165,13 @@ impl Calls {
         ensures unchanged { result ≡ false → self.new ≡ self.old }
         ensures refused { result ≡ false → locked.new ≡ locked.old }
     {
-        if self.rested.is_some() || !locked.rest(tag, queue) {
-            return false;
+        match IdleSteps::all(queue) {
+            Some(steps) if self.rested.is_none() && locked.rest(tag, queue) => {
+                self.rested = steps;
+                true
+            }
+            _ => false,
         }
-        self.rested = Some(queue);
-        true
     }
 
     /// Makes one event under the lock for the pass of this tag, and keeps the call.
@@ -234,7 +238,7 @@ impl Calls {
             return Err(CallFault::OutOfMemory(event));
         }
         let idle = locked.step(alloc, tag, event)?;
-        put_call(&mut self.made, &mut self.rested, note, Reply::Idle);
+        put_idle(&mut self.made, &mut self.rested, note);
         Ok(idle)
     }
 
@@ -254,10 +258,10 @@ impl Calls {
             notes: _,
         } = self;
         for it in made {
-            put_rested(&mut calls, it.rested);
+            keep_idle(&mut calls, it.rested);
             calls.push_reserved(it.call);
         }
-        put_rested(&mut calls, rested);
+        keep_idle(&mut calls, rested);
         Ok(calls)
     }
 }
@@ -282,7 +286,7 @@ fn make_room(made: &mut Vec<Made>)
 }
 
 /// Puts a call after the others and the idle steps after the last of them. There is room for it.
-fn put_call(made: &mut Vec<Made>, rested: &mut Option<u16>, event: EventNote, reply: ReplyNote)
+fn put_call(made: &mut Vec<Made>, rested: &mut IdleSteps, event: EventNote, reply: ReplyNote)
     requires { vec_len made.old < vec_capacity made.old }
     ensures { calls_in made.new.items rested.new ≡ calls_in made.old.items rested.old ++ call_of event reply ∷ [] }
 {
@@ -290,7 +294,19 @@ fn put_call(made: &mut Vec<Made>, rested: &mut Option<u16>, event: EventNote, re
         rested: *rested,
         call: Call { event, reply },
     });
-    *rested = None;
+    *rested = IdleSteps::none();
+}
+
+/// Puts the call of an idle event behind the others and the idle steps after the last of them: as one of these steps
+/// where it is the next, else by itself. There is room for it.
+fn put_idle(made: &mut Vec<Made>, rested: &mut IdleSteps, event: EventNote)
+    requires { vec_len made.old < vec_capacity made.old }
+    ensures { calls_in made.new.items rested.new ≡ calls_in made.old.items rested.old ++ call_of event Idle ∷ [] }
+{
+    match rested.and(&event) {
+        Some(more) => *rested = more,
+        None => put_call(made, rested, event, Reply::Idle),
+    }
 }
 
 /// Takes room for so many calls, for the device steps before each, and for those after the last. Answers whether there
@@ -303,17 +319,5 @@ fn reserve_for(calls: &mut Vec<Call>, count: usize) -> bool
     match count.checked_mul(STEPS + 1) {
         Some(most) if most <= usize::MAX - STEPS => calls.reserve(most + STEPS).is_ok(),
         _ => false,
-    }
-}
-
-/// Puts the calls of device steps that were idle, where there were some. There is room for them.
-fn put_rested(calls: &mut Vec<Call>, rested: Option<u16>)
-    requires { vec_len calls.old + 4 ≤ vec_capacity calls.old }
-    ensures items { calls.new.items ≡ calls.old.items ++ rested_calls rested }
-    ensures len { vec_len calls.new ≤ vec_len calls.old + 4 }
-    ensures room { vec_capacity calls.new ≡ vec_capacity calls.old }
-{
-    if let Some(queue) = rested {
-        keep_idle(calls, queue);
     }
 }

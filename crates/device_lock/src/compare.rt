@@ -1,21 +1,19 @@
 //! Passes that come back, against the history.
 
 ghost use Rattle.std.specs.Prelude.{◌≡◌, ◌≢◌, ◌<◌, ◌↔◌, ℕ, IsTrue, IfSome, IfNone, All, List, [], ◌∷◌, ◌++◌, slice_index};
-ghost use Rattle.nic_device.specs.declared.event.Reply.TheVariants.{Idle};
 ghost use Rattle.device_lock.specs.Calls.{made_calls, rested_calls};
 ghost use Rattle.device_lock.specs.Closing.{tag_count, AllThere, AreAll, StandsIn, TagStands, IsMissing, IsMismatch};
 ghost use Rattle.device_lock.specs.History.{calls_of};
 ghost use Rattle.device_lock.specs.Kept.{entries_of};
-ghost use Rattle.device_lock.specs.Pass.{IsOwn, call_of};
-ghost use Rattle.device_lock.specs.Resting.{idle_calls};
-ghost use Rattle.device_lock.specs.Stepping.{steps_of_queue};
+ghost use Rattle.device_lock.specs.Pass.{IsOwn};
+ghost use Rattle.device_lock.specs.Resting.{idle_calls, step_if};
 ghost use Rattle.device_lock.specs.declared.entry.Call.{Call};
 
 use crate::calls::{Calls, Made};
 use crate::entry::{Call, Entry};
 use crate::locked::Counts;
 use crate::pass::Pass;
-use crate::resting::idle_call;
+use crate::resting::{IdleSteps, idle_call};
 use crate::shared::MAX_PASSES;
 use nic_device::{Dir, Event, EventNote};
 
@@ -35,36 +33,45 @@ fn after_call<'a>(history: &'a [Entry], tag: u8, call: &Call) -> Option<&'a [Ent
     None
 }
 
-/// The entries after the next of this tag, where that is of this event, and idle.
-fn after_step<'a>(history: &'a [Entry], tag: u8, event: EventNote) -> Option<&'a [Entry]>
-    ensures some { IfSome result (λ rest. calls_of tag history.now ≡ call_of event Idle ∷ calls_of tag rest.now) }
-    ensures none { IfNone result ((more : List Call) → calls_of tag history.now ≢ call_of event Idle ∷ more) }
-{
-    after_call(history, tag, &idle_call(event))
-}
-
-/// The entries after those of this tag that come next, where those are of the device steps of a queue, each idle.
-fn after_steps<'a>(history: &'a [Entry], tag: u8, queue: u16) -> Option<&'a [Entry]>
+/// The entries after the next of this tag, where that is of this event, and idle; all of them where it wasn't made.
+fn after_step<'a>(
+    history: &'a [Entry],
+    tag: u8,
+    made: bool,
+    event: EventNote,
+) -> Option<&'a [Entry]>
     ensures some { IfSome result
-        (λ rest. calls_of tag history.now ≡ idle_calls (steps_of_queue queue) ++ calls_of tag rest.now) }
+        (λ rest. calls_of tag history.now ≡ idle_calls (step_if made event) ++ calls_of tag rest.now) }
     ensures none { IfNone result
-        ((more : List Call) → calls_of tag history.now ≢ idle_calls (steps_of_queue queue) ++ more) }
+        ((more : List Call) → calls_of tag history.now ≢ idle_calls (step_if made event) ++ more) }
 {
-    let rest = after_step(history, tag, Event::QueueStep(Dir::Rx, queue))?;
-    let rest = after_step(rest, tag, Event::QueueStep(Dir::Tx, queue))?;
-    let rest = after_step(rest, tag, Event::TxStep(queue))?;
-    after_step(rest, tag, Event::RxStep)
+    if made {
+        after_call(history, tag, &idle_call(event))
+    } else {
+        Some(history)
+    }
 }
 
-/// The same, where there were some, else all entries.
-fn after_rested<'a>(history: &'a [Entry], tag: u8, rested: Option<u16>) -> Option<&'a [Entry]>
+/// The entries after those of this tag that come next, where those are of these device steps, each idle.
+fn after_rested<'a>(history: &'a [Entry], tag: u8, rested: IdleSteps) -> Option<&'a [Entry]>
     ensures some { IfSome result (λ rest. calls_of tag history.now ≡ rested_calls rested ++ calls_of tag rest.now) }
     ensures none { IfNone result ((more : List Call) → calls_of tag history.now ≢ rested_calls rested ++ more) }
 {
-    match rested {
-        None => Some(history),
-        Some(queue) => after_steps(history, tag, queue),
-    }
+    let queue = u16::from(rested.queue);
+    let rest = after_step(
+        history,
+        tag,
+        rested.receive_side,
+        Event::QueueStep(Dir::Rx, queue),
+    )?;
+    let rest = after_step(
+        rest,
+        tag,
+        rested.transmit_side,
+        Event::QueueStep(Dir::Tx, queue),
+    )?;
+    let rest = after_step(rest, tag, rested.sending, Event::TxStep(queue))?;
+    after_step(rest, tag, rested.receiving, Event::RxStep)
 }
 
 /// The entries after those of this tag that come next, where those are of a call and of what was made before it.

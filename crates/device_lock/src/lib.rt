@@ -41,5 +41,6 @@ pub use nic_device::{
 pub use packed::{Packed, Rested};
 pub use pass::Pass;
 pub use reported::{Frames, Settings};
+pub use resting::IdleSteps;
 pub use shared::{CloseRefused, MAX_LIMIT, MAX_PASSES, Shared};
 pub use unlocked::Unlocked;

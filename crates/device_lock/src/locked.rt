@@ -16,8 +16,8 @@ use crate::calls::end_event;
 use crate::entry::Entry;
 use crate::fault::CallFault;
 use crate::noting::{note_of, ready};
-use crate::packed::{Packed, Rested, has_room, hold_room, put_entry, unpacked};
-use crate::resting::STEPS;
+use crate::packed::{Packed, Rested, has_room, hold_room, put_entry, put_idle_entry, unpacked};
+use crate::resting::{IdleSteps, STEPS};
 use crate::shared::MAX_PASSES;
 use crate::unlocked::Unlocked;
 use nic_device::{Config, Device, Event, EventNote, Notes, OutOfMemory, Reply, ReplyNote};
@@ -35,13 +35,13 @@ pub(crate) type Counts = [u32; MAX_PASSES as usize];
 /// Whenever the lock is free the history is legal from a new device of `VFS` virtual functions, whose receive list
 /// takes `FIFO` frames, and leads to the device held; its tags are below 64. It can't be dropped, as the device can't.
 ///
-/// The entries of the device steps of a queue at rest take no room of their own here. Once nothing is shared any more
+/// The entries of device steps of a queue that are idle take no room of their own here. Once nothing is shared any more
 /// it is unlocked, and there each entry stands by itself.
 pub struct Locked<const VFS: u8, const FIFO: u16> {
     pub(crate) device: Device,
     pub(crate) whole: Vec<Entry>,
     pub(crate) packed: Vec<Packed>,
-    pub(crate) rested: Option<Rested>,
+    pub(crate) rested: Rested,
     pub(crate) count: u32,
     pub(crate) counts: Counts,
     pub(crate) limit: u32,
@@ -95,7 +95,7 @@ impl<const VFS: u8, const FIFO: u16> Locked<VFS, FIFO> {
             device,
             whole: Vec::new(alloc),
             packed,
-            rested: None,
+            rested: Rested::none(),
             count: 0,
             counts,
             limit,
@@ -226,7 +226,7 @@ impl<const VFS: u8, const FIFO: u16> Locked<VFS, FIFO> {
             return Err(CallFault::OutOfMemory(event));
         }
         end_event(event);
-        put_entry(&mut self.packed, &mut self.rested, tag, note, Reply::Idle);
+        put_idle_entry(&mut self.packed, &mut self.rested, tag, note);
         self.count += 1;
         count_one(&mut self.counts, tag);
         Ok(Reply::Idle)
@@ -243,13 +243,16 @@ impl<const VFS: u8, const FIFO: u16> Locked<VFS, FIFO> {
         ensures made { result ≡ true → self.new ≡ after_calls self.old tag (steps_of_queue queue) }
         ensures unchanged { result ≡ false → self.new ≡ self.old }
     {
-        if self.rested.is_some() || !self.device.is_at_rest(queue) {
+        if !self.rested.steps.is_none() || !self.device.is_at_rest(queue) {
             return false;
         }
+        let Some(steps) = IdleSteps::all(queue) else {
+            return false;
+        };
         if !has_room(&mut self.whole, self.count, self.limit) {
             return false;
         }
-        self.rested = Some(Rested { pass: tag, queue });
+        self.rested = Rested { pass: tag, steps };
         self.count += STEPS as u32;
         count_steps(&mut self.counts, tag);
         true

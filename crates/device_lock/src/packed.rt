@@ -1,30 +1,57 @@
-//! A history as it is kept under the lock: the entries of the device steps of a queue at rest take no room of their
+//! A history as it is kept under the lock: the entries of device steps of a queue that are idle take no room of their
 //! own. Room for each entry by itself is held, so that all can stand by themselves without asking for memory.
 
-ghost use Rattle.std.specs.Prelude.{◌≡◌, ◌+◌, ◌++◌, ◌∷◌, ◌<◌, ◌≤◌, [], true, length, List};
+ghost use Rattle.std.specs.Prelude.{◌≡◌, ◌+◌, ◌++◌, ◌∷◌, ◌<◌, ◌≤◌, [], true, IfSome, length, List};
 ghost use Rattle.std.specs.Vec.{vec_len, vec_capacity};
+ghost use Rattle.nic_device.specs.declared.event.Reply.TheVariants.{Idle};
 ghost use Rattle.device_lock.specs.History.{entry_of};
 ghost use Rattle.device_lock.specs.Packed.{entries_in, rested_entries};
 ghost use Rattle.device_lock.specs.declared.entry.Entry.{Entry};
 
 use crate::entry::Entry;
-use crate::resting::{STEPS, keep_entries};
-use nic_device::{EventNote, ReplyNote};
+use crate::resting::{IdleSteps, STEPS, keep_entries};
+use nic_device::{EventNote, Reply, ReplyNote};
 
-/// The device steps of a queue, each of them idle.
+/// The device steps of a queue that a pass made, each of them idle.
 #[derive(Clone, Copy, Debug)]
 pub struct Rested {
     /// The tag of the pass that made them.
     pub pass: u8,
-    /// The queue, 0 to 127.
-    pub queue: u16,
+    /// Which of them it made.
+    pub steps: IdleSteps,
+}
+
+impl Rested {
+    /// None of the steps.
+    pub(crate) fn none() -> Rested
+        ensures { rested_entries result ≡ [] }
+    {
+        Rested {
+            pass: 0,
+            steps: IdleSteps::none(),
+        }
+    }
+
+    /// The same steps and this event of a pass, where it is the step that comes after them.
+    fn and(&self, pass: u8, event: &EventNote) -> Option<Rested>
+        ensures { IfSome result (λ more.
+            rested_entries more ≡ rested_entries self.now ++ entry_of pass event.now Idle ∷ []) }
+    {
+        if self.pass != pass && !self.steps.is_none() {
+            return None;
+        }
+        match self.steps.and(event) {
+            Some(steps) => Some(Rested { pass, steps }),
+            None => None,
+        }
+    }
 }
 
 /// An entry, and what was made before it.
 #[derive(Debug, Drop)]
 pub struct Packed {
-    /// The device steps before the entry. None where there were none, or each has an entry of its own.
-    pub rested: Option<Rested>,
+    /// The device steps before the entry that have none of their own.
+    pub rested: Rested,
     /// The tag of the pass that made the call.
     pub pass: u8,
     /// The event, as a note.
@@ -70,7 +97,7 @@ pub(crate) fn has_room(whole: &mut Vec<Entry>, count: u32, limit: u32) -> bool
 #[inline(always)]
 pub(crate) fn put_entry(
     packed: &mut Vec<Packed>,
-    rested: &mut Option<Rested>,
+    rested: &mut Rested,
     pass: u8,
     event: EventNote,
     reply: ReplyNote,
@@ -85,11 +112,29 @@ pub(crate) fn put_entry(
         event,
         reply,
     });
-    *rested = None;
+    *rested = Rested::none();
+}
+
+/// Puts the entry of an idle event after the others and the idle steps after the last of them: as one of these steps
+/// where it is the next, else by itself. There is room for it.
+pub(crate) fn put_idle_entry(
+    packed: &mut Vec<Packed>,
+    rested: &mut Rested,
+    pass: u8,
+    event: EventNote,
+)
+    requires { vec_len packed.old < vec_capacity packed.old }
+    ensures { (whole : List Entry) → entries_in whole packed.new.items rested.new
+        ≡ entries_in whole packed.old.items rested.old ++ entry_of pass event Idle ∷ [] }
+{
+    match rested.and(pass, &event) {
+        Some(more) => *rested = more,
+        None => put_entry(packed, rested, pass, event, Reply::Idle),
+    }
 }
 
 /// The entries one by one: those that are so already, and the others after them. There is room for all.
-pub(crate) fn unpacked(whole: Vec<Entry>, packed: Vec<Packed>, rested: Option<Rested>) -> Vec<Entry>
+pub(crate) fn unpacked(whole: Vec<Entry>, packed: Vec<Packed>, rested: Rested) -> Vec<Entry>
     requires { length (entries_in whole.items packed.items rested) ≤ vec_capacity whole }
     ensures { result.items ≡ entries_in whole.items packed.items rested }
 {
@@ -97,7 +142,7 @@ pub(crate) fn unpacked(whole: Vec<Entry>, packed: Vec<Packed>, rested: Option<Re
     for it in packed {
         put_one(&mut entries, it);
     }
-    put_rested(&mut entries, rested);
+    keep_entries(&mut entries, rested.pass, rested.steps);
     entries
 }
 
@@ -114,17 +159,6 @@ fn put_one(entries: &mut Vec<Entry>, it: Packed)
         event,
         reply,
     } = it;
-    put_rested(entries, rested);
+    keep_entries(entries, rested.pass, rested.steps);
     entries.push_reserved(Entry { pass, event, reply });
-}
-
-/// Puts the entries of device steps that were idle, where there were some. There is room for them.
-fn put_rested(entries: &mut Vec<Entry>, rested: Option<Rested>)
-    requires { vec_len entries.old + length (rested_entries rested) ≤ vec_capacity entries.old }
-    ensures items { entries.new.items ≡ entries.old.items ++ rested_entries rested }
-    ensures room { vec_capacity entries.new ≡ vec_capacity entries.old }
-{
-    if let Some(steps) = rested {
-        keep_entries(entries, steps.pass, steps.queue);
-    }
 }

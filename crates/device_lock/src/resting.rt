@@ -1,10 +1,10 @@
-//! Device steps of a queue at rest: each is idle, so they are kept as calls, and nothing else is done.
+//! Device steps of a queue that are idle: they change nothing, so it is kept which of them were made, and nothing else.
 
-ghost use Rattle.std.specs.Prelude.{◌≡◌, ◌+◌, ◌++◌, ◌≤◌};
+ghost use Rattle.std.specs.Prelude.{◌≡◌, ◌+◌, ◌++◌, ◌∷◌, [], ◌<◌, ◌≤◌, ◌⊎◌, true, IfSome, length};
 ghost use Rattle.std.specs.Vec.{vec_len, vec_capacity};
 ghost use Rattle.nic_device.specs.declared.event.Reply.TheVariants.{Idle};
 ghost use Rattle.device_lock.specs.History.{entry_of};
-ghost use Rattle.device_lock.specs.Resting.{idle_calls, idle_entries};
+ghost use Rattle.device_lock.specs.Resting.{idle_calls, idle_entries, step_if, steps_in};
 ghost use Rattle.device_lock.specs.Pass.{call_of};
 ghost use Rattle.device_lock.specs.Stepping.{steps_of_queue};
 
@@ -13,6 +13,111 @@ use nic_device::{Dir, Event, EventNote, Reply};
 
 /// How many device steps are made before a call.
 pub(crate) const STEPS: usize = 4;
+
+/// Which device steps of a queue were made one after the other, each of them idle.
+#[derive(Clone, Copy, Debug)]
+pub struct IdleSteps {
+    /// The queue, 0 to 127.
+    pub queue: u8,
+    /// Whether its receive side was switched.
+    pub receive_side: bool,
+    /// Whether its transmit side was switched, then.
+    pub transmit_side: bool,
+    /// Whether it sent, then.
+    pub sending: bool,
+    /// Whether the device received, then.
+    pub receiving: bool,
+}
+
+impl IdleSteps {
+    /// None of the steps.
+    pub(crate) fn none() -> IdleSteps
+        ensures { steps_in result ≡ [] }
+    {
+        IdleSteps {
+            queue: 0,
+            receive_side: false,
+            transmit_side: false,
+            sending: false,
+            receiving: false,
+        }
+    }
+
+    /// All steps of a queue. None where its number isn't that of one.
+    pub(crate) fn all(queue: u16) -> Option<IdleSteps>
+        ensures { IfSome result (λ all. steps_in all ≡ steps_of_queue queue) }
+    {
+        match u8::try_from(queue) {
+            Ok(queue) => Some(IdleSteps {
+                queue,
+                receive_side: true,
+                transmit_side: true,
+                sending: true,
+                receiving: true,
+            }),
+            Err(_) => None,
+        }
+    }
+
+    /// Whether there is none.
+    pub(crate) fn is_none(&self) -> bool
+        ensures { result ≡ true → steps_in self.now ≡ [] }
+    {
+        !(self.receive_side || self.transmit_side || self.sending || self.receiving)
+    }
+
+    /// How many they are.
+    pub fn count(&self) -> usize
+        ensures { result ≡ length (steps_in self.now) }
+    {
+        usize::from(self.receive_side)
+            + usize::from(self.transmit_side)
+            + usize::from(self.sending)
+            + usize::from(self.receiving)
+    }
+
+    /// The same steps and this event, where it is the step of the queue that comes after them. Else `None`.
+    pub(crate) fn and(&self, event: &EventNote) -> Option<IdleSteps>
+        ensures { IfSome result (λ more. steps_in more ≡ steps_in self.now ++ event.now ∷ []) }
+    {
+        match event {
+            Event::QueueStep(Dir::Rx, queue) if self.is_none() => Some(IdleSteps {
+                queue: self.queue_as(*queue)?,
+                receive_side: true,
+                ..*self
+            }),
+            Event::QueueStep(Dir::Tx, queue)
+                if !(self.transmit_side || self.sending || self.receiving) => {
+                Some(IdleSteps {
+                    queue: self.queue_as(*queue)?,
+                    transmit_side: true,
+                    ..*self
+                })
+            }
+            Event::TxStep(queue) if !(self.sending || self.receiving) => Some(IdleSteps {
+                queue: self.queue_as(*queue)?,
+                sending: true,
+                ..*self
+            }),
+            Event::RxStep if !self.receiving => Some(IdleSteps {
+                receiving: true,
+                ..*self
+            }),
+            _ => None,
+        }
+    }
+
+    /// The number of a queue, where these steps are of the same, or there is none.
+    fn queue_as(&self, queue: u16) -> Option<u8>
+        ensures queue { IfSome result (λ number. number ≡ queue) }
+        ensures same { IfSome result (λ number. (steps_in self.now ≡ []) ⊎ (number ≡ self.now.queue)) }
+    {
+        match u8::try_from(queue) {
+            Ok(number) if number == self.queue || self.is_none() => Some(number),
+            _ => None,
+        }
+    }
+}
 
 /// The call of a step that was idle.
 pub(crate) fn idle_call(event: EventNote) -> Call
@@ -24,17 +129,30 @@ pub(crate) fn idle_call(event: EventNote) -> Call
     }
 }
 
-/// Keeps the calls of the device steps of a queue, each of which was idle. There is room for them.
-pub(crate) fn keep_idle(calls: &mut Vec<Call>, queue: u16)
+/// Keeps the calls of device steps that were idle. There is room for all that there can be.
+pub(crate) fn keep_idle(calls: &mut Vec<Call>, steps: IdleSteps)
     requires { vec_len calls.old + 4 ≤ vec_capacity calls.old }
-    ensures items { calls.new.items ≡ calls.old.items ++ idle_calls (steps_of_queue queue) }
-    ensures len { vec_len calls.new ≡ vec_len calls.old + 4 }
+    ensures items { calls.new.items ≡ calls.old.items ++ idle_calls (steps_in steps) }
+    ensures len { vec_len calls.new ≤ vec_len calls.old + 4 }
     ensures room { vec_capacity calls.new ≡ vec_capacity calls.old }
 {
-    calls.push_reserved(idle_call(Event::QueueStep(Dir::Rx, queue)));
-    calls.push_reserved(idle_call(Event::QueueStep(Dir::Tx, queue)));
-    calls.push_reserved(idle_call(Event::TxStep(queue)));
-    calls.push_reserved(idle_call(Event::RxStep));
+    let queue = u16::from(steps.queue);
+    keep_call(calls, steps.receive_side, Event::QueueStep(Dir::Rx, queue));
+    keep_call(calls, steps.transmit_side, Event::QueueStep(Dir::Tx, queue));
+    keep_call(calls, steps.sending, Event::TxStep(queue));
+    keep_call(calls, steps.receiving, Event::RxStep);
+}
+
+/// Keeps the call of a step that was idle, if it was made. There is room for it.
+fn keep_call(calls: &mut Vec<Call>, made: bool, event: EventNote)
+    requires { vec_len calls.old < vec_capacity calls.old }
+    ensures items { calls.new.items ≡ calls.old.items ++ idle_calls (step_if made event) }
+    ensures len { vec_len calls.new ≤ vec_len calls.old + 1 }
+    ensures room { vec_capacity calls.new ≡ vec_capacity calls.old }
+{
+    if made {
+        calls.push_reserved(idle_call(event));
+    }
 }
 
 /// The entry of a step that was idle.
@@ -48,14 +166,36 @@ fn idle_entry(pass: u8, event: EventNote) -> Entry
     }
 }
 
-/// Keeps the entries of the device steps of a queue, each of which was idle. There is room for them.
-pub(crate) fn keep_entries(history: &mut Vec<Entry>, pass: u8, queue: u16)
-    requires { vec_len history.old + 4 ≤ vec_capacity history.old }
-    ensures items { history.new.items ≡ history.old.items ++ idle_entries pass (steps_of_queue queue) }
+/// Keeps the entries of device steps that were idle. There is room for them.
+pub(crate) fn keep_entries(history: &mut Vec<Entry>, pass: u8, steps: IdleSteps)
+    requires { vec_len history.old + length (idle_entries pass (steps_in steps)) ≤ vec_capacity history.old }
+    ensures items { history.new.items ≡ history.old.items ++ idle_entries pass (steps_in steps) }
     ensures room { vec_capacity history.new ≡ vec_capacity history.old }
 {
-    history.push_reserved(idle_entry(pass, Event::QueueStep(Dir::Rx, queue)));
-    history.push_reserved(idle_entry(pass, Event::QueueStep(Dir::Tx, queue)));
-    history.push_reserved(idle_entry(pass, Event::TxStep(queue)));
-    history.push_reserved(idle_entry(pass, Event::RxStep));
+    let queue = u16::from(steps.queue);
+    keep_entry(
+        history,
+        pass,
+        steps.receive_side,
+        Event::QueueStep(Dir::Rx, queue),
+    );
+    keep_entry(
+        history,
+        pass,
+        steps.transmit_side,
+        Event::QueueStep(Dir::Tx, queue),
+    );
+    keep_entry(history, pass, steps.sending, Event::TxStep(queue));
+    keep_entry(history, pass, steps.receiving, Event::RxStep);
+}
+
+/// Keeps the entry of a step that was idle, if it was made. There is room for it.
+fn keep_entry(history: &mut Vec<Entry>, pass: u8, made: bool, event: EventNote)
+    requires { vec_len history.old + length (step_if made event) ≤ vec_capacity history.old }
+    ensures items { history.new.items ≡ history.old.items ++ idle_entries pass (step_if made event) }
+    ensures room { vec_capacity history.new ≡ vec_capacity history.old }
+{
+    if made {
+        history.push_reserved(idle_entry(pass, event));
+    }
 }

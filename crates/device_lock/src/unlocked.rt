@@ -5,6 +5,7 @@ ghost use Rattle.device_lock.specs.Kept.{entries_of};
 
 use crate::entry::Entry;
 use crate::locked::{Counts, Locked};
+use crate::packed::Rested;
 use nic_device::{Device, Notes};
 use std::alloc::Global;
 use std::marker::Model;
@@ -71,7 +72,7 @@ impl<const VFS: u8, const FIFO: u16> Unlocked<VFS, FIFO> {
             count: history.len() as u32,
             whole: history,
             packed: Vec::new(alloc),
-            rested: None,
+            rested: Rested::none(),
             counts,
             limit,
             spare: Vec::new(alloc),

@@ -19,11 +19,11 @@ pub const PLAIN: Setup = Setup {
 /// The number of calls, those of idle steps included.
 pub fn count_calls(calls: &Calls) -> usize {
     let (made, rested) = calls.kept();
-    let mut steps = usize::from(rested.is_some());
+    let mut steps = rested.count();
     for it in made {
-        steps = steps.saturating_add(usize::from(it.rested.is_some()));
+        steps = steps.saturating_add(it.rested.count());
     }
-    made.len().saturating_add(steps.saturating_mul(4))
+    made.len().saturating_add(steps)
 }
 
 /// Why a driver refuses a call: its fault, in a form that can be compared.

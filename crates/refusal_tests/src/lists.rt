@@ -43,9 +43,9 @@ fn with_call(sum: u64, call: &Call) -> u64 {
 /// A sum with calls in it as they are kept.
 fn with_calls(sum: u64, calls: &Calls) -> u64 {
     let (made, rested) = calls.kept();
-    let mut sum = with(with(sum, made.len() as u64), u64::from(rested.is_some()));
+    let mut sum = with(with(sum, made.len() as u64), rested.count() as u64);
     for it in made {
-        sum = with_call(with(sum, u64::from(it.rested.is_some())), &it.call);
+        sum = with_call(with(sum, it.rested.count() as u64), &it.call);
     }
     sum
 }

@@ -17,7 +17,7 @@ loop-it-preserved c =
           ∙ are,
       c.push_reserved.ensures.items
           ∙ ap (λ (l : List Call). l ++ it.call ∷ [])
-          (c.put_rested.ensures.items ∙ ap (λ (l : List Call). l ++ rested_calls it.rested) put)
+          (c.keep_idle.ensures.items ∙ ap (λ (l : List Call). l ++ rested_calls it.rested) put)
           ∙ sym (made-more done it),
       omega (
         arith,
@@ -25,7 +25,7 @@ loop-it-preserved c =
         fewer,
         c.push_reserved.ensures.len,
         c.push_reserved.ensures.capacity,
-        c.put_rested.ensures.len,
-        c.put_rested.ensures.room,
+        c.keep_idle.ensures.len,
+        c.keep_idle.ensures.room,
       ),
     )

@@ -15,12 +15,12 @@ pub invariant_of-self-2 : goal.invariant_of-self-2
 invariant_of-self-2 g c =
     let l = c.self.inside in
     let old = entries_in l.whole.items l.packed.items l.rested in
-    let new = entries_in c.hold_room.new.whole.items c.put_entry.new.packed.items c.put_entry.new.rested in
+    let new = entries_in c.hold_room.new.whole.items c.put_idle_entry.new.packed.items c.put_idle_entry.new.rested in
     let one = entry_of c.args.tag c.args.note Idle ∷ [] in
     let room = subst (λ (h : Held). length h.history < h.limit) (sym c.self.view_is) c.requires.room in
     let idle = subst (λ (h : Held). IsIdle h.device c.args.event) (sym c.self.view_is) c.requires.idle in
     let more : new ≡ old ++ one =
-    c.put_entry.ensures c.hold_room.new.whole.items
+    c.put_idle_entry.ensures c.hold_room.new.whole.items
     ∙ ap (λ (p : List Packed). entries_in c.hold_room.new.whole.items p l.rested ++ one) c.reserve.ensures.items
     ∙ ap (λ (w : List Entry). entries_in w l.packed.items l.rested ++ one) c.hold_room.ensures.same in (
       kept_more g.row.VFS g.row.FIFO (record { device = l.device; history = old; limit = l.limit }) l.counts c.args.tag

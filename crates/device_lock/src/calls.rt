@@ -93,6 +93,26 @@ impl Calls {
         }
     }
 
+    /// Makes a device step where it is idle, and comes after those that were kept since the last call: its call is kept
+    /// beside theirs. Else it makes nothing. Answers whether it is made. It takes no memory.
+    #[inline(always)]
+    pub fn idle(&mut self, device: &Device, step: &Event) -> bool
+        ensures made { result ≡ true → self.new ≡ self.old ++ call_of step.now Idle ∷ [] }
+        ensures idle { result ≡ true → IsIdle device.now step.now }
+        ensures unchanged { result ≡ false → self.new ≡ self.old }
+    {
+        let Some(note) = device.idle_note(step) else {
+            return false;
+        };
+        match self.rested.and(&note) {
+            Some(more) => {
+                self.rested = more;
+                true
+            }
+            None => false,
+        }
+    }
+
     /// Makes one event of a device, and keeps the call.
     ///
     /// `OutOfMemory` where there is no memory for it or its note: the event comes back, and nothing is made.
@@ -111,9 +131,6 @@ impl Calls {
         ensures unchanged { OnErr result ((device.new ≡ device.old) × (self.new ≡ self.old)) }
     {
         make_room(&mut self.made);
-        if let Some(note) = device.idle_note(&event) {
-            return self.keep(event, note);
-        }
         let Ok(note) = ready(
             alloc,
             device,
@@ -128,23 +145,6 @@ impl Calls {
         let reported = note_of(alloc, &reply, &mut self.spare, &mut self.notes);
         put_call(&mut self.made, &mut self.rested, note, reported);
         Ok(reply)
-    }
-
-    /// Keeps the call of an idle event, of which this is the note: nothing is made.
-    fn keep(&mut self, event: Event, note: EventNote) -> Result<Reply, OutOfMemory<Event>>
-        requires note { note ≡ event }
-        requires block { lent_block event ≡ None }
-        ensures calls { OnOk result (self.new ≡ self.old ++ call_of event Idle ∷ []) }
-        ensures reply { IfOk result (λ reply. reply ≡ Idle) }
-        ensures back { IfErr result (λ refused. refused.0 ≡ event) }
-        ensures unchanged { OnErr result (self.new ≡ self.old) }
-    {
-        if self.made.reserve(1).is_err() {
-            return Err(OutOfMemory(event));
-        }
-        end_event(event);
-        put_idle(&mut self.made, &mut self.rested, note);
-        Ok(Reply::Idle)
     }
 
     /// Makes the device steps of a queue under the lock, for the pass of this tag, where the queue is at rest, the
@@ -168,6 +168,38 @@ impl Calls {
         match IdleSteps::all(queue) {
             Some(steps) if self.rested.is_none() && locked.rest(tag, queue) => {
                 self.rested = steps;
+                true
+            }
+            _ => false,
+        }
+    }
+
+    /// Makes a device step under the lock, for the pass of this tag, where it is idle, comes after those that were kept
+    /// since the last call, and the history has room for its entry. Else it makes nothing. Answers whether it is made.
+    #[inline(always)]
+    pub(crate) fn idle_locked<const VFS: u8, const FIFO: u16>(
+        &mut self,
+        locked: &mut Locked<VFS, FIFO>,
+        tag: u8,
+        step: &Event,
+    ) -> bool
+        requires { tag < 64 }
+        ensures legal { IsLegal (new_state VFS FIFO) locked.old.history }
+        ensures leads { leads_to (new_state VFS FIFO) locked.old.history ≡ locked.old.device }
+        ensures idle { result ≡ true → IsIdle locked.old.device step.now }
+        ensures under { result ≡ true → locked.new ≡ after_call locked.old tag step.now }
+        ensures made { result ≡ true → self.new ≡ self.old ++ call_of step.now Idle ∷ [] }
+        ensures unchanged { result ≡ false → self.new ≡ self.old }
+        ensures refused { result ≡ false → locked.new ≡ locked.old }
+    {
+        step.is_of_a_driver();
+        let device = locked.device();
+        let Some(note) = device.idle_note(step) else {
+            return false;
+        };
+        match self.rested.and(&note) {
+            Some(more) if locked.idle(tag, &note) => {
+                self.rested = more;
                 true
             }
             _ => false,
@@ -199,10 +231,6 @@ impl Calls {
         ensures unchanged { OnErr result ((locked.new ≡ locked.old) × (self.new ≡ self.old)) }
     {
         make_room(&mut self.made);
-        let device = locked.device();
-        if let Some(note) = device.idle_note(&event) {
-            return self.keep_locked(alloc, locked, tag, event, note);
-        }
         let Ok(note) = locked.ready(alloc, &mut self.made, &mut self.spare, &event) else {
             return Err(CallFault::OutOfMemory(event));
         };
@@ -210,36 +238,6 @@ impl Calls {
         let reported = locked.note_of(alloc, &reply, &mut self.spare);
         put_call(&mut self.made, &mut self.rested, note, reported);
         Ok(reply)
-    }
-
-    /// Makes and records an event that changes nothing, whose note is `note`.
-    fn keep_locked<const VFS: u8, const FIFO: u16>(
-        &mut self,
-        alloc: Global,
-        locked: &mut Locked<VFS, FIFO>,
-        tag: u8,
-        event: Event,
-        note: EventNote,
-    ) -> Result<Reply, CallFault>
-        requires tag { tag < 64 }
-        requires note { note ≡ event }
-        requires idle { IsIdle locked.old.device event }
-        ensures reply { IfOk result (λ reply. reply ≡ (step_of locked.old.device event).reply) }
-        ensures fits { IfOk result (λ reply. may_answer event reply ≡ true) }
-        ensures under { OnOk result (locked.new ≡ after_call locked.old tag event) }
-        ensures made { IfOk result (λ reply. self.new ≡ self.old ++ call_of event reply ∷ []) }
-        ensures own { result ≢ Err (CallFault.ForeignPass event) }
-        ensures full { result ≡ Err (CallFault.HistoryFull event)
-            → length locked.old.history ≡ locked.old.limit }
-        ensures back { IfErr result (λ fault. event_of fault ≡ event) }
-        ensures unchanged { OnErr result ((locked.new ≡ locked.old) × (self.new ≡ self.old)) }
-    {
-        if self.made.reserve(1).is_err() {
-            return Err(CallFault::OutOfMemory(event));
-        }
-        let idle = locked.step(alloc, tag, event)?;
-        put_idle(&mut self.made, &mut self.rested, note);
-        Ok(idle)
     }
 
     /// The calls one by one. Where there is no memory for so many, they come back as they were.
@@ -295,18 +293,6 @@ fn put_call(made: &mut Vec<Made>, rested: &mut IdleSteps, event: EventNote, repl
         call: Call { event, reply },
     });
     *rested = IdleSteps::none();
-}
-
-/// Puts the call of an idle event behind the others and the idle steps after the last of them: as one of these steps
-/// where it is the next, else by itself. There is room for it.
-fn put_idle(made: &mut Vec<Made>, rested: &mut IdleSteps, event: EventNote)
-    requires { vec_len made.old < vec_capacity made.old }
-    ensures { calls_in made.new.items rested.new ≡ calls_in made.old.items rested.old ++ call_of event Idle ∷ [] }
-{
-    match rested.and(&event) {
-        Some(more) => *rested = more,
-        None => put_call(made, rested, event, Reply::Idle),
-    }
 }
 
 /// Takes room for so many calls, for the device steps before each, and for those after the last. Answers whether there

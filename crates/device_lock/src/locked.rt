@@ -12,11 +12,10 @@ ghost use Rattle.device_lock.specs.Kept.{opened, after_call, entries_of};
 ghost use Rattle.device_lock.specs.Resting.{after_calls};
 ghost use Rattle.device_lock.specs.Stepping.{steps_of_queue};
 
-use crate::calls::end_event;
 use crate::entry::Entry;
 use crate::fault::CallFault;
 use crate::noting::{note_of, ready};
-use crate::packed::{Packed, Rested, has_room, hold_room, put_entry, put_idle_entry, unpacked};
+use crate::packed::{Packed, Rested, has_room, hold_room, put_entry, unpacked};
 use crate::resting::{IdleSteps, STEPS};
 use crate::shared::MAX_PASSES;
 use crate::unlocked::Unlocked;
@@ -144,6 +143,8 @@ impl<const VFS: u8, const FIFO: u16> Locked<VFS, FIFO> {
         ensures empty { OnOk result (spare.new.items ≡ []) }
         ensures spare { OnOk result
             (note_length (step_of self.old.device event.now).reply ≤ vec_capacity spare.new) }
+        ensures legal { IsLegal (new_state VFS FIFO) self.old.history }
+        ensures leads { leads_to (new_state VFS FIFO) self.old.history ≡ self.old.device }
         ensures unchanged { self.new ≡ self.old }
     {
         ready(alloc, &self.device, calls, spare, &mut self.notes, event)
@@ -178,9 +179,6 @@ impl<const VFS: u8, const FIFO: u16> Locked<VFS, FIFO> {
         if self.count >= self.limit {
             return Err(CallFault::HistoryFull(event));
         }
-        if let Some(note) = self.device.idle_note(&event) {
-            return self.keep(tag, event, note);
-        }
         if !hold_room(&mut self.whole, self.count + 1, self.limit) {
             return Err(CallFault::OutOfMemory(event));
         }
@@ -207,29 +205,27 @@ impl<const VFS: u8, const FIFO: u16> Locked<VFS, FIFO> {
         }
     }
 
-    /// Appends the entry of an idle event, of which this is the note: nothing is made.
-    fn keep(&mut self, tag: u8, event: Event, note: EventNote) -> Result<Reply, CallFault>
+    /// Appends the entry of an idle device step for the pass of this tag, where the step comes after those that were
+    /// kept since the last call, the history has room for it, and there is memory. Else it appends nothing. Answers
+    /// whether it is there.
+    #[inline(always)]
+    pub(crate) fn idle(&mut self, tag: u8, step: &EventNote) -> bool
         requires tag { tag < 64 }
-        requires room { length self.old.history < self.old.limit }
-        requires note { note ≡ event }
-        requires event { IsEvent event }
-        requires idle { IsIdle self.old.device event }
-        requires block { lent_block event ≡ None }
-        ensures reply { IfOk result (λ reply. reply ≡ Idle) }
-        ensures made { OnOk result (self.new ≡ after_call self.old tag event) }
-        ensures memory { OnErr result (result ≡ Err (CallFault.OutOfMemory event)) }
-        ensures unchanged { OnErr result (self.new ≡ self.old) }
+        requires event { IsEvent step.now }
+        requires idle { IsIdle self.old.device step.now }
+        ensures made { result ≡ true → self.new ≡ after_call self.old tag step.now }
+        ensures unchanged { result ≡ false → self.new ≡ self.old }
     {
-        if !hold_room(&mut self.whole, self.count + 1, self.limit)
-            || self.packed.reserve(1).is_err()
-        {
-            return Err(CallFault::OutOfMemory(event));
+        let Some(rested) = self.rested.and(tag, step) else {
+            return false;
+        };
+        if self.limit <= self.count || !hold_room(&mut self.whole, self.count + 1, self.limit) {
+            return false;
         }
-        end_event(event);
-        put_idle_entry(&mut self.packed, &mut self.rested, tag, note);
+        self.rested = rested;
         self.count += 1;
         count_one(&mut self.counts, tag);
-        Ok(Reply::Idle)
+        true
     }
 
     /// Makes the device steps of a queue for the pass of this tag, which is below 64, where the queue is at rest, the

@@ -10,7 +10,7 @@ ghost use Rattle.device_lock.specs.declared.entry.Entry.{Entry};
 
 use crate::entry::Entry;
 use crate::resting::{IdleSteps, STEPS, keep_entries};
-use nic_device::{EventNote, Reply, ReplyNote};
+use nic_device::{EventNote, ReplyNote};
 
 /// The device steps of a queue that a pass made, each of them idle.
 #[derive(Clone, Copy, Debug)]
@@ -33,7 +33,7 @@ impl Rested {
     }
 
     /// The same steps and this event of a pass, where it is the step that comes after them.
-    fn and(&self, pass: u8, event: &EventNote) -> Option<Rested>
+    pub(crate) fn and(&self, pass: u8, event: &EventNote) -> Option<Rested>
         ensures { IfSome result (λ more.
             rested_entries more ≡ rested_entries self.now ++ entry_of pass event.now Idle ∷ []) }
     {
@@ -113,24 +113,6 @@ pub(crate) fn put_entry(
         reply,
     });
     *rested = Rested::none();
-}
-
-/// Puts the entry of an idle event after the others and the idle steps after the last of them: as one of these steps
-/// where it is the next, else by itself. There is room for it.
-pub(crate) fn put_idle_entry(
-    packed: &mut Vec<Packed>,
-    rested: &mut Rested,
-    pass: u8,
-    event: EventNote,
-)
-    requires { vec_len packed.old < vec_capacity packed.old }
-    ensures { (whole : List Entry) → entries_in whole packed.new.items rested.new
-        ≡ entries_in whole packed.old.items rested.old ++ entry_of pass event Idle ∷ [] }
-{
-    match rested.and(pass, &event) {
-        Some(more) => *rested = more,
-        None => put_entry(packed, rested, pass, event, Reply::Idle),
-    }
 }
 
 /// The entries one by one: those that are so already, and the others after them. There is room for all.

@@ -1,4 +1,4 @@
-ghost use Rattle.std.specs.Prelude.{◌≡◌, ◌≢◌, ◌<◌, true, false, Err, IfOk, IfErr, OnOk, OnErr, length};
+ghost use Rattle.std.specs.Prelude.{◌≡◌, ◌≢◌, ◌<◌, true, false, Err, IfOk, IfErr, OnOk, OnErr, length, ◌∷◌, []};
 ghost use Rattle.nic_device.specs.Answering.{may_answer};
 ghost use Rattle.nic_device.specs.State.{new_state};
 ghost use Rattle.nic_device.specs.Step.{step_of};
@@ -83,6 +83,25 @@ impl Pass {
         ensures tag { self.new.tag ≡ self.old.tag }
     {
         self.calls.rest_locked(locked, self.tag, queue)
+    }
+
+    /// Makes a device step under the lock where it is idle, comes after those that were kept since the last call, and
+    /// the history has room for its entry. Else it makes nothing. Answers whether it is made.
+    #[inline(always)]
+    pub(crate) fn idle<const VFS: u8, const FIFO: u16>(
+        &mut self,
+        locked: &mut Locked<VFS, FIFO>,
+        step: &Event,
+    ) -> bool
+        requires { self.old.tag < 64 }
+        ensures legal { IsLegal (new_state VFS FIFO) locked.old.history }
+        ensures leads { leads_to (new_state VFS FIFO) locked.old.history ≡ locked.old.device }
+        ensures made { result ≡ true → AreMade locked.old self.old (step.now ∷ []) locked.new self.new }
+        ensures unchanged { result ≡ false → self.new ≡ self.old }
+        ensures refused { result ≡ false → locked.new ≡ locked.old }
+        ensures tag { self.new.tag ≡ self.old.tag }
+    {
+        self.calls.idle_locked(locked, self.tag, step)
     }
 
     /// Makes one event under the lock, and keeps its call here.

@@ -12,6 +12,7 @@ ghost use Rattle.device_lock.specs.History.{leads_to, IsLegal};
 ghost use Rattle.device_lock.specs.Pass.{IsOwn};
 ghost use Rattle.device_lock.specs.Stepping.{steps_of_queue, AreMade, StepsAndMakes, StopsMaking, StopsStepping};
 
+use crate::calls::end_event;
 use crate::fault::CallFault;
 use crate::locked::Locked;
 use crate::pass::Pass;
@@ -38,6 +39,10 @@ impl Pass {
         ensures full { result ≡ Err (CallFault.HistoryFull tt) → IsFull VFS FIFO }
         ensures unchanged { OnErr result ((locked.new ≡ locked.old) × (self.new ≡ self.old)) }
     {
+        if self.idle(locked, &step) {
+            end_event(step);
+            return Ok(());
+        }
         match self.call(alloc, locked, step) {
             Ok(reply) => match reply.into_buf() {
                 None => Ok(()),

@@ -106,6 +106,12 @@ impl Direct {
         ensures made { OnOk result (self.new ≡ after_event self.old step) }
         ensures unchanged { OnErr result (self.new ≡ self.old) }
     {
+        if self.calls.idle(&self.device, &step) {
+            return match step.into_buf() {
+                None => Ok(()),
+                Some(_buf) => unreachable!(),
+            };
+        }
         match self.make(alloc, step) {
             Ok(reply) => match reply.into_buf() {
                 None => Ok(()),

@@ -8,4 +8,5 @@ use Rattle.device_lock.proofs.calls.put_call.Goals as goal
 pub returns : goal.returns
 returns c =
     ap (λ (l : List Made). calls_in l c.none.result) c.push_reserved.ensures.items
-    ∙ calls-more c.args.made.now.items c.args.rested.now c.none.result (call_of c.args.event c.args.reply) c.none.ensures
+    ∙ calls-more c.args.made.now.items c.args.rested.now c.none.result (call_of c.args.event c.args.reply)
+    c.none.ensures

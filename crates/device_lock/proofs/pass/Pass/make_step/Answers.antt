@@ -3,7 +3,7 @@ use Rattle.device_lock.proofs.pass.Pass.make_step.Goals as goal
 
 pub returns-in-None-into_buf-clause-full : goal.returns-in-None-into_buf-clause-full
 returns-in-None-into_buf-clause-full g c = λ same. record {
-  held = c.args.locked.now;
+  held = c.idle.new.locked;
   legal = c.in-Err.ensures.legal;
   full = c.in-Err.ensures.full (full_again _ _ _ _ c.replace-fault.ensures.fault c.in-Err.ensures.back same);
 }

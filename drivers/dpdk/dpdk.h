@@ -34,8 +34,8 @@ bool dpdk_start(const struct dpdk_options *options);
 /* In the end: strays are saved, the bus is closed, what is wrong is told, DPDK cleaned up. The run's status. */
 int dpdk_end(const struct dpdk_options *options);
 
-/* Reads a word that each program knows, --scalar or --loud; one with another behind it, --turn or --strays. False: it is
-   none of these. */
+/* Reads a word that each program knows, --scalar or --loud; one with another behind it, --turn or --strays. False: it
+   is none of these. */
 bool dpdk_word(const char *word, struct dpdk_options *options);
 bool dpdk_pair(const char *word, const char *next, struct dpdk_options *options);
 

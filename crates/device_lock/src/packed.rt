@@ -32,7 +32,7 @@ impl Rested {
         }
     }
 
-    /// The same steps and this event of a pass, where it is the step that comes after them.
+    /// These steps and this event of a pass, where it is the step that comes after them.
     pub(crate) fn and(&self, pass: u8, event: &EventNote) -> Option<Rested>
         ensures { IfSome result (λ more.
             rested_entries more ≡ rested_entries self.now ++ entry_of pass event.now Idle ∷ []) }

@@ -76,7 +76,7 @@ impl IdleSteps {
             + usize::from(self.receiving)
     }
 
-    /// The same steps and this event, where it is the step of the queue that comes after them. Else `None`.
+    /// These steps and this event, where it is the step of the queue that comes after them. Else `None`.
     pub(crate) fn and(&self, event: &EventNote) -> Option<IdleSteps>
         ensures { IfSome result (λ more. steps_in more ≡ steps_in self.now ++ event.now ∷ []) }
     {

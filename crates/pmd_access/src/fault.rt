@@ -25,7 +25,7 @@ pub enum PmdFault {
     Call(CallFault<()>),
 }
 
-/// A refusal without its event, where the event holds no block.
+/// A refusal without its event, where the event holds no block. A way that may refuse with it may refuse without.
 pub fn without_event(fault: CallFault) -> CallFault<()>
     requires { lent_block (event_of fault) ≡ None }
     ensures fault { result ≡ fault_with fault tt }

@@ -14,8 +14,8 @@ use intr_unit::Group;
 use reg_table::RowId;
 
 impl RegisterFile {
-    /// The stored word of a row at an index below the row's count. It is one that the row can hold: a group's auto-clear
-    /// and auto-mask have only bits of the group.
+    /// The stored word of a row at an index below the row's count. It is one that the row can hold: a group's
+    /// auto-clear and auto-mask have only bits of the group.
     #[inline(always)]
     pub(crate) fn cell(&self, row: RowId, index: u16) -> u32
         requires { index < (row_of row).count }

@@ -23,4 +23,6 @@ returns-in-Ok-clause-named g c =
 pub returns-in-Ok-clause-none : goal.returns-in-Ok-clause-none
 returns-in-Ok-clause-none g c short =
     let n = c.name_fresh.ensures in
-    absurd ((name_gathers c.name_fresh.result (rw c.in-Ok.ensures.lent.3 tt) n.made n.named n.kept n.failed).enough (ap fault_in short))
+    absurd
+    ((name_gathers c.name_fresh.result (rw c.in-Ok.ensures.lent.3 tt) n.made n.named n.kept n.failed).enough
+    (ap fault_in short))

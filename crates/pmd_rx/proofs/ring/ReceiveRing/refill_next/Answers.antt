@@ -64,16 +64,15 @@ pub returns-in-Lent-clause-gathers : goal.returns-in-Lent-clause-gathers
 returns-in-Lent-clause-gathers g c =
     let lent = sym (ap (λ (v : Receive). v.stage) c.self.view_is) ∙ c.in-Lent.is in
     let n = c.name_fresh.ensures in
-    (name_gathers c.name_fresh.result (subst (λ (s : Stage). HasLent s) (sym lent) tt) n.made n.named n.kept n.failed).gathers
-    c.args.arena.now
+    let there = subst (λ (s : Stage). HasLent s) (sym lent) tt in
+    (name_gathers c.name_fresh.result there n.made n.named n.kept n.failed).gathers c.args.arena.now
 
 pub returns-in-Lent-clause-enough : goal.returns-in-Lent-clause-enough
 returns-in-Lent-clause-enough g c short =
     let lent = sym (ap (λ (v : Receive). v.stage) c.self.view_is) ∙ c.in-Lent.is in
     let n = c.name_fresh.ensures in
-    absurd
-    ((name_gathers c.name_fresh.result (subst (λ (s : Stage). HasLent s) (sym lent) tt) n.made n.named n.kept n.failed).enough
-    (ap fault_in short))
+    let there = subst (λ (s : Stage). HasLent s) (sym lent) tt in
+    absurd ((name_gathers c.name_fresh.result there n.made n.named n.kept n.failed).enough (ap fault_in short))
 
 pub returns-in-Lent-clause-more : goal.returns-in-Lent-clause-more
 returns-in-Lent-clause-more g c =

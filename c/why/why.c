@@ -1,5 +1,5 @@
 /* Why nothing happens: which reasons are asked of which queue, frame and cause. The reasons themselves are those of
-   reasons.txt. */
+   python/nic82599/tools/reasons.txt. */
 #include <stdio.h>
 #include <string.h>
 

@@ -1,6 +1,6 @@
 """Why nothing happens: the rows of reasons.txt, which says how one is written, asked by the words of registers.
 
-The file is c/why/reasons.txt, of which dev/reason_tables.py makes the functions of the library for C.
+dev/reason_tables.py makes of them the functions of the library for C.
 """
 
 from __future__ import annotations

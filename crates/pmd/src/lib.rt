@@ -1,9 +1,9 @@
 //! The poll-mode driver: a driver of one queue, the ways to access a device, and workers that drive queues of one
 //! device on threads of their own.
 //!
-//! This crate declares nothing. It re-exports what three crates have: `pmd_driver` the driver of one queue with what it
-//! needs, `workers` the workers and what a closed history tells of a driver, and `device_lock` the device that threads
-//! share, with its passes and its history.
+//! This crate declares nothing. It re-exports what four crates have: `pmd_driver` the driver of one queue, `pmd_access`
+//! the ways to a device, its set-up and packets, `workers` the workers and what a closed history tells of a driver, and
+//! `device_lock` the device that threads share, with its passes and its history.
 #![tactic(auto)]
 
 pub use workers::{

@@ -29,9 +29,9 @@ impl Queue {
     }
 
     /// Asks for both sides of the queue to go on or off, and polls until they are, the receive side first: `POLLS`
-    /// times at most for both, where a poll counts that shows it otherwise.
+    /// times at most for both; only polls that show the other state count.
     ///
-    /// `StartTimeout` where as many show it otherwise, `DeviceFault` where the port has no such register.
+    /// `StartTimeout` where that many polls show the other state, `DeviceFault` where the port has no such register.
     pub fn switch_both<N: Nic>(&self, alloc: Global, nic: &mut N, on: bool) -> Result<(), PmdFault>
         ensures switched { OnOk result (IsSwitched self.now (N.made nic.old) (N.made nic.new) on 1000) }
         ensures failed { IfErr result (λ f. SwitchFails f self.now (N.made nic.old) (N.made nic.new) on 1000) }

@@ -1,9 +1,9 @@
 //! The driver's seam to the device.
 //!
-//! `Nic` is a way to the device: a call makes some foreign events and then its own. There are three: `Direct` is a
-//! device in hand, which it steps on before each call; `ThroughLock` makes each event of a shared device under its
-//! lock, by a pass; `Interleaved` makes lists of foreign events that it was given beforehand. Contracts see what a way
-//! made as the list of its calls.
+//! `Nic` is a way to the device: a call makes some events first, and then its own. There are three: `Direct` is a
+//! device in hand, and `ThroughLock` a pass to a shared one; each steps its queue before a call. `Interleaved` makes
+//! lists of foreign events instead, which it was given beforehand. Contracts see what a way made as the list of its
+//! calls.
 //!
 //! On it stand the accesses that a driver makes, each with the replies that it can have (`accesses.rt`), the set-up of
 //! the whole device (`pf_setup`), a queue with the numbers of its registers at a port, its sides made ready and
@@ -32,13 +32,6 @@ mod through_lock;
 
 pub use accesses::{lend, peek, poke, read, take, write};
 pub use bufs::{Bufs, MOST_BUFS, bytes_in};
-pub use device_lock::{
-    Arena, BLOCK_BYTES, BLOCK_NUMBERS, Buf, Call, CallFault, Calls, CloseFault, CloseRefused,
-    Closed, Dir, Entry, Event, EventNote, Made, Mode, NewFault, Octets, Pass, Place, Port, QUEUES,
-    Reply, RowId, Settings, Shared, Watched, Why, data_descriptor_word, first_half, is_last,
-    is_sent, is_written_back, leave, left_alone, of_halves, place_at, posted_word, queues_of,
-    reported_hash, reported_length, reported_rss, second_half,
-};
 pub use direct::Direct;
 pub use fault::{PmdFault, without_event};
 pub use frames::{LONGEST_FRAME, SHORTEST_FRAME, is_frame, most_blocks, packet_limit};

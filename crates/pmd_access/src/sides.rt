@@ -16,7 +16,7 @@ use device_lock::{Dir, RowId};
 use register_bits::Rxdctl;
 use std::alloc::Global;
 
-/// How many polls without the wanted ENABLE a driver makes.
+/// How many polls without the wanted ENABLE a driver makes at most.
 pub const POLLS: u16 = 1000;
 
 /// SRRCTL.DESCTYPE: the type of descriptors. It has three bits, of which this is the lowest.
@@ -95,8 +95,8 @@ impl Queue {
         self.make_all(alloc, nic, &asked(side, on))
     }
 
-    /// Polls until a side of the queue is on or off as wanted, `polls` times at most. Answers how many are left of
-    /// these, where a poll counts that shows it otherwise.
+    /// Polls until a side of the queue is on or off as wanted, `polls` times at most. Returns how many
+    /// polls are left; only polls that show the other state count.
     ///
     /// `StartTimeout` where all show it otherwise, `DeviceFault` where the port has no such register.
     pub fn poll<N: Nic>(

@@ -122,7 +122,7 @@ impl Pmd {
 }
 
 impl Pmd {
-    /// The next packet that came in, in order. None where one of its slots isn't done.
+    /// The next packet that came in, in order. None while a slot of that packet isn't done.
     ///
     /// `NoBuffer` where a packet waits and too few blocks are free for it, `DeviceFault` where a reply is none that a
     /// healthy queue gives, `Call` where a call was refused, or there was no memory for the packet's record: the driver

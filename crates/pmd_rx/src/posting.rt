@@ -110,8 +110,8 @@ impl ReceiveRing {
         self.seen.len() < usize::from(self.posted)
     }
 
-    /// Makes the next step of a refill: takes a part where none is owed a block, and names a fresh block in its place.
-    /// Behind its last part the packet is whole.
+    /// Makes the next step of a refill: takes the next part unless an earlier call did, and names a fresh block in its
+    /// place. After the last part the packet is whole.
     fn refill_next<N: Nic>(
         &mut self,
         alloc: Global,
@@ -193,7 +193,7 @@ impl ReceiveRing {
 }
 
 impl ReceiveRing {
-    /// Posts a fresh block of the arena in the vacant slot, which the device has then. One slot stays vacant.
+    /// Posts a fresh block of the arena in the first vacant slot, which the device has then. One slot stays vacant.
     ///
     /// `NoBuffer` where no block is free: nothing is made. `DeviceFault` where the block is lent already, the ring
     /// isn't, or the port has no such register. `Call` where a call was refused. Steps that were made stay made.

@@ -6,11 +6,11 @@ use pmd_access::{Packet, PmdFault};
 pub enum TxAnswer {
     /// The packet is accepted: it will be sent, and its blocks are the driver's.
     Taken,
-    /// As many packets are outstanding as the ring has room for. This one comes back.
+    /// Too few descriptors are free for the packet's parts. It comes back.
     RingFull(Packet),
 }
 
-/// Why a packet is not sent now. It comes back where its block wasn't lent; else it is accepted.
+/// Why a packet is not sent now. It comes back where none of its blocks was lent; else it is accepted.
 pub struct TxFault {
     /// Why it isn't sent now.
     pub fault: PmdFault,

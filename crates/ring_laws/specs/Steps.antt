@@ -1,4 +1,4 @@
--- What single events do to what the device and a driver agree on.
+-- What single events do to what the device and a driver agree on of its receive ring.
 pub use Rattle.history_laws.specs.Left.{IsOutside}
 use Rattle.std.specs.Prelude.{◌++◌, ◌/◌, ◌<◌, ◌↔◌, ◌≡◌, ◌≢◌, ◌⊎◌, IsTrue, List, Some, length, ℕ, ⊤}
 use Rattle.history_laws.specs.Prelude.{Block, Blocks, Bytes, Entry, EntryLeavesAlone, Event, IsEvent, IsSound}

@@ -11,8 +11,8 @@ use device_lock::{Entry, Mode, Port, QUEUES, Settings, Watched, queues_of};
 /// How many bytes the frame check sequence has.
 pub(crate) const FRAME_CHECK: u16 = 4;
 
-/// What a driver is given as it starts: the queue that it is to have, as its port numbers it, and how
-/// long frames may be, with their check sequence.
+/// What a driver is given as it starts: the queue that it is to have, as its port numbers it, and how long frames may
+/// be, with their check sequence.
 #[derive(Clone, Copy, PartialEq, Eq, Debug)]
 pub struct Given {
     /// The port of the queue.
@@ -23,9 +23,9 @@ pub struct Given {
     pub frame: u16,
 }
 
-/// The queue of the device, below 128, that a port and a queue's number there name, in a mode of pools and with so
-/// many virtual functions. At the physical function's port it is the queue of that number, at a
-/// virtual function's that queue of its pool. None where there is no such queue.
+/// The queue of the device, below 128, that a port and a queue's number there name, in a mode of pools and with so many
+/// virtual functions. At the physical function's port it is the queue of that number, at a virtual function's that
+/// queue of its pool. None where there is no such queue.
 pub fn queue_at(mode: Mode, vfs: u8, port: Port, number: u16) -> Option<u16>
     ensures { result ≡ queue_at mode vfs port number }
 {

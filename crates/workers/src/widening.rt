@@ -10,7 +10,7 @@ const ROOM: usize = 100_000;
 /// Takes rooms for this thread and gives them back, as far as there is memory.
 ///
 /// The C library keeps memory of its own for each thread, and asks the system for each page by which it grows, while
-/// other threads wait for theirs. It keeps what it has had. So it isn't asked for the notes of a worker's calls.
+/// other threads wait for theirs. It keeps what is given back. So the notes of a worker's calls need no new pages.
 pub(crate) fn widen(alloc: Global) {
     let mut rooms: Vec<Vec<u8>> = Vec::new(alloc);
     for _ in 0..ROOMS {

@@ -317,8 +317,7 @@ const struct scenario nicd_setup_rows[] = {
          "Bits 30:16 of RAH are reserved and written as 0; the bench keeps them", "Receive Address High"),
     SEES("setup-thresholds", SENDS | PHYSICAL, "thresholds of transmit descriptors", see_thresholds,
          "PTHRESH above 0 wants HTHRESH of 1 at least, and a head that is written back wants WTHRESH 0; no threshold "
-         "has "
-         "an effect on the bench",
+         "has an effect on the bench",
          "Transmit Descriptor Control"),
     SEES("setup-alignment", 0, "registers are words", see_alignment, "A register's address is a multiple of 4",
          "Register Conventions"),

@@ -215,8 +215,6 @@ const char *nicd_memory_near(uint64_t bus);
 bool nicd_memory_has(uint64_t bus);
 
 void nicd_watch_begin(void);
-/* From here on it is this thread of the process whose calls are the card's. */
-void nicd_thread_is_mine(void);
 void nicd_watch(void *unused, uint16_t actor, const struct step *step);
 /* What all searches of the process saw, written to a file. */
 bool nicd_coverage_open(void);

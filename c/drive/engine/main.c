@@ -231,6 +231,7 @@ int nicd_main(int argc, char **argv, const nicd_driver *driver)
 {
     const char *fault = fault_of(driver);
     nicd.driver = driver;
+    nicxi_for_threads = "use the adapter's threads and locks (docs/report-card.md)";
     if (fault) {
         fprintf(stderr, "%s: the driver can't be taken: %s\n", argv[0], fault);
         return REFUSED;

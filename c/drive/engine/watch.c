@@ -214,9 +214,6 @@ static void judge_lent(const struct step *step)
                   step->kind == STEP_LEND ? "lends" : "takes back", (unsigned)step->address);
 }
 
-static __thread char mark;
-static char *card_thread;
-
 /* Of an access of the driver to memory that isn't lent, where that lies. The explorer ends its thread behind this. */
 static void judge_memory(const struct step *step)
 {
@@ -241,18 +238,6 @@ static void tell_fault(const struct step *step)
     bool is_buffer = step->told.why == NIC_FAULT_NOT_LENT && step->told.bus - ring.base >= length;
     snprintf(nicxi.result.words + used, sizeof nicxi.result.words - used, " (%s slot %u, its %s)",
              sends ? "transmit" : "receive", (unsigned)ring.head, is_buffer ? "buffer" : "descriptor");
-}
-
-/* Calls come on the card's threads, which are stacks of one thread of the process. */
-static void judge_thread(void)
-{
-    if (card_thread && card_thread != &mark)
-        nicd_note("a call comes from a thread that the driver made itself: the card's are those of `threads`");
-}
-
-void nicd_thread_is_mine(void)
-{
-    card_thread = &mark;
 }
 
 /* A write that the device drops since the queue is on. */
@@ -313,7 +298,6 @@ void nicd_watch(void *unused, uint16_t actor, const struct step *step)
         judge_ended(actor, step);
         judge_lent(step);
         judge_memory(step);
-        judge_thread();
     }
     switch (step->kind) {
     case STEP_ARRIVE: see_arrival(step); break;
@@ -334,7 +318,6 @@ void nicd_watch_begin(void)
     memset(nicd.written_count, 0, sizeof nicd.written_count);
     memset(nicd.next, 0, sizeof nicd.next);
     memset(nicd.went, 0, sizeof nicd.went);
-    nicd_thread_is_mine();
     nicd.count = nicd.late = nicd.oldest = nicd.let_in = 0;
     nicd.partial = -1;
 }

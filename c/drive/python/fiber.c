@@ -107,12 +107,11 @@ static void give_turn(struct host *host)
         fatal(write(outside.turn, &one, sizeof one) != sizeof one);
 }
 
-/* The engine, its memory and the card take this thread for the one that they run on. */
+/* The engine and its memory take this thread for the one that they run on. */
 static void take_over(void)
 {
     nicxi_is_made_here();
     nicxi_heap_is_mine();
-    nicd_thread_is_mine();
 }
 
 static void wait_outside(void)

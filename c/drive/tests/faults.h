@@ -15,7 +15,7 @@ WRONG(OTHER_QUEUE, "receive-one", "a frame is handed up in queue 3, and there ar
 WRONG(FREE_TWICE, "open-close", "nicd_dma_free of 0x\\w+, which nicd_dma_alloc didn't give")
 WRONG(FREE_OTHERS, "open-close", "nicd_dma_free of 0x1000, which nicd_dma_alloc didn't give")
 WRONG(OPEN_FALSE, "receive-one", "open answered false")
-WRONG(FROM_A_THREAD, "receive-one", "a call comes from a thread that the driver made itself")
+WRONG(FROM_A_THREAD, "receive-one", "misuse: a thread that is no task makes a call.*: use the adapter's threads")
 WRONG(THREAD_LEFT, "open-close", "thread0 acts for the driver, and close has returned")
 WRONG(LOCK_LEFT, "receive-wrap", "deadlock: receive0 waits for a lock, which receive0 holds")
 WRONG(MEMORY_LEFT, "open-close", "1 piece of DMA memory wasn't given back: \\d+ bytes at 0x\\w+, which open asked")

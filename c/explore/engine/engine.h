@@ -329,6 +329,8 @@ bool nicxi_fires_at_rest(const struct actor *actor);
 void nicxi_touched(const void *place, size_t size, bool writes);
 /* Schedules are made by this thread of the process, and no other one makes these calls. */
 void nicxi_is_made_here(void);
+/* What is told to a driver whose threads or locks are the process's own: the link form, unless the card says what. */
+extern const char *nicxi_for_threads;
 /* Whether a search's process makes schedules here. */
 bool nicxi_is_in_search(void);
 /* Has the scenario name what a schedule has. */

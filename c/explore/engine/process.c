@@ -19,8 +19,9 @@
 /* Statuses of a process that a search started: a task made no point, waits in the kernel, or isn't a task. */
 enum { HUNG = 77, LOCKED_UP = 78, FOREIGN = 79 };
 
-/* What helps where threads and locks are the process's own. */
-#define FORM "link with @nic82599_threads.opts (docs/explore.md)"
+#define FOREIGN_WORDS "a thread that is no task makes a call of the explorer's: "
+
+const char *nicxi_for_threads = "link with @nic82599_threads.opts (docs/explore.md)";
 
 static size_t schedule_bytes(void)
 {
@@ -163,11 +164,11 @@ static void tell_status(const struct post *post, int status, nicx_result *result
     case LOCKED_UP:
         result->outcome = NICX_HANG;
         snprintf(result->words, sizeof result->words,
-                 "%s waits for a lock of the process, and no other task runs till then: " FORM, who);
+                 "%s waits for a lock of the process, and no other task runs till then: %s", who, nicxi_for_threads);
         break;
     case FOREIGN:
         result->outcome = NICX_MISUSE;
-        snprintf(result->words, sizeof result->words, "a thread that is no task makes a call of the explorer's: " FORM);
+        snprintf(result->words, sizeof result->words, FOREIGN_WORDS "%s", nicxi_for_threads);
         break;
     default: snprintf(result->words, sizeof result->words, "the process ended with status %d", status); break;
     }
@@ -176,11 +177,9 @@ static void tell_status(const struct post *post, int status, nicx_result *result
 /* The one that makes schedules in the process that was started with a program tells it by itself. */
 void nicxi_refuse_thread(void)
 {
-    static const char words[] = "a thread that is no task makes a call of the explorer's: " FORM "\n";
     if (watched)
         _exit(FOREIGN);
-    if (write(STDERR_FILENO, words, sizeof words - 1) < 0)
-        abort();
+    dprintf(STDERR_FILENO, FOREIGN_WORDS "%s\n", nicxi_for_threads);
     _exit(2);
 }
 

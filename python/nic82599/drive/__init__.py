@@ -27,6 +27,7 @@ from contextlib import contextmanager
 from typing import TYPE_CHECKING, NoReturn
 
 from .. import address_of, offset_of
+from ..dma import Dma
 from ..statuses import DONE
 from .calls import ANY_WORD, CARD, Failed, Lock
 from .values import MAILBOX_WORDS, MOST_FRAME, MOST_QUEUES, Can, Filter, Rss, Setup
@@ -49,7 +50,7 @@ class Mutex:
         self._lock = Lock.of(name)
 
 
-class Driver:
+class Driver(Dma):
     """A driver. Write a class of it with `name`, `open`, `close`, and `receive` or `send`, and what else it has of the
     functions below. What is left out isn't applicable, and the card says so.
 
@@ -182,20 +183,6 @@ class Driver:
     def dma_write(self, bus: int, data: bytes) -> bool:
         """Whether all of it is lent, and so written; else that is a failure."""
         return CARD.call("dma_write", bus, bytes(data), len(data)) == DONE
-
-    def get64(self, bus: int) -> int:
-        return int.from_bytes(self.dma_read(bus, 8), "little")
-
-    def put64(self, bus: int, value: int) -> bool:
-        return self.dma_write(bus, value.to_bytes(8, "little"))
-
-    def descriptor(self, ring: int, slot: int) -> bytes:
-        """A descriptor by one access, at one point: two `get64` are two. nic82599.descriptors reads it."""
-        return self.dma_read(ring + 16 * slot, 16)
-
-    def put_descriptor(self, ring: int, slot: int, data: bytes) -> bool:
-        """The same written, as nic82599.descriptors packs it."""
-        return self.dma_write(ring + 16 * slot, data)
 
     # --- waiting ---
 

@@ -19,7 +19,7 @@ from pathlib import Path
 from types import FrameType, TracebackType
 from typing import TYPE_CHECKING, Any
 
-from .. import places
+from .. import dma, places
 from .values import MAILBOX_WORDS, MOST_FRAME, Filter, Rss, Setup
 
 if TYPE_CHECKING:
@@ -28,7 +28,7 @@ if TYPE_CHECKING:
 RAISED, OVER = -1, -2
 REFUSED = 2
 NAME = "libnic82599_drive.so"
-OWN = (os.path.dirname(__file__) + os.sep, contextlib.__file__, "<frozen ")
+OWN = (os.path.dirname(__file__) + os.sep, dma.__file__, contextlib.__file__, "<frozen ")
 MOST_LINES, MOST_FRAMES, MOST_WORDS, MOST_FILE, MOST_TRACEBACK = 4, 20, 120, 512, 16_384
 ANY_WORD = 1 << 32
 

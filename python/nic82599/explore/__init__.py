@@ -19,6 +19,7 @@ from dataclasses import dataclass, field, replace
 from pathlib import Path
 
 from .. import BadMemory, Nic, NotLent, address_of, offset_of
+from ..dma import Dma
 from .coverage import Coverage
 from .engine import POLLS, Choose, Result, Run, Thread, place_of_call
 from .jobs import Found, Over, searched
@@ -61,7 +62,7 @@ class Mutex:
         self.run: Run | None = None
 
 
-class Scenario:
+class Scenario(Dma):
     """A driver's code over a controller. Write a class of it with `bring_up`, `begin` and `end`.
 
     The sizes are those of `Nic`; queues below `queues` have their enables and transmit steps made. A schedule with more
@@ -326,20 +327,6 @@ class Scenario:
         if not is_lent:
             self._refused(run, "writes", bus)
         return is_lent
-
-    def get64(self, bus: int) -> int:
-        return int.from_bytes(self.dma_read(bus, 8), "little")
-
-    def put64(self, bus: int, value: int) -> bool:
-        return self.dma_write(bus, value.to_bytes(8, "little"))
-
-    def descriptor(self, ring: int, slot: int) -> bytes:
-        """A descriptor by one access, at one point: two `get64` are two. nic82599.descriptors reads it."""
-        return self.dma_read(ring + 16 * slot, 16)
-
-    def put_descriptor(self, ring: int, slot: int, data: bytes) -> bool:
-        """The same written, as nic82599.descriptors packs it."""
-        return self.dma_write(ring + 16 * slot, data)
 
     def _moved(self, block: int) -> None:
         """A block is another one: a barrier for all."""

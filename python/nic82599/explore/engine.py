@@ -14,7 +14,7 @@ from collections.abc import Callable
 from dataclasses import dataclass, field
 from typing import TYPE_CHECKING, Any
 
-from .. import Event, Fault, Message, Nic, NicError, NoGroup, NotLent, OutOfMemory
+from .. import Event, Fault, Message, Nic, NicError, NoGroup, NotLent, OutOfMemory, dma
 from ..printed import printed
 from .coverage import Coverage
 from .weak import OLDER, STORES, WeakMemory
@@ -27,7 +27,7 @@ POLLS = 8
 # The first words of steps of the driver's own, and others.
 OWN = ("a", "waited", "paused", "locks", "unlocks", "wmb", "rmb", "mb")
 ALSO_OWN = re.compile(r"arms |disarms |mb, |wmb, |p(eek|oke) .*(on its way|own stores in it|as before the last)")
-HERE = os.path.dirname(__file__) + os.sep
+OWN_FILES = (os.path.dirname(__file__) + os.sep, dma.__file__)
 MOST_CALLS = 4
 Choose = Callable[["Run", list["Actor"]], "Actor | None"]
 
@@ -117,9 +117,9 @@ class Actor:
 def place_of_call() -> str:
     """Where the driver called: "race.py:31"; of helpers "card.py:110 < race.py:42"."""
     frame, found = sys._getframe(1), []
-    while frame is not None and frame.f_code.co_filename.startswith(HERE):
+    while frame is not None and frame.f_code.co_filename.startswith(OWN_FILES):
         frame = frame.f_back
-    while frame is not None and not frame.f_code.co_filename.startswith(HERE) and len(found) < MOST_CALLS:
+    while frame is not None and not frame.f_code.co_filename.startswith(OWN_FILES) and len(found) < MOST_CALLS:
         found.append(f"{os.path.basename(frame.f_code.co_filename)}:{frame.f_lineno}")
         frame = frame.f_back
     return " < ".join(found)

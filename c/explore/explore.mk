@@ -3,7 +3,8 @@
 
 EXPLORE_FLAGS   ?= -O2 -g
 EXPLORE_SOURCES := $(wildcard $(HERE)/explore/engine/*.c)
-EXPLORE_HEADERS := $(wildcard $(HERE)/explore/engine/*.h $(HERE)/explore/engine/*.inc $(HERE)/recorder/*.h $(HERE)/include/*.h)
+EXPLORE_HEADERS := $(wildcard $(HERE)/explore/engine/*.h $(HERE)/explore/engine/*.inc $(HERE)/recorder/*.h \
+    $(HERE)/include/*.h)
 EXPLORE_OBJECTS := $(patsubst $(HERE)/explore/engine/%.c,$(OUT)/explore/%.o,$(EXPLORE_SOURCES))
 
 # The lines of the page of a failure as texts of C.

@@ -32,6 +32,13 @@ mod through_lock;
 
 pub use accesses::{lend, peek, poke, read, take, write};
 pub use bufs::{Bufs, MOST_BUFS, bytes_in};
+pub use device_lock::{
+    Arena, BLOCK_BYTES, BLOCK_NUMBERS, Buf, Call, CallFault, Calls, CloseFault, CloseRefused,
+    Closed, Dir, Entry, Event, EventNote, Made, Mode, NewFault, Octets, Pass, Place, Port, QUEUES,
+    Reply, RowId, Settings, Shared, Watched, Why, data_descriptor_word, first_half, is_last,
+    is_sent, is_written_back, leave, left_alone, of_halves, place_at, posted_word, queues_of,
+    reported_hash, reported_length, reported_rss, second_half,
+};
 pub use direct::Direct;
 pub use fault::{PmdFault, without_event};
 pub use frames::{LONGEST_FRAME, SHORTEST_FRAME, is_frame, most_blocks, packet_limit};

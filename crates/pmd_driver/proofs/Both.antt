@@ -1,10 +1,10 @@
 -- A call of one half drives both on, and what it lends is the driver's own.
 use Rattle.std.proofs.Common.{◌≡◌, ℕ, ◌≤◌, true, false, List, [], ◌∷◌, ◌++◌, refl, ◌∙◌, subst, arith}
-use Rattle.device_lock.specs.NicDevice.DmaArena.Numbers.{is_own, is_free}
-use Rattle.device_lock.specs.NicDevice.DmaArena.Whereabouts.{times_in_hand}
-use Rattle.device_lock.proofs.NicDevice.DmaArena.Arenas.{is_own-of_free}
-use Rattle.device_lock.specs.Alone.{Blocks}
-use Rattle.device_lock.specs.declared.entry.Call.{Call}
+use Rattle.pmd_access.specs.NicDevice.DmaArena.Numbers.{is_own, is_free}
+use Rattle.pmd_access.specs.NicDevice.DmaArena.Whereabouts.{times_in_hand}
+use Rattle.pmd_access.proofs.NicDevice.DmaArena.Arenas.{is_own-of_free}
+use Rattle.pmd_access.specs.DeviceLock.Alone.{Blocks}
+use Rattle.pmd_access.specs.DeviceLock.declared.entry.Call.{Call}
 use Rattle.pmd_access.specs.Home.{AreOut}
 use Rattle.pmd_access.specs.Slots.{ring_blocks}
 use Rattle.pmd_access.proofs.Outside.{times-cons, times-append, out_fewer, out_first, out_free}

@@ -4,10 +4,10 @@ use Rattle.std.proofs.Math.Bool.{or-false}
 use Rattle.std.proofs.lemmas.Bool.{cases_eq}
 use Rattle.std.proofs.lemmas.List.{append-nil}
 use Rattle.std.proofs.lemmas.Bool.Decides.{nat_tests}
-use Rattle.device_lock.specs.NicDevice.DmaArena.Numbers.{Numbers, is_own, is_free, with_free}
-use Rattle.device_lock.specs.NicDevice.DmaArena.Whereabouts.{times_in_hand}
-use Rattle.device_lock.proofs.NicDevice.DmaArena.Arenas.{is_own-with_free, is_free-with_free_same}
-use Rattle.device_lock.proofs.NicDevice.DmaArena.Arenas.{is_free-with_free_other}
+use Rattle.pmd_access.specs.NicDevice.DmaArena.Numbers.{Numbers, is_own, is_free, with_free}
+use Rattle.pmd_access.specs.NicDevice.DmaArena.Whereabouts.{times_in_hand}
+use Rattle.pmd_access.proofs.NicDevice.DmaArena.Arenas.{is_own-with_free, is_free-with_free_same}
+use Rattle.pmd_access.proofs.NicDevice.DmaArena.Arenas.{is_free-with_free_other}
 use Rattle.pmd_access.specs.Home.{AreOut, Bringing, BringsOne, Brings, BringsAll, StopsBringing}
 use Rattle.pmd_driver.specs.Halted.{is_free_or_out}
 use Rattle.pmd_access.proofs.Outside.{times-cons, times_first, times_rest, out_fewer, out_first, out_given}

@@ -2,8 +2,8 @@
 use Rattle.std.proofs.Common.{◌≡◌, ℕ, ◌&&◌, not, true, List, [], ◌++◌, Option, Some, None, Result, Ok, Err, OnOk, refl, ap, subst, sym, arith}
 use Rattle.std.specs.List.{list_any}
 use Rattle.std.proofs.lemmas.Bool.Decides.{nat_tests}
-use Rattle.device_lock.specs.NicDevice.DmaArena.Numbers.{Numbers}
-use Rattle.device_lock.specs.NicDevice.DmaArena.Whereabouts.{times_in_hand}
+use Rattle.pmd_access.specs.NicDevice.DmaArena.Numbers.{Numbers}
+use Rattle.pmd_access.specs.NicDevice.DmaArena.Whereabouts.{times_in_hand}
 use Rattle.pmd_access.specs.Bufs.{numbers_of, with_all_free}
 use Rattle.pmd_access.specs.Fresh.{IsFresh}
 use Rattle.pmd_access.specs.Home.{AreOut}

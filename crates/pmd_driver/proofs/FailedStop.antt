@@ -1,9 +1,9 @@
 -- Where the blocks of a driver are whose stop failed.
 use Rattle.std.proofs.Common.{◌≡◌, ℕ, zero, suc, inl, inr, cond, List, [], ◌++◌, refl, sym, ap, subst, ◌∙◌, arith}
 use Rattle.std.proofs.lemmas.List.{append-nil}
-use Rattle.device_lock.specs.NicDevice.DmaArena.Numbers.{Numbers, is_free}
-use Rattle.device_lock.specs.NicDevice.DmaArena.Whereabouts.{times_in_hand}
-use Rattle.device_lock.specs.declared.entry.Call.{Call}
+use Rattle.pmd_access.specs.NicDevice.DmaArena.Numbers.{Numbers, is_free}
+use Rattle.pmd_access.specs.NicDevice.DmaArena.Whereabouts.{times_in_hand}
+use Rattle.pmd_access.specs.DeviceLock.declared.entry.Call.{Call}
 use Rattle.pmd_access.specs.Bufs.{with_all_free}
 use Rattle.pmd_access.specs.Home.{AreOut, Bringing, BringsOne, Brings}
 use Rattle.pmd_access.specs.declared.fault.PmdFault.{PmdFault}

@@ -2,8 +2,8 @@
 use Rattle.std.proofs.Common.{ℕ, ◌+◌, ◌-◌, ◌≤◌, Bool, true, false, cond, List, [], ◌∷◌, length, arith}
 use Rattle.std.proofs.lemmas.List.{length-set}
 use Rattle.std.proofs.lemmas.List.Sums.{sum_by-cons}
-use Rattle.device_lock.specs.NicDevice.DmaArena.Numbers.{Numbers, free_count, with_free}
-use Rattle.device_lock.proofs.NicDevice.DmaArena.Arenas.{free_count_given}
+use Rattle.pmd_access.specs.NicDevice.DmaArena.Numbers.{Numbers, free_count, with_free}
+use Rattle.pmd_access.proofs.NicDevice.DmaArena.Arenas.{free_count_given}
 use Rattle.pmd_access.specs.Home.{AreOut}
 use Rattle.pmd_access.proofs.Outside.{out_first, out_given}
 

@@ -1,9 +1,9 @@
 -- Packets that are made of bytes.
 use Rattle.std.proofs.Common.{◌≡◌, ℕ, ◌+◌, ◌-◌, ◌*◌, List, [], ◌∷◌, ◌++◌, map, replicate, length, drop, Some, refl, sym, ap, ◌∙◌, subst, arith}
 use Rattle.std.proofs.lemmas.List.{drop-replicate, length-map, replicate-append-replicate}
-use Rattle.device_lock.specs.NicDevice.DmaArena.Block.{Block, zero_block}
-use Rattle.device_lock.specs.NicDevice.DmaArena.Memory.{put_bytes}
-use Rattle.device_lock.specs.NicDevice.DmaArena.Numbers.{Numbers}
+use Rattle.pmd_access.specs.NicDevice.DmaArena.Block.{Block, zero_block}
+use Rattle.pmd_access.specs.NicDevice.DmaArena.Memory.{put_bytes}
+use Rattle.pmd_access.specs.NicDevice.DmaArena.Numbers.{Numbers}
 use Rattle.pmd_access.specs.Bufs.{bytes_of, numbers_of}
 use Rattle.pmd_access.specs.Fresh.{IsFresh}
 use Rattle.pmd_access.specs.Home.{IsDrawn}

@@ -1,13 +1,13 @@
 -- A call of a half whose reply isn't that of a healthy queue.
 use Rattle.std.proofs.Common.{◌≡◌, ℕ, true, false, List, [], ◌∷◌, ◌++◌, length, length-append, refl, sym, ap, ◌∙◌, subst, arith}
 use Rattle.std.specs.Prelude.{IsTrue}
-use Rattle.device_lock.specs.NicDevice.DmaArena.Block.{Block}
-use Rattle.device_lock.specs.NicDevice.DmaArena.Numbers.{Numbers, is_free}
-use Rattle.device_lock.specs.NicDevice.declared.event.Event.{Event}
-use Rattle.device_lock.specs.NicDevice.declared.event.Reply.{Reply}
-use Rattle.device_lock.specs.Alone.{Blocks}
-use Rattle.device_lock.specs.Pass.{call_of}
-use Rattle.device_lock.specs.declared.entry.Call.{Call}
+use Rattle.pmd_access.specs.NicDevice.DmaArena.Block.{Block}
+use Rattle.pmd_access.specs.NicDevice.DmaArena.Numbers.{Numbers, is_free}
+use Rattle.pmd_access.specs.NicDevice.declared.event.Event.{Event}
+use Rattle.pmd_access.specs.NicDevice.declared.event.Reply.{Reply}
+use Rattle.pmd_access.specs.DeviceLock.Alone.{Blocks}
+use Rattle.pmd_access.specs.DeviceLock.Pass.{call_of}
+use Rattle.pmd_access.specs.DeviceLock.declared.entry.Call.{Call}
 use Rattle.pmd_access.specs.Events.{is_step}
 use Rattle.pmd_access.specs.declared.fault.PmdFault.{PmdFault}
 use Rattle.pmd_access.specs.declared.fault.PmdFault.TheVariants.{DeviceFault}

@@ -1,8 +1,8 @@
 -- Where the blocks of a driver are that isn't running.
 use Rattle.std.proofs.Common.{◌≡◌, ℕ, ◌+◌, ◌<◌, ◌||◌, nat_lt, Bool, true, false, cond, List, [], ◌++◌, length, length-append, sym, ap, ◌∙◌, subst, arith}
 use Rattle.std.proofs.lemmas.Bool.Decides.{nat_tests}
-use Rattle.device_lock.specs.NicDevice.DmaArena.Numbers.{Numbers, is_own, is_free}
-use Rattle.device_lock.specs.NicDevice.DmaArena.Whereabouts.{times_in_hand}
+use Rattle.pmd_access.specs.NicDevice.DmaArena.Numbers.{Numbers, is_own, is_free}
+use Rattle.pmd_access.specs.NicDevice.DmaArena.Whereabouts.{times_in_hand}
 use Rattle.pmd_access.specs.Bufs.{with_all_free}
 use Rattle.pmd_access.specs.Home.{AreOut}
 use Rattle.pmd_access.specs.Packet.{Kept}
@@ -13,7 +13,7 @@ use Rattle.pmd_tx.specs.Leaving as transmit
 use Rattle.pmd_tx.specs.Sending.{Sender}
 use Rattle.pmd_driver.specs.Halted.{Halted, IsHalted, all_out, is_free_or_out, way_of}
 use Rattle.pmd_driver.specs.Running.{kept_out}
-use Rattle.device_lock.specs.declared.entry.Call.{Call}
+use Rattle.pmd_access.specs.DeviceLock.declared.entry.Call.{Call}
 use Rattle.pmd_access.specs.Named.{AtPort}
 use Rattle.pmd_driver.specs.Stopping.{closed, bringing, brought, GoesHome, IsInPart}
 use Rattle.pmd_driver.specs.declared.home.Home.{Home}

@@ -1,7 +1,7 @@
 -- Two ways home as one.
 use Rattle.std.proofs.Common.{◌≡◌, ℕ, zero, suc, ◌+◌, inl, inr, List, [], ◌++◌, length-append, refl, sym, ap, subst, arith}
-use Rattle.device_lock.specs.declared.entry.Call.{Call}
-use Rattle.device_lock.specs.NicDevice.DmaArena.Numbers.{Numbers}
+use Rattle.pmd_access.specs.DeviceLock.declared.entry.Call.{Call}
+use Rattle.pmd_access.specs.NicDevice.DmaArena.Numbers.{Numbers}
 use Rattle.pmd_access.specs.Home.{AreOut, Homebound, Bringing, BringsOne, Brings, BringsAll, StopsBringing}
 use Rattle.pmd_driver.specs.Halted.{both_ways}
 use Rattle.pmd_driver.specs.Leaving.{bringing_both}

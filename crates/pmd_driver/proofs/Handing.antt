@@ -1,7 +1,7 @@
 -- A packet that is handed out can go home.
 use Rattle.std.proofs.Common.{◌≡◌, ℕ, nat_lt, true, false, List, ◌++◌, Option, Some, None, Result, Ok, Err, IfOk, IfSome, refl, sym, subst, arith}
 use Rattle.std.specs.List.{list_any}
-use Rattle.device_lock.specs.NicDevice.DmaArena.Whereabouts.{times_in_hand}
+use Rattle.pmd_access.specs.NicDevice.DmaArena.Whereabouts.{times_in_hand}
 use Rattle.pmd_access.specs.Bufs.{numbers_of}
 use Rattle.pmd_access.specs.Home.{AreOut}
 use Rattle.pmd_access.specs.declared.fault.PmdFault.{PmdFault}

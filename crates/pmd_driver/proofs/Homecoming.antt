@@ -1,9 +1,9 @@
 -- The arena that comes home from a driver that had all blocks of another.
 use Rattle.std.proofs.Common.{◌≡◌, ℕ, ◌+◌, ◌||◌, nat_lt, Bool, true, false, cond, List, [], refl, ◌∙◌, arith}
 use Rattle.std.proofs.lemmas.Bool.Decides.{nat_tests}
-use Rattle.device_lock.specs.NicDevice.DmaArena.Numbers.{Numbers, is_own, is_free}
-use Rattle.device_lock.specs.NicDevice.DmaArena.Whereabouts.{times_in_hand}
-use Rattle.device_lock.specs.declared.entry.Call.{Call}
+use Rattle.pmd_access.specs.NicDevice.DmaArena.Numbers.{Numbers, is_own, is_free}
+use Rattle.pmd_access.specs.NicDevice.DmaArena.Whereabouts.{times_in_hand}
+use Rattle.pmd_access.specs.DeviceLock.declared.entry.Call.{Call}
 use Rattle.pmd_access.proofs.Outside.{times-append}
 use Rattle.pmd_access.specs.Named.{AtPort}
 use Rattle.pmd_driver.specs.Halted.{Halted, all_out, is_free_or_out}

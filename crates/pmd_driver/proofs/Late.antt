@@ -1,9 +1,9 @@
 -- Which faults come once events are made.
 use Rattle.std.proofs.Common.{◌≡◌, ℕ, ◌+◌, ◌≤◌, ◌<◌, Bool, List, Result, Ok, Err, IfErr, inl, inr, refl, arith}
-use Rattle.device_lock.specs.NicDevice.DmaArena.Numbers.{Numbers}
-use Rattle.device_lock.specs.declared.entry.Call.{Call}
-use Rattle.device_lock.specs.NicDevice.DmaRing.declared.dir.Dir.{Dir}
-use Rattle.device_lock.specs.NicDevice.DmaRing.declared.dir.Dir.TheVariants.{Rx}
+use Rattle.pmd_access.specs.NicDevice.DmaArena.Numbers.{Numbers}
+use Rattle.pmd_access.specs.DeviceLock.declared.entry.Call.{Call}
+use Rattle.pmd_access.specs.NicDevice.DmaRing.declared.dir.Dir.{Dir}
+use Rattle.pmd_access.specs.NicDevice.DmaRing.declared.dir.Dir.TheVariants.{Rx}
 use Rattle.pmd_access.specs.declared.fault.PmdFault.{PmdFault}
 use Rattle.pmd_access.specs.declared.fault.PmdFault.TheVariants as fault
 use Rattle.pmd_access.specs.Both.{SwitchFails}
@@ -14,7 +14,7 @@ use Rattle.pmd_access.specs.Sides.{PollsEnd}
 use Rattle.pmd_rx.specs.Filling.{StopsFilling}
 use Rattle.pmd_rx.specs.Receive.{Receive}
 use Rattle.pmd_driver.specs.Starting.{ComesLate, PreparingFails, LendingFails, ReceiveFails}
-use Rattle.device_lock.specs.NicDevice.DmaArena.Block.{Block}
+use Rattle.pmd_access.specs.NicDevice.DmaArena.Block.{Block}
 
 stops_late : (f : PmdFault) (q : AtPort) (old new : List Call) (all : List Access) → StopsBy f q old new all
     → ComesLate f

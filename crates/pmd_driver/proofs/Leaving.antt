@@ -1,7 +1,7 @@
 -- A driver that a start leaves has handed nothing out, and accepted nothing.
 use Rattle.std.proofs.Common.{◌≡◌, ℕ, List, [], ◌∷◌, inl, inr, refl, ap, ◌∙◌}
-use Rattle.device_lock.specs.NicDevice.DmaArena.Numbers.{Numbers}
-use Rattle.device_lock.specs.declared.entry.Call.{Call}
+use Rattle.pmd_access.specs.NicDevice.DmaArena.Numbers.{Numbers}
+use Rattle.pmd_access.specs.DeviceLock.declared.entry.Call.{Call}
 use Rattle.pmd_driver.specs.Halted.{Halted}
 use Rattle.pmd_access.specs.Named.{AtPort}
 use Rattle.pmd_rx.specs.Receive.{Receive}

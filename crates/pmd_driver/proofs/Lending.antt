@@ -2,12 +2,12 @@
 use Rattle.std.proofs.Common.{◌≡◌, ℕ, zero, suc, ◌+◌, ◌-◌, ◌<◌, true, false, List, [], ◌∷◌, ◌++◌, None, refl, sym, ap, subst, ◌∙◌, arith}
 use Rattle.std.specs.List.{range_with_len}
 use Rattle.std.proofs.lemmas.List.{append-nil}
-use Rattle.device_lock.specs.NicDevice.DmaArena.Block.{zero_block}
-use Rattle.device_lock.specs.NicDevice.DmaArena.Numbers.{Numbers, is_free, with_free}
-use Rattle.device_lock.specs.NicDevice.DmaRing.declared.dir.Dir.{Dir}
-use Rattle.device_lock.specs.NicDevice.DmaRing.declared.dir.Dir.TheVariants.{Rx, Tx}
-use Rattle.device_lock.specs.declared.entry.Call.{Call}
-use Rattle.device_lock.specs.declared.fault.CallFault.{CallFault}
+use Rattle.pmd_access.specs.NicDevice.DmaArena.Block.{zero_block}
+use Rattle.pmd_access.specs.NicDevice.DmaArena.Numbers.{Numbers, is_free, with_free}
+use Rattle.pmd_access.specs.NicDevice.DmaRing.declared.dir.Dir.{Dir}
+use Rattle.pmd_access.specs.NicDevice.DmaRing.declared.dir.Dir.TheVariants.{Rx, Tx}
+use Rattle.pmd_access.specs.DeviceLock.declared.entry.Call.{Call}
+use Rattle.pmd_access.specs.DeviceLock.declared.fault.CallFault.{CallFault}
 use Rattle.pmd_access.specs.Accesses.{IsLent}
 use Rattle.pmd_access.specs.Home.{IsDrawn}
 use Rattle.pmd_access.proofs.Rings.{range_more}
@@ -16,7 +16,7 @@ use Rattle.pmd_access.specs.QueueMade.{StopsBy}
 use Rattle.pmd_access.specs.Sides.{ring_words}
 use Rattle.pmd_access.specs.declared.fault.PmdFault.{PmdFault}
 use Rattle.pmd_access.specs.declared.fault.PmdFault.TheVariants as fault
-use Rattle.device_lock.specs.NicDevice.DmaArena.Run.{IsFreeRun}
+use Rattle.pmd_access.specs.NicDevice.DmaArena.Run.{IsFreeRun}
 use Rattle.pmd_driver.specs.Starting.{LendsEach, LendingFails, StopsLending}
 use Rattle.pmd_driver.proofs.Starting.{drawn_keeps, none_behind}
 

@@ -1,8 +1,8 @@
 pub use Rattle.pmd_access.proofs as PmdAccess
 pub use Rattle.pmd_rx.proofs as PmdRx
 pub use Rattle.pmd_tx.proofs as PmdTx
-pub use Rattle.device_lock.proofs as DeviceLock
-pub use Rattle.device_lock.proofs.NicDevice
+pub use Rattle.pmd_access.proofs.DeviceLock as DeviceLock
+pub use Rattle.pmd_access.proofs.NicDevice
 pub mod Apart
 pub mod Blocks
 pub mod Both

@@ -1,8 +1,8 @@
 -- What a packet of a burst meets: a way that is shut, or a fault amid events.
 use Rattle.std.proofs.Common.{◌≡◌, ◌⊎◌, inl, inr, ℕ, true, false, ◌&&◌, not, List, Some, None, Result, Ok, Err, Option, IfErr, IfSome, refl, sym, ap, ◌∙◌, subst}
-use Rattle.device_lock.specs.NicDevice.DmaArena.Numbers.{is_own}
-use Rattle.device_lock.specs.Alone.{Blocks}
-use Rattle.device_lock.specs.declared.entry.Call.{Call}
+use Rattle.pmd_access.specs.NicDevice.DmaArena.Numbers.{is_own}
+use Rattle.pmd_access.specs.DeviceLock.Alone.{Blocks}
+use Rattle.pmd_access.specs.DeviceLock.declared.entry.Call.{Call}
 use Rattle.pmd_access.specs.declared.fault.PmdFault.{PmdFault}
 use Rattle.pmd_access.specs.declared.fault.PmdFault.TheVariants as fault
 use Rattle.pmd_access.specs.declared.packet.Packet.{Packet}

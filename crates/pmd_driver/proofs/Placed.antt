@@ -1,7 +1,7 @@
 -- The blocks of a packet that is accepted: one for each of its parts.
 use Rattle.std.proofs.Common.{◌≡◌, ℕ, zero, suc, ◌-◌, ◌*◌, ◌<◌, ◌≤◌, All, List, [], ◌∷◌, ◌++◌, length, take, drop, replicate, refl, ap, ◌∙◌, arith}
 use Rattle.std.proofs.lemmas.List.{length-append, length-replicate, length-take-le, map-append}
-use Rattle.device_lock.specs.NicDevice.DmaArena.Block.{Block, IsBlock}
+use Rattle.pmd_access.specs.NicDevice.DmaArena.Block.{Block, IsBlock}
 use Rattle.pmd_access.specs.Bufs.{bytes_of, numbers_of}
 use Rattle.pmd_access.specs.declared.packet.Packet.{Packet}
 use Rattle.pmd_tx.specs.Sending.{Sender, Part, Segment, blocks_of, paired, parts_for, parts_in, parts_of, segments_of}

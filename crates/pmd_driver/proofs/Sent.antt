@@ -1,9 +1,9 @@
 -- A packet that is sent drives the halves on, and is lent in blocks of the driver's own.
 use Rattle.std.proofs.Common.{◌≡◌, ◌⊎◌, inl, inr, Bool, true, false, ◌&&◌, not, List, ◌++◌, refl, sym, subst}
-use Rattle.device_lock.specs.NicDevice.DmaArena.Numbers.{Numbers, is_own}
+use Rattle.pmd_access.specs.NicDevice.DmaArena.Numbers.{Numbers, is_own}
 use Rattle.pmd_access.specs.Bufs.{numbers_of}
 use Rattle.pmd_access.specs.Home.{AreOut}
-use Rattle.device_lock.specs.declared.entry.Call.{Call}
+use Rattle.pmd_access.specs.DeviceLock.declared.entry.Call.{Call}
 use Rattle.pmd_access.specs.declared.fault.PmdFault.{PmdFault}
 use Rattle.pmd_access.specs.declared.packet.Packet.{Packet}
 use Rattle.pmd_tx.specs.Plays as transmit

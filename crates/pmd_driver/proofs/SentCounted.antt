@@ -1,7 +1,7 @@
 -- Where the blocks of a driver are once a packet was to be sent.
 use Rattle.std.proofs.Common.{◌≡◌, ◌&&◌, not, Bool, All, Option, Some, None, Result, Ok, Err, IfErr, IfSome, IfNone, refl, sym, ap, subst}
-use Rattle.device_lock.specs.NicDevice.DmaArena.Block.{Block, IsBlock}
-use Rattle.device_lock.specs.NicDevice.DmaArena.Numbers.{Numbers}
+use Rattle.pmd_access.specs.NicDevice.DmaArena.Block.{Block, IsBlock}
+use Rattle.pmd_access.specs.NicDevice.DmaArena.Numbers.{Numbers}
 use Rattle.pmd_access.specs.Bufs.{numbers_of}
 use Rattle.pmd_access.specs.declared.fault.PmdFault.{PmdFault}
 use Rattle.pmd_access.specs.declared.fault.PmdFault.TheVariants as fault

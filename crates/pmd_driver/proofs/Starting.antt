@@ -2,12 +2,12 @@
 use Rattle.std.proofs.Common.{◌≡◌, ℕ, zero, suc, ◌+◌, ◌≤◌, inl, inr, Bool, true, false, cond, List, [], ◌∷◌, ◌++◌, length, refl, sym, ap, subst, ◌∙◌, arith}
 use Rattle.std.proofs.lemmas.Bool.{cases_eq}
 use Rattle.std.specs.List.{range_with_len}
-use Rattle.device_lock.specs.NicDevice.DmaArena.Numbers.{Numbers, free_count, is_own, is_free, with_free}
-use Rattle.device_lock.specs.NicDevice.DmaArena.Whereabouts.{times_in_hand}
-use Rattle.device_lock.proofs.NicDevice.DmaArena.Arenas.{is_own-of_free, is_free-with_free_other, free_count_taken}
-use Rattle.device_lock.specs.declared.entry.Call.{Call}
-use Rattle.device_lock.specs.NicDevice.DmaRing.declared.dir.Dir.{Dir}
-use Rattle.device_lock.specs.NicDevice.DmaRing.declared.dir.Dir.TheVariants.{Rx, Tx}
+use Rattle.pmd_access.specs.NicDevice.DmaArena.Numbers.{Numbers, free_count, is_own, is_free, with_free}
+use Rattle.pmd_access.specs.NicDevice.DmaArena.Whereabouts.{times_in_hand}
+use Rattle.pmd_access.proofs.NicDevice.DmaArena.Arenas.{is_own-of_free, is_free-with_free_other, free_count_taken}
+use Rattle.pmd_access.specs.DeviceLock.declared.entry.Call.{Call}
+use Rattle.pmd_access.specs.NicDevice.DmaRing.declared.dir.Dir.{Dir}
+use Rattle.pmd_access.specs.NicDevice.DmaRing.declared.dir.Dir.TheVariants.{Rx, Tx}
 use Rattle.pmd_access.specs.Home.{AreOut, IsDrawn}
 use Rattle.pmd_access.specs.Slots.{blocks_for, ring_blocks}
 use Rattle.pmd_access.specs.declared.fault.PmdFault.{PmdFault}
@@ -17,7 +17,7 @@ use Rattle.pmd_access.specs.Named.{AtPort}
 use Rattle.pmd_rx.specs.Keeping.{Keeps, blocks_out}
 use Rattle.pmd_rx.specs.Receive.{Receive}
 use Rattle.pmd_tx.specs.Sending.{Sender}
-use Rattle.device_lock.specs.NicDevice.DmaArena.Run.{IsFreeRun}
+use Rattle.pmd_access.specs.NicDevice.DmaArena.Run.{IsFreeRun}
 use Rattle.pmd_driver.specs.Running.{kept_out}
 use Rattle.pmd_driver.specs.Starting.{IsPrepared, IsReceiveReady, IsTransmitReady, PreparingFails, ReceiveFails}
 

@@ -1,10 +1,10 @@
 -- Each block is free or out as often as before.
 use Rattle.std.proofs.Common.{◌≡◌, ◌≢◌, ℕ, ◌+◌, ◌≤◌, ◌⊎◌, inl, inr, Bool, true, false, cond, List, [], ◌∷◌, ◌++◌, refl, sym, subst, ◌∙◌, arith}
 use Rattle.std.proofs.lemmas.Bool.{cases_eq}
-use Rattle.device_lock.specs.NicDevice.DmaArena.Numbers.{Numbers, is_own, is_free, with_free}
-use Rattle.device_lock.specs.NicDevice.DmaArena.Whereabouts.{times_in_hand}
-use Rattle.device_lock.proofs.NicDevice.DmaArena.Arenas.{is_own-of_free, is_own-with_free, is_free-with_free_same}
-use Rattle.device_lock.proofs.NicDevice.DmaArena.Arenas.{is_free-with_free_other}
+use Rattle.pmd_access.specs.NicDevice.DmaArena.Numbers.{Numbers, is_own, is_free, with_free}
+use Rattle.pmd_access.specs.NicDevice.DmaArena.Whereabouts.{times_in_hand}
+use Rattle.pmd_access.proofs.NicDevice.DmaArena.Arenas.{is_own-of_free, is_own-with_free, is_free-with_free_same}
+use Rattle.pmd_access.proofs.NicDevice.DmaArena.Arenas.{is_free-with_free_other}
 use Rattle.pmd_access.specs.Home.{AreOut, IsDrawn, Exchanges}
 use Rattle.pmd_access.proofs.Outside.{times_first, times_rest, times-cons, times-append}
 use Rattle.pmd_driver.specs.Halted.{Halted, all_out}

@@ -1,13 +1,13 @@
 -- What the halves of a driver lend: blocks of its own numbers alone, and none that the other half has lent.
 use Rattle.std.specs.Prelude.{ℕ, ◌≡◌, Bool, IsTrue, IsFalse, ⊤, List, [], ◌∷◌}
-use Rattle.device_lock.specs.NicDevice.DmaArena.Block.{Block}
-use Rattle.device_lock.specs.NicDevice.DmaArena.Numbers.{Numbers, is_own}
-use Rattle.device_lock.specs.NicDevice.declared.event.Event.{Event}
-use Rattle.device_lock.specs.NicDevice.declared.event.Event.TheVariants as event
-use Rattle.device_lock.specs.NicDevice.declared.event.Reply.{Reply}
-use Rattle.device_lock.specs.Alone.{Blocks}
-use Rattle.device_lock.specs.Pass.{call_of}
-use Rattle.device_lock.specs.declared.entry.Call.{Call}
+use Rattle.pmd_access.specs.NicDevice.DmaArena.Block.{Block}
+use Rattle.pmd_access.specs.NicDevice.DmaArena.Numbers.{Numbers, is_own}
+use Rattle.pmd_access.specs.NicDevice.declared.event.Event.{Event}
+use Rattle.pmd_access.specs.NicDevice.declared.event.Event.TheVariants as event
+use Rattle.pmd_access.specs.NicDevice.declared.event.Reply.{Reply}
+use Rattle.pmd_access.specs.DeviceLock.Alone.{Blocks}
+use Rattle.pmd_access.specs.DeviceLock.Pass.{call_of}
+use Rattle.pmd_access.specs.DeviceLock.declared.entry.Call.{Call}
 use Rattle.pmd_access.specs.Made.{Adds}
 use Rattle.pmd_access.specs.declared.fault.PmdFault.{PmdFault}
 use Rattle.pmd_access.specs.declared.fault.PmdFault.TheVariants.{DeviceFault}

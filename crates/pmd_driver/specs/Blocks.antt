@@ -1,7 +1,7 @@
 -- The blocks of a driver: none comes from nowhere, and none goes astray.
 use Rattle.std.specs.Prelude.{◌≡◌, ℕ, ◌+◌, List, [], ◌++◌, if◌then◌else◌}
-use Rattle.device_lock.specs.NicDevice.DmaArena.Numbers.{Numbers, is_own, is_free}
-use Rattle.device_lock.specs.NicDevice.DmaArena.Whereabouts.{times_in_hand}
+use Rattle.pmd_access.specs.NicDevice.DmaArena.Numbers.{Numbers, is_own, is_free}
+use Rattle.pmd_access.specs.NicDevice.DmaArena.Whereabouts.{times_in_hand}
 use Rattle.pmd_driver.specs.Halted.{Halted, all_out}
 use Rattle.pmd_driver.specs.Driver.{halted_of}
 use Rattle.pmd_driver.specs.Running.{Running, rings_out}

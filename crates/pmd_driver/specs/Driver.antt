@@ -1,6 +1,6 @@
 -- A driver of one queue, which runs or doesn't.
 use Rattle.std.specs.Prelude.{Bool, List, ⊤}
-use Rattle.device_lock.specs.NicDevice.DmaArena.Numbers.{Numbers}
+use Rattle.pmd_access.specs.NicDevice.DmaArena.Numbers.{Numbers}
 use Rattle.pmd_access.specs.Packet.{Kept}
 use Rattle.pmd_access.specs.Named.{AtPort}
 use Rattle.pmd_access.specs.declared.packet.Packet.{Packet}

@@ -1,8 +1,8 @@
 -- What each call of a driver whose rings are up answers and leaves: from the calls that were made before it and the
 -- driver there, to those that were made after it and the driver there.
 use Rattle.std.specs.Prelude.{ℕ, ◌≡◌, ◌↔◌, ◌++◌, ◌∷◌, [], false, length, List, Option, Result, Ok, Err, IfOk, IfErr, IfSome, IfNone, OnErr, IsTrue}
-use Rattle.device_lock.specs.NicDevice.DmaArena.Numbers.{is_own}
-use Rattle.device_lock.specs.declared.entry.Call.{Call}
+use Rattle.pmd_access.specs.NicDevice.DmaArena.Numbers.{is_own}
+use Rattle.pmd_access.specs.DeviceLock.declared.entry.Call.{Call}
 use Rattle.pmd_access.specs.Packet.{kept_of}
 use Rattle.pmd_access.specs.declared.fault.PmdFault.{PmdFault}
 use Rattle.pmd_access.specs.declared.fault.PmdFault.TheVariants.{NoBuffer}

@@ -4,7 +4,7 @@ use Rattle.pmd_access.specs.Home.{Homebound}
 use Rattle.pmd_access.specs.Packet.{Kept}
 use Rattle.pmd_rx.specs.Keeping as receive
 use Rattle.pmd_tx.specs.Leaving as transmit
-use Rattle.device_lock.specs.NicDevice.DmaArena.Numbers.{Numbers}
+use Rattle.pmd_access.specs.NicDevice.DmaArena.Numbers.{Numbers}
 use Rattle.pmd_driver.specs.Halted.{Halted, both_ways, way_of}
 use Rattle.pmd_driver.specs.declared.ends.Receiving.{Receiving}
 use Rattle.pmd_driver.specs.declared.ends.Receiving.TheVariants as received

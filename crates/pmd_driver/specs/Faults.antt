@@ -1,6 +1,6 @@
 -- The fault that a step ended with, where it did.
 use Rattle.std.specs.Prelude.{Option, Some, None, Result, Ok, Err}
-use Rattle.device_lock.specs.declared.fault.CallFault.{CallFault}
+use Rattle.pmd_access.specs.DeviceLock.declared.fault.CallFault.{CallFault}
 use Rattle.pmd_access.specs.declared.fault.PmdFault.{PmdFault}
 use Rattle.pmd_access.specs.declared.fault.PmdFault.TheVariants as fault
 use Rattle.pmd_driver.specs.declared.home.StopFailed.{StopFailed}

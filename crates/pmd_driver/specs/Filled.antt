@@ -1,6 +1,6 @@
 -- Packets that are made of bytes.
 use Rattle.std.specs.Prelude.{ℕ, ◌≡◌, ◌-◌, ◌*◌, ◌++◌, List, length, replicate, Option, Some, None}
-use Rattle.device_lock.specs.NicDevice.DmaArena.Numbers.{Numbers}
+use Rattle.pmd_access.specs.NicDevice.DmaArena.Numbers.{Numbers}
 use Rattle.pmd_access.specs.Bufs.{bytes_of, numbers_of}
 use Rattle.pmd_access.specs.Fresh.{bufs_for}
 use Rattle.pmd_access.specs.Home.{IsDrawn}

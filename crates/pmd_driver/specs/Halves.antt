@@ -1,6 +1,6 @@
 -- A driver whose two halves, one that receives and one that sends, make calls through one pass.
 use Rattle.std.specs.Prelude.{◌≡◌, Bool, true, false, List, [], ◌∷◌, ◌++◌, map, ⊤}
-use Rattle.device_lock.specs.declared.entry.Call.{Call}
+use Rattle.pmd_access.specs.DeviceLock.declared.entry.Call.{Call}
 use Rattle.pmd_access.specs.Made.{AddsSome, StepsWhere}
 use Rattle.pmd_rx.specs.Plays as receive
 use Rattle.pmd_rx.specs.Receive as receiving

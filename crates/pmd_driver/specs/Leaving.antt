@@ -1,7 +1,7 @@
 -- A driver whose rings are closed.
 use Rattle.std.specs.Prelude.{List, []}
-use Rattle.device_lock.specs.NicDevice.DmaArena.Numbers.{Numbers}
-use Rattle.device_lock.specs.declared.entry.Call.{Call}
+use Rattle.pmd_access.specs.NicDevice.DmaArena.Numbers.{Numbers}
+use Rattle.pmd_access.specs.DeviceLock.declared.entry.Call.{Call}
 use Rattle.pmd_access.specs.Home.{Homebound, Bringing}
 use Rattle.pmd_driver.specs.Halted.{Halted, both_ways}
 use Rattle.pmd_driver.specs.declared.stopping.Leaving.{Leaving}

@@ -1,8 +1,8 @@
 pub use Rattle.pmd_access.specs as PmdAccess
 pub use Rattle.pmd_rx.specs as PmdRx
 pub use Rattle.pmd_tx.specs as PmdTx
-pub use Rattle.device_lock.specs as DeviceLock
-pub use Rattle.device_lock.specs.NicDevice
+pub use Rattle.pmd_access.specs.DeviceLock as DeviceLock
+pub use Rattle.pmd_access.specs.NicDevice
 pub mod Apart
 pub mod Arriving
 pub mod Blocks

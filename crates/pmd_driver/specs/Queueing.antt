@@ -1,8 +1,8 @@
 -- What the steps of a burst do, each in one record: from the calls that were made and the driver there, to those that
 -- were made after it and the driver there.
 use Rattle.std.specs.Prelude.{ℕ, ◌≡◌, ◌+◌, ◌≤◌, ◌++◌, ◌∷◌, [], length, true, is_some, Bool, List, Option, Some, None, Result, IfSome}
-use Rattle.device_lock.specs.NicDevice.DmaArena.Numbers.{is_own}
-use Rattle.device_lock.specs.declared.entry.Call.{Call}
+use Rattle.pmd_access.specs.NicDevice.DmaArena.Numbers.{is_own}
+use Rattle.pmd_access.specs.DeviceLock.declared.entry.Call.{Call}
 use Rattle.pmd_access.specs.declared.fault.PmdFault.{PmdFault}
 use Rattle.pmd_access.specs.declared.packet.Packet.{Packet}
 use Rattle.pmd_rx.specs.Keeping.{numbers_of_all}

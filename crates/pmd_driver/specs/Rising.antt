@@ -1,11 +1,11 @@
 -- What the steps of a start need, and what each of them leaves.
 use Rattle.std.specs.Prelude.{ℕ, ◌≡◌, ◌≤◌, ◌+◌, ◌-◌, ◌*◌, true, false, List, [], None, Result, Ok, Err, OnOk, IfErr}
-use Rattle.device_lock.specs.NicDevice.DmaArena.Block.{zero_block}
-use Rattle.device_lock.specs.NicDevice.DmaArena.Numbers.{Numbers, free_count, with_free}
-use Rattle.device_lock.specs.NicDevice.DmaArena.Run.{IsFreeRun}
-use Rattle.device_lock.specs.NicDevice.DmaRing.declared.dir.Dir.{Dir}
-use Rattle.device_lock.specs.NicDevice.DmaRing.declared.dir.Dir.TheVariants.{Tx}
-use Rattle.device_lock.specs.declared.entry.Call.{Call}
+use Rattle.pmd_access.specs.NicDevice.DmaArena.Block.{zero_block}
+use Rattle.pmd_access.specs.NicDevice.DmaArena.Numbers.{Numbers, free_count, with_free}
+use Rattle.pmd_access.specs.NicDevice.DmaArena.Run.{IsFreeRun}
+use Rattle.pmd_access.specs.NicDevice.DmaRing.declared.dir.Dir.{Dir}
+use Rattle.pmd_access.specs.NicDevice.DmaRing.declared.dir.Dir.TheVariants.{Tx}
+use Rattle.pmd_access.specs.DeviceLock.declared.entry.Call.{Call}
 use Rattle.pmd_access.specs.Accesses.{IsLent}
 use Rattle.pmd_access.specs.Frames.{is_frame}
 use Rattle.pmd_access.specs.Home.{AreOut, IsDrawn}

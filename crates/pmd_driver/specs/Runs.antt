@@ -1,7 +1,7 @@
 -- Where the rings of a driver are made in its arena.
 use Rattle.std.specs.Prelude.{ℕ, ◌+◌, ◌≤◌, Option, Some, None}
-use Rattle.device_lock.specs.NicDevice.DmaArena.Numbers.{Numbers}
-use Rattle.device_lock.specs.NicDevice.DmaArena.Run.{lowest_run, run_in, IsFreeRun}
+use Rattle.pmd_access.specs.NicDevice.DmaArena.Numbers.{Numbers}
+use Rattle.pmd_access.specs.NicDevice.DmaArena.Run.{lowest_run, run_in, IsFreeRun}
 
 -- the lowest run of so many free blocks after another, where there is that
 abbrev pub run_after : Numbers → ℕ → Option ℕ → Option ℕ

@@ -1,11 +1,11 @@
 -- How the rings of a driver come up, one after the other.
 use Rattle.std.specs.Prelude.{ℕ, ◌≡◌, ◌⊎◌, ⊤, true, List, [], ◌∷◌, ◌++◌, Some, None}
-use Rattle.device_lock.specs.NicDevice.DmaArena.Block.{Block, zero_block}
-use Rattle.device_lock.specs.NicDevice.DmaArena.Numbers.{Numbers, is_free}
-use Rattle.device_lock.specs.declared.entry.Call.{Call}
-use Rattle.device_lock.specs.NicDevice.RegisterFile.Queue.{tail_row}
-use Rattle.device_lock.specs.NicDevice.DmaRing.declared.dir.Dir.{Dir}
-use Rattle.device_lock.specs.NicDevice.DmaRing.declared.dir.Dir.TheVariants.{Rx, Tx}
+use Rattle.pmd_access.specs.NicDevice.DmaArena.Block.{Block, zero_block}
+use Rattle.pmd_access.specs.NicDevice.DmaArena.Numbers.{Numbers, is_free}
+use Rattle.pmd_access.specs.DeviceLock.declared.entry.Call.{Call}
+use Rattle.pmd_access.specs.NicDevice.RegisterFile.Queue.{tail_row}
+use Rattle.pmd_access.specs.NicDevice.DmaRing.declared.dir.Dir.{Dir}
+use Rattle.pmd_access.specs.NicDevice.DmaRing.declared.dir.Dir.TheVariants.{Rx, Tx}
 use Rattle.pmd_access.specs.Accesses.{IsLent}
 use Rattle.pmd_access.specs.Made.{AddsSome}
 use Rattle.pmd_access.specs.declared.fault.PmdFault.{PmdFault}
@@ -23,7 +23,7 @@ use Rattle.pmd_rx.specs.Receive.{Receive}
 use Rattle.pmd_rx.specs.Receive as receive
 use Rattle.pmd_tx.specs.Sending.{Sender}
 use Rattle.pmd_tx.specs.Sending as transmit
-use Rattle.device_lock.specs.NicDevice.DmaArena.Run.{IsFreeRun}
+use Rattle.pmd_access.specs.NicDevice.DmaArena.Run.{IsFreeRun}
 
 -- a fault that comes once events are made
 abbrev pub ComesLate : PmdFault → Type 0

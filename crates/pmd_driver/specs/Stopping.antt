@@ -1,8 +1,8 @@
 -- How a driver stops: both sides of its queue go off, and its blocks come home.
 use Rattle.std.specs.Prelude.{ℕ, ◌≡◌, ◌⊎◌, false, List, [], ◌++◌}
-use Rattle.device_lock.specs.declared.entry.Call.{Call}
-use Rattle.device_lock.specs.declared.fault.CallFault.{CallFault}
-use Rattle.device_lock.specs.declared.fault.CallFault.TheVariants as refused
+use Rattle.pmd_access.specs.DeviceLock.declared.entry.Call.{Call}
+use Rattle.pmd_access.specs.DeviceLock.declared.fault.CallFault.{CallFault}
+use Rattle.pmd_access.specs.DeviceLock.declared.fault.CallFault.TheVariants as refused
 use Rattle.pmd_access.specs.Bufs.{with_all_free}
 use Rattle.pmd_access.specs.Home.{Bringing, BringsAll, StopsBringing}
 use Rattle.pmd_access.specs.declared.fault.PmdFault.{PmdFault}

@@ -7,8 +7,7 @@ ghost use Rattle.pmd_access.specs.Refusals.{CanFail};
 ghost use Rattle.pmd_access.specs.Asks.{Asks, fault_in};
 ghost use Rattle.pmd_driver.specs.Arriving.{Arrives, IsRefusal};
 
-use device_lock::{CallFault, Event, Octets, Reply, Why};
-use pmd_access::{Nic, PmdFault, without_event};
+use pmd_access::{CallFault, Event, Nic, Octets, PmdFault, Reply, Why, without_event};
 use std::alloc::Global;
 
 /// What became of a frame that arrived.

@@ -1,7 +1,7 @@
 //! A packet with given bytes.
 
 ghost use Rattle.std.specs.Prelude.{◌≡◌, ◌≤◌, ◌*◌, length, min};
-ghost use Rattle.device_lock.specs.NicDevice.DmaArena.Memory.{put_bytes};
+ghost use Rattle.pmd_access.specs.NicDevice.DmaArena.Memory.{put_bytes};
 ghost use Rattle.pmd_access.specs.Bufs.{bytes_of, numbers_of};
 
 use pmd_access::Packet;

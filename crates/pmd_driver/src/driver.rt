@@ -1,7 +1,7 @@
 //! A driver of one queue.
 
 ghost use Rattle.std.specs.Prelude.{ℕ, ◌≡◌, ◌<◌, ◌⊎◌, ◌++◌, ◌∷◌, ◌↔◌, [], true, Some, Err, All, drop, length, IfOk, IfErr, IfSome, IsNone, IsOk, OnOk, OnErr};
-ghost use Rattle.device_lock.specs.NicDevice.DmaArena.Numbers.{free_count, is_own, is_free};
+ghost use Rattle.pmd_access.specs.NicDevice.DmaArena.Numbers.{free_count, is_own, is_free};
 ghost use Rattle.pmd_access.specs.Begun.{BeganAs};
 ghost use Rattle.pmd_access.specs.Bufs.{numbers_of, with_all_free};
 ghost use Rattle.pmd_access.specs.Fresh.{IsFresh, bufs_for};

@@ -1,13 +1,12 @@
 //! The two halves of a driver that isn't running.
 
 ghost use Rattle.std.specs.Prelude.{◌≡◌, ◌<◌, ◌↔◌, ◌++◌, true, None, IfOk, IfErr, OnOk, OnErr};
-ghost use Rattle.device_lock.specs.NicDevice.DmaArena.Whereabouts.{times_in_hand};
+ghost use Rattle.pmd_access.specs.NicDevice.DmaArena.Whereabouts.{times_in_hand};
 ghost use Rattle.pmd_access.specs.Home.{AreOut};
 ghost use Rattle.pmd_access.specs.Bufs.{with_all_free};
 ghost use Rattle.pmd_driver.specs.Ends.{received_way, held_of, handed_of, sent_way, waiting_of, accepted_of};
 
-use device_lock::Arena;
-use pmd_access::{Reclaim, Record, give_bufs};
+use pmd_access::{Arena, Reclaim, Record, give_bufs};
 use pmd_rx::ReceiveRing;
 use pmd_tx::TransmitRing;
 use std::alloc::Global;

@@ -2,7 +2,7 @@
 
 ghost use Rattle.std.specs.Prelude.{◌≡◌, ◌↔◌, ◌<◌, ◌++◌, ◌⊎◌, ℕ, [], true, None, IfOk, IfErr, IsOk, IsNone, OnOk, OnErr};
 ghost use Rattle.std.specs.List.{list_any};
-ghost use Rattle.device_lock.specs.NicDevice.DmaArena.Numbers.{free_count, is_own, is_free};
+ghost use Rattle.pmd_access.specs.NicDevice.DmaArena.Numbers.{free_count, is_own, is_free};
 ghost use Rattle.pmd_access.specs.Begun.{BeganAs};
 ghost use Rattle.pmd_access.specs.Bufs.{numbers_of, with_all_free};
 ghost use Rattle.pmd_access.specs.Home.{AreOut};
@@ -19,8 +19,10 @@ ghost use Rattle.pmd_access.specs.Refusals.{CanFail};
 use crate::ends::{Receiving, Sending};
 use crate::home::{Home, StopFailed};
 use crate::stopping::Leaving;
-use device_lock::{Arena, CallFault};
-use pmd_access::{Bufs, Nic, Packet, PmdFault, Queue, Reclaim, Record, fresh_packet, give_packet};
+use pmd_access::{
+    Arena, Bufs, CallFault, Nic, Packet, PmdFault, Queue, Reclaim, Record, fresh_packet,
+    give_packet,
+};
 use pmd_rx::ReceiveRing;
 use pmd_tx::{TransmitRing, are_out};
 use std::alloc::Global;

@@ -1,8 +1,7 @@
 //! What a driver leaves.
 
 use crate::halted::Halted;
-use device_lock::Arena;
-use pmd_access::{PmdFault, Record};
+use pmd_access::{Arena, PmdFault, Record};
 
 /// What a driver leaves that has stopped. It can't be dropped, as its arena can't.
 pub struct Home {

@@ -23,17 +23,15 @@ mod start;
 mod stopping;
 
 pub use arriving::{Arrived, arrive};
-pub use device_lock::{
-    Arena, BLOCK_BYTES, BLOCK_NUMBERS, Call, CallFault, Calls, CloseFault, CloseRefused, Closed,
-    Entry, Event, EventNote, Made, Mode, NewFault, Octets, Pass, Place, Port, QUEUES, Reply, RowId,
-    Settings, Shared, Watched, leave, left_alone, place_at, queues_of,
-};
 pub use driver::{Pmd, StopRefused};
 pub use halted::Halted;
 pub use home::{Home, StopFailed};
 pub use pmd_access::{
-    Bufs, Direct, Finished, Interleaved, LONGEST_FRAME, Nic, POLLS, Packet, PmdFault, Queue,
-    Record, SHORTEST_FRAME, Setup, ThroughLock, bytes_in, history_of, marked_history, pf_setup,
+    Arena, BLOCK_BYTES, BLOCK_NUMBERS, Bufs, Call, CallFault, Calls, CloseFault, CloseRefused,
+    Closed, Direct, Entry, Event, EventNote, Finished, Interleaved, LONGEST_FRAME, Made, Mode,
+    NewFault, Nic, Octets, POLLS, Packet, Pass, Place, PmdFault, Port, QUEUES, Queue, Record,
+    Reply, RowId, SHORTEST_FRAME, Settings, Setup, Shared, ThroughLock, Watched, bytes_in,
+    history_of, leave, left_alone, marked_history, pf_setup, place_at, queues_of,
 };
 pub use pmd_tx::{Reaped, TxAnswer, TxFault};
 pub use running::Running;

@@ -4,15 +4,16 @@
 ghost use Rattle.std.specs.Prelude.{◌≡◌, ◌≤◌, ◌+◌, [], true};
 ghost use Rattle.std.specs.List.{range_with_len};
 ghost use Rattle.std.specs.VecDeque.{deque_capacity};
-ghost use Rattle.device_lock.specs.NicDevice.DmaArena.Numbers.{is_free};
-ghost use Rattle.device_lock.specs.NicDevice.DmaArena.Run.{IsFreeRun};
+ghost use Rattle.pmd_access.specs.NicDevice.DmaArena.Numbers.{is_free};
+ghost use Rattle.pmd_access.specs.NicDevice.DmaArena.Run.{IsFreeRun};
 ghost use Rattle.pmd_access.specs.Frames.{is_frame};
 ghost use Rattle.pmd_access.specs.Asks.{Asks, fault_in};
 ghost use Rattle.pmd_driver.specs.Faults.{unprepared_in};
 ghost use Rattle.pmd_driver.specs.Rising.{GoesUp, HasPlace, IsEmpty, LendsOne, LendsRun, Prepares, PreparesReceive, PreparesTransmit};
 
-use device_lock::{Arena, CallFault, Dir};
-use pmd_access::{Nic, PmdFault, Queue, blocks_for, lend, most_blocks, packet_limit};
+use pmd_access::{
+    Arena, CallFault, Dir, Nic, PmdFault, Queue, blocks_for, lend, most_blocks, packet_limit,
+};
 use pmd_rx::ReceiveRing;
 use pmd_tx::TransmitRing;
 use std::alloc::Global;

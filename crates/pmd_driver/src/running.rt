@@ -2,8 +2,8 @@
 
 ghost use Rattle.std.specs.Prelude.{◌≡◌, ◌<◌, ◌⊎◌, ◌↔◌, [], nat_lt, true, drop, length, All, IfOk, IfErr, IfSome, IsNone, IsOk, OnOk, OnErr};
 ghost use Rattle.std.specs.List.{list_any};
-ghost use Rattle.device_lock.specs.NicDevice.DmaArena.Numbers.{free_count};
-ghost use Rattle.device_lock.specs.NicDevice.DmaArena.Whereabouts.{times_in_hand};
+ghost use Rattle.pmd_access.specs.NicDevice.DmaArena.Numbers.{free_count};
+ghost use Rattle.pmd_access.specs.NicDevice.DmaArena.Whereabouts.{times_in_hand};
 ghost use Rattle.pmd_access.specs.Begun.{BeganAs};
 ghost use Rattle.pmd_access.specs.Bufs.{numbers_of};
 ghost use Rattle.pmd_access.specs.Fresh.{IsFresh, bufs_for};
@@ -21,8 +21,7 @@ ghost use Rattle.pmd_driver.specs.Queueing.{Continues, QueuesOne};
 ghost use Rattle.pmd_driver.specs.Running.{IsUp, IsReleased, goes_back, receives};
 ghost use Rattle.pmd_access.specs.Refusals.{CanFail};
 
-use device_lock::Arena;
-use pmd_access::{Bufs, Nic, Packet, PmdFault, Record, bytes_in, fresh_packet, give_packet};
+use pmd_access::{Arena, Bufs, Nic, Packet, PmdFault, Record, bytes_in, fresh_packet, give_packet};
 use pmd_rx::ReceiveRing;
 use pmd_tx::{Reaped, TransmitRing, TxAnswer, TxFault};
 use std::alloc::Global;

@@ -1,7 +1,7 @@
 //! How a driver starts.
 
 ghost use Rattle.std.specs.Prelude.{◌≡◌, ◌↔◌, ◌≤◌, ◌+◌, ◌-◌, ◌*◌, ◌++◌, [], true, None, Some, IsSome, IfSome, OnSome, IfOk, IfErr};
-ghost use Rattle.device_lock.specs.NicDevice.DmaArena.Numbers.{free_count};
+ghost use Rattle.pmd_access.specs.NicDevice.DmaArena.Numbers.{free_count};
 ghost use Rattle.pmd_driver.specs.Halted.{Halted, with_receive_ring};
 ghost use Rattle.pmd_rx.specs.Keeping.{blocks_out};
 ghost use Rattle.pmd_access.specs.Asks.{Asks};
@@ -24,8 +24,7 @@ use crate::halted::Halted;
 use crate::home::Home;
 use crate::rings::{Unprepared, go_on, receive_ring, transmit_ring};
 use crate::running::Running;
-use device_lock::{Arena, Port};
-use pmd_access::{Nic, PmdFault, Queue, blocks_for, is_frame};
+use pmd_access::{Arena, Nic, PmdFault, Port, Queue, blocks_for, is_frame};
 use pmd_rx::ReceiveRing;
 use std::alloc::Global;
 

@@ -10,8 +10,7 @@ ghost use Rattle.pmd_driver.specs.Stopping.{ComesHome, GoesHome, IsLeft, IsLeftA
 
 use crate::halted::Halted;
 use crate::home::{Home, StopFailed};
-use device_lock::{Arena, CallFault};
-use pmd_access::{Nic, PmdFault, Queue, Reclaim, Record};
+use pmd_access::{Arena, CallFault, Nic, PmdFault, Queue, Reclaim, Record};
 use std::alloc::Global;
 
 /// A driver whose rings are closed: their blocks are on their way home.

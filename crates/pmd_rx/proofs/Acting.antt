@@ -1,9 +1,9 @@
 -- How calls of the driver follow each other, each with its record of what it does.
 use Rattle.std.proofs.Common.{◌≡◌, ◌≢◌, ◌<◌, ◌≤◌, true, List, [], length, Option, Some, None, IfSome, Result, Ok, Err, IfOk, IfErr, OnOk, OnErr, refl, ap, subst, sym, ◌∙◌, arith}
 use Rattle.std.proofs.lemmas.List.{length-append}
-use Rattle.device_lock.specs.NicDevice.DmaArena.Numbers.{Numbers, free_count}
+use Rattle.pmd_access.specs.NicDevice.DmaArena.Numbers.{Numbers, free_count}
 use Rattle.pmd_access.specs.Asks.{fault_in}
-use Rattle.device_lock.specs.declared.entry.Call.{Call}
+use Rattle.pmd_access.specs.DeviceLock.declared.entry.Call.{Call}
 use Rattle.pmd_access.specs.declared.fault.PmdFault.{PmdFault}
 use Rattle.pmd_access.specs.declared.fault.PmdFault.TheVariants as fault
 use Rattle.pmd_rx.specs.Acts.{Acts, ActsAlone, Gathers, GathersAlone}

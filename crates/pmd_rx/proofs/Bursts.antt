@@ -2,7 +2,7 @@
 use Rattle.std.proofs.Common.{◌≡◌, ℕ, ◌<◌, ◌≤◌, List, [], ◌∷◌, ◌++◌, length, Result, Ok, Err, IfOk, refl, sym, ap, subst, ◌∙◌, arith}
 use Rattle.std.proofs.lemmas.List.{append-nil}
 use Rattle.std.proofs.lemmas.List.Elements.{All-push}
-use Rattle.device_lock.specs.NicDevice.DmaArena.Numbers.{Numbers}
+use Rattle.pmd_access.specs.NicDevice.DmaArena.Numbers.{Numbers}
 use Rattle.pmd_access.specs.Bufs.{numbers_of}
 use Rattle.pmd_access.specs.Packet.{Kept}
 use Rattle.pmd_access.specs.declared.fault.PmdFault.{PmdFault}

@@ -1,8 +1,8 @@
 -- A ring that is closed: where its blocks are then.
 use Rattle.std.proofs.Common.{◌≡◌, ℕ, zero, suc, ◌+◌, ◌<◌, ◌≤◌, List, [], ◌∷◌, ◌++◌, length, take, slice_index_or, Bool, true, false, suc-add, refl, ap, ◌∙◌, arith}
 use Rattle.std.specs.List.{range_with_len}
-use Rattle.device_lock.specs.NicDevice.DmaArena.Numbers.{Numbers, with_free}
-use Rattle.device_lock.specs.NicDevice.DmaArena.Whereabouts.{times_in_hand}
+use Rattle.pmd_access.specs.NicDevice.DmaArena.Numbers.{Numbers, with_free}
+use Rattle.pmd_access.specs.NicDevice.DmaArena.Whereabouts.{times_in_hand}
 use Rattle.pmd_access.specs.Bufs.{numbers_of, with_all_free}
 use Rattle.pmd_access.specs.declared.packet.Packet.{Packet}
 use Rattle.pmd_access.specs.Home.{AreOut}

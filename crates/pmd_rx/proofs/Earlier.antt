@@ -1,9 +1,9 @@
 -- What a ring that is filled lends was free before it was begun.
 use Rattle.std.proofs.Common.{◌≡◌, ◌≢◌, ◌<◌, ◌+◌, ℕ, ◌⊎◌, inl, inr, true, false, List, [], ◌∷◌, Option, Some, None, IfSome, sym, subst}
 use Rattle.std.proofs.lemmas.Bool.{cases_eq}
-use Rattle.device_lock.specs.NicDevice.DmaArena.Numbers.{Numbers, free_count, is_free, with_free}
-use Rattle.device_lock.proofs.NicDevice.DmaArena.Arenas.{is_own-of_free, is_free-with_free_other}
-use Rattle.device_lock.specs.declared.entry.Call.{Call}
+use Rattle.pmd_access.specs.NicDevice.DmaArena.Numbers.{Numbers, free_count, is_free, with_free}
+use Rattle.pmd_access.proofs.NicDevice.DmaArena.Arenas.{is_own-of_free, is_free-with_free_other}
+use Rattle.pmd_access.specs.DeviceLock.declared.entry.Call.{Call}
 use Rattle.pmd_access.specs.Home.{IsDrawn}
 use Rattle.pmd_rx.specs.Filling.{PostsSome, StopsFilling}
 use Rattle.pmd_rx.specs.Plays.{PlaysFrom}

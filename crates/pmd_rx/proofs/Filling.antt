@@ -1,9 +1,9 @@
 -- A ring that is filled, block by block.
 use Rattle.std.proofs.Common.{◌≡◌, ℕ, ◌+◌, ◌<◌, false, List, [], ◌∷◌, ◌++◌, length, refl, sym, ap, ◌∙◌, append_assoc, arith}
 use Rattle.std.proofs.lemmas.List.{append-nil, length_push}
-use Rattle.device_lock.specs.NicDevice.DmaArena.Numbers.{Numbers, free_count, with_free}
-use Rattle.device_lock.proofs.NicDevice.DmaArena.Arenas.{free_count_taken}
-use Rattle.device_lock.specs.declared.entry.Call.{Call}
+use Rattle.pmd_access.specs.NicDevice.DmaArena.Numbers.{Numbers, free_count, with_free}
+use Rattle.pmd_access.proofs.NicDevice.DmaArena.Arenas.{free_count_taken}
+use Rattle.pmd_access.specs.DeviceLock.declared.entry.Call.{Call}
 use Rattle.pmd_access.specs.Home.{IsDrawn}
 use Rattle.pmd_access.proofs.Drawing.{drawn_next}
 use Rattle.pmd_access.specs.declared.fault.PmdFault.{PmdFault}

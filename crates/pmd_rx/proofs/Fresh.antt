@@ -1,11 +1,11 @@
 -- Blocks that are taken from the driver's arena.
 use Rattle.std.proofs.Common.{◌≡◌, ◌≢◌, inl, inr, ℕ, ◌+◌, ◌<◌, true, false, List, length, get_or, subst, ◌∙◌, arith}
 use Rattle.std.proofs.lemmas.Bool.{cases_Bool}
-use Rattle.device_lock.specs.NicDevice.DmaArena.Block.{Block}
-use Rattle.device_lock.specs.NicDevice.DmaArena.Numbers.{Numbers, is_own, is_free, with_free}
-use Rattle.device_lock.proofs.NicDevice.DmaArena.Arenas.{is_own-of_free, is_own-with_free, is_free-with_free_same}
-use Rattle.device_lock.proofs.NicDevice.DmaArena.Cuts.{given_back}
-use Rattle.device_lock.specs.NicDevice.DmaArena.Whereabouts.{times_in_hand}
+use Rattle.pmd_access.specs.NicDevice.DmaArena.Block.{Block}
+use Rattle.pmd_access.specs.NicDevice.DmaArena.Numbers.{Numbers, is_own, is_free, with_free}
+use Rattle.pmd_access.proofs.NicDevice.DmaArena.Arenas.{is_own-of_free, is_own-with_free, is_free-with_free_same}
+use Rattle.pmd_access.proofs.NicDevice.DmaArena.Cuts.{given_back}
+use Rattle.pmd_access.specs.NicDevice.DmaArena.Whereabouts.{times_in_hand}
 use Rattle.pmd_access.specs.Home.{AreOut}
 use Rattle.pmd_access.specs.Slots.{ring_blocks, is_ring_block}
 use Rattle.pmd_access.proofs.Outside.{times_at, times-append, out_free}

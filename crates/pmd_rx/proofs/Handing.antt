@@ -1,9 +1,9 @@
 -- What the steps of a refill lead to: a packet that waits becomes whole.
 use Rattle.std.proofs.Common.{◌≡◌, ℕ, ◌+◌, ◌<◌, ◌≤◌, true, false, List, [], ◌∷◌, ◌++◌, length, Result, Ok, Err, OnOk, OnErr, refl, sym, ap, subst, ◌∙◌, arith}
 use Rattle.std.proofs.lemmas.List.{append-nil, length-append}
-use Rattle.device_lock.specs.NicDevice.DmaArena.Block.{Block}
-use Rattle.device_lock.specs.NicDevice.DmaArena.Numbers.{Numbers, free_count, is_free, with_free}
-use Rattle.device_lock.proofs.NicDevice.DmaArena.Arenas.{free_count_taken}
+use Rattle.pmd_access.specs.NicDevice.DmaArena.Block.{Block}
+use Rattle.pmd_access.specs.NicDevice.DmaArena.Numbers.{Numbers, free_count, is_free, with_free}
+use Rattle.pmd_access.proofs.NicDevice.DmaArena.Arenas.{free_count_taken}
 use Rattle.pmd_access.specs.declared.packet.Packet.{Packet}
 use Rattle.pmd_rx.specs.Keeping.{IsRunning, IsAmid, vacated}
 use Rattle.pmd_rx.specs.Receive.{Receive, reach, names, lent_one, ended_of, if_any, next_stage, HasLent}

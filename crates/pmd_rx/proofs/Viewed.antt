@@ -2,10 +2,10 @@
 -- out.
 use Rattle.std.proofs.Common.{◌≡◌, ℕ, ◌+◌, ◌≤◌, List, [], ◌∷◌, ◌++◌, take, drop, length, refl, sym, ap, ◌∙◌, take-add, drop-drop, arith}
 use Rattle.std.proofs.lemmas.List.{take-map, take-append-le, drop-append-le}
-use Rattle.device_lock.specs.NicDevice.DmaArena.Block.{Block}
-use Rattle.device_lock.specs.NicDevice.DmaRing.Driver.{rss_in, hash_in}
-use Rattle.device_lock.specs.NicDevice.DmaRing.Ring.{next_of}
-use Rattle.device_lock.specs.NicDevice.DmaRing.Receive.{bytes_in}
+use Rattle.pmd_access.specs.NicDevice.DmaArena.Block.{Block}
+use Rattle.pmd_access.specs.NicDevice.DmaRing.Driver.{rss_in, hash_in}
+use Rattle.pmd_access.specs.NicDevice.DmaRing.Ring.{next_of}
+use Rattle.pmd_access.specs.NicDevice.DmaRing.Receive.{bytes_in}
 use Rattle.pmd_access.specs.Packet.{Kept}
 use Rattle.pmd_access.specs.declared.packet.Packet.{Packet}
 use Rattle.pmd_rx.specs.Receive.{Receive, Layout, joined, names, posts, took, records_of, if_any, no_packet}

@@ -1,7 +1,7 @@
 -- What a call of the driver does, in one record: the calls that were made, and ring and arena before and after.
 use Rattle.std.specs.Prelude.{◌≡◌, ◌≢◌, ◌≤◌, List, [], length, Option, Some, IfSome}
-use Rattle.device_lock.specs.NicDevice.DmaArena.Numbers.{Numbers}
-use Rattle.device_lock.specs.declared.entry.Call.{Call}
+use Rattle.pmd_access.specs.NicDevice.DmaArena.Numbers.{Numbers}
+use Rattle.pmd_access.specs.DeviceLock.declared.entry.Call.{Call}
 use Rattle.pmd_access.specs.declared.fault.PmdFault.{PmdFault}
 use Rattle.pmd_access.specs.declared.fault.PmdFault.TheVariants as fault
 use Rattle.pmd_rx.specs.Keeping.{Keeps}

@@ -1,7 +1,7 @@
 -- What the calls of the driver keep: its ring, the slots that are posted, and where each block is.
 use Rattle.std.specs.Prelude.{ℕ, ◌≡◌, ◌==◌, ◌+◌, ◌<◌, Bool, true, false, List, [], ◌∷◌, ◌++◌, length, Option, Some, None, Result, Ok, Err}
 use Rattle.std.specs.List.{list_any}
-use Rattle.device_lock.specs.NicDevice.DmaArena.Numbers.{Numbers, is_free, with_free}
+use Rattle.pmd_access.specs.NicDevice.DmaArena.Numbers.{Numbers, is_free, with_free}
 use Rattle.pmd_access.specs.Bufs.{numbers_of}
 use Rattle.pmd_access.specs.Home.{Exchanges}
 use Rattle.pmd_access.specs.Slots.{ring_blocks}

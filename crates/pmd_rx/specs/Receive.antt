@@ -1,15 +1,15 @@
 -- What a driver knows of its receive ring, and how that follows from its own calls.
 use Rattle.std.specs.Prelude.{ℕ, ◌≡◌, ◌≢◌, ◌+◌, ◌*◌, ◌<◌, ◌==◌, ◌&&◌, Bool, false, nat_le, nat_lt, List, [], ◌∷◌, ◌++◌, ◌⊎◌, ◌≤◌, length, take, drop, map, slice_index, if◌then◌else◌, ⊤}
-use Rattle.device_lock.specs.NicDevice.DmaArena.Block.{Block}
-use Rattle.device_lock.specs.NicDevice.DmaRing.Descriptor.{second_half, first_half, of_halves}
-use Rattle.device_lock.specs.NicDevice.DmaRing.Driver.{posted, rss_in, hash_in}
-use Rattle.device_lock.specs.NicDevice.DmaRing.Ring.{next_of}
-use Rattle.device_lock.specs.NicDevice.DmaRing.Receive.{is_done, ends_packet, bytes_in}
-use Rattle.device_lock.specs.NicDevice.declared.event.Event.{Event}
-use Rattle.device_lock.specs.NicDevice.declared.event.Event.TheVariants as event
-use Rattle.device_lock.specs.NicDevice.declared.event.Port.{Port}
-use Rattle.device_lock.specs.NicDevice.declared.event.Reply.{Reply}
-use Rattle.device_lock.specs.NicDevice.declared.event.Reply.TheVariants as reply
+use Rattle.pmd_access.specs.NicDevice.DmaArena.Block.{Block}
+use Rattle.pmd_access.specs.NicDevice.DmaRing.Descriptor.{second_half, first_half, of_halves}
+use Rattle.pmd_access.specs.NicDevice.DmaRing.Driver.{posted, rss_in, hash_in}
+use Rattle.pmd_access.specs.NicDevice.DmaRing.Ring.{next_of}
+use Rattle.pmd_access.specs.NicDevice.DmaRing.Receive.{is_done, ends_packet, bytes_in}
+use Rattle.pmd_access.specs.NicDevice.declared.event.Event.{Event}
+use Rattle.pmd_access.specs.NicDevice.declared.event.Event.TheVariants as event
+use Rattle.pmd_access.specs.NicDevice.declared.event.Port.{Port}
+use Rattle.pmd_access.specs.NicDevice.declared.event.Reply.{Reply}
+use Rattle.pmd_access.specs.NicDevice.declared.event.Reply.TheVariants as reply
 use Rattle.pmd_access.specs.Packet.{Kept, kept_of}
 use Rattle.pmd_access.specs.Slots.{wrapped, descriptor_in, is_ring_block}
 use Rattle.pmd_access.specs.declared.packet.Packet.{Packet}

@@ -1,17 +1,17 @@
 -- The driver's receive ring as its code keeps it.
 use Rattle.std.specs.Prelude.{ℕ, ◌≡◌, ◌+◌, ◌*◌, ◌<◌, ◌≤◌, List, Bool, true, false, IsFalse, Option, IfSome, length, drop, All, ⊤, [], ◌∷◌, ◌++◌}
-use Rattle.device_lock.specs.NicDevice.DmaArena.Numbers.{Numbers, free_count}
-use Rattle.device_lock.specs.NicDevice.DmaRing.Descriptor.{second_half}
-use Rattle.device_lock.specs.NicDevice.DmaRing.Receive.{is_done, bytes_in}
-use Rattle.device_lock.specs.NicDevice.declared.event.Event.TheVariants as event
-use Rattle.device_lock.specs.NicDevice.declared.event.Reply.TheVariants as reply
+use Rattle.pmd_access.specs.NicDevice.DmaArena.Numbers.{Numbers, free_count}
+use Rattle.pmd_access.specs.NicDevice.DmaRing.Descriptor.{second_half}
+use Rattle.pmd_access.specs.NicDevice.DmaRing.Receive.{is_done, bytes_in}
+use Rattle.pmd_access.specs.NicDevice.declared.event.Event.TheVariants as event
+use Rattle.pmd_access.specs.NicDevice.declared.event.Reply.TheVariants as reply
 use Rattle.pmd_access.specs.Bufs.{numbers_of}
 use Rattle.pmd_access.specs.Accesses.{IsPeeked, IsPoked, IsWritten}
 use Rattle.pmd_access.specs.Slots.{blocks_for}
 use Rattle.pmd_access.specs.Made.{Adds, AddsSome}
 use Rattle.pmd_access.specs.declared.fault.PmdFault.{PmdFault}
 use Rattle.pmd_access.specs.declared.fault.PmdFault.TheVariants as fault
-use Rattle.device_lock.specs.declared.entry.Call.{Call}
+use Rattle.pmd_access.specs.DeviceLock.declared.entry.Call.{Call}
 use Rattle.pmd_access.specs.declared.packet.Packet.{Packet}
 use Rattle.pmd_access.specs.Packet.{Kept, kept_of}
 use Rattle.pmd_rx.specs.Burst.{HasPart}

@@ -1,14 +1,14 @@
 -- Why a call of the driver fails.
 use Rattle.std.specs.Prelude.{ℕ, ◌≡◌, ◌+◌, ◌<◌, ◌||◌, not, Bool, true, false, List, length, IsFalse, ⊤}
-use Rattle.device_lock.specs.NicDevice.DmaArena.Block.{Block}
-use Rattle.device_lock.specs.NicDevice.DmaArena.Numbers.{Numbers, free_count}
-use Rattle.device_lock.specs.NicDevice.DmaRing.Descriptor.{second_half}
-use Rattle.device_lock.specs.NicDevice.DmaRing.Receive.{is_done}
-use Rattle.device_lock.specs.NicDevice.declared.event.Event.{Event}
-use Rattle.device_lock.specs.NicDevice.declared.event.Event.TheVariants as event
-use Rattle.device_lock.specs.NicDevice.declared.event.Reply.{Reply}
-use Rattle.device_lock.specs.NicDevice.declared.event.Reply.TheVariants as reply
-use Rattle.device_lock.specs.declared.entry.Call.{Call}
+use Rattle.pmd_access.specs.NicDevice.DmaArena.Block.{Block}
+use Rattle.pmd_access.specs.NicDevice.DmaArena.Numbers.{Numbers, free_count}
+use Rattle.pmd_access.specs.NicDevice.DmaRing.Descriptor.{second_half}
+use Rattle.pmd_access.specs.NicDevice.DmaRing.Receive.{is_done}
+use Rattle.pmd_access.specs.NicDevice.declared.event.Event.{Event}
+use Rattle.pmd_access.specs.NicDevice.declared.event.Event.TheVariants as event
+use Rattle.pmd_access.specs.NicDevice.declared.event.Reply.{Reply}
+use Rattle.pmd_access.specs.NicDevice.declared.event.Reply.TheVariants as reply
+use Rattle.pmd_access.specs.DeviceLock.declared.entry.Call.{Call}
 use Rattle.pmd_access.specs.Made.{Adds}
 use Rattle.pmd_access.specs.declared.fault.PmdFault.{PmdFault}
 use Rattle.pmd_access.specs.declared.fault.PmdFault.TheVariants as fault

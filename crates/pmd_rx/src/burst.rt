@@ -1,7 +1,7 @@
 //! Packets that come in: one by one, or several by one move of the tail.
 
 ghost use Rattle.std.specs.Prelude.{ℕ, ◌≡◌, ◌≢◌, ◌<◌, ◌≤◌, ◌+◌, ◌++◌, ◌∷◌, [], length, true, false, Ok, Err, IfOk, IfErr, IfSome, IfNone, OnErr, None};
-ghost use Rattle.device_lock.specs.NicDevice.DmaArena.Numbers.{Numbers};
+ghost use Rattle.pmd_access.specs.NicDevice.DmaArena.Numbers.{Numbers};
 ghost use Rattle.pmd_access.specs.Asks.{Asks, fault_in};
 ghost use Rattle.pmd_access.specs.Begun.{BeganAs};
 ghost use Rattle.pmd_access.specs.Home.{AreOut};
@@ -15,8 +15,7 @@ ghost use Rattle.pmd_rx.specs.Wrong.{AsksNext, FailsBy, PacketWaits};
 ghost use Rattle.pmd_access.specs.Refusals.{CanFail};
 
 use crate::ring::ReceiveRing;
-use device_lock::{Arena, CallFault};
-use pmd_access::{Nic, Packet, PmdFault};
+use pmd_access::{Arena, CallFault, Nic, Packet, PmdFault};
 use std::alloc::Global;
 use std::collections::VecDeque;
 

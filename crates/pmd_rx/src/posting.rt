@@ -1,7 +1,7 @@
 //! What the driver does with its receive ring: calls one after the other, each of which may be the last that is made.
 
 ghost use Rattle.std.specs.Prelude.{ℕ, ◌≡◌, ◌≢◌, ◌<◌, ◌≤◌, ◌+◌, [], length, true, false, Ok, Err, IfErr, OnOk, OnErr};
-ghost use Rattle.device_lock.specs.NicDevice.DmaArena.Numbers.{Numbers, free_count, is_free, with_free};
+ghost use Rattle.pmd_access.specs.NicDevice.DmaArena.Numbers.{Numbers, free_count, is_free, with_free};
 ghost use Rattle.pmd_access.specs.Asks.{Asks, fault_in};
 ghost use Rattle.pmd_access.specs.Begun.{BeganAs};
 ghost use Rattle.pmd_access.specs.Home.{AreOut};
@@ -17,8 +17,7 @@ ghost use Rattle.pmd_access.specs.Refusals.{CanFail};
 
 use crate::receive::Look;
 use crate::ring::{ReceiveRing, Stage};
-use device_lock::Arena;
-use pmd_access::{Nic, PmdFault};
+use pmd_access::{Arena, Nic, PmdFault};
 use std::alloc::Global;
 use std::collections::VecDeque;
 

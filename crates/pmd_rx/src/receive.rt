@@ -3,8 +3,8 @@
 ghost use Rattle.std.specs.Prelude.{ℕ, ◌≡◌, ◌<◌, ◌≤◌, ◌+◌, ◌*◌, ◌++◌, length, IsFalse, if◌then◌else◌, Ok, Err, true, false, IfOk, IfErr, OnOk, OnErr, OnSome, IfSome, [], min, vec_len};
 ghost use Rattle.std.specs.Vec.{vec_capacity};
 ghost use Rattle.std.specs.VecDeque.{deque_len, deque_capacity};
-ghost use Rattle.device_lock.specs.NicDevice.DmaArena.Numbers.{free_count, is_free, with_free};
-ghost use Rattle.device_lock.specs.NicDevice.DmaRing.Receive.{is_done, ends_packet};
+ghost use Rattle.pmd_access.specs.NicDevice.DmaArena.Numbers.{free_count, is_free, with_free};
+ghost use Rattle.pmd_access.specs.NicDevice.DmaRing.Receive.{is_done, ends_packet};
 ghost use Rattle.pmd_access.specs.Home.{AreOut};
 ghost use Rattle.pmd_access.specs.Asks.{Asks, fault_in};
 ghost use Rattle.pmd_rx.specs.Acts.{Gathers, GathersAlone};
@@ -14,13 +14,10 @@ ghost use Rattle.pmd_rx.specs.Shown.{IsLook, IsRefused, IsNamed, IsUnnamed};
 ghost use Rattle.pmd_rx.specs.declared.ring.Stage.TheVariants as stage;
 
 use crate::ring::{ReceiveRing, Reported, Stage, no_packet};
-use device_lock::{
-    Arena, BLOCK_BYTES, Buf, CallFault, first_half, is_last, is_written_back, of_halves,
-    posted_word, reported_hash, reported_length, reported_rss, second_half,
-};
 use pmd_access::{
-    Nic, Packet, PmdFault, Record, descriptor_address, lend, next_slot, peek, poke, slot_after,
-    take,
+    Arena, BLOCK_BYTES, Buf, CallFault, Nic, Packet, PmdFault, Record, descriptor_address,
+    first_half, is_last, is_written_back, lend, next_slot, of_halves, peek, poke, posted_word,
+    reported_hash, reported_length, reported_rss, second_half, slot_after, take,
 };
 use std::alloc::Global;
 use std::collections::VecDeque;

@@ -6,12 +6,13 @@ ghost use Rattle.std.specs.VecDeque.{deque_len, deque_capacity};
 ghost use Rattle.pmd_access.specs.Bufs.{numbers_of, with_all_free};
 ghost use Rattle.pmd_access.specs.Home.{AreOut};
 ghost use Rattle.pmd_access.specs.Slots.{blocks_for, ring_blocks};
-ghost use Rattle.device_lock.specs.NicDevice.DmaArena.Whereabouts.{times_in_hand};
+ghost use Rattle.pmd_access.specs.NicDevice.DmaArena.Whereabouts.{times_in_hand};
 ghost use Rattle.pmd_rx.specs.Keeping.{blocks_out, blocks_held, lent_of, fresh_block, numbers_of_all};
 ghost use Rattle.pmd_rx.specs.Receive.{at_start, no_packet, reach};
 
-use device_lock::{Arena, Port};
-use pmd_access::{Bufs, Packet, Reclaim, Record, blocks_for, give_packet, is_ring_block};
+use pmd_access::{
+    Arena, Bufs, Packet, Port, Reclaim, Record, blocks_for, give_packet, is_ring_block,
+};
 use std::alloc::Global;
 use std::collections::VecDeque;
 use std::marker::Model;

@@ -1,13 +1,13 @@
 -- How calls of the driver follow each other, each with its record of what it does.
 use Rattle.std.proofs.Common.{◌≡◌, ℕ, ◌+◌, ◌<◌, List, length, drop, true, false, if◌then◌else◌, Option, Some, None, Result, Ok, Err, IfSome, IfErr, refl, ap, ◌∙◌, subst, sym, add-zero, arith}
 use Rattle.std.proofs.lemmas.List.{length-drop}
-use Rattle.device_lock.specs.NicDevice.DmaArena.Block.{Block}
-use Rattle.device_lock.specs.NicDevice.DmaArena.Numbers.{Numbers, with_free}
-use Rattle.device_lock.specs.NicDevice.declared.event.Event.{Event}
-use Rattle.device_lock.specs.NicDevice.declared.event.Reply.{Reply}
+use Rattle.pmd_access.specs.NicDevice.DmaArena.Block.{Block}
+use Rattle.pmd_access.specs.NicDevice.DmaArena.Numbers.{Numbers, with_free}
+use Rattle.pmd_access.specs.NicDevice.declared.event.Event.{Event}
+use Rattle.pmd_access.specs.NicDevice.declared.event.Reply.{Reply}
 use Rattle.pmd_access.specs.Bufs.{numbers_of, with_all_free}
-use Rattle.device_lock.specs.declared.entry.Call.{Call}
-use Rattle.device_lock.specs.declared.fault.CallFault.{CallFault}
+use Rattle.pmd_access.specs.DeviceLock.declared.entry.Call.{Call}
+use Rattle.pmd_access.specs.DeviceLock.declared.fault.CallFault.{CallFault}
 use Rattle.pmd_access.specs.Home.{AreOut}
 use Rattle.pmd_access.specs.Made.{Adds, AddsSome}
 use Rattle.pmd_access.specs.declared.fault.PmdFault.{PmdFault}

@@ -2,7 +2,7 @@
 use Rattle.std.proofs.Common.{◌≡◌, ℕ, ◌+◌, ◌<◌, ◌≤◌, true, false, if◌then◌else◌, List, [], ◌∷◌, ◌++◌, length, take, drop, get_or, refl, sym, ap, ◌∙◌, subst, arith}
 use Rattle.std.proofs.lemmas.List.{length-drop, drop-drop, drop-take, take-take, drop-map, take-append-drop}
 use Rattle.std.proofs.Math.Seq.{take-add}
-use Rattle.device_lock.specs.NicDevice.DmaArena.Numbers.{Numbers, is_own, is_free, with_free}
+use Rattle.pmd_access.specs.NicDevice.DmaArena.Numbers.{Numbers, is_own, is_free, with_free}
 use Rattle.pmd_access.specs.Bufs.{with_all_free}
 use Rattle.pmd_access.proofs.Outside.{out_first, out_given}
 use Rattle.pmd_access.specs.Home.{AreOut}

@@ -1,9 +1,9 @@
 -- The numbers of Bufs, one after the other.
 use Rattle.std.proofs.Common.{◌≡◌, ◌∙◌, ◌==◌, ◌&&◌, not, Bool, true, false, ℕ, zero, suc, ◌+◌, ◌<◌, List, [], ◌∷◌, length, drop, get_or, refl, sym, ap, arith}
 use Rattle.std.proofs.lemmas.List.{drop_more}
-use Rattle.device_lock.specs.NicDevice.DmaArena.Block.{Block}
+use Rattle.pmd_access.specs.NicDevice.DmaArena.Block.{Block}
 use Rattle.std.specs.List.{list_any}
-use Rattle.device_lock.specs.NicDevice.DmaArena.Numbers.{Numbers, is_own, is_free}
+use Rattle.pmd_access.specs.NicDevice.DmaArena.Numbers.{Numbers, is_own, is_free}
 use Rattle.pmd_access.specs.Bufs.{numbers_of}
 use Rattle.pmd_tx.specs.Sends.{are_out}
 

@@ -1,10 +1,10 @@
 -- Each move of a driver that sends, by what is made.
 use Rattle.std.proofs.Common.{◌≡◌, ℕ, ◌+◌, ◌<◌, Bool, true, false, List, [], length, if◌then◌else◌, Some, None, refl, ap, ◌∙◌, subst, inl, inr}
-use Rattle.device_lock.specs.NicDevice.DmaArena.Block.{Block}
-use Rattle.device_lock.specs.NicDevice.declared.event.Event.TheVariants as event
-use Rattle.device_lock.specs.NicDevice.declared.event.Reply.TheVariants as reply
-use Rattle.device_lock.specs.declared.entry.Call.{Call}
-use Rattle.device_lock.specs.declared.fault.CallFault.{CallFault}
+use Rattle.pmd_access.specs.NicDevice.DmaArena.Block.{Block}
+use Rattle.pmd_access.specs.NicDevice.declared.event.Event.TheVariants as event
+use Rattle.pmd_access.specs.NicDevice.declared.event.Reply.TheVariants as reply
+use Rattle.pmd_access.specs.DeviceLock.declared.entry.Call.{Call}
+use Rattle.pmd_access.specs.DeviceLock.declared.fault.CallFault.{CallFault}
 use Rattle.pmd_access.specs.Accesses.{IsLent, IsTaken, IsPoked, IsPeeked, IsWritten}
 use Rattle.pmd_access.specs.Made.{Adds, AddsSome}
 use Rattle.pmd_access.specs.declared.fault.PmdFault.TheVariants as fault

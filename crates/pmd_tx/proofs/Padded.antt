@@ -3,11 +3,11 @@ use Rattle.std.proofs.Common.{◌≡◌, ℕ, zero, suc, ◌+◌, ◌-◌, ◌*�
 use Rattle.std.proofs.lemmas.Bool.{cases_Bool}
 use Rattle.std.proofs.lemmas.Bool.Decides.{nat_tests}
 use Rattle.std.proofs.lemmas.List.{append-nil, length-append, length-take-le, length-replicate, take_at, take-append-le, drop_at, take-append-drop}
-use Rattle.device_lock.proofs.NicDevice.DmaArena.Bytes.{length-put_bytes}
-use Rattle.device_lock.specs.NicDevice.DmaArena.Block.{Block, IsBlock}
-use Rattle.device_lock.specs.NicDevice.DmaArena.Memory.{put_bytes}
+use Rattle.pmd_access.proofs.NicDevice.DmaArena.Bytes.{length-put_bytes}
+use Rattle.pmd_access.specs.NicDevice.DmaArena.Block.{Block, IsBlock}
+use Rattle.pmd_access.specs.NicDevice.DmaArena.Memory.{put_bytes}
 use Rattle.pmd_access.specs.Bufs.{bytes_of, numbers_of}
-use Rattle.device_lock.specs.declared.entry.Call.{Call}
+use Rattle.pmd_access.specs.DeviceLock.declared.entry.Call.{Call}
 use Rattle.pmd_access.specs.Packet.{kept_of}
 use Rattle.pmd_access.specs.declared.packet.Packet.{Packet}
 use Rattle.pmd_access.specs.declared.fault.PmdFault.{PmdFault}

@@ -3,7 +3,7 @@ use Rattle.std.proofs.Common.{◌≡◌, ℕ, zero, suc, ◌+◌, ◌-◌, ◌*�
 use Rattle.std.specs.List.{list_any}
 use Rattle.std.proofs.lemmas.List.{length-append, length-take-le, take-append-drop, take-append-le, drop_at, drop-drop, take_all, get_or-take}
 use Rattle.std.proofs.lemmas.List.Elements.{All-append, All-push, All-take}
-use Rattle.device_lock.specs.NicDevice.DmaArena.Block.{Block, IsBlock}
+use Rattle.pmd_access.specs.NicDevice.DmaArena.Block.{Block, IsBlock}
 use Rattle.pmd_access.specs.Bufs.{bytes_of, numbers_of}
 use Rattle.pmd_access.specs.Packet.{Kept, kept_of}
 use Rattle.pmd_access.specs.Slots.{is_ring_block}

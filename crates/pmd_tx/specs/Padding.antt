@@ -1,7 +1,7 @@
 -- A packet that is padded with zero bytes to 60.
 use Rattle.std.specs.Prelude.{ℕ, ◌-◌, nat_lt, List, [], ◌∷◌, take, replicate, if◌then◌else◌}
-use Rattle.device_lock.specs.NicDevice.DmaArena.Block.{Block}
-use Rattle.device_lock.specs.NicDevice.DmaArena.Memory.{put_bytes}
+use Rattle.pmd_access.specs.NicDevice.DmaArena.Block.{Block}
+use Rattle.pmd_access.specs.NicDevice.DmaArena.Memory.{put_bytes}
 use Rattle.pmd_access.specs.declared.packet.Packet.{Packet}
 
 -- blocks with these bytes put into the first, from one of its bytes on

@@ -1,10 +1,10 @@
 -- The driver's transmit ring as its code keeps it.
 use Rattle.std.specs.Prelude.{ℕ, ◌≡◌, ◌+◌, ◌-◌, ◌*◌, ◌<◌, ◌≤◌, ◌==◌, ⊤, true, false, List, [], ◌∷◌, ◌++◌, length, take, drop, All, Option, Some}
 use Rattle.std.specs.List.{list_any}
-use Rattle.device_lock.specs.NicDevice.DmaArena.Block.{Block, IsBlock}
+use Rattle.pmd_access.specs.NicDevice.DmaArena.Block.{Block, IsBlock}
 use Rattle.pmd_access.specs.Accesses.{IsLent}
 use Rattle.pmd_access.specs.Bufs.{numbers_of}
-use Rattle.device_lock.specs.declared.entry.Call.{Call}
+use Rattle.pmd_access.specs.DeviceLock.declared.entry.Call.{Call}
 use Rattle.pmd_access.specs.Made.{AddsSome}
 use Rattle.pmd_access.specs.Packet.{Kept, kept_of}
 use Rattle.pmd_access.specs.Slots.{blocks_for, is_ring_block}

@@ -3,8 +3,7 @@
 ghost use Rattle.std.specs.Prelude.{◌≡◌, ◌≤◌, ◌<◌, ◌∷◌, ◌+◌, length, take, drop};
 ghost use Rattle.pmd_tx.specs.Padding.{first_bytes, padded_packet, unpadded, with_first};
 
-use device_lock::Buf;
-use pmd_access::{Bufs, Packet};
+use pmd_access::{Buf, Bufs, Packet};
 use std::mem;
 
 /// How many bytes a packet has at least, as it is sent.

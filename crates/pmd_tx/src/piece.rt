@@ -7,8 +7,7 @@ ghost use Rattle.pmd_access.specs.Bufs.{numbers_of};
 ghost use Rattle.pmd_tx.specs.Pieces.{pieces_in, first_last, ends_packet};
 ghost use Rattle.pmd_tx.specs.Sending.{parts_for};
 
-use device_lock::BLOCK_BYTES;
-use pmd_access::Bufs;
+use pmd_access::{BLOCK_BYTES, Bufs};
 use std::collections::VecDeque;
 
 /// A part of a packet: its block, how many bytes it has and how many the packet has, and whether the packet ends there.

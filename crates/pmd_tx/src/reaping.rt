@@ -12,8 +12,7 @@ ghost use Rattle.pmd_access.specs.Refusals.{CanFail};
 
 use crate::answer::Reaped;
 use crate::ring::TransmitRing;
-use device_lock::Arena;
-use pmd_access::{Nic, PmdFault};
+use pmd_access::{Arena, Nic, PmdFault};
 use std::alloc::Global;
 
 impl TransmitRing {

@@ -13,7 +13,7 @@ ghost use Rattle.pmd_tx.specs.Leaving.{lent_of, waiting_of};
 ghost use Rattle.pmd_tx.specs.Pieces.{first_last, places_of};
 ghost use Rattle.pmd_tx.specs.Sending.{at_start, segment_at, slot_at, descriptor_at, first_end, keeps, asking, asked, is_sent, looked, lent_more, advanced, reaped, accepted_by, parts_for};
 ghost use Rattle.std.specs.List.{list_any};
-ghost use Rattle.device_lock.specs.NicDevice.DmaRing.Ring.{next_of};
+ghost use Rattle.pmd_access.specs.NicDevice.DmaRing.Ring.{next_of};
 ghost use Rattle.pmd_access.specs.Packet.{Kept};
 ghost use Rattle.pmd_access.specs.Slots.{blocks_for, ring_blocks};
 ghost use Rattle.std.specs.Vec.{vec_capacity};
@@ -24,10 +24,10 @@ ghost use Rattle.pmd_access.specs.Refusals.{CanRefuse};
 
 use crate::padding::{put_back, repacked, split};
 use crate::piece::{Piece, add_pieces, count_ends, first_last, parts_for};
-use device_lock::{Buf, CallFault, Port, data_descriptor_word, is_sent, of_halves, second_half};
 use pmd_access::{
-    Bufs, Nic, Packet, PmdFault, Reclaim, Record, blocks_for, descriptor_address, is_ring_block,
-    lend, next_slot, peek, poke, slot_after, take, write,
+    Buf, Bufs, CallFault, Nic, Packet, PmdFault, Port, Reclaim, Record, blocks_for,
+    data_descriptor_word, descriptor_address, is_ring_block, is_sent, lend, next_slot, of_halves,
+    peek, poke, second_half, slot_after, take, write,
 };
 use std::alloc::Global;
 use std::collections::VecDeque;

@@ -3,8 +3,8 @@
 
 ghost use Rattle.std.specs.Prelude.{◌≡◌, ◌==◌, ◌&&◌, not, ◌<◌, ◌≤◌, ◌+◌, ℕ, List, None, All, drop, length, IfOk, IfErr, OnOk, OnErr, IfSome, IfNone};
 ghost use Rattle.std.specs.List.{list_any};
-ghost use Rattle.device_lock.specs.NicDevice.DmaArena.Block.{IsBlock};
-ghost use Rattle.device_lock.specs.NicDevice.DmaArena.Numbers.{is_own, is_free};
+ghost use Rattle.pmd_access.specs.NicDevice.DmaArena.Block.{IsBlock};
+ghost use Rattle.pmd_access.specs.NicDevice.DmaArena.Numbers.{is_own, is_free};
 ghost use Rattle.pmd_access.specs.Begun.{BeganAs};
 ghost use Rattle.pmd_access.specs.Bufs.{numbers_of};
 ghost use Rattle.pmd_access.specs.Home.{AreOut};
@@ -20,8 +20,7 @@ use crate::answer::{Gate, TxAnswer, TxFault};
 use crate::padding::{pad, start_of, unpad};
 use crate::piece::parts_for;
 use crate::ring::TransmitRing;
-use device_lock::Arena;
-use pmd_access::{Bufs, Nic, Packet, PmdFault, bytes_in, give_bufs};
+use pmd_access::{Arena, Bufs, Nic, Packet, PmdFault, bytes_in, give_bufs};
 use std::alloc::Global;
 
 /// Whether Bufs can go home to the arena: their numbers are the arena's, aren't free there, and no two are alike.

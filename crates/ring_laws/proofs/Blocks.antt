@@ -4,18 +4,18 @@ use Rattle.history_laws.specs.Prelude.{Fetched, IsWhole, LiesIn, Memory, Ring, S
 use Rattle.history_laws.specs.Prelude.{first_half, gives, has_block, is_empty, is_lent, is_outside, read_at, reply_to}
 use Rattle.history_laws.specs.Prelude.{second_half, sending_of, step_of, transmit_queue_of, write_at}
 use Rattle.history_laws.{proofs.Lent.poked_is, specs.Prelude.AreApart, specs.Prelude.Bytes, specs.Prelude.Done}
-use Rattle.device_lock.proofs.NicDevice.DmaArena.{Blocks.is_lent_in, Bus.SameLent-write_at, Bus.read_at-write_at_apart}
-use Rattle.device_lock.proofs.NicDevice.DmaArena.{Bus.read_at-write_at_same, Bus.small_of_lent, Inside.reads_its_block}
-use Rattle.device_lock.proofs.NicDevice.DmaRing.{Agreement.data_is_asked, Fields.halves_come_back}
-use Rattle.device_lock.proofs.NicDevice.TxRing.{Reports.done_changes_done_alone, Tests.tests_in_order}
-use Rattle.device_lock.specs.NicDevice.DmaRing.{Driver.data_word, Ring.next_of, declared.transmit.Command.Command}
-use Rattle.device_lock.specs.NicDevice.TxRing.Fetch.{CanSend, Outcome, buffer_in, command_in, data_outcome}
-use Rattle.device_lock.specs.NicDevice.TxRing.Fetch.{descriptor_of}
-use Rattle.device_lock.specs.NicDevice.TxRing.declared.tx.Tx.{Tx}
-use Rattle.device_lock.specs.NicDevice.TxRing.{Fetch.fetch_of, Laws.HasData, Laws.command_at, Report.head_address}
-use Rattle.device_lock.specs.NicDevice.TxRing.{Report.new_head}
-use Rattle.device_lock.specs.NicDevice.{DmaArena.Memory.SameLent, DmaRing.Driver.IsDataWord}
-use Rattle.device_lock.specs.NicDevice.{DmaRing.Driver.data_command}
+use Rattle.pmd_access.proofs.NicDevice.DmaArena.{Blocks.is_lent_in, Bus.SameLent-write_at, Bus.read_at-write_at_apart}
+use Rattle.pmd_access.proofs.NicDevice.DmaArena.{Bus.read_at-write_at_same, Bus.small_of_lent, Inside.reads_its_block}
+use Rattle.pmd_access.proofs.NicDevice.DmaRing.{Agreement.data_is_asked, Fields.halves_come_back}
+use Rattle.pmd_access.proofs.NicDevice.TxRing.{Reports.done_changes_done_alone, Tests.tests_in_order}
+use Rattle.pmd_access.specs.NicDevice.DmaRing.{Driver.data_word, Ring.next_of, declared.transmit.Command.Command}
+use Rattle.pmd_access.specs.NicDevice.TxRing.Fetch.{CanSend, Outcome, buffer_in, command_in, data_outcome}
+use Rattle.pmd_access.specs.NicDevice.TxRing.Fetch.{descriptor_of}
+use Rattle.pmd_access.specs.NicDevice.TxRing.declared.tx.Tx.{Tx}
+use Rattle.pmd_access.specs.NicDevice.TxRing.{Fetch.fetch_of, Laws.HasData, Laws.command_at, Report.head_address}
+use Rattle.pmd_access.specs.NicDevice.TxRing.{Report.new_head}
+use Rattle.pmd_access.specs.NicDevice.{DmaArena.Memory.SameLent, DmaRing.Driver.IsDataWord}
+use Rattle.pmd_access.specs.NicDevice.{DmaRing.Driver.data_command}
 use Rattle.pmd_access.proofs.Places.{next_below, wrapped_apart, wrapped_below, wrapped_next}
 use Rattle.pmd_access.proofs.Rings.{each_first, each_slot_block, slot_fits, slot_lies, slot_place}
 use Rattle.pmd_access.specs.Slots.{descriptor_in, wrapped}
@@ -29,7 +29,7 @@ use Rattle.std.proofs.Common.{length, length-append, refl, subst, take, true, �
 use Rattle.std.proofs.lemmas.{Grind.common_steps, List.Folds.list_any_at, List.append-nil, List.length-map}
 use Rattle.std.proofs.{Common.◌∷◌, Common.◌≡◌, Common.◌≢◌, Common.◌≤◌, lemmas.Bool.both_ways, lemmas.Bool.or_right}
 use Rattle.std.{proofs.lemmas.List.length-take-le, specs.Prelude.⊤, specs.Prelude.◌/◌, specs.Prelude.◌==◌}
-use Rattle.device_lock.specs.NicDevice.declared.event.Event.TheVariants as event
+use Rattle.pmd_access.specs.NicDevice.declared.event.Event.TheVariants as event
 use Rattle.std.specs.FinMap as map
 
 -- The ranges of descriptors and of blocks' bytes.

@@ -4,12 +4,12 @@ use Rattle.history_laws.specs.Prelude.{IsSound, Rx, Waiting, after, is_on, mode_
 use Rattle.history_laws.{proofs.Deeds.step_cases, specs.Prelude.Event, specs.Prelude.Outcome, specs.Prelude.frame_limit}
 use Rattle.history_laws.{proofs.DeviceLaws.KeptSettings.settings_stand, specs.Prelude.RingFault, specs.Prelude.rest_of}
 use Rattle.history_laws.{proofs.Lent.Changes, proofs.Lent.waiting_changed, specs.Prelude.State, specs.Prelude.has_queue}
-use Rattle.device_lock.specs.NicDevice.RxFilter.declared.target.Target.{Target}
-use Rattle.device_lock.proofs.{NicDevice.Cases.either_way, NicDevice.QueueCases.filled_by}
-use Rattle.device_lock.proofs.{NicDevice.QueueCases.received_cases, NicDevice.RxRing.Fills.takes_piece}
-use Rattle.device_lock.specs.NicDevice.Sound.{AreWaiting, IsBegunWhileOn, IsUnbegun}
-use Rattle.device_lock.specs.{NicDevice.Arrival.let_in, NicDevice.RegisterFile.Settings.drops}
-use Rattle.device_lock.specs.{NicDevice.Switching.without_part}
+use Rattle.pmd_access.specs.NicDevice.RxFilter.declared.target.Target.{Target}
+use Rattle.pmd_access.proofs.DeviceLock.{NicDevice.Cases.either_way, NicDevice.QueueCases.filled_by}
+use Rattle.pmd_access.proofs.DeviceLock.{NicDevice.QueueCases.received_cases, NicDevice.RxRing.Fills.takes_piece}
+use Rattle.pmd_access.specs.NicDevice.Sound.{AreWaiting, IsBegunWhileOn, IsUnbegun}
+use Rattle.pmd_access.specs.DeviceLock.{NicDevice.Arrival.let_in, NicDevice.RegisterFile.Settings.drops}
+use Rattle.pmd_access.specs.DeviceLock.{NicDevice.Switching.without_part}
 use Rattle.ring_laws.specs.Fitting.{AreFitting, FitsBlocks, FramesStayFitting, NoneBegunWhileOff, ResetsNoPool}
 use Rattle.ring_laws.specs.{Joint.Holds, Pieces.AllFit, Pieces.Fits, Pieces.open_after, Pieces.pieces, ReceiveUp.IsUp}
 use Rattle.ring_laws.{proofs.Foreign.no_fault, proofs.Foreign.ring_is, specs.Pieces.Piece, specs.ReceivePrelude.Receive}
@@ -19,8 +19,8 @@ use Rattle.std.proofs.Common.{Bool, Err, [], cond, drop, eq-eqb, false, min, ne_
 use Rattle.std.proofs.Common.{ap, filter, inl, inr, length, length-take, refl, subst, ℕ, ◌&&◌, ◌++◌, ◌<◌, ◌∙◌, ◌∷◌, ◌≤◌}
 use Rattle.std.proofs.lemmas.List.Elements.{All-cons, All-filter, All-head, All-nil, All-push, All-tail}
 use Rattle.std.proofs.lemmas.{Bool.and_parts, Bool.both_ways, Bool.cond_both, Bool.eqb-true, Grind.common_steps}
-use Rattle.device_lock.specs.NicDevice.declared.event.Event.TheVariants as event
-use Rattle.device_lock.specs.NicDevice.Receive as receive
+use Rattle.pmd_access.specs.NicDevice.declared.event.Event.TheVariants as event
+use Rattle.pmd_access.specs.NicDevice.Receive as receive
 
 -- What holds of each frame that waits, wherever it goes on, does so after an event, where it does of one that is
 -- let in.

@@ -11,11 +11,11 @@ use Rattle.history_laws.specs.{Left.Deed, Left.Did, Prelude.Entry, Prelude.Event
 use Rattle.history_laws.specs.{Left.IsLeft, Left.Rested, Left.Rests, Left.Takes, Left.Took, Prelude.Tx, Prelude.Waiting}
 use Rattle.history_laws.{proofs.Deeds.receiving_did, proofs.Steady.up_kept, specs.Prelude.IsWhole, specs.Sides.IsTried}
 use Rattle.history_laws.{proofs.Leaving.left-setting, specs.Left.fill_on, specs.Prelude.Wrote, specs.Segments.piece_in}
-use Rattle.device_lock.proofs.NicDevice.{DmaArena.Blocks.is_lent_in, RxRing.Fills.writes_inside_slot}
-use Rattle.device_lock.proofs.NicDevice.{RxRing.Tests.fill_healthy}
-use Rattle.device_lock.proofs.NicDevice.RxRing.Fills.{driver_reads, fill_keeps_blocks, takes_piece}
-use Rattle.device_lock.specs.{NicDevice.RxRing.Fill.buffer_address, NicDevice.RxRing.Laws.IsHealthy}
-use Rattle.device_lock.specs.{NicDevice.Sound.AreWaiting}
+use Rattle.pmd_access.proofs.NicDevice.{DmaArena.Blocks.is_lent_in, RxRing.Fills.writes_inside_slot}
+use Rattle.pmd_access.proofs.NicDevice.{RxRing.Tests.fill_healthy}
+use Rattle.pmd_access.proofs.NicDevice.RxRing.Fills.{driver_reads, fill_keeps_blocks, takes_piece}
+use Rattle.pmd_access.specs.DeviceLock.{NicDevice.RxRing.Fill.buffer_address, NicDevice.RxRing.Laws.IsHealthy}
+use Rattle.pmd_access.specs.DeviceLock.{NicDevice.Sound.AreWaiting}
 use Rattle.pmd_access.proofs.Rings.{slot_block, slot_lies}
 use Rattle.ring_laws.proofs.Blocks.{IsRingAt, Stays, buffer_and_slot, bytes_inside, reads_stay, slot_lent}
 use Rattle.ring_laws.specs.ReceivePrelude.{Layout, Receive, block_at, descriptor_at, is_step, reach, slot_at}
@@ -30,7 +30,7 @@ use Rattle.std.proofs.Common.{Err, Ok, [], ap, append_assoc, eq-eqb, inr, length
 use Rattle.std.proofs.Common.{IsTrue, List, arith, inl, length-take-le, suc, sym, ◌*◌, ◌++◌, ◌/◌, ◌∙◌}
 use Rattle.std.proofs.{Common.◌+◌, Common.◌<◌, Common.◌^◌, Common.◌≡◌, lemmas.List.get_or_push, lemmas.List.length_push}
 use Rattle.std.proofs.{Common.◌∷◌, Common.◌⊎◌, lemmas.Bool.cases_lt, lemmas.Grind.common_steps, lemmas.List.append-nil}
-use Rattle.device_lock.specs.NicDevice.declared.event.Event.TheVariants as event
+use Rattle.pmd_access.specs.NicDevice.declared.event.Event.TheVariants as event
 use Rattle.std.specs.FinMap as map
 use Rattle.history_laws.specs.Sides as sides
 

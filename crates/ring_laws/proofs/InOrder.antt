@@ -1,15 +1,15 @@
 -- What the agreement says of packets that were handed out and of frames that were sent, and how both are counted over
 -- a history; and the definitions on small examples.
 pub use Rattle.history_laws.proofs.Limits.{lent_after}
-use Rattle.device_lock.specs.History.{call_in}
+use Rattle.pmd_access.specs.DeviceLock.History.{call_in}
 use Rattle.history_laws.proofs.DeviceLaws.{RepliesOut.frames_out, StandingQueues.receiving_blocks}
 use Rattle.history_laws.proofs.Leaving.{left-setting, left-side, left_transmit, step_is}
 use Rattle.history_laws.proofs.{Blocks.clear_avoids, Blocks.left-block, Deeds.received-none, Deeds.silent_else}
 use Rattle.history_laws.specs.Prelude.{Block, Blocks, Entry, Event, LeavesBlock, Pf, Reply, Rx, State, Tx, Watched}
 use Rattle.history_laws.specs.Prelude.{WritesOutside, Wrote, after, calls_of, leads_to, reply_to, staged_by}
 use Rattle.history_laws.specs.{DeviceLaws.Leaving.ReceivesOutside, DeviceLaws.Replies.out_after, Left.is_step_of}
-use Rattle.device_lock.proofs.NicDevice.{Answering.step_suits, Steps.keeps_sound, Steps.step_leads}
-use Rattle.device_lock.specs.NicDevice.Answering.{may_answer}
+use Rattle.pmd_access.proofs.NicDevice.{Answering.step_suits, Steps.keeps_sound, Steps.step_leads}
+use Rattle.pmd_access.specs.NicDevice.Answering.{may_answer}
 use Rattle.pmd_tx.specs.Sending.{advanced, asked, at_start}
 use Rattle.ring_laws.proofs.{Kept.none_of, Leaving.look_tells, Playing.end-last, Playing.look-fetched}
 use Rattle.ring_laws.proofs.{Playing.look-tells, Sparing.added-one, TransmitLent.frame_of_end}
@@ -29,7 +29,7 @@ use Rattle.std.proofs.Common.{◌+◌, ◌-◌, ◌<◌, ◌==◌, ◌∙◌, �
 use Rattle.std.proofs.lemmas.List.{append-nil, append_assoc, drop_all, get_or-drop, length-drop, nil_from_length}
 use Rattle.std.proofs.lemmas.{Bool.both_ways, Bool.cases_Bool, Bool.cases_eq, Bool.cases_lt, Grind.common_steps}
 use Rattle.std.specs.Prelude.{[], ◌∷◌, ◌≤◌}
-use Rattle.device_lock.specs.NicDevice.declared.event.Event.TheVariants as event
+use Rattle.pmd_access.specs.NicDevice.declared.event.Event.TheVariants as event
 
 -- What the agreement says of the packets that were handed out.
 

@@ -2,8 +2,8 @@
 use Rattle.history_laws.specs.Prelude.{Memory, Outcome, State, bytes_in, ends_packet, has_block, is_done, read_at}
 use Rattle.history_laws.specs.Prelude.{receive_queue_of, second_half, step_of}
 use Rattle.history_laws.{proofs.Lent.anew_is_done, specs.Prelude.Block, specs.Prelude.Event, specs.Prelude.IsSound}
-use Rattle.device_lock.proofs.NicDevice.DmaArena.Bus.{get-insert_same}
-use Rattle.device_lock.proofs.NicDevice.{Cases.either_way, Cases.lent_cases, DmaArena.Bus.get-insert_other}
+use Rattle.pmd_access.proofs.NicDevice.DmaArena.Bus.{get-insert_same}
+use Rattle.pmd_access.proofs.NicDevice.{Cases.either_way, Cases.lent_cases, DmaArena.Bus.get-insert_other}
 use Rattle.pmd_rx.specs.{Receive.LendsNext, Receive.looked, Receive.saw, Receive.reported_by, Wrong.is_healthy}
 use Rattle.ring_laws.proofs.Kept.{each_slot, end_more, named_kept, none_held, open_more, posted_in, seen_more}
 use Rattle.ring_laws.proofs.{Blocks.same_stays, Blocks.slot_looked, Blocks.slot_as_reported, Kept.each_fresh, Kept.each_ring}
@@ -16,7 +16,7 @@ use Rattle.ring_laws.specs.Steps.{LookTellsSlot, SwitchingKeeps, TellsSlot}
 use Rattle.ring_laws.specs.{ReceiveUp.IsUp, Starting.StartAgrees, Steps.Leaves, Steps.LeavesButOn, Steps.LeavingKeeps}
 use Rattle.std.proofs.Common.{Bool, List, [], ap, arith, cond, length, refl, subst, suc, true, ℕ, ◌&&◌, ◌++◌, ◌+◌, ◌<◌}
 use Rattle.std.proofs.{Common.◌∷◌, Common.◌≡◌, Common.◌≤◌, lemmas.Bool.and_parts, lemmas.Bool.cond_both}
-use Rattle.device_lock.specs.NicDevice.declared.event.Event.TheVariants as event
+use Rattle.pmd_access.specs.NicDevice.declared.event.Event.TheVariants as event
 use Rattle.std.specs.FinMap as map
 
 -- An event that leaves a queue's receive side, but whether it is on and wanted on, keeps the agreement.

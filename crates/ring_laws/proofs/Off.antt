@@ -7,7 +7,7 @@ use Rattle.ring_laws.specs.{Off.AllLeaveSide, Off.GuardIsOff, Off.IsOff, Off.Lea
 use Rattle.ring_laws.{proofs.Sparing.sends_on, proofs.Sparing.still-agrees, specs.Enable.EnableWordsKeep}
 use Rattle.std.proofs.Common.{List, [], ap, arith, drop, length-drop, refl, ℕ, ◌<◌, ◌∙◌, ◌∷◌, ◌≡◌}
 use Rattle.std.specs.FinMap as map
-use Rattle.device_lock.specs.NicDevice.declared.event.Event.TheVariants as event
+use Rattle.pmd_access.specs.NicDevice.declared.event.Event.TheVariants as event
 use Rattle.history_laws.specs.Sides as sides
 
 -- A word that is written to the enable register of the driver's transmit side keeps what the two agree on.

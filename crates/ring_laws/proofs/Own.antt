@@ -3,11 +3,11 @@
 use Rattle.history_laws.specs.Prelude.{Block, Done, Rdt, place, receive_queue_of, write_at}
 use Rattle.history_laws.specs.Prelude.{Event, Memory, Port, ReceiveQueue, after_write, bytes_in, named_written, step_of}
 use Rattle.history_laws.{proofs.Lent.taken_is, proofs.Written.receive-tail, specs.Prelude.IsWhole, specs.Prelude.State}
-use Rattle.device_lock.proofs.NicDevice.DmaArena.Bus.{get-remove_other}
-use Rattle.device_lock.proofs.{NicDevice.DmaArena.Blocks.read_at_in, NicDevice.DmaArena.Bus.of_some}
-use Rattle.device_lock.proofs.{NicDevice.DmaRing.Fields.halves_come_back}
-use Rattle.device_lock.specs.{NicDevice.DmaArena.Memory.part, NicDevice.DmaRing.Driver.posted}
-use Rattle.device_lock.specs.{NicDevice.RegisterLaws.Sound.HasShape}
+use Rattle.pmd_access.proofs.NicDevice.DmaArena.Bus.{get-remove_other}
+use Rattle.pmd_access.proofs.DeviceLock.{NicDevice.DmaArena.Blocks.read_at_in, NicDevice.DmaArena.Bus.of_some}
+use Rattle.pmd_access.proofs.DeviceLock.{NicDevice.DmaRing.Fields.halves_come_back}
+use Rattle.pmd_access.specs.DeviceLock.{NicDevice.DmaArena.Memory.part, NicDevice.DmaRing.Driver.posted}
+use Rattle.pmd_access.specs.DeviceLock.{NicDevice.RegisterLaws.Sound.HasShape}
 use Rattle.pmd_rx.specs.Receive.{HasLent, consumed, naming}
 use Rattle.pmd_access.proofs.Rings.{ring_block_apart}
 use Rattle.pmd_rx.specs.Receive.{TakesNext, tail_after}
@@ -24,8 +24,8 @@ use Rattle.std.proofs.Common.{List, Some, append_assoc, arith, length, length-dr
 use Rattle.std.proofs.Common.{ap, append-nil, drop, length-append, length-take-le, sym, take, take-append-drop, ◌*◌}
 use Rattle.std.proofs.{Common.[], Common.◌≤◌, lemmas.List.drop-append-le, lemmas.List.get_or-drop, lemmas.List.take_all}
 use Rattle.std.{proofs.Common.subst, proofs.lemmas.Grind.common_steps, proofs.lemmas.List.map-append, specs.Prelude.◌≡◌}
-use Rattle.device_lock.specs.NicDevice.declared.event.Event.TheVariants as event
-use Rattle.device_lock.specs.NicDevice.declared.event.Reply.TheVariants as reply
+use Rattle.pmd_access.specs.NicDevice.declared.event.Event.TheVariants as event
+use Rattle.pmd_access.specs.NicDevice.declared.event.Reply.TheVariants as reply
 use Rattle.std.specs.FinMap as map
 
 -- The descriptor at the first slot without a block names the one that was lent: the ring has one more slot, and a

@@ -4,8 +4,8 @@ use Rattle.history_laws.specs.Prelude.{Memory, named_written, step_of, transmit_
 use Rattle.history_laws.{proofs.Leaving.plain-write, proofs.Lent.taken_is, specs.Prelude.gives, specs.Prelude.write_at}
 use Rattle.history_laws.{proofs.Lent.anew_is_done, specs.Prelude.Outcome, specs.Prelude.TransmitQueue, specs.Prelude.Tx}
 use Rattle.history_laws.{proofs.Steady.up_kept, proofs.Written.transmit-tail, specs.Prelude.Port, specs.Prelude.read_at}
-use Rattle.device_lock.proofs.NicDevice.DmaArena.Bus.{of_some}
-use Rattle.device_lock.proofs.NicDevice.{Cases.lent_cases, DmaArena.Bus.get-remove_other, DmaArena.Bus.small_of_lent}
+use Rattle.pmd_access.proofs.NicDevice.DmaArena.Bus.{of_some}
+use Rattle.pmd_access.proofs.NicDevice.{Cases.lent_cases, DmaArena.Bus.get-remove_other, DmaArena.Bus.small_of_lent}
 use Rattle.pmd_tx.specs.Sending.{MayLend, asked, is_healthy, reaped}
 use Rattle.ring_laws.proofs.Blocks.{asking-waits, done-sent, later-layout, slot-below, slot_as_reported}
 use Rattle.ring_laws.proofs.Blocks.{descriptor-later, slot-apart, slot_looked, slot_poked, written_here, written_stays}
@@ -21,8 +21,8 @@ use Rattle.ring_laws.specs.{Agreeing.Shows, Sent.sent_by, TransmitHealthy.OwnRep
 use Rattle.std.proofs.Common.{Bool, List, ap, arith, drop, if◌then◌else◌, length, refl, subst, sym, ◌+◌, ◌-◌, ◌≢◌, ◌≤◌}
 use Rattle.std.proofs.{Common.[], Common.slice_index_or, Common.true, Common.ℕ, Common.◌≡◌, lemmas.Grind.common_steps}
 use Rattle.std.{proofs.Common.append-nil, proofs.Common.◌++◌, proofs.Common.◌∷◌, specs.Prelude.⊤, specs.Prelude.◌<◌}
-use Rattle.device_lock.specs.NicDevice.declared.event.Event.TheVariants as event
-use Rattle.device_lock.specs.NicDevice.declared.event.Reply.TheVariants as reply
+use Rattle.pmd_access.specs.NicDevice.declared.event.Event.TheVariants as event
+use Rattle.pmd_access.specs.NicDevice.declared.event.Reply.TheVariants as reply
 use Rattle.std.specs.FinMap as fin
 
 -- The oldest segment is let go, which was fetched: its block is taken back.

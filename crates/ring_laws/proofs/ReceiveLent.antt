@@ -7,7 +7,7 @@ use Rattle.ring_laws.specs.ReceivePrelude.{IsOwn, LendsAnew, Receive, drive}
 use Rattle.ring_laws.{proofs.Kept.among, proofs.Kept.parted, specs.ReceiveLent.OwnLendsAreKnown, specs.Steps.Each}
 use Rattle.std.proofs.Common.{IsTrue, List, arith, false, length, ne_eqb, slice_index, sym, ℕ, ◌<◌, ◌==◌, ◌≡◌, ◌≢◌}
 use Rattle.std.proofs.lemmas.{Bool.or_from, Grind.common_steps, List.Elements.All-from_get_or, List.Folds.list_any_none}
-use Rattle.device_lock.specs.NicDevice.declared.event.Event.TheVariants as event
+use Rattle.pmd_access.specs.NicDevice.declared.event.Event.TheVariants as event
 
 -- Which blocks the driver has lent for receiving, after each of its calls.
 

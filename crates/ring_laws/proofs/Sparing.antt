@@ -5,8 +5,8 @@ use Rattle.history_laws.specs.Left.{Deed, Nothing, Rested, Rests, Shut, Shuts, S
 use Rattle.history_laws.specs.Prelude.{Block, Event, IsEvent, LeavesBlock, Outcome, State, TransmitQueue, Tx}
 use Rattle.history_laws.specs.Prelude.{WritesNoSetting, after, staged_by, transmit_queue_of}
 use Rattle.history_laws.specs.Sides.{IsTried, Side, as_wanted}
-use Rattle.device_lock.proofs.NicDevice.Steps.{keeps_sound}
-use Rattle.device_lock.specs.{NicDevice.Transmit.with_frame, NicDevice.TxRing.Fetch.Outcome as Fetch}
+use Rattle.pmd_access.proofs.NicDevice.Steps.{keeps_sound}
+use Rattle.pmd_access.specs.DeviceLock.{NicDevice.Transmit.with_frame, NicDevice.TxRing.Fetch.Outcome as Fetch}
 use Rattle.pmd_tx.specs.Sending.{is_healthy}
 use Rattle.ring_laws.proofs.Blocks.{fetch-segment, head_is, ring_is, segment_fetched, segment_outcome, shows-fetched}
 use Rattle.ring_laws.proofs.{Blocks.shows-same, Blocks.slot-next, TransmitLent.frame_left}
@@ -20,7 +20,7 @@ use Rattle.std.proofs.Common.{if◌then◌else◌, inl, inr, length, map, refl, 
 use Rattle.std.proofs.lemmas.{Grind.common_steps, List.append-nil, List.drop_more, List.nil_from_length}
 use Rattle.std.proofs.{Common.◌≡◌, lemmas.Bool.cases_Bool, lemmas.Bool.cases_lt, lemmas.Bool.eq-eqb}
 use Rattle.std.specs.Prelude.{Bool, ◌==◌}
-use Rattle.device_lock.specs.NicDevice.declared.event.Event.TheVariants as event
+use Rattle.pmd_access.specs.NicDevice.declared.event.Event.TheVariants as event
 
 -- The frames that a step of transmitting adds.
 

@@ -2,9 +2,9 @@
 use Rattle.history_laws.specs.Prelude.{Block, Blocks, Memory, Reply, State, after, reply_to, transmit_queue_of}
 use Rattle.history_laws.{proofs.Lent.Follows, proofs.Lent.follows_in, proofs.Lent.follows_known, specs.Lent.either}
 use Rattle.history_laws.{proofs.Lent.still_known, specs.Lent.OnlyLent, specs.Prelude.Event, specs.Prelude.TransmitQueue}
-use Rattle.device_lock.proofs.NicDevice.DmaArena.{Blocks.read_at_in, Bus.get-insert_same}
-use Rattle.device_lock.proofs.NicDevice.DmaArena.Bus.{get-insert_other}
-use Rattle.device_lock.specs.NicDevice.DmaArena.Memory.{part}
+use Rattle.pmd_access.proofs.NicDevice.DmaArena.{Blocks.read_at_in, Bus.get-insert_same}
+use Rattle.pmd_access.proofs.NicDevice.DmaArena.Bus.{get-insert_other}
+use Rattle.pmd_access.specs.NicDevice.DmaArena.Memory.{part}
 use Rattle.pmd_tx.specs.Sending.{MayLend, paired, parts_for, parts_in}
 use Rattle.ring_laws.specs.Agreeing.{ArePackets, IsLayout, IsReady, SendsInOrder, Shows, bytes_of, staged_with}
 use Rattle.ring_laws.specs.TransmitPrelude.{Accepts, MayAccept, Move, Segment, accepted_by, moved, segment_at}
@@ -18,8 +18,8 @@ use Rattle.std.proofs.Common.{List, Some, ap, arith, drop, inl, inr, suc, zero, 
 use Rattle.std.proofs.lemmas.List.{drop-append-le, get_or_append_left, map-append, take-append-drop, take-append-le}
 use Rattle.std.proofs.{Common.length-append, lemmas.Bool.cases_Bool, lemmas.Grind.common_steps, lemmas.List.length-take}
 use Rattle.std.specs.FinMap as fin
-use Rattle.device_lock.specs.NicDevice.declared.event.Reply.TheVariants as reply
-use Rattle.device_lock.specs.NicDevice.declared.event.Event.TheVariants as event
+use Rattle.pmd_access.specs.NicDevice.declared.event.Reply.TheVariants as reply
+use Rattle.pmd_access.specs.NicDevice.declared.event.Event.TheVariants as event
 
 -- Segments of whole packets, after what is staged, and the frames that they become.
 

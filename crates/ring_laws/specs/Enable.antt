@@ -3,7 +3,7 @@ use Rattle.std.specs.Prelude.{[], ◌≡◌, List, true, ℕ}
 use Rattle.history_laws.specs.Prelude.{IsEvent, Port, State, after, has_bit}
 use Rattle.ring_laws.specs.TransmitPrelude.{Sender}
 use Rattle.ring_laws.specs.{Agreeing.Agrees, Off.NamesEnable}
-use Rattle.device_lock.specs.NicDevice.declared.event.Event.TheVariants as event
+use Rattle.pmd_access.specs.NicDevice.declared.event.Event.TheVariants as event
 
 -- device and driver agree on after such a word as before it, where it doesn't ask for the side to be on, or nothing is
 -- outstanding

@@ -3,7 +3,7 @@ use Rattle.std.specs.Prelude.{[], ◌++◌, ◌<◌, ◌≡◌, IsFalse, List, l
 use Rattle.history_laws.specs.Prelude.{Bytes, State, is_done, reply_to, second_half}
 use Rattle.ring_laws.specs.ReceivePrelude.{Looks, Receive, descriptor_at, records_of}
 use Rattle.ring_laws.specs.{Delivered.IsPrefixOf, Joint.Agree, Pieces.Piece, Pieces.packets_of}
-use Rattle.device_lock.specs.NicDevice.declared.event.Event.TheVariants as event
+use Rattle.pmd_access.specs.NicDevice.declared.event.Event.TheVariants as event
 
 -- where the device and the driver agree, what the driver returned is a prefix of the packets that were written since
 -- the side went on

@@ -6,7 +6,7 @@ use Rattle.history_laws.specs.Prelude.{after, asks_pool_reset, frame_limit, has_
 use Rattle.ring_laws.specs.ReceivePrelude.{Receive}
 use Rattle.ring_laws.specs.Pieces.{AllFit, Piece, open_after, pieces}
 use Rattle.ring_laws.specs.{Joint.Agree, ReceiveUp.IsUp}
-use Rattle.device_lock.specs.NicDevice.declared.event.Event.TheVariants as event
+use Rattle.pmd_access.specs.NicDevice.declared.event.Event.TheVariants as event
 
 -- a frame, where it waits for this queue, fits this many blocks
 abbrev pub FitsBlocks : ℕ → ℕ → Waiting → Type 0

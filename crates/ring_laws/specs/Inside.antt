@@ -3,7 +3,7 @@ use Rattle.std.specs.Prelude.{◌+◌, ◌<◌, ◌≡◌, Bool, List, length, �
 use Rattle.history_laws.specs.Prelude.{IsSound, LiesIn, State, Wrote, reply_to}
 use Rattle.ring_laws.specs.ReceivePrelude.{Layout, Receive, block_at, blocks_for}
 use Rattle.ring_laws.specs.{Joint.Agree, Pieces.Piece}
-use Rattle.device_lock.specs.NicDevice.declared.event.Event.TheVariants as event
+use Rattle.pmd_access.specs.NicDevice.declared.event.Event.TheVariants as event
 
 -- a descriptor is in one of the blocks of a ring of this many slots, from this block on
 pub record IsInRing (ring size desc : ℕ) : Type 0 where

@@ -4,8 +4,8 @@ use Rattle.history_laws.specs.Prelude.{Block, Blocks, Event, State, Watched, aft
 use Rattle.ring_laws.specs.TransmitPrelude.{Move, Sender, descriptor_at, first_end, is_sent, moved}
 use Rattle.ring_laws.specs.{Agreeing.Agrees, Agreeing.bytes_of, Moves.MayMove, Sent.sent_by, Sparing.IsLeft}
 use Rattle.ring_laws.specs.{Sparing.Spares}
-use Rattle.device_lock.specs.NicDevice.declared.event.Event.TheVariants as event
-use Rattle.device_lock.specs.NicDevice.declared.event.Reply.TheVariants as reply
+use Rattle.pmd_access.specs.NicDevice.declared.event.Event.TheVariants as event
+use Rattle.pmd_access.specs.NicDevice.declared.event.Reply.TheVariants as reply
 
 -- a step of transmitting of the driver's queue keeps what the two agree on, with the frame that it sends, if any
 abbrev pub StepsOfQueueKeep : Type 0

@@ -4,8 +4,8 @@ use Rattle.history_laws.specs.Prelude.{Block, Entry, Event, IsEvent, IsSound, Le
 use Rattle.history_laws.specs.Prelude.{Txdctl, after, has_bit, leads_to, named, place, reply_to}
 use Rattle.ring_laws.specs.TransmitPrelude.{side_of}
 use Rattle.ring_laws.specs.{Sent.sent_in, Sparing.is_switch_of, Sparing.is_transmit_of}
-use Rattle.device_lock.specs.NicDevice.declared.event.Event.TheVariants as event
-use Rattle.device_lock.specs.NicDevice.declared.event.Reply.TheVariants as reply
+use Rattle.pmd_access.specs.NicDevice.declared.event.Event.TheVariants as event
+use Rattle.pmd_access.specs.NicDevice.declared.event.Reply.TheVariants as reply
 use Rattle.history_laws.specs.Sides as sides
 
 -- the side isn't wanted on, and it is off besides

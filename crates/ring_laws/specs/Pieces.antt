@@ -2,7 +2,7 @@
 pub use Rattle.history_laws.specs.Segments.{Piece, no_piece, first_of, reported_pieces, pieces}
 use Rattle.std.specs.Prelude.{[], if◌then◌else◌, ◌++◌, ◌+◌, ◌<◌, ◌∷◌, ◌≡◌, List, false, length, slice_index_or, ℕ, ⊤}
 use Rattle.ring_laws.specs.ReceivePrelude.{Kept}
-use Rattle.device_lock.specs.NicDevice.DmaRing.Driver.{hash_in, rss_in}
+use Rattle.pmd_access.specs.NicDevice.DmaRing.Driver.{hash_in, rss_in}
 
 -- a packet of these bytes, with what the first half of its descriptor reports
 abbrev pub reported_packet : List ℕ → ℕ → Kept

@@ -5,7 +5,7 @@ use Rattle.history_laws.specs.Prelude.{State, Watched, after}
 use Rattle.ring_laws.specs.ReceivePrelude.{IsOwn, Receive, is_step}
 use Rattle.history_laws.specs.Sides.{side_of}
 use Rattle.ring_laws.specs.{Joint.Agree, Pieces.Piece, Steps.IsMetBy}
-use Rattle.device_lock.specs.NicDevice.declared.event.Event.TheVariants as event
+use Rattle.pmd_access.specs.NicDevice.declared.event.Event.TheVariants as event
 use Rattle.history_laws.specs.Sides as sides
 
 abbrev pub IsUp : ℕ → State → Type 0

@@ -5,7 +5,7 @@ use Rattle.history_laws.specs.Prelude.{LeavesRegisters, LeavesTransmit, Reply, S
 use Rattle.history_laws.specs.Prelude.{WritesOutside, Wrote, after, mode_in, reply_to}
 use Rattle.ring_laws.specs.TransmitPrelude.{Sender, has_lent}
 use Rattle.history_laws.specs.Left.{is_step_of}
-use Rattle.device_lock.specs.NicDevice.declared.event.Event.TheVariants as event
+use Rattle.pmd_access.specs.NicDevice.declared.event.Event.TheVariants as event
 use Rattle.history_laws.specs.Left as left
 
 -- whether an event is a step of transmitting of this queue, and whether it is one of its transmit side's enable

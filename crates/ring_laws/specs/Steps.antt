@@ -9,7 +9,7 @@ use Rattle.ring_laws.specs.ReceivePrelude.{IsOwn, Lent, Receive, Stage, descript
 use Rattle.ring_laws.specs.ReceivePrelude.{is_step}
 use Rattle.pmd_rx.specs.Keeping.{has_lent}
 use Rattle.ring_laws.specs.{Joint.Agree, Joint.Holds, Pieces.Piece, Pieces.piece_at, Pieces.pieces}
-use Rattle.device_lock.specs.NicDevice.declared.event.Event.TheVariants as event
+use Rattle.pmd_access.specs.NicDevice.declared.event.Event.TheVariants as event
 
 -- what a read of a slot returns: its descriptor is done exactly where the slot is filled, and then reports the slot's
 -- piece

@@ -4,7 +4,7 @@ use Rattle.history_laws.specs.Prelude.{Block, Event, State, has_block, reply_to}
 use Rattle.ring_laws.specs.TransmitPrelude.{Elsewhere, IsOwn, Move, Sender}
 use Rattle.pmd_tx.specs.Sending.{is_healthy}
 use Rattle.ring_laws.specs.Agreeing.{Agrees}
-use Rattle.device_lock.specs.NicDevice.declared.event.Event.TheVariants as event
+use Rattle.pmd_access.specs.NicDevice.declared.event.Event.TheVariants as event
 
 -- a block that is lent by a move of the driver's own isn't lent yet
 abbrev pub LendsAnew : State → Move → Event Block → Type 0

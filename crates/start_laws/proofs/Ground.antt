@@ -12,15 +12,15 @@ use Rattle.start_laws.specs.Prelude.{State, Tdbah, Tdbal, Tdh, Tdlen, Tdt, Tdwba
 use Rattle.start_laws.specs.Prelude.{enable_row, frame_limit, has_bit, is_driven, mode_in, place, side_of}
 use Rattle.start_laws.specs.{Gate.NamedQueuesPass, Words.KeepsGround, Words.WordsAreTaken}
 use Rattle.start_laws.specs.{Prelude.ring_words, Replies.NamedRegistersReply, Replies.OffSidesAreSeenOff}
-use Rattle.device_lock.proofs.NicDevice.RegisterLaws.{RowBits.word_small, SideWords.receive-written}
-use Rattle.device_lock.proofs.NicDevice.RegisterLaws.{SideWords.transmit-written}
-use Rattle.device_lock.proofs.NicDevice.RegisterLaws.{SoundWords.low_bits, Switches.receive-asked}
-use Rattle.device_lock.proofs.NicDevice.RegisterLaws.{Switches.transmit-asked}
-use Rattle.device_lock.specs.NicDevice.RegisterLaws.{Laws.HasShape, Laws.after_write, Laws.word_after}
-use Rattle.device_lock.specs.NicDevice.RegisterLaws.{Sides.TransmitQueue}
-use Rattle.device_lock.specs.NicDevice.VfMap.{Map.distance, Map.located, Pools.queues_of, declared.mode.Mode.Mode}
-use Rattle.device_lock.specs.NicDevice.{Access.named_read, Named.at_location, RegisterFile.Registers.Registers}
-use Rattle.device_lock.specs.NicDevice.{Transmit.staged_by}
+use Rattle.pmd_driver.proofs.NicDevice.RegisterLaws.{RowBits.word_small, SideWords.receive-written}
+use Rattle.pmd_driver.proofs.NicDevice.RegisterLaws.{SideWords.transmit-written}
+use Rattle.pmd_driver.proofs.NicDevice.RegisterLaws.{SoundWords.low_bits, Switches.receive-asked}
+use Rattle.pmd_driver.proofs.NicDevice.RegisterLaws.{Switches.transmit-asked}
+use Rattle.pmd_driver.specs.NicDevice.RegisterLaws.{Laws.HasShape, Laws.after_write, Laws.word_after}
+use Rattle.pmd_driver.specs.NicDevice.RegisterLaws.{Sides.TransmitQueue}
+use Rattle.pmd_driver.specs.NicDevice.VfMap.{Map.distance, Map.located, Pools.queues_of, declared.mode.Mode.Mode}
+use Rattle.pmd_driver.specs.NicDevice.{Access.named_read, Named.at_location, RegisterFile.Registers.Registers}
+use Rattle.pmd_driver.specs.NicDevice.{Transmit.staged_by}
 use Rattle.ring_laws.proofs.HistoryLaws.Written.{merged_all, merged_low, receive-tail, transmit-tail}
 use Rattle.ring_laws.specs.HistoryLaws.Sides.{LeavesSide, receive_side, transmit_side}
 use Rattle.std.proofs.Common.{Bool, List, None, Option, Some, [], ap, arith, false, if◌then◌else◌, inl, inr, nat_lt}
@@ -28,13 +28,13 @@ use Rattle.std.proofs.Common.{refl, rules, true, ℕ, ◌%◌, ◌*◌, ◌+◌,
 use Rattle.std.proofs.lemmas.Nat.{Bits.and_high_mask, and_comm, and_mask, and_mod, or_mod}
 use Rattle.std.proofs.{Math.Nat.mod-eq_of_lt, lemmas.Bool.ltb-true, lemmas.Grind.common_steps}
 use Rattle.std.specs.{Int.Bits.and_zero_l, Int.Bits.or_zero_l, Prelude.IsFalse, Prelude.bit_and, Prelude.bit_or}
-use Rattle.device_lock.proofs.NicDevice.VfMap.Queues.{queue_registers}
+use Rattle.pmd_driver.proofs.NicDevice.VfMap.Queues.{queue_registers}
 use Rattle.ring_laws.proofs.HistoryLaws.Leaving.{receive_left}
-use Rattle.device_lock.specs.NicDevice.RegisterFile.Bits.{merged}
-use Rattle.pmd_access.specs.Named.{offset_of}
-use Rattle.device_lock.specs.NicDevice.RegisterFile.declared.owner.Owner.TheVariants as owner
-use Rattle.device_lock.specs.NicDevice.VfMap.declared.located.Located.TheVariants as located_as
-use Rattle.device_lock.specs.NicDevice.declared.event.Event.TheVariants as event
+use Rattle.pmd_driver.specs.NicDevice.RegisterFile.Bits.{merged}
+use Rattle.pmd_driver.specs.PmdAccess.Named.{offset_of}
+use Rattle.pmd_driver.specs.NicDevice.RegisterFile.declared.owner.Owner.TheVariants as owner
+use Rattle.pmd_driver.specs.NicDevice.VfMap.declared.located.Located.TheVariants as located_as
+use Rattle.pmd_driver.specs.NicDevice.declared.event.Event.TheVariants as event
 
 -- what holds of either side holds of each
 pub each_side : (P : Dir → Type 0) → P Rx → P Tx → (dir : Dir) → P dir

@@ -19,12 +19,12 @@ use Rattle.std.proofs.Common.{Bool, List, None, Option, Some, [], arith, false, 
 use Rattle.std.proofs.Common.{ℕ, ◌&&◌, ◌++◌, ◌==◌, ◌∷◌, ◌≡◌, ◌≢◌}
 use Rattle.std.proofs.lemmas.Bool.{and_parts, both_ways, cond_both, eq-eqb, eqb-false, eqb-true, lt-ltb, not-true}
 use Rattle.std.proofs.lemmas.{Bool.or_cases, Bool.or_left, Bool.or_right, Grind.common_steps, List.append_cancel_left}
-use Rattle.device_lock.specs.Alone.{lent_in}
-use Rattle.device_lock.proofs.NicDevice.Cases.{either_way}
+use Rattle.pmd_driver.specs.DeviceLock.Alone.{lent_in}
+use Rattle.pmd_driver.proofs.NicDevice.Cases.{either_way}
 use Rattle.ring_laws.specs.Pieces.{AllFit}
 use Rattle.{start_laws.proofs.Parts.calls_joined, start_laws.proofs.Parts.with_call, std.specs.Prelude.option_map}
 use Rattle.{ring_laws.proofs.Fitting.frames_fit, ring_laws.proofs.Fitting.frames_stay_fitting, std.specs.Prelude.◌==◌}
-use Rattle.device_lock.specs.NicDevice.declared.event.Event.TheVariants as event
+use Rattle.pmd_driver.specs.NicDevice.declared.event.Event.TheVariants as event
 use Rattle.pmd_driver.specs.PmdRx.Keeping as received
 use Rattle.pmd_driver.specs.PmdTx.Sending as sending
 use Rattle.ring_laws.proofs.Own as receive

@@ -13,8 +13,8 @@ use Rattle.ring_laws.{proofs.InOrder.sent_in-append, specs.Sent.sent_in}
 use Rattle.std.proofs.Common.{List, [], append_assoc, arith, false, refl, rules, subst, sym, true, ℕ, ◌++◌, ◌<◌, ◌^◌}
 use Rattle.std.proofs.lemmas.List.{append-nil, append_cancel_left}
 use Rattle.std.proofs.{Common.◌∙◌, Common.◌∷◌, Common.◌≡◌, Common.◌≢◌, Common.◌≤◌, lemmas.Grind.common_steps}
-use Rattle.device_lock.specs.NicDevice.RegisterFile.declared.owner.Owner.TheVariants as owner
-use Rattle.device_lock.specs.NicDevice.declared.event.Event.TheVariants as event
+use Rattle.pmd_driver.specs.NicDevice.RegisterFile.declared.owner.Owner.TheVariants as owner
+use Rattle.pmd_driver.specs.NicDevice.declared.event.Event.TheVariants as event
 
 -- what holds of a transmit side that is laid out so far, with nothing staged: it is off, as the words of an empty ring
 -- are written to it, or its ring is empty

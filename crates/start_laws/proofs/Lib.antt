@@ -2,14 +2,14 @@ pub use Rattle.start_laws.proofs.Meeting as Beside
 pub use Rattle.start_laws.proofs.Ground as Words
 pub use Rattle.start_laws.proofs.TimedOut as Filling
 pub use Rattle.start_laws.proofs.Parts as Retagged
-pub use Rattle.device_lock.proofs.Histories
+pub use Rattle.pmd_driver.proofs.DeviceLock.Histories
 pub use Rattle.ring_laws.proofs as RingLaws
 pub use Rattle.ring_laws.proofs.HistoryLaws
 pub use Rattle.start_laws.proofs.Healthy as Fitting
 pub use Rattle.start_laws.proofs.Reached as Made
 pub use Rattle.pmd_driver.proofs as PmdDriver
-pub use Rattle.device_lock.proofs as DeviceLock
-pub use Rattle.device_lock.proofs.NicDevice
+pub use Rattle.pmd_driver.proofs.DeviceLock as DeviceLock
+pub use Rattle.pmd_driver.proofs.NicDevice
 pub mod Asked
 pub mod Ground
 pub mod Healthy

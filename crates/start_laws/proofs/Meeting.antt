@@ -16,8 +16,8 @@ use Rattle.start_laws.specs.Prelude.{LeavesBlocks, LeavesRegisters, Memory, Mode
 use Rattle.start_laws.specs.Prelude.{Rxdctl, Sends, State, Tx, Watched, WritesNoSetting, WritesOutside, after}
 use Rattle.start_laws.specs.Prelude.{after_call, call_of, calls_of, doers_other, has_block, has_lent, is_neither}
 use Rattle.start_laws.specs.Prelude.{is_step, leads_to, lent_by, mode_in, pieces, place, played_by, reply_to, sent_by}
-use Rattle.device_lock.proofs.NicDevice.Steps.{step_leads}
-use Rattle.device_lock.specs.{Alone.place_at, NicDevice.RegTable.declared.rows.RowId.TheVariants.Txdctl}
+use Rattle.pmd_driver.proofs.NicDevice.Steps.{step_leads}
+use Rattle.pmd_driver.specs.DeviceLock.{Alone.place_at, NicDevice.RegTable.declared.rows.RowId.TheVariants.Txdctl}
 use Rattle.pmd_driver.proofs.Followed.{both_own, both_played, others_own, others_played, own_length}
 use Rattle.ring_laws.proofs.Foreign.{alone_stays_up, left_keeps, left_up, own_stays_up}
 use Rattle.ring_laws.proofs.{HistoryLaws.Written.place_named, Off.enable_words_keep as transmit_word_keeps}
@@ -30,7 +30,7 @@ use Rattle.std.{proofs.Common.◌++◌, proofs.Common.◌∙◌, proofs.Common.�
 use Rattle.ring_laws.specs.Moves.{MayMove}
 use Rattle.start_laws.specs.Enabling.{EnableWordsKeep}
 use Rattle.{pmd_driver.specs.Halves.OthersStep, pmd_driver.specs.PmdTx.Sending.moved, std.specs.Prelude.IsTrue}
-use Rattle.device_lock.specs.NicDevice.declared.event.Event.TheVariants as event
+use Rattle.pmd_driver.specs.NicDevice.declared.event.Event.TheVariants as event
 use Rattle.pmd_driver.specs.PmdRx.Keeping as received_half
 use Rattle.pmd_driver.specs.PmdTx.Sending as sending
 use Rattle.ring_laws.specs.ReceiveUp as received

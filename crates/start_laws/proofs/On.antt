@@ -1,6 +1,6 @@
 -- The words of both rings are written where neither side is wanted on, and both are asked on and polled until they are;
 -- once both rings came up and both sides went on so, the device and the driver agree on both.
-use Rattle.pmd_access.specs.Frames.{most_blocks}
+use Rattle.pmd_driver.specs.PmdAccess.Frames.{most_blocks}
 use Rattle.pmd_driver.specs.{Running.Running, Started.AreUp}
 use Rattle.ring_laws.proofs.{Kept.first_place, Leaving.start_agrees as fresh_agrees}
 use Rattle.start_laws.proofs.Points.{At, accesses_at, laid_with, prepared_at, unused_kept}

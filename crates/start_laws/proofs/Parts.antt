@@ -7,7 +7,7 @@ use Rattle.std.proofs.Common.{Bool, List, Option, [], ap, arith, false, inl, inr
 use Rattle.std.proofs.Common.{true, ℕ, ◌++◌, ◌∙◌, ◌∷◌, ◌≡◌, ◌≢◌, ◌⊎◌}
 use Rattle.std.proofs.lemmas.Bool.{cases_Bool, eq-eqb, eqb-true}
 use Rattle.std.proofs.lemmas.{Grind.common_steps, List.Elements.filter-append, List.append-nil, List.map-append}
-use Rattle.device_lock.specs.Alone.{has_begun}
+use Rattle.pmd_driver.specs.DeviceLock.Alone.{has_begun}
 use Rattle.ring_laws.specs.Sent.{counted_by}
 use Rattle.std.specs.Prelude.{◌==◌}
 

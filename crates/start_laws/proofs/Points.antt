@@ -14,14 +14,14 @@ use Rattle.start_laws.specs.Prelude.{State, Tx, Txdctl, Watched, after, blocks_f
 use Rattle.start_laws.specs.Prelude.{pieces, reply_to, ring_blocks, ring_words, sent_by, side_of, zero_block}
 use Rattle.start_laws.specs.Standing.{IsLeft, StandingSidesAreLeft}
 use Rattle.start_laws.specs.{Moves.LendStands, Moves.ReadStands, Moves.WriteStands, Points.AccessesLead, Points.May}
-use Rattle.device_lock.proofs.NicDevice.DmaArena.Bus.{get-insert_other, get-insert_same}
+use Rattle.pmd_driver.proofs.NicDevice.DmaArena.Bus.{get-insert_other, get-insert_same}
 use Rattle.ring_laws.{proofs.HistoryLaws.Lent.not_so, specs.HistoryLaws.Left.IsSilent as RestsSilent}
 use Rattle.std.proofs.Common.{Bool, List, [], ap, arith, false, refl, rules, subst, suc, sym, zero, ℕ, ◌++◌, ◌+◌, ◌<◌}
 use Rattle.std.proofs.{Common.◌∙◌, Common.◌∷◌, Common.◌≡◌, Common.◌≢◌, lemmas.Bool.eqb-false, lemmas.Bool.eqb-true}
 use Rattle.std.specs.Prelude.{IsTrue, ⊤}
 use Rattle.std.{proofs.lemmas.Bool.or_cases, proofs.lemmas.Grind.common_steps, specs.List.range_with_len}
 use Rattle.std.specs.FinMap as map
-use Rattle.device_lock.specs.NicDevice.declared.event.Event.TheVariants as event
+use Rattle.pmd_driver.specs.NicDevice.declared.event.Event.TheVariants as event
 
 -- an idle side stays so over an event that leaves the queue alone, by which nothing is received or sent there
 pub idle_left : (dir : Dir) (P : Side → Type 0) → IsIdle P → (w : Watched) (mine : Blocks) (s : State) (e : Event Block)

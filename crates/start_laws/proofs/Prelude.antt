@@ -1,18 +1,18 @@
 -- The definitions of these laws that their proofs cite most, passed on from one place. Declares nothing.
-unfoldable pub use Rattle.device_lock.specs.NicDevice.Step.{step_of}
-pub use Rattle.device_lock.proofs.Histories.{events_before, events_behind, leads-append, legal_behind}
-pub use Rattle.device_lock.specs.Alone.{WritesOutside, is_setting}
-pub use Rattle.device_lock.specs.NicDevice.RegTable.{Rows.row_of, Runs.runs, declared.rows.RowId.TheVariants.Tdwbah}
-pub use Rattle.device_lock.specs.NicDevice.RegisterFile.Access.{asks_pool_reset, asks_reset}
-pub use Rattle.device_lock.specs.NicDevice.RegisterFile.{Owner.owner_of, Registers.word_of}
-pub use Rattle.device_lock.specs.NicDevice.declared.event.Reply.TheVariants.{Done, Wrote}
-pub use Rattle.device_lock.specs.NicDevice.{Access.named_written, Outcome.Outcome}
-pub use Rattle.device_lock.specs.NicDevice.{Outcome.gives, VfMap.Owner.is_transmit}
-pub use Rattle.device_lock.proofs.{NicDevice.Cases.lent_cases, NicDevice.Steps.keeps_sound}
-pub use Rattle.device_lock.specs.NicDevice.VfMap.Owner.{is_receive}
-pub use Rattle.pmd_access.specs.QueueMade.{IsOtherwise, IsStrayRead, StopsBy}
+unfoldable pub use Rattle.pmd_driver.specs.NicDevice.Step.{step_of}
+pub use Rattle.pmd_driver.proofs.DeviceLock.Histories.{events_before, events_behind, leads-append, legal_behind}
+pub use Rattle.pmd_driver.specs.DeviceLock.Alone.{WritesOutside, is_setting}
+pub use Rattle.pmd_driver.specs.NicDevice.RegTable.{Rows.row_of, Runs.runs, declared.rows.RowId.TheVariants.Tdwbah}
+pub use Rattle.pmd_driver.specs.NicDevice.RegisterFile.Access.{asks_pool_reset, asks_reset}
+pub use Rattle.pmd_driver.specs.NicDevice.RegisterFile.{Owner.owner_of, Registers.word_of}
+pub use Rattle.pmd_driver.specs.NicDevice.declared.event.Reply.TheVariants.{Done, Wrote}
+pub use Rattle.pmd_driver.specs.NicDevice.{Access.named_written, Outcome.Outcome}
+pub use Rattle.pmd_driver.specs.NicDevice.{Outcome.gives, VfMap.Owner.is_transmit}
+pub use Rattle.pmd_driver.proofs.DeviceLock.{NicDevice.Cases.lent_cases, NicDevice.Steps.keeps_sound}
+pub use Rattle.pmd_driver.specs.NicDevice.VfMap.Owner.{is_receive}
+pub use Rattle.pmd_driver.specs.PmdAccess.QueueMade.{IsOtherwise, IsStrayRead, StopsBy}
 pub use Rattle.pmd_driver.proofs.Apart.{both_apart}
-pub use Rattle.pmd_access.specs.Sides.{PollsEnd}
+pub use Rattle.pmd_driver.specs.PmdAccess.Sides.{PollsEnd}
 pub use Rattle.pmd_driver.specs.PmdTx.Sending.{IsOwn}
 pub use Rattle.ring_laws.proofs.InOrder.{calls_other, calls_own, since-append, vfs_stays}
 pub use Rattle.ring_laws.proofs.DeviceLaws.Standing.{memory_blocks, memory_rest, stays_within}

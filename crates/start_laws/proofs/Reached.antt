@@ -1,6 +1,6 @@
 -- A history that leaves a queue alone, entry by entry and call by call of its pass; the calls that a driver's accesses
 -- add, and what they lead to over it.
-use Rattle.device_lock.specs.{Alone.EntryLeavesAlone, History.AreEvents, History.IsLegal}
+use Rattle.pmd_driver.specs.DeviceLock.{Alone.EntryLeavesAlone, History.AreEvents, History.IsLegal}
 use Rattle.start_laws.proofs.Parts.{around, begun, calls_joined, ends_some, more_some, own_some, parts}
 use Rattle.start_laws.proofs.Prelude.{AllAre, AreMadeOf, AtCalls, AtEntries, BeforeLast, BeforeNext, IsAlong, IsKept}
 use Rattle.start_laws.proofs.Prelude.{IsMet, Leads, Never, WritesOutside, calls_other, calls_own, events_before}
@@ -14,8 +14,8 @@ use Rattle.std.proofs.Common.{Bool, List, ℕ, [], append_assoc, arith, false, i
 use Rattle.std.proofs.Common.{sym, true, zero, ◌++◌, ◌∙◌, ◌∷◌, ◌≡◌, ◌≢◌}
 use Rattle.std.proofs.lemmas.{Bool.cases_Bool, Bool.eqb-false, Grind.common_steps, List.append-nil, List.same_from_push}
 use Rattle.{start_laws.proofs.Prelude.no_registers, std.specs.Prelude.IsFalse, std.specs.Prelude.IsTrue}
-use Rattle.device_lock.specs.NicDevice.declared.event.Event.TheVariants as event
-use Rattle.device_lock.specs.NicDevice.declared.event.Reply.TheVariants as reply
+use Rattle.pmd_driver.specs.NicDevice.declared.event.Event.TheVariants as event
+use Rattle.pmd_driver.specs.NicDevice.declared.event.Reply.TheVariants as reply
 
 -- where the entries so far lead a device
 abbrev pub reached : Watched → State → List Entry → State

@@ -7,12 +7,12 @@ use Rattle.start_laws.specs.Prelude.{IsSound, LeavesBlock, Move, Piece, Reaps, R
 use Rattle.start_laws.specs.Prelude.{State, Tx, WritesNoSetting, WritesOutside, after, drive, has_bit, has_block}
 use Rattle.start_laws.specs.Prelude.{has_lent, named, pieces, place, reply_to}
 use Rattle.start_laws.{proofs.Prelude.write_memory, proofs.Prelude.write_rest, specs.Prelude.Advances}
-use Rattle.device_lock.proofs.NicDevice.{DmaArena.Inside.inside_avoids, DmaRing.Fields.halves_come_back}
-use Rattle.device_lock.specs.NicDevice.{DmaArena.Memory.LiesIn, DmaRing.Driver.posted}
-use Rattle.device_lock.specs.NicDevice.{RegTable.declared.rows.RowId.TheVariants.Tdwbal, RegisterFile.Queue.tail_row}
-use Rattle.pmd_access.proofs.Rings.{each_ring_block, slot_block, slot_lies}
+use Rattle.pmd_driver.proofs.NicDevice.{DmaArena.Inside.inside_avoids, DmaRing.Fields.halves_come_back}
+use Rattle.pmd_driver.specs.NicDevice.{DmaArena.Memory.LiesIn, DmaRing.Driver.posted}
+use Rattle.pmd_driver.specs.NicDevice.{RegTable.declared.rows.RowId.TheVariants.Tdwbal, RegisterFile.Queue.tail_row}
+use Rattle.pmd_driver.proofs.PmdAccess.Rings.{each_ring_block, slot_block, slot_lies}
 use Rattle.pmd_driver.specs.PmdTx.Sending.{blocks_of, descriptor_at, moved, no_segment, segment_at, slot_at}
-use Rattle.pmd_access.specs.Slots.{descriptor_in}
+use Rattle.pmd_driver.specs.PmdAccess.Slots.{descriptor_in}
 use Rattle.pmd_driver.specs.PmdRx.Receive.{fresh_of, vacant}
 use Rattle.pmd_driver.specs.{PmdTx.Sending.Segment}
 use Rattle.ring_laws.proofs.Blocks.{has_lent-ring, has_lent-segment, slot-below}
@@ -28,7 +28,7 @@ use Rattle.std.proofs.Common.{take, true, ℕ, ◌*◌, ◌+◌, ◌/◌, ◌<�
 use Rattle.std.proofs.lemmas.Bool.{cases_eq, eqb-false, eqb-true, ne_eqb, not-true, or_cases}
 use Rattle.std.proofs.lemmas.{Grind.common_steps, List.get_or-take, List.length-take-le}
 use Rattle.std.specs.{List.list_any, Prelude.IsTrue, Prelude.slice_index_or, Prelude.⊤, Prelude.◌==◌}
-use Rattle.device_lock.specs.NicDevice.declared.event.Event.TheVariants as event
+use Rattle.pmd_driver.specs.NicDevice.declared.event.Event.TheVariants as event
 use Rattle.pmd_driver.specs.PmdRx.Keeping as received
 use Rattle.pmd_driver.specs.PmdRx.Receive as receiving
 

@@ -12,16 +12,16 @@ use Rattle.start_laws.specs.Prelude.{call_of, enable_row, has_bit, is_driven, is
 use Rattle.start_laws.specs.Prelude.{receive_polled, ring_blocks, ring_words, zero_block}
 use Rattle.start_laws.specs.Stopping.{Asks, BringingEnds, SwitchedOffAsks, UnswitchedAsks}
 use Rattle.start_laws.{proofs.Parts.around, proofs.Parts.more_some, specs.Ending.Each, specs.Ending.IsAsking}
-use Rattle.pmd_access.specs.{Home.Bringing, Home.BringsOne, Made.Adds, Made.AddsSome, QueueMade.FailsBy}
+use Rattle.pmd_driver.specs.PmdAccess.{Home.Bringing, Home.BringsOne, Made.Adds, Made.AddsSome, QueueMade.FailsBy}
 use Rattle.std.proofs.Common.{Bool, List, [], ap, append_assoc, arith, false, inl, inr, refl, rules, suc, sym, true}
 use Rattle.std.proofs.Common.{zero, ℕ, ◌++◌, ◌+◌, ◌-◌, ◌<◌, ◌∙◌, ◌∷◌, ◌≡◌, ◌≢◌}
 use Rattle.std.proofs.lemmas.{Bool.eq-eqb, Bool.or_left, Bool.or_right, Grind.common_steps, List.append-nil}
 use Rattle.std.specs.{List.range_with_len, Prelude.IsFalse, Prelude.⊤, Prelude.◌==◌}
-use Rattle.device_lock.specs.Alone.{lends}
+use Rattle.pmd_driver.specs.DeviceLock.Alone.{lends}
 use Rattle.ring_laws.proofs.HistoryLaws.Alone.{lent_after}
-use Rattle.device_lock.specs.NicDevice.declared.event.Event.TheVariants as event
-use Rattle.device_lock.specs.NicDevice.declared.event.Reply.TheVariants as reply
-use Rattle.pmd_access.specs.declared.fault.PmdFault.TheVariants as fault
+use Rattle.pmd_driver.specs.NicDevice.declared.event.Event.TheVariants as event
+use Rattle.pmd_driver.specs.NicDevice.declared.event.Reply.TheVariants as reply
+use Rattle.pmd_driver.specs.PmdAccess.declared.fault.PmdFault.TheVariants as fault
 
 pub each_such : (P Q : Event Block → Type 0) → ((e : Event Block) → P e → Q e) → (cs : List Call)
     → Each (λ c. P c.event) cs → Each (λ c. Q c.event) cs

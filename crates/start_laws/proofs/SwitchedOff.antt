@@ -22,7 +22,7 @@ use Rattle.ring_laws.specs.HistoryLaws.Sides.{IsUnwanted}
 use Rattle.std.proofs.Common.{Bool, List, [], ap, append_assoc, arith, false, refl, rules, subst, sym, true, ℕ, ◌++◌}
 use Rattle.std.proofs.{Common.◌∙◌, Common.◌∷◌, Common.◌≡◌, Common.◌≢◌, lemmas.Grind.common_steps}
 use Rattle.std.{proofs.lemmas.List.append-nil, proofs.lemmas.List.append_cancel_left, specs.Prelude.⊤}
-use Rattle.device_lock.specs.NicDevice.declared.event.Event.TheVariants as event
+use Rattle.pmd_driver.specs.NicDevice.declared.event.Event.TheVariants as event
 use Rattle.ring_laws.proofs.HistoryLaws.Steady as steady
 
 abbrev pub IsSettled : Dir → ℕ → State → Type 0

@@ -18,16 +18,16 @@ use Rattle.start_laws.specs.Prelude.{Sees, Sets, StartRefused, StartTimeout, Sta
 use Rattle.start_laws.specs.Prelude.{Txdctl, Watched, both_asked, both_quiet, call_of, enable_row, has_block, is_driven}
 use Rattle.start_laws.specs.Prelude.{is_step, lent_by, missed, receive_polled, ring_words, start_gate, zero_block}
 use Rattle.start_laws.specs.TimedOut.{Asked, IsOfEnable, TimeoutsPoll, TimesOut, asked_by, is_miss, misses, none_asked}
-use Rattle.pmd_access.proofs.QueueSequences.{both_made as made_after}
+use Rattle.pmd_driver.proofs.PmdAccess.QueueSequences.{both_made as made_after}
 use Rattle.pmd_driver.specs.Started.{IsShut}
 use Rattle.std.proofs.Common.{Bool, List, [], ap, append_assoc, arith, false, inl, inr, refl, rules, subst, suc, sym}
 use Rattle.std.proofs.Common.{true, zero, ℕ, ◌++◌, ◌+◌, ◌-◌, ◌∙◌, ◌∷◌, ◌≡◌, ◌≢◌, ◌⊎◌}
 use Rattle.std.proofs.lemmas.{Bool.both_ways, Bool.eq-eqb, Bool.ne_eqb, Grind.common_steps, List.append-nil}
 use Rattle.std.specs.Prelude.{Err, IsFalse, None, Option, Some, ◌==◌}
-use Rattle.device_lock.specs.NicDevice.RegTable.Rows.{rows}
+use Rattle.pmd_driver.specs.NicDevice.RegTable.Rows.{rows}
 use Rattle.ring_laws.proofs.HistoryLaws.Lent.{anew_is_done}
-use Rattle.device_lock.specs.NicDevice.declared.event.Event.TheVariants as event
-use Rattle.device_lock.specs.NicDevice.declared.event.Reply.TheVariants as reply
+use Rattle.pmd_driver.specs.NicDevice.declared.event.Event.TheVariants as event
+use Rattle.pmd_driver.specs.NicDevice.declared.event.Reply.TheVariants as reply
 
 -- so many reads of a side that is asked on, in vain
 

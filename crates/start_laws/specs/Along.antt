@@ -1,7 +1,7 @@
 -- A legal history of a sound device that leaves a queue alone, and what holds wherever its pass has made this many
 -- calls.
 use Rattle.std.specs.Prelude.{[], ◌++◌, ◌<◌, ◌∷◌, ◌≡◌, List, ℕ}
-use Rattle.device_lock.specs.History.{AreEvents, IsLegal}
+use Rattle.pmd_driver.specs.DeviceLock.History.{AreEvents, IsLegal}
 use Rattle.ring_laws.specs.HistoryLaws.Alone.{LeavesAloneFrom}
 use Rattle.start_laws.specs.Prelude.{Block, Blocks, Call, Entry, Event, IsEvent, IsSound, State, Watched, after}
 use Rattle.start_laws.specs.Prelude.{call_in, calls_of, leads_to, reply_to}

@@ -1,10 +1,10 @@
 -- Entries ahead of the place where the device agrees with both halves, as those of a driver's start.
 use Rattle.std.specs.Prelude.{[], ⊤, ◌*◌, ◌==◌, ◌||◌, ◌∷◌, ◌≢◌, ◌≤◌, All, List, false, ℕ}
-use Rattle.device_lock.specs.NicDevice.RegisterFile.Settings.{frame_limit}
+use Rattle.pmd_driver.specs.NicDevice.RegisterFile.Settings.{frame_limit}
 use Rattle.start_laws.specs.Prelude.{AreEvents, Block, Blocks, Call, Entry, Event, FitsBlocks, IsLegal, LendsNone}
 use Rattle.start_laws.specs.Prelude.{OnlyLent, State}
 use Rattle.start_laws.specs.Prelude.{WritesNoSetting, after, either, leads_to, lent_by}
-use Rattle.device_lock.specs.NicDevice.declared.event.Event.TheVariants as event
+use Rattle.pmd_driver.specs.NicDevice.declared.event.Event.TheVariants as event
 
 -- the frames that wait for a queue fit this many blocks, and longer ones aren't accepted
 pub record AreShort (queue most : ℕ) (s : State) : Type 0 where

@@ -1,16 +1,16 @@
 -- The calls that the driver's pass may make in addition to those of the driver's halves: events that leave every queue
 -- alone.
 use Rattle.std.specs.Prelude.{[], ⊤, ◌&&◌, ◌++◌, ◌∷◌, ◌≡◌, Bool, IsTrue, List, None, Option, Some, false, not, true, ℕ}
-use Rattle.device_lock.specs.NicDevice.{RegTable.Place.place_among, RegTable.Runs.runs, VfMap.Owner.is_receive}
-use Rattle.device_lock.specs.NicDevice.{VfMap.Owner.is_transmit, declared.event.Port.TheVariants.Pf}
-use Rattle.device_lock.specs.NicDevice.{declared.event.Port.TheVariants.Vf}
-use Rattle.device_lock.specs.Alone.{is_setting}
+use Rattle.pmd_driver.specs.NicDevice.{RegTable.Place.place_among, RegTable.Runs.runs, VfMap.Owner.is_receive}
+use Rattle.pmd_driver.specs.NicDevice.{VfMap.Owner.is_transmit, declared.event.Port.TheVariants.Pf}
+use Rattle.pmd_driver.specs.NicDevice.{declared.event.Port.TheVariants.Vf}
+use Rattle.pmd_driver.specs.DeviceLock.Alone.{is_setting}
 use Rattle.pmd_driver.specs.Halves.{Drives}
-use Rattle.pmd_access.specs.Made.{AddsSome}
+use Rattle.pmd_driver.specs.PmdAccess.Made.{AddsSome}
 use Rattle.start_laws.specs.Histories.{OthersLeaveAlone}
 use Rattle.start_laws.specs.Prelude.{Adds, AllOwn, Block, Blocks, Call, Doer, Entry, Event, Halves, Place, Reply}
 use Rattle.start_laws.specs.Prelude.{State, Watched, asks_pool_reset, calls_of, is_neither, played_by, row_of}
-use Rattle.device_lock.specs.NicDevice.declared.event.Event.TheVariants as event
+use Rattle.pmd_driver.specs.NicDevice.declared.event.Event.TheVariants as event
 
 -- whether no queue rests on a register, whichever queue, where this word is written to it: it is no setting and of
 -- neither side of a queue, and the write asks for no reset of a pool. So it is where there is no register

@@ -3,7 +3,7 @@ use Rattle.std.specs.Prelude.{[], ⊤, ◌≡◌, List, true, ℕ}
 use Rattle.start_laws.specs.Agreeing.{BothAgree}
 use Rattle.start_laws.specs.Prelude.{Dir, Halves, IsEvent, Piece, Port, Register, Rx, State, Tx, after, enable_row}
 use Rattle.start_laws.specs.Prelude.{has_bit, named, place}
-use Rattle.device_lock.specs.NicDevice.declared.event.Event.TheVariants as event
+use Rattle.pmd_driver.specs.NicDevice.declared.event.Event.TheVariants as event
 
 -- nothing is outstanding where a word asks for the transmit side to be on. Of the receive side nothing is asked
 abbrev pub MayAsk : Dir → ℕ → Halves → Type 0

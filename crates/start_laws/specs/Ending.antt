@@ -2,7 +2,7 @@
 use Rattle.std.specs.Prelude.{[], ⊤, ◌∷◌, ◌≡◌, IsFalse, IsTrue, List, true, ℕ}
 use Rattle.start_laws.specs.Prelude.{AtPort, Block, Call, Dir, Event, IsNumberOf, Port, RowId, enable_row, has_bit}
 use Rattle.start_laws.specs.Prelude.{is_driven, is_step}
-use Rattle.device_lock.specs.NicDevice.declared.event.Event.TheVariants as event
+use Rattle.pmd_driver.specs.NicDevice.declared.event.Event.TheVariants as event
 
 -- it holds of each of these calls
 abbrev pub Each : (Call → Type 0) → List Call → Type 0

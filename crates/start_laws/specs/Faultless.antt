@@ -1,6 +1,6 @@
 -- A start on a queue whose sides are off finds no device at fault, over a history that leaves the queue alone.
 use Rattle.std.specs.Prelude.{[], ◌++◌, ◌∷◌, ◌≡◌, IsFalse, List, true, ℕ}
-use Rattle.device_lock.specs.NicDevice.DmaArena.Numbers.{is_free}
+use Rattle.pmd_driver.specs.NicDevice.DmaArena.Numbers.{is_free}
 use Rattle.start_laws.specs.Prelude.{AreSteps, AtPort, Call, DeviceFault, Entry, IsReceiveReady, IsTransmitReady}
 use Rattle.start_laws.specs.Prelude.{Numbers, PreparingFails, Receive, ReceiveFails, Sender, State, SwitchFails, Tx}
 use Rattle.start_laws.specs.Prelude.{Watched, has_block, is_step}

@@ -1,6 +1,6 @@
 -- What a driver returns and what it sends, over histories that leave its queue alone.
 use Rattle.std.specs.Prelude.{[], ⊤, ◌++◌, ◌==◌, ◌∷◌, ◌≡◌, Bool, IsTrue, List, None, Some, false, true}
-use Rattle.device_lock.specs.Alone.{has_begun}
+use Rattle.pmd_driver.specs.DeviceLock.Alone.{has_begun}
 use Rattle.start_laws.specs.Prelude.{AllOwn, Blocks, Doer, Elsewhere, Entry, FindsNone, Halves, IsUp, LeavesBlocks}
 use Rattle.start_laws.specs.Prelude.{LeavesRegisters, Sends, ShowsNone, State, Watched, after, bytes_of, calls_of}
 use Rattle.start_laws.specs.Prelude.{delivered, is_neither, leads_to, lent_by, mode_in, pieces_since, played_by}

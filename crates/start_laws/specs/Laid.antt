@@ -5,7 +5,7 @@ use Rattle.start_laws.specs.Prelude.{AtPort, Block, Call, Entry, Event, IsNumber
 use Rattle.start_laws.specs.Prelude.{RowId, Rxdctl, Srrctl, State, Tdbah, Tdbal, Tdh, Tdlen, Tdt, Tdwbal, Txdctl}
 use Rattle.start_laws.specs.Prelude.{Watched, call_in, calls_of, has_bit, is_driven, leads_to}
 use Rattle.start_laws.specs.{Along.IsAlong, Points.HasGround}
-use Rattle.device_lock.specs.NicDevice.declared.event.Event.TheVariants as event
+use Rattle.pmd_driver.specs.NicDevice.declared.event.Event.TheVariants as event
 use Rattle.ring_laws.specs.Off as transmit
 
 -- the side is off; its ring has a length besides; and its head is the first slot; or its ring is empty, on or off

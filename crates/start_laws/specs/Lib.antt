@@ -2,8 +2,8 @@ pub use Rattle.ring_laws.specs as RingLaws
 pub use Rattle.ring_laws.specs.DeviceLaws
 pub use Rattle.ring_laws.specs.HistoryLaws
 pub use Rattle.pmd_driver.specs as PmdDriver
-pub use Rattle.device_lock.specs as DeviceLock
-pub use Rattle.device_lock.specs.NicDevice
+pub use Rattle.pmd_driver.specs.DeviceLock as DeviceLock
+pub use Rattle.pmd_driver.specs.NicDevice
 pub mod Agreeing
 pub mod Along
 pub mod Before

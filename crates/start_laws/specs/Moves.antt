@@ -1,6 +1,6 @@
 -- What a driver's own accesses do to sides that are at rest, and the state of these in the end.
 use Rattle.std.specs.Prelude.{[], ◌*◌, ◌+◌, ◌<◌, ◌==◌, ◌||◌, ◌≡◌, ◌≤◌, Bool, IsFalse, None, true, ℕ}
-use Rattle.device_lock.specs.NicDevice.Named.{named}
+use Rattle.pmd_driver.specs.NicDevice.Named.{named}
 use Rattle.ring_laws.specs.Joint.{IsNamed}
 use Rattle.start_laws.specs.Prelude.{Agree, Agrees, Blocks, Dir, EachRingBlock, IsSound, Port, Register, Ring, RowId}
 use Rattle.start_laws.specs.Prelude.{Rx, Rxdctl, Side, State, Tdt, Tx, Txdctl, after, blocks_for, enable_row}
@@ -8,8 +8,8 @@ use Rattle.start_laws.specs.Prelude.{frame_limit, has_bit, is_empty, is_frame, p
 use Rattle.start_laws.specs.Prelude.{zero_block}
 use Rattle.start_laws.specs.{Standing.IsZero, Standing.Stand, Standing.Stands, Words.Fits, Words.NamesRow}
 use Rattle.start_laws.specs.{Words.side_with}
-use Rattle.device_lock.specs.NicDevice.declared.event.Event.TheVariants as event
-use Rattle.device_lock.specs.NicDevice.declared.event.Reply.TheVariants as reply
+use Rattle.pmd_driver.specs.NicDevice.declared.event.Event.TheVariants as event
+use Rattle.pmd_driver.specs.NicDevice.declared.event.Reply.TheVariants as reply
 use Rattle.pmd_driver.specs.PmdRx.Receive as receive
 use Rattle.pmd_driver.specs.PmdTx.Sending as transmit
 

@@ -1,6 +1,6 @@
 -- Which queue of the device a port and a queue's number there name.
 use Rattle.std.specs.Prelude.{◌+◌, ◌≡◌, None, Option, Some, if◌then◌else◌, nat_lt, true, ℕ}
-use Rattle.device_lock.specs.NicDevice.{VfMap.Pools.queues_of, VfMap.declared.mode.Mode.Mode}
+use Rattle.pmd_driver.specs.NicDevice.{VfMap.Pools.queues_of, VfMap.declared.mode.Mode.Mode}
 use Rattle.start_laws.specs.Prelude.{AtPort, IsNumberOf, Pf, Port, RowId, State, Vf, is_driven, mode_in}
 use Rattle.start_laws.specs.Words.{NamesRow}
 

@@ -3,8 +3,8 @@ use Rattle.std.specs.Prelude.{[], ◌&&◌, ◌++◌, ◌+◌, ◌==◌, ◌∷�
 use Rattle.start_laws.specs.Prelude.{AtPort, Block, Call, Event, IsNumberOf, Pf, Port, Reply, Rxdctl, Txdctl, Vf}
 use Rattle.start_laws.specs.Prelude.{has_bit}
 use Rattle.start_laws.specs.TimedOut.{Asked, TimesOut, none_asked}
-use Rattle.device_lock.specs.NicDevice.declared.event.Event.TheVariants as event
-use Rattle.device_lock.specs.NicDevice.declared.event.Reply.TheVariants as reply
+use Rattle.pmd_driver.specs.NicDevice.declared.event.Event.TheVariants as event
+use Rattle.pmd_driver.specs.NicDevice.declared.event.Reply.TheVariants as reply
 
 abbrev pub same_port : Port → Port → Bool
 same_port Pf Pf = true

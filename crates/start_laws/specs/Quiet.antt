@@ -3,8 +3,8 @@ use Rattle.std.specs.Prelude.{◌≡◌, IsFalse, false, ℕ}
 use Rattle.start_laws.specs.Prelude.{Block, Blocks, Event, IsSound, Port, Rx, Rxdctl, State, Watched, after, has_bit}
 use Rattle.start_laws.specs.Prelude.{reply_to, side_of}
 use Rattle.start_laws.specs.{Moves.IsMet, Standing.IsLeft, Standing.Stand, Words.NamesRow}
-use Rattle.device_lock.specs.NicDevice.declared.event.Event.TheVariants as event
-use Rattle.device_lock.specs.NicDevice.declared.event.Reply.TheVariants as reply
+use Rattle.pmd_driver.specs.NicDevice.declared.event.Event.TheVariants as event
+use Rattle.pmd_driver.specs.NicDevice.declared.event.Reply.TheVariants as reply
 use Rattle.ring_laws.specs.HistoryLaws.Sides as sides
 use Rattle.ring_laws.specs.Off as transmit
 

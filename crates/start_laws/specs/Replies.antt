@@ -2,8 +2,8 @@
 use Rattle.std.specs.Prelude.{◌≡◌, ◌⊎◌, IsFalse, true, ℕ}
 use Rattle.start_laws.specs.Prelude.{AtPort, IsNumberOf, RowId, Rxdctl, State, Txdctl, has_bit, is_driven, reply_to}
 use Rattle.start_laws.specs.{Points.HasGround, Quieting.IsQuiet}
-use Rattle.device_lock.specs.NicDevice.declared.event.Event.TheVariants as event
-use Rattle.device_lock.specs.NicDevice.declared.event.Reply.TheVariants as reply
+use Rattle.pmd_driver.specs.NicDevice.declared.event.Event.TheVariants as event
+use Rattle.pmd_driver.specs.NicDevice.declared.event.Reply.TheVariants as reply
 
 -- where port and queue name a queue of the device, a read of a register that a driver has of it gives a word, and a
 -- write is done

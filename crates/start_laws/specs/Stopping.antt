@@ -1,7 +1,7 @@
 -- The calls by which both sides of a queue are disabled and blocks are taken back, and steps of the device between
 -- them.
 use Rattle.std.specs.Prelude.{◌++◌, ◌≡◌, ◌⊎◌, List, false, ℕ}
-use Rattle.pmd_access.specs.Home.{Bringing, Brings}
+use Rattle.pmd_driver.specs.PmdAccess.Home.{Bringing, Brings}
 use Rattle.start_laws.specs.Ending.{Each, IsAsking, IsEnding}
 use Rattle.start_laws.specs.Prelude.{AtPort, Block, Call, Event, IsSwitched, PmdFault, SwitchFails}
 

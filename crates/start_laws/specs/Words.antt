@@ -1,11 +1,11 @@
 -- The words of a side that is off: what is written to its registers is the side's.
 use Rattle.std.specs.Prelude.{◌%◌, ◌*◌, ◌+◌, ◌/◌, ◌<◌, ◌^◌, ◌≡◌, IsFalse, None, ℕ}
-use Rattle.device_lock.specs.NicDevice.Named.{named}
+use Rattle.pmd_driver.specs.NicDevice.Named.{named}
 use Rattle.ring_laws.specs.{DeviceLaws.Leaving.LeavesMemory, HistoryLaws.Sides.LeavesSide}
 use Rattle.start_laws.specs.Prelude.{Dir, IsSound, Port, Rdbah, Rdbal, Rdh, Rdlen, Rdt, Register, Ring, RowId, Rx}
 use Rattle.start_laws.specs.Prelude.{Rxdctl, Side, Srrctl, State, Tdbah, Tdbal, Tdh, Tdlen, Tdt, Tdwbal, Tx, Txdctl}
 use Rattle.start_laws.specs.Prelude.{after, frame_limit, has_bit, mode_in, place, side_of}
-use Rattle.device_lock.specs.NicDevice.declared.event.Event.TheVariants as event
+use Rattle.pmd_driver.specs.NicDevice.declared.event.Event.TheVariants as event
 
 -- a ring with another low or high half of its base
 

@@ -8,7 +8,7 @@
 //! over which histories the device never gives the reply of a queue at fault.
 #![tactic(auto)]
 
-ghost use Rattle.device_lock.specs.NicDevice.DmaRing.declared.dir.Dir.TheVariants.{Rx, Tx};
+ghost use Rattle.pmd_driver.specs.NicDevice.DmaRing.declared.dir.Dir.TheVariants.{Rx, Tx};
 ghost use Rattle.pmd_driver.specs.Halves.{ReceivingDrives, SendingDrives, OthersDrive, DrivesOn};
 ghost use Rattle.start_laws.specs.Before.{FramesStayShortAlong, OnlyPassLent};
 ghost use Rattle.start_laws.specs.Beside.{CallsAddHarmless, StepsAddHarmless, DrivesLead, HarmlessLead, LeadsOn};

@@ -4,12 +4,12 @@ use Rattle.std.proofs.lemmas.Grind.{common_steps}
 use Rattle.std.proofs.lemmas.List.{map-append}
 use Rattle.std.proofs.lemmas.List.Sums.{sum_by-append, count_by-le-length}
 use Rattle.std.proofs.Math.Seq.{take-append_seam, drop-append_seam, drop-length}
-use Rattle.device_lock.specs.NicDevice.DmaArena.Block.{Block}
-use Rattle.device_lock.specs.NicDevice.declared.event.Event.{Event}
-use Rattle.device_lock.specs.declared.entry.Call.{Call}
-use Rattle.device_lock.specs.declared.fault.CallFault.{CallFault}
-use Rattle.device_lock.specs.Pass.{PassValue}
-use Rattle.device_lock.specs.NicDevice.declared.event.Event.TheVariants.{Arrive}
+use Rattle.pmd_driver.specs.NicDevice.DmaArena.Block.{Block}
+use Rattle.pmd_driver.specs.NicDevice.declared.event.Event.{Event}
+use Rattle.pmd_driver.specs.DeviceLock.declared.entry.Call.{Call}
+use Rattle.pmd_driver.specs.DeviceLock.declared.fault.CallFault.{CallFault}
+use Rattle.pmd_driver.specs.DeviceLock.Pass.{PassValue}
+use Rattle.pmd_driver.specs.NicDevice.declared.event.Event.TheVariants.{Arrive}
 use Rattle.workers.specs.Feeding.{HaveArrived, IsFed, is_done, done_in, gained}
 
 pub one_more : (frames more : List (List ℕ)) (old mid new : PassValue) → HaveArrived frames old mid

@@ -2,10 +2,10 @@
 use Rattle.std.proofs.Common.{◌≡◌, ℕ, false, not, List, [], ◌∷◌, ◌++◌, Option, refl, ap, subst}
 use Rattle.std.specs.Prelude.{◌↔◌, IsTrue, IsFalse}
 use Rattle.std.proofs.lemmas.Bool.{not-true, or_parts}
-use Rattle.device_lock.specs.Reported.{settings_through}
-use Rattle.device_lock.specs.declared.alone.Watched.{Watched}
-use Rattle.device_lock.specs.declared.entry.Entry.{Entry}
-use Rattle.device_lock.specs.declared.reported.Settings.{Settings}
+use Rattle.pmd_driver.specs.DeviceLock.Reported.{settings_through}
+use Rattle.pmd_driver.specs.DeviceLock.declared.alone.Watched.{Watched}
+use Rattle.pmd_driver.specs.DeviceLock.declared.entry.Entry.{Entry}
+use Rattle.pmd_driver.specs.DeviceLock.declared.reported.Settings.{Settings}
 use Rattle.workers.specs.Before.{first_reported, holds_of, reported_after, reported_before, reported_after_entry, reported_through}
 use Rattle.workers.specs.Quiet.{NeverAskedOn, asks_on}
 use Rattle.workers.specs.declared.before.Reported.{Reported}

@@ -1,6 +1,6 @@
 -- The first of two faults.
 use Rattle.std.proofs.Common.{◌≡◌, true, false, Option, Some, None, Result, Ok, Err, IfErr, IfSome, IfNone, refl}
-use Rattle.pmd_access.specs.declared.fault.PmdFault.{PmdFault}
+use Rattle.pmd_driver.specs.PmdAccess.declared.fault.PmdFault.{PmdFault}
 use Rattle.pmd_driver.specs.declared.start.Rest.{Rest}
 use Rattle.workers.specs.Ended.{first_fault, is_home, is_shut_out, is_threadless}
 use Rattle.workers.specs.declared.fault.WorkerFault.{WorkerFault}

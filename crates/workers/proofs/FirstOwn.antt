@@ -3,12 +3,12 @@ use Rattle.std.proofs.Common.{◌≡◌, ◌-◌, ℕ, zero, suc, inl, inr, Bool
 use Rattle.std.specs.Prelude.{◌==◌, ◌↔◌, IsTrue, IsFalse}
 use Rattle.std.proofs.lemmas.Bool.{and_parts, both_ways, cases_Bool, eq-eqb, eqb-true, ne_eqb, not-true}
 use Rattle.std.proofs.lemmas.List.{nil_from_length}
-use Rattle.device_lock.specs.History.{call_in, calls_of}
-use Rattle.device_lock.specs.declared.alone.Watched.{Watched}
-use Rattle.device_lock.specs.declared.entry.Call.{Call}
-use Rattle.device_lock.specs.declared.entry.Entry.{Entry}
-use Rattle.pmd_access.specs.Events.{is_step}
-use Rattle.pmd_access.specs.Made.{AreSteps}
+use Rattle.pmd_driver.specs.DeviceLock.History.{call_in, calls_of}
+use Rattle.pmd_driver.specs.DeviceLock.declared.alone.Watched.{Watched}
+use Rattle.pmd_driver.specs.DeviceLock.declared.entry.Call.{Call}
+use Rattle.pmd_driver.specs.DeviceLock.declared.entry.Entry.{Entry}
+use Rattle.pmd_driver.specs.PmdAccess.Events.{is_step}
+use Rattle.pmd_driver.specs.PmdAccess.Made.{AreSteps}
 use Rattle.workers.specs.Before.{holds_of, is_first, known_before, known_through, still_left}
 use Rattle.workers.specs.Starts.{Starts}
 

@@ -1,5 +1,5 @@
 -- What a worker's end tells is in order, over every history that its pass may close.
-use Rattle.pmd_access.specs.QueueMade.{IsSeen}
+use Rattle.pmd_driver.specs.PmdAccess.QueueMade.{IsSeen}
 use Rattle.driver_laws.proofs.Prelude.{Call, DrivesRings, Entry, HasGround, HasLived, IsAlong, IsFalse, IsQuiet}
 use Rattle.driver_laws.proofs.Prelude.{IsStopping, Life, List, None, Numbers, Option, PmdFault, Rest, Rxdctl, Some}
 use Rattle.driver_laws.proofs.Prelude.{State, TakesOnceOff, Up, Watched, [], ap, append-nil, append_assoc}
@@ -20,8 +20,8 @@ use Rattle.workers.specs.Order.{EndsAreInOrder, IsEndAmong, LeavesJob, given_of,
 use Rattle.workers.specs.Points.{JustBefore}
 use Rattle.workers.specs.declared.{ends.WorkerEnd.WorkerEnd, fault.WorkerFault.TheVariants.NoThread, job.Job.Job}
 use Rattle.workers.specs.{Ends.AreEnds, Ends.IsEnd, Lived.HasRun, Starts.Starts}
-use Rattle.device_lock.specs.NicDevice.declared.event.Event.TheVariants as event
-use Rattle.device_lock.specs.NicDevice.declared.event.Reply.TheVariants as reply
+use Rattle.pmd_driver.specs.NicDevice.declared.event.Event.TheVariants as event
+use Rattle.pmd_driver.specs.NicDevice.declared.event.Reply.TheVariants as reply
 use Rattle.driver_laws.specs.StartLaws.RingLaws.Delivered as receive
 use Rattle.driver_laws.specs.StartLaws.RingLaws.Laws as transmit
 

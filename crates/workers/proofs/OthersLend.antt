@@ -2,10 +2,10 @@
 use Rattle.std.proofs.Common.{◌≡◌, ◌≢◌, ℕ, zero, suc, ◌+◌, ◌<◌, ◌≤◌, inl, inr, Bool, true, false, not, ◌&&◌, ◌||◌, List, [], ◌∷◌, refl, sym, ap, ◌∙◌, subst, arith}
 use Rattle.std.specs.Prelude.{◌==◌, ◌↔◌, IsTrue}
 use Rattle.std.proofs.lemmas.Bool.{and_from, and_parts, cases_eq, eq-eqb, le-leb, leb-true, lt-ltb, ltb-true, ne_eqb, not-true}
-use Rattle.device_lock.specs.Alone.{Blocks}
-use Rattle.device_lock.specs.Watching.{none_of}
-use Rattle.device_lock.specs.declared.alone.Watched.{Watched}
-use Rattle.device_lock.specs.declared.entry.Entry.{Entry}
+use Rattle.pmd_driver.specs.DeviceLock.Alone.{Blocks}
+use Rattle.pmd_driver.specs.DeviceLock.Watching.{none_of}
+use Rattle.pmd_driver.specs.DeviceLock.declared.alone.Watched.{Watched}
+use Rattle.pmd_driver.specs.DeviceLock.declared.entry.Entry.{Entry}
 use Rattle.workers.specs.Before.{holds_of, known_before}
 use Rattle.workers.specs.Lending.{NoneLentBefore, OnlyPassLends, OthersLendNone, are_from, lends_none, lent_after, lent_through, no_block, only_pass_lends}
 use Rattle.workers.proofs.FirstOwn.{test_decides}

@@ -1,13 +1,13 @@
 -- Packets that come back, whose blocks can go home still.
 use Rattle.std.proofs.Common.{◌≡◌, ℕ, ◌&&◌, not, nat_lt, Bool, true, List, Option, Some, None, Result, Ok, Err, IfSome, sym, ap, ◌∙◌, subst}
 use Rattle.std.specs.List.{list_any}
-use Rattle.device_lock.specs.declared.entry.Call.{Call}
-use Rattle.device_lock.specs.NicDevice.DmaArena.Numbers.{Numbers}
-use Rattle.device_lock.specs.NicDevice.DmaArena.Whereabouts.{times_in_hand}
-use Rattle.pmd_access.specs.Bufs.{numbers_of}
-use Rattle.pmd_access.specs.declared.fault.PmdFault.{PmdFault}
-use Rattle.pmd_access.specs.declared.fault.PmdFault.TheVariants as fault
-use Rattle.pmd_access.specs.declared.packet.Packet.{Packet}
+use Rattle.pmd_driver.specs.DeviceLock.declared.entry.Call.{Call}
+use Rattle.pmd_driver.specs.NicDevice.DmaArena.Numbers.{Numbers}
+use Rattle.pmd_driver.specs.NicDevice.DmaArena.Whereabouts.{times_in_hand}
+use Rattle.pmd_driver.specs.PmdAccess.Bufs.{numbers_of}
+use Rattle.pmd_driver.specs.PmdAccess.declared.fault.PmdFault.{PmdFault}
+use Rattle.pmd_driver.specs.PmdAccess.declared.fault.PmdFault.TheVariants as fault
+use Rattle.pmd_driver.specs.PmdAccess.declared.packet.Packet.{Packet}
 use Rattle.pmd_driver.specs.PmdRx.Keeping.{blocks_out}
 use Rattle.pmd_driver.specs.PmdRx.Receive.{Receive}
 use Rattle.pmd_driver.specs.PmdTx.Sending.{Layout, Segment, is_among}

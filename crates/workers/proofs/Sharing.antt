@@ -2,7 +2,7 @@
 use Rattle.std.proofs.Common.{◌≡◌, ℕ, zero, suc, ◌+◌, ◌<◌, inl, inr, Bool, true, false, List, [], ◌∷◌, length, slice_index_or, refl, sym, ◌∙◌, subst, arith}
 use Rattle.std.proofs.lemmas.Bool.{cases_eq}
 use Rattle.std.proofs.lemmas.Bool.Decides.{nat_tests}
-use Rattle.device_lock.specs.NicDevice.DmaArena.Numbers.{Numbers, is_own}
+use Rattle.pmd_driver.specs.NicDevice.DmaArena.Numbers.{Numbers, is_own}
 use Rattle.workers.specs.declared.job.Job.{Job}
 use Rattle.workers.specs.Overlap.{arena_at, Share}
 

@@ -1,6 +1,6 @@
 -- The reports of packets, one more at a time.
 use Rattle.std.proofs.Common.{◌≡◌, ℕ, suc, ◌+◌, List, [], ◌∷◌, ◌++◌, length, refl, sym, ap, ◌∙◌, arith}
-use Rattle.pmd_access.specs.Packet.{Kept}
+use Rattle.pmd_driver.specs.PmdAccess.Packet.{Kept}
 use Rattle.workers.specs.declared.reports.Report.{Report}
 use Rattle.workers.specs.Reported.{report_of, reports_from, reports_of}
 

@@ -1,8 +1,8 @@
 -- Going through a history, entry by entry, up to the first of a driver's own.
 use Rattle.std.proofs.Common.{◌≡◌, ℕ, ◌+◌, ◌<◌, suc, true, false, List, ◌∷◌, length, get_or, drop, Some, None, refl, ap, ◌∙◌, arith, drop-cons}
 use Rattle.std.proofs.Math.Seq.{drop-length}
-use Rattle.device_lock.specs.declared.alone.Watched.{Watched}
-use Rattle.device_lock.specs.declared.entry.Entry.{Entry}
+use Rattle.pmd_driver.specs.DeviceLock.declared.alone.Watched.{Watched}
+use Rattle.pmd_driver.specs.DeviceLock.declared.entry.Entry.{Entry}
 use Rattle.workers.specs.Before.{is_first, known_before, still_left}
 
 split : (h : List Entry) (i : ℕ) (d : Entry) → i < length h → drop i h ≡ get_or h i d ∷ drop (i + 1) h

@@ -10,7 +10,7 @@ use Rattle.driver_laws.proofs.{Prelude.AreEvents, Prelude.Call, Prelude.Entry, S
 use Rattle.driver_laws.specs.{Prelude.BeforeNext, StartLaws.Numbers.queue_at, StartLaws.Numbers.queue_in}
 use Rattle.workers.specs.Points.{HoldsAtFirst, JustBefore}
 use Rattle.workers.specs.{Beginning.BeginsWell, Starts.Starts, declared.beginning.Given.Given}
-use Rattle.device_lock.specs.{Reported.first_settings, Reported.settings_through, declared.reported.Settings.Settings}
+use Rattle.pmd_driver.specs.DeviceLock.{Reported.first_settings, Reported.settings_through, declared.reported.Settings.Settings}
 use Rattle.workers.specs.Queues as reported
 
 -- all calls of a pass, around the first of its driver's own

@@ -1,11 +1,11 @@
 -- What is known of a history up to the first entry of a driver's own, which a test finds that goes through it once.
 use Rattle.std.specs.Prelude.{ℕ, ◌-◌, ◌==◌, Bool, true, false, not, ◌&&◌, ◌||◌, List, [], ◌∷◌, Option, Some, None, if◌then◌else◌}
-use Rattle.device_lock.specs.NicDevice.DmaArena.Block.{Block}
-use Rattle.device_lock.specs.NicDevice.declared.event.Event.{Event}
-use Rattle.device_lock.specs.Reported.{first_settings, settings_after}
-use Rattle.device_lock.specs.declared.alone.Watched.{Watched}
-use Rattle.device_lock.specs.declared.entry.Entry.{Entry}
-use Rattle.pmd_access.specs.Events.{is_step}
+use Rattle.pmd_driver.specs.NicDevice.DmaArena.Block.{Block}
+use Rattle.pmd_driver.specs.NicDevice.declared.event.Event.{Event}
+use Rattle.pmd_driver.specs.DeviceLock.Reported.{first_settings, settings_after}
+use Rattle.pmd_driver.specs.DeviceLock.declared.alone.Watched.{Watched}
+use Rattle.pmd_driver.specs.DeviceLock.declared.entry.Entry.{Entry}
+use Rattle.pmd_driver.specs.PmdAccess.Events.{is_step}
 use Rattle.workers.specs.Quiet.{asks_on}
 use Rattle.workers.specs.declared.before.Reported.{Reported}
 

@@ -1,12 +1,12 @@
 -- Whether a driver begins well: its port and queue name its queue as it starts, and frames are as long as it was
 -- reported; by the entries before.
 use Rattle.std.specs.Prelude.{ℕ, ◌≡◌, ◌==◌, ◌&&◌, Bool, false, List, length, Option, Some, None}
-use Rattle.device_lock.specs.Reported.{first_settings, limit_of, settings_through}
-use Rattle.device_lock.specs.declared.alone.Watched.{Watched}
-use Rattle.device_lock.specs.declared.entry.Call.{Call}
-use Rattle.device_lock.specs.declared.entry.Entry.{Entry}
-use Rattle.device_lock.specs.declared.reported.Settings.{Settings}
-use Rattle.pmd_access.specs.Frames.{packet_limit}
+use Rattle.pmd_driver.specs.DeviceLock.Reported.{first_settings, limit_of, settings_through}
+use Rattle.pmd_driver.specs.DeviceLock.declared.alone.Watched.{Watched}
+use Rattle.pmd_driver.specs.DeviceLock.declared.entry.Call.{Call}
+use Rattle.pmd_driver.specs.DeviceLock.declared.entry.Entry.{Entry}
+use Rattle.pmd_driver.specs.DeviceLock.declared.reported.Settings.{Settings}
+use Rattle.pmd_driver.specs.PmdAccess.Frames.{packet_limit}
 use Rattle.workers.specs.Queues.{queue_at}
 use Rattle.workers.specs.Starts.{Starts}
 use Rattle.workers.specs.declared.beginning.Given.{Given}

@@ -1,6 +1,6 @@
 -- How a worker ends.
 use Rattle.std.specs.Prelude.{Bool, true, false, Option, Some, None, Result, Ok, Err}
-use Rattle.pmd_access.specs.declared.fault.PmdFault.{PmdFault}
+use Rattle.pmd_driver.specs.PmdAccess.declared.fault.PmdFault.{PmdFault}
 use Rattle.pmd_driver.specs.declared.start.Rest.{Rest}
 use Rattle.pmd_driver.specs.declared.start.Rest.TheVariants.{Home, Running}
 use Rattle.workers.specs.declared.fault.WorkerFault.{WorkerFault}

@@ -1,7 +1,7 @@
 -- How workers end.
 use Rattle.std.specs.Prelude.{◌≡◌, ◌≢◌, ◌≤◌, true, List, [], ◌∷◌, length, Option, Some, IfNone, ⊤}
 use Rattle.rtrb.specs.Ring.{sent, SameProducer}
-use Rattle.device_lock.specs.Pass.{PassValue}
+use Rattle.pmd_driver.specs.DeviceLock.Pass.{PassValue}
 use Rattle.pmd_driver.specs.Blocks.{IsWhole}
 use Rattle.pmd_driver.specs.Started.{left_handed, IsHome}
 use Rattle.pmd_driver.specs.declared.start.Rest.{Rest}

@@ -1,13 +1,13 @@
 -- Frames that arrive by a pass.
 use Rattle.std.specs.Prelude.{◌≡◌, ℕ, Bool, true, false, List, [], ◌∷◌, ◌++◌, ◌<◌, length, map, take, drop, count_by, Option, Some, None}
-use Rattle.device_lock.specs.NicDevice.DmaArena.Block.{Block}
-use Rattle.device_lock.specs.NicDevice.declared.event.Event.TheVariants.{Arrive}
-use Rattle.device_lock.specs.NicDevice.declared.event.Reply.{Reply}
-use Rattle.device_lock.specs.NicDevice.declared.event.Reply.TheVariants.{Done}
-use Rattle.device_lock.specs.declared.entry.Call.{Call}
-use Rattle.device_lock.specs.declared.fault.CallFault.{CallFault}
-use Rattle.device_lock.specs.declared.fault.CallFault.TheVariants.{ForeignPass}
-use Rattle.device_lock.specs.Pass.{PassValue}
+use Rattle.pmd_driver.specs.NicDevice.DmaArena.Block.{Block}
+use Rattle.pmd_driver.specs.NicDevice.declared.event.Event.TheVariants.{Arrive}
+use Rattle.pmd_driver.specs.NicDevice.declared.event.Reply.{Reply}
+use Rattle.pmd_driver.specs.NicDevice.declared.event.Reply.TheVariants.{Done}
+use Rattle.pmd_driver.specs.DeviceLock.declared.entry.Call.{Call}
+use Rattle.pmd_driver.specs.DeviceLock.declared.fault.CallFault.{CallFault}
+use Rattle.pmd_driver.specs.DeviceLock.declared.fault.CallFault.TheVariants.{ForeignPass}
+use Rattle.pmd_driver.specs.DeviceLock.Pass.{PassValue}
 
 abbrev pub is_done : Reply Block → Bool
 is_done Done = true

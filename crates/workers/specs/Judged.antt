@@ -1,8 +1,8 @@
 -- What a closed history is asked of a driver, one question after the other.
 use Rattle.std.specs.Prelude.{◌*◌, List, ⊤}
-use Rattle.device_lock.specs.Alone.{LeavesAlone}
-use Rattle.device_lock.specs.declared.entry.Entry.{Entry}
-use Rattle.pmd_access.specs.Frames.{most_blocks}
+use Rattle.pmd_driver.specs.DeviceLock.Alone.{LeavesAlone}
+use Rattle.pmd_driver.specs.DeviceLock.declared.entry.Entry.{Entry}
+use Rattle.pmd_driver.specs.PmdAccess.Frames.{most_blocks}
 use Rattle.workers.specs.Beginning.{BeginsWell}
 use Rattle.workers.specs.Fitting.{FramesFit}
 use Rattle.workers.specs.Lending.{OthersLendNone, are_from}

@@ -1,6 +1,6 @@
 -- The blocks of a worker's driver.
 use Rattle.std.specs.Prelude.{ℕ, List}
-use Rattle.device_lock.specs.NicDevice.DmaArena.Numbers.{Numbers}
+use Rattle.pmd_driver.specs.NicDevice.DmaArena.Numbers.{Numbers}
 use Rattle.pmd_driver.specs.Blocks.{HasAll}
 use Rattle.pmd_driver.specs.Driver.{halted_of}
 use Rattle.pmd_driver.specs.declared.driver.Rings.{Rings}

@@ -1,15 +1,15 @@
 -- Whether others lend none of a driver's blocks, by the entries of a history: no other pass lends any, and none is lent
 -- as the driver starts.
 use Rattle.std.specs.Prelude.{ℕ, ◌≡◌, ◌≢◌, ◌+◌, ◌==◌, nat_le, nat_lt, Bool, true, false, not, ◌&&◌, ◌||◌, ⊤, IsTrue, IsFalse, List, [], ◌∷◌, length}
-use Rattle.device_lock.specs.NicDevice.DmaArena.Block.{Block}
-use Rattle.device_lock.specs.NicDevice.declared.event.Event.{Event}
-use Rattle.device_lock.specs.NicDevice.declared.event.Event.TheVariants as event
-use Rattle.device_lock.specs.NicDevice.declared.event.Reply.{Reply}
-use Rattle.device_lock.specs.NicDevice.declared.event.Reply.TheVariants.{Buf}
-use Rattle.device_lock.specs.Alone.{Blocks, lends}
-use Rattle.device_lock.specs.declared.alone.Watched.{Watched}
-use Rattle.device_lock.specs.declared.entry.Call.{Call}
-use Rattle.device_lock.specs.declared.entry.Entry.{Entry}
+use Rattle.pmd_driver.specs.NicDevice.DmaArena.Block.{Block}
+use Rattle.pmd_driver.specs.NicDevice.declared.event.Event.{Event}
+use Rattle.pmd_driver.specs.NicDevice.declared.event.Event.TheVariants as event
+use Rattle.pmd_driver.specs.NicDevice.declared.event.Reply.{Reply}
+use Rattle.pmd_driver.specs.NicDevice.declared.event.Reply.TheVariants.{Buf}
+use Rattle.pmd_driver.specs.DeviceLock.Alone.{Blocks, lends}
+use Rattle.pmd_driver.specs.DeviceLock.declared.alone.Watched.{Watched}
+use Rattle.pmd_driver.specs.DeviceLock.declared.entry.Call.{Call}
+use Rattle.pmd_driver.specs.DeviceLock.declared.entry.Entry.{Entry}
 use Rattle.workers.specs.Before.{known_through}
 use Rattle.workers.specs.Starts.{Starts}
 

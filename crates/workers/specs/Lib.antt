@@ -1,5 +1,5 @@
-pub use Rattle.device_lock.specs as DeviceLock
-pub use Rattle.pmd_access.specs as PmdAccess
+pub use Rattle.pmd_driver.specs.DeviceLock as DeviceLock
+pub use Rattle.pmd_driver.specs.PmdAccess as PmdAccess
 pub use Rattle.pmd_driver.specs as PmdDriver
 pub mod AtFirst
 pub mod Before

@@ -1,9 +1,9 @@
 -- What became of a worker's driver.
 use Rattle.std.specs.Prelude.{ℕ, ◌≡◌, ◌⊎◌, List, Option, Some, Result}
-use Rattle.device_lock.specs.NicDevice.DmaArena.Numbers.{Numbers}
-use Rattle.device_lock.specs.declared.entry.Call.{Call}
-use Rattle.pmd_access.specs.declared.fault.PmdFault.{PmdFault}
-use Rattle.pmd_access.specs.Named.{AtPort}
+use Rattle.pmd_driver.specs.NicDevice.DmaArena.Numbers.{Numbers}
+use Rattle.pmd_driver.specs.DeviceLock.declared.entry.Call.{Call}
+use Rattle.pmd_driver.specs.PmdAccess.declared.fault.PmdFault.{PmdFault}
+use Rattle.pmd_driver.specs.PmdAccess.Named.{AtPort}
 use Rattle.pmd_driver.specs.Life.{HasLived, NeverLived}
 use Rattle.pmd_driver.specs.declared.start.Rest.{Rest}
 use Rattle.pmd_driver.specs.declared.start.StartRefused.{StartRefused}

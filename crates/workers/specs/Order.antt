@@ -3,7 +3,7 @@ use Rattle.std.specs.Prelude.{[], ◌<◌, ◌∷◌, ◌≡◌, ◌≤◌, ◌�
 use Rattle.driver_laws.specs.{Closed.UpTo, Prelude.IsQuiet}
 use Rattle.driver_laws.specs.StartLaws.Prelude.{AreEvents, AtPort, Entry, IsLegal, bytes_of, delivered}
 use Rattle.driver_laws.specs.StartLaws.Prelude.{leads_to, left_accepted, left_handed, new_state, sent_since}
-use Rattle.device_lock.specs.Alone.{LeavesAlone}
+use Rattle.pmd_driver.specs.DeviceLock.Alone.{LeavesAlone}
 use Rattle.workers.specs.{Beginning.BeginsWell, Ends.AreEnds, Points.JustBefore, Starts.Starts}
 use Rattle.workers.specs.declared.beginning.Given.{Given}
 use Rattle.workers.specs.{declared.ends.WorkerEnd.WorkerEnd, declared.job.Job.Job}

@@ -1,6 +1,6 @@
 -- Arenas that share a number.
 use Rattle.std.specs.Prelude.{◌≡◌, ℕ, zero, suc, ◌<◌, true, List, [], ◌∷◌}
-use Rattle.device_lock.specs.NicDevice.DmaArena.Numbers.{Numbers, is_own}
+use Rattle.pmd_driver.specs.NicDevice.DmaArena.Numbers.{Numbers, is_own}
 use Rattle.workers.specs.declared.job.Job.{Job}
 
 -- the arena of the job at a place. Where there is none, no number is its own

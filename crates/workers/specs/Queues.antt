@@ -1,9 +1,9 @@
 -- Which queue of the device a port and a queue's number there name, while the queues are parted by a mode.
 use Rattle.std.specs.Prelude.{ℕ, ◌+◌, nat_lt, Option, Some, None, if◌then◌else◌}
-use Rattle.device_lock.specs.NicDevice.VfMap.Pools.{queues_of}
-use Rattle.device_lock.specs.NicDevice.VfMap.declared.mode.Mode.{Mode}
-use Rattle.device_lock.specs.NicDevice.declared.event.Port.{Port}
-use Rattle.device_lock.specs.NicDevice.declared.event.Port.TheVariants.{Pf, Vf}
+use Rattle.pmd_driver.specs.NicDevice.VfMap.Pools.{queues_of}
+use Rattle.pmd_driver.specs.NicDevice.VfMap.declared.mode.Mode.{Mode}
+use Rattle.pmd_driver.specs.NicDevice.declared.event.Port.{Port}
+use Rattle.pmd_driver.specs.NicDevice.declared.event.Port.TheVariants.{Pf, Vf}
 
 -- a pool's queue of a number, counted from its first
 abbrev pub queue_in : Option (ℕ × ℕ) → ℕ → Option ℕ

@@ -1,18 +1,18 @@
 -- Whether a queue was never asked to be on before a driver's start, by the entries before, from a new device on.
 use Rattle.std.specs.Prelude.{ℕ, ◌≡◌, ◌==◌, ◌&&◌, Bool, true, false, IsFalse, List, ◌∷◌, ◌++◌, length, Option, Some, None}
-use Rattle.device_lock.specs.NicDevice.DmaArena.Block.{Block}
-use Rattle.device_lock.specs.NicDevice.RegTable.declared.place.Place.{Place}
-use Rattle.device_lock.specs.NicDevice.RegTable.declared.rows.RowId.{RowId}
-use Rattle.device_lock.specs.NicDevice.RegTable.declared.rows.RowId.TheVariants.{Rxdctl, Txdctl}
-use Rattle.device_lock.specs.NicDevice.RegisterFile.Bits.{has_bit}
-use Rattle.device_lock.specs.NicDevice.VfMap.declared.mode.Mode.{Mode}
-use Rattle.device_lock.specs.NicDevice.declared.event.Event.{Event}
-use Rattle.device_lock.specs.NicDevice.declared.event.Event.TheVariants as event
-use Rattle.device_lock.specs.Alone.{place_at}
-use Rattle.device_lock.specs.Reported.{first_settings, settings_through}
-use Rattle.device_lock.specs.declared.alone.Watched.{Watched}
-use Rattle.device_lock.specs.declared.entry.Call.{Call}
-use Rattle.device_lock.specs.declared.entry.Entry.{Entry}
+use Rattle.pmd_driver.specs.NicDevice.DmaArena.Block.{Block}
+use Rattle.pmd_driver.specs.NicDevice.RegTable.declared.place.Place.{Place}
+use Rattle.pmd_driver.specs.NicDevice.RegTable.declared.rows.RowId.{RowId}
+use Rattle.pmd_driver.specs.NicDevice.RegTable.declared.rows.RowId.TheVariants.{Rxdctl, Txdctl}
+use Rattle.pmd_driver.specs.NicDevice.RegisterFile.Bits.{has_bit}
+use Rattle.pmd_driver.specs.NicDevice.VfMap.declared.mode.Mode.{Mode}
+use Rattle.pmd_driver.specs.NicDevice.declared.event.Event.{Event}
+use Rattle.pmd_driver.specs.NicDevice.declared.event.Event.TheVariants as event
+use Rattle.pmd_driver.specs.DeviceLock.Alone.{place_at}
+use Rattle.pmd_driver.specs.DeviceLock.Reported.{first_settings, settings_through}
+use Rattle.pmd_driver.specs.DeviceLock.declared.alone.Watched.{Watched}
+use Rattle.pmd_driver.specs.DeviceLock.declared.entry.Call.{Call}
+use Rattle.pmd_driver.specs.DeviceLock.declared.entry.Entry.{Entry}
 use Rattle.workers.specs.Starts.{Starts}
 
 -- a place is the enable register of a side of the queue

@@ -1,6 +1,6 @@
 -- What a worker tells of the packets that it took.
 use Rattle.std.specs.Prelude.{ℕ, suc, List, [], ◌∷◌, length}
-use Rattle.pmd_access.specs.Packet.{Kept}
+use Rattle.pmd_driver.specs.PmdAccess.Packet.{Kept}
 use Rattle.workers.specs.declared.reports.Report.{Report}
 
 -- the report of a packet of this queue, the one after so many

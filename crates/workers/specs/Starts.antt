@@ -1,10 +1,10 @@
 -- Where a driver starts in a history.
 use Rattle.std.specs.Prelude.{ℕ, ◌≡◌, IsFalse, List, ◌∷◌, ◌++◌}
-use Rattle.device_lock.specs.History.{calls_of}
-use Rattle.device_lock.specs.declared.entry.Call.{Call}
-use Rattle.device_lock.specs.declared.entry.Entry.{Entry}
-use Rattle.pmd_access.specs.Events.{is_step}
-use Rattle.pmd_access.specs.Made.{AreSteps}
+use Rattle.pmd_driver.specs.DeviceLock.History.{calls_of}
+use Rattle.pmd_driver.specs.DeviceLock.declared.entry.Call.{Call}
+use Rattle.pmd_driver.specs.DeviceLock.declared.entry.Entry.{Entry}
+use Rattle.pmd_driver.specs.PmdAccess.Events.{is_step}
+use Rattle.pmd_driver.specs.PmdAccess.Made.{AreSteps}
 
 -- an entry of a history is the first of a driver's own, after the calls that its pass had made before the driver, and
 -- steps of the device

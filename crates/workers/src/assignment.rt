@@ -6,8 +6,7 @@ ghost use Rattle.rtrb.specs.Ring.{sent, known_free};
 use crate::fault::WorkerFault;
 use crate::job::Job;
 use crate::reports::Report;
-use device_lock::Pass;
-use pmd_driver::Rest;
+use pmd_driver::{Pass, Rest};
 use rtrb::Producer;
 
 /// A worker's job, and its end of the way of its reports, which has room for all of them.

@@ -1,11 +1,11 @@
 //! What the entries of a history tell up to the first of a driver's own.
 
 ghost use Rattle.std.specs.Prelude.{◌≡◌};
-ghost use Rattle.pmd_access.specs.Events.{is_step};
+ghost use Rattle.pmd_driver.specs.PmdAccess.Events.{is_step};
 ghost use Rattle.workers.specs.Before.{first_reported, is_first, still_left, reported_after, reported_before};
 ghost use Rattle.workers.specs.Quiet.{asks_on, is_enable};
 
-use device_lock::{Entry, Event, EventNote, Mode, Place, RowId, Settings, Watched, place_at};
+use pmd_driver::{Entry, Event, EventNote, Mode, Place, RowId, Settings, Watched, place_at};
 use register_bits::{Rxdctl, has_flag};
 
 /// What the entries before a point report: the settings, and whether the watched queue was asked on.

@@ -6,7 +6,7 @@ ghost use Rattle.workers.specs.Beginning.{BeginsWell, begins, is_queue};
 ghost use Rattle.workers.specs.Queues.{queue_at};
 
 use crate::before::reported_before;
-use device_lock::{Entry, Mode, Port, QUEUES, Settings, Watched, queues_of};
+use pmd_driver::{Entry, Mode, Port, QUEUES, Settings, Watched, queues_of};
 
 /// How many bytes the frame check sequence has.
 pub(crate) const FRAME_CHECK: u16 = 4;

@@ -2,10 +2,10 @@
 
 ghost use Rattle.std.specs.Prelude.{ℕ, ◌≡◌, ◌≤◌, List, [], length, true, false, IfErr, IfSome, IfNone, OnErr};
 ghost use Rattle.rtrb.specs.Ring.{sent, known_free, SameProducer};
-ghost use Rattle.device_lock.specs.NicDevice.DmaArena.Numbers.{Numbers};
-ghost use Rattle.device_lock.specs.declared.entry.Call.{Call};
-ghost use Rattle.pmd_access.specs.Begun.{BeganAs};
-ghost use Rattle.pmd_access.specs.Named.{AtPort};
+ghost use Rattle.pmd_driver.specs.NicDevice.DmaArena.Numbers.{Numbers};
+ghost use Rattle.pmd_driver.specs.DeviceLock.declared.entry.Call.{Call};
+ghost use Rattle.pmd_driver.specs.PmdAccess.Begun.{BeganAs};
+ghost use Rattle.pmd_driver.specs.PmdAccess.Named.{AtPort};
 ghost use Rattle.pmd_driver.specs.Blocks.{HasAll, LosesNone, IsWhole};
 ghost use Rattle.pmd_driver.specs.Driver.{accepted_of, handed_of, halted_of};
 ghost use Rattle.pmd_driver.specs.Life.{ComesDown, IsStopped, RunsOn};
@@ -19,9 +19,7 @@ use crate::fault::WorkerFault;
 use crate::gate::Gate;
 use crate::reports::Report;
 use crate::turns::{do_rounds, reap_all};
-use device_lock::{Arena, Port};
-use pmd_access::{Nic, PmdFault};
-use pmd_driver::{Pmd, Rest, StartRefused, StopRefused};
+use pmd_driver::{Arena, Nic, Pmd, PmdFault, Port, Rest, StartRefused, StopRefused};
 use rtrb::Producer;
 use std::alloc::Global;
 

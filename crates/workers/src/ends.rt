@@ -8,8 +8,7 @@ use crate::cell::TaskCell;
 use crate::fault::WorkerFault;
 use crate::job::Job;
 use crate::reports::{Collector, Report};
-use device_lock::Pass;
-use pmd_driver::Rest;
+use pmd_driver::{Pass, Rest};
 
 /// What a worker leaves. It can't be dropped.
 pub struct WorkerEnd {

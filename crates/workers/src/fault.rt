@@ -3,7 +3,7 @@
 ghost use Rattle.std.specs.Prelude.{◌≡◌};
 ghost use Rattle.workers.specs.declared.fault.WorkerFault.TheVariants.{Pmd};
 
-use pmd_access::PmdFault;
+use pmd_driver::PmdFault;
 
 /// Why a worker ended early.
 #[derive(Debug, Drop)]

@@ -1,11 +1,11 @@
 //! Frames that arrive while workers run.
 
 ghost use Rattle.std.specs.Prelude.{◌≡◌, ◌≤◌, true, ◌∷◌, [], Err, IfOk, OnOk, OnErr, map, if◌then◌else◌};
-ghost use Rattle.device_lock.specs.NicDevice.Answering.{may_arrive};
-ghost use Rattle.device_lock.specs.Pass.{IsOwn};
+ghost use Rattle.pmd_driver.specs.NicDevice.Answering.{may_arrive};
+ghost use Rattle.pmd_driver.specs.DeviceLock.Pass.{IsOwn};
 ghost use Rattle.workers.specs.Feeding.{IsFed, HaveArrived, is_done, done_in, gained, IsTurnedAway};
 
-use device_lock::{CallFault, Event, Octets, Pass, Reply, Shared};
+use pmd_driver::{CallFault, Event, Octets, Pass, Reply, Shared};
 use std::alloc::Global;
 use std::sync::Wait;
 

@@ -1,13 +1,13 @@
 //! Whether the frames that were let in before a driver's start fit its packets, as the entries of a history tell.
 
 ghost use Rattle.std.specs.Prelude.{◌≡◌, ◌↔◌, ◌*◌, IsTrue};
-ghost use Rattle.pmd_access.specs.Frames.{most_blocks};
+ghost use Rattle.pmd_driver.specs.PmdAccess.Frames.{most_blocks};
 ghost use Rattle.workers.specs.Before.{known_before};
 ghost use Rattle.workers.specs.Fitting.{FramesFit, let_in_by, longest_after};
 
 use crate::before::{is_first, still_left};
 use crate::beginning::FRAME_CHECK;
-use device_lock::{BLOCK_BYTES, Entry, Event, Reply, Watched};
+use pmd_driver::{BLOCK_BYTES, Entry, Event, Reply, Watched};
 
 /// How many bytes the frame has that an entry let in; none where it let none in.
 fn let_in_by(entry: &Entry) -> usize

@@ -8,7 +8,7 @@ use crate::feeding::feed;
 use crate::gate::Gate;
 use crate::reports::Collector;
 use crate::start::Start;
-use device_lock::{Pass, Shared};
+use pmd_driver::{Pass, Shared};
 use std::alloc::Global;
 use std::sync::Wait;
 

@@ -5,7 +5,7 @@ ghost use Rattle.workers.specs.Overlap.{Share, SharesEarlier, IsFirstToShare};
 ghost use Rattle.workers.specs.Queues.{queue_at};
 
 use crate::beginning::queue_at;
-use device_lock::{Arena, Mode, Pass, Port};
+use pmd_driver::{Arena, Mode, Pass, Port};
 
 /// What a worker is to do. It can't be dropped.
 pub struct Job {

@@ -2,12 +2,12 @@
 //! is lent as the driver starts.
 
 ghost use Rattle.std.specs.Prelude.{◌≡◌, ◌↔◌, ◌==◌, ◌&&◌, ◌||◌, not, nat_lt, ℕ, IsTrue, if◌then◌else◌};
-ghost use Rattle.device_lock.specs.Watching.{marked, none_of};
+ghost use Rattle.pmd_driver.specs.DeviceLock.Watching.{marked, none_of};
 ghost use Rattle.workers.specs.Before.{holds_of, known_before};
 ghost use Rattle.workers.specs.Lending.{OthersLendNone, are_from, lends_none, lent_after, no_block, only_pass_lends};
 
 use crate::before::{is_first, still_left};
-use device_lock::{BLOCK_NUMBERS, Entry, Event, EventNote, Reply, Watched};
+use pmd_driver::{BLOCK_NUMBERS, Entry, Event, EventNote, Reply, Watched};
 
 /// For each number of a block, whether it is lent.
 type Lent = [bool; BLOCK_NUMBERS as usize];

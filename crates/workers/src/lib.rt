@@ -48,10 +48,6 @@ mod worker_task;
 
 pub use beginning::{Given, begins_well, queue_at};
 pub use cell::{Task, TaskCell};
-pub use device_lock::{
-    Call, CallFault, Calls, CloseFault, CloseRefused, Closed, Entry, Made, NewFault, Pass,
-    Settings, Shared, Watched, leave, left_alone,
-};
 pub use driving::{Order, run_worker};
 pub use ends::{Ran, RunFault, RunRefused, WorkerEnd};
 pub use fault::WorkerFault;
@@ -62,12 +58,12 @@ pub use hosted::run;
 pub use job::{Job, overlap};
 pub use lending::others_lend_none;
 pub use meeting::{Lockstep, MAX_MEMBERS};
-pub use pmd_access::{
-    Bufs, Direct, Finished, Interleaved, LONGEST_FRAME, Nic, POLLS, Packet, PmdFault, Queue,
-    Record, SHORTEST_FRAME, Setup, ThroughLock, history_of, marked_history, pf_setup,
-};
 pub use pmd_driver::{
-    Arrived, Home, Pmd, Reaped, Rest, StartRefused, StopRefused, TxAnswer, TxFault, arrive,
+    Arrived, Bufs, Call, CallFault, Calls, CloseFault, CloseRefused, Closed, Direct, Entry,
+    Finished, Home, Interleaved, LONGEST_FRAME, Made, NewFault, Nic, POLLS, Packet, Pass, Pmd,
+    PmdFault, Queue, Reaped, Record, Rest, SHORTEST_FRAME, Settings, Setup, Shared, StartRefused,
+    StopRefused, ThroughLock, TxAnswer, TxFault, Watched, arrive, history_of, leave, left_alone,
+    marked_history, pf_setup,
 };
 pub use quiet::never_asked_on;
 pub use reports::{Collector, Report};

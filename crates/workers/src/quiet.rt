@@ -4,7 +4,7 @@ ghost use Rattle.std.specs.Prelude.{◌≡◌, ◌↔◌, IsTrue};
 ghost use Rattle.workers.specs.Quiet.{NeverAskedOn};
 
 use crate::before::reported_before;
-use device_lock::{Entry, Watched};
+use pmd_driver::{Entry, Watched};
 
 /// Whether no entry of a history from a new device asks the watched queue on before the first event of its driver's
 /// own, which is after so many calls of its pass and no step of the device: none is a write, by whichever name, of a

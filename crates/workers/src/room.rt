@@ -11,7 +11,7 @@ use crate::job::Job;
 use crate::reports::{Collector, Report};
 use crate::start::Start;
 use crate::worker_task::WorkerTask;
-use device_lock::Shared;
+use pmd_driver::Shared;
 use rtrb::Producer;
 use std::alloc::{AllocError, Global};
 use std::sync::Wait;

@@ -19,7 +19,7 @@ use crate::reports::Collector;
 use crate::room::{Room, make_all_room, sit};
 use crate::start::Start;
 use crate::worker_task::WorkerTask;
-use device_lock::{Pass, Shared};
+use pmd_driver::{Pass, Shared};
 use std::alloc::Global;
 use std::mem;
 use std::sync::Wait;

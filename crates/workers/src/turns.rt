@@ -2,9 +2,9 @@
 
 ghost use Rattle.std.specs.Prelude.{◌≡◌, ◌+◌, ◌<◌, ◌≤◌, ◌++◌, ◌∷◌, [], length, true, IfOk, IfSome, IfNone, OnErr};
 ghost use Rattle.rtrb.specs.Ring.{sent, known_free, SameProducer};
-ghost use Rattle.pmd_access.specs.Begun.{BeganAs};
-ghost use Rattle.pmd_access.specs.Bufs.{numbers_of};
-ghost use Rattle.pmd_access.specs.Packet.{kept_of};
+ghost use Rattle.pmd_driver.specs.PmdAccess.Begun.{BeganAs};
+ghost use Rattle.pmd_driver.specs.PmdAccess.Bufs.{numbers_of};
+ghost use Rattle.pmd_driver.specs.PmdAccess.Packet.{kept_of};
 ghost use Rattle.pmd_driver.specs.Driver.{handed_of, goes_back_to};
 ghost use Rattle.pmd_driver.specs.Life.{KeepsHalves, RunsOn};
 ghost use Rattle.pmd_driver.specs.PmdRx.Keeping.{handed_blocks, numbers_in};
@@ -12,8 +12,7 @@ ghost use Rattle.workers.specs.Kept.{KeepsAll};
 ghost use Rattle.workers.specs.Reported.{report_of, reports_of};
 
 use crate::reports::Report;
-use pmd_access::{Nic, Packet, PmdFault, bytes_in};
-use pmd_driver::{Pmd, Reaped, TxAnswer, TxFault};
+use pmd_driver::{Nic, Packet, Pmd, PmdFault, Reaped, TxAnswer, TxFault, bytes_in};
 use rtrb::Producer;
 use std::alloc::Global;
 

@@ -8,7 +8,7 @@ use crate::beginning::{Given, begins_well};
 use crate::fitting::frames_fit;
 use crate::lending::others_lend_none;
 use crate::quiet::never_asked_on;
-use device_lock::{Entry, Watched, left_alone};
+use pmd_driver::{Entry, Watched, left_alone};
 
 /// A driver of which a history is asked.
 #[derive(Clone, Copy)]

@@ -1,6 +1,6 @@
 use Rattle.std.proofs.Common.{true, inl, inr, refl}
 use Rattle.std.proofs.lemmas.Result.{on_ok_weaker}
-use Rattle.device_lock.specs.NicDevice.DmaArena.Numbers.{free_count}
+use Rattle.pmd_access.specs.NicDevice.DmaArena.Numbers.{free_count}
 use Rattle.pmd_rx.proofs.Keeping.{keeps_none}
 use Rattle.pmd_driver.proofs.Driving.{err_later}
 use Rattle.pmd_driver.proofs.Late.{switching_late, filling_late}

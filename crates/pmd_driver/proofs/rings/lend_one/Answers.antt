@@ -1,5 +1,5 @@
 use Rattle.std.proofs.Common.{rules, ap, ◌∙◌}
-use Rattle.device_lock.specs.NicDevice.DmaArena.Block.{Block}
+use Rattle.pmd_access.specs.NicDevice.DmaArena.Block.{Block}
 use Rattle.pmd_rx.proofs.Fresh.{back_home}
 use Rattle.pmd_driver.proofs.rings.lend_one.Goals as goal
 

@@ -1,6 +1,6 @@
 use Rattle.std.proofs.Common.{ℕ, inl, inr, refl, subst, ◌∙◌}
 use Rattle.std.specs.List.{range_with_len}
-use Rattle.device_lock.specs.declared.fault.CallFault.TheVariants.{OutOfMemory}
+use Rattle.pmd_access.specs.DeviceLock.declared.fault.CallFault.TheVariants.{OutOfMemory}
 use Rattle.pmd_driver.specs.Starting.{StopsLending}
 use Rattle.pmd_driver.proofs.Lending.{unwritten}
 use Rattle.pmd_driver.proofs.rings.prepare.Goals as goal

@@ -1,6 +1,6 @@
 use Rattle.std.proofs.Common.{ℕ, sym, subst}
 use Rattle.pmd_driver.specs.Runs.{AreRuns}
-use Rattle.device_lock.proofs.NicDevice.DmaArena.Runs.{found_behind}
+use Rattle.pmd_access.proofs.NicDevice.DmaArena.Runs.{found_behind}
 use Rattle.pmd_driver.proofs.start.find_places.Goals as goal
 
 pub returns-clause-runs : goal.returns-clause-runs

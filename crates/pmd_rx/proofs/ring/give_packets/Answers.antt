@@ -1,5 +1,5 @@
 use Rattle.std.proofs.Common.{List, length, ap, sym, subst, ◌∙◌, arith}
-use Rattle.device_lock.specs.NicDevice.DmaArena.Numbers.{Numbers}
+use Rattle.pmd_access.specs.NicDevice.DmaArena.Numbers.{Numbers}
 use Rattle.pmd_access.specs.Bufs.{with_all_free}
 use Rattle.pmd_access.specs.Home.{AreOut}
 use Rattle.pmd_access.specs.declared.packet.Packet.{Packet}

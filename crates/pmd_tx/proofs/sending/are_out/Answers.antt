@@ -1,6 +1,6 @@
 use Rattle.std.proofs.Common.{◌∙◌, ◌==◌, ◌&&◌, not, ◌+◌, ℕ, Bool, drop, sym, ap, arith}
 use Rattle.std.specs.List.{list_any}
-use Rattle.device_lock.specs.NicDevice.DmaArena.Numbers.{is_own, is_free}
+use Rattle.pmd_access.specs.NicDevice.DmaArena.Numbers.{is_own, is_free}
 use Rattle.pmd_access.specs.Bufs.{numbers_of}
 use Rattle.pmd_tx.specs.Sends.{are_out}
 use Rattle.pmd_tx.proofs.Numbering.{out-left}

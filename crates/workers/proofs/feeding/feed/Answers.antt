@@ -1,7 +1,7 @@
 use Rattle.std.proofs.Common.{ℕ, List, [], ◌∷◌, ◌++◌, map, length, refl, sym, ap, ◌∙◌, subst, append_assoc, arith, rules}
 use Rattle.std.proofs.lemmas.Grind.{common_steps}
 use Rattle.std.proofs.lemmas.List.{nil_from_length}
-use Rattle.device_lock.specs.Pass.{PassValue, IsOwn}
+use Rattle.pmd_driver.specs.DeviceLock.Pass.{PassValue, IsOwn}
 use Rattle.workers.specs.Feeding.{HaveArrived}
 use Rattle.workers.proofs.Arriving.{one_more, all_came, stops_before, none_yet, none_done, done_more, done_few}
 use Rattle.workers.proofs.feeding.feed.Goals as goal

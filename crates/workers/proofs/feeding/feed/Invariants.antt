@@ -1,6 +1,6 @@
 use Rattle.std.proofs.Common.{◌≡◌, List, [], ◌++◌, ℕ, map}
 use Rattle.std.specs.Vec.Iter.{into_iter_items}
-use Rattle.device_lock.specs.Pass.{IsOwn}
+use Rattle.pmd_driver.specs.DeviceLock.Pass.{IsOwn}
 use Rattle.workers.specs.Feeding.{HaveArrived, done_in, gained}
 use Rattle.workers.proofs.feeding.feed.Given as goal
 

@@ -1,6 +1,6 @@
 use Rattle.std.proofs.Common.{◌*◌, nat_le, sym, ◌∙◌, subst}
 use Rattle.std.specs.Prelude.{◌↔◌, IsTrue}
-use Rattle.pmd_access.specs.Frames.{most_blocks}
+use Rattle.pmd_driver.specs.PmdAccess.Frames.{most_blocks}
 use Rattle.workers.specs.Fitting.{FramesFit}
 use Rattle.workers.proofs.FramesFit.{fit_decides}
 use Rattle.workers.proofs.fitting.frames_fit.Goals as goal

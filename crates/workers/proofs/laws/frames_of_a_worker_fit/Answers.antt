@@ -1,6 +1,6 @@
 -- No frame that waits is longer than the longest that was let in, as the entries of a history tell it.
-use Rattle.device_lock.proofs.NicDevice.Cases.{arrived_cases}
-use Rattle.device_lock.specs.{NicDevice.Outcome.Outcome, NicDevice.Step.step_of}
+use Rattle.pmd_driver.proofs.NicDevice.Cases.{arrived_cases}
+use Rattle.pmd_driver.specs.DeviceLock.{NicDevice.Outcome.Outcome, NicDevice.Step.step_of}
 use Rattle.driver_laws.proofs.Prelude.{All, Block, Event, FitsBlocks, Waiting, after, most_blocks, new_state, ◌≤◌}
 use Rattle.driver_laws.proofs.Prelude.{State, [], arith, common_steps, leads_to, legal_before, max, refl, sym, ℕ, ◌∷◌}
 use Rattle.driver_laws.proofs.{Prelude.Entry, Prelude.IsLegal, Prelude.List, Prelude.length, Prelude.subst}
@@ -9,7 +9,7 @@ use Rattle.workers.proofs.WorkerReported.{holds_at_first}
 use Rattle.workers.specs.AtFirst.{AllFitBlocks}
 use Rattle.std.proofs.lemmas.List.Elements.{All-nil, All-push, All-weaker}
 use Rattle.workers.specs.{Before.known_through, Fitting.let_in_by, Fitting.longest_after, Fitting.longest_let_in}
-use Rattle.device_lock.specs.NicDevice.declared.event.Event.TheVariants as event
+use Rattle.pmd_driver.specs.NicDevice.declared.event.Event.TheVariants as event
 
 -- and how long the frames are that wait: none is longer than the longest that was let in
 

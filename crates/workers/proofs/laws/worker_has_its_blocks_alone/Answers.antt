@@ -8,7 +8,7 @@ use Rattle.driver_laws.proofs.Prelude.{IsTrue, Reply, State, [], after, and_part
 use Rattle.driver_laws.proofs.Prelude.{common_steps, ◌++◌, ◌≡◌, ◌≢◌}
 use Rattle.driver_laws.specs.Asked.{OthersLendNone, asked_of}
 use Rattle.driver_laws.specs.StartLaws.HistoryLaws.Lent.{LendsNone}
-use Rattle.device_lock.specs.NicDevice.declared.event.Event.TheVariants as event
+use Rattle.pmd_driver.specs.NicDevice.declared.event.Event.TheVariants as event
 use Rattle.driver_laws.proofs.Prelude.{events_before, false, has_block, is_own, is_some, leads_to, legal_before, lends}
 use Rattle.driver_laws.proofs.Prelude.{nat_cmp, nat_lt, new_state, refl, reply_to, subst, sym, ℕ, ◌&&◌, ◌||◌, ◌∷◌}
 use Rattle.workers.proofs.WorkerReported.{holds_at_first}

@@ -1,15 +1,15 @@
 -- A queue that was never asked on before its driver starts is off there.
-use Rattle.device_lock.proofs.NicDevice.RegisterLaws.{ReadBack.off-reset, Switches.receive-asked}
-use Rattle.device_lock.proofs.NicDevice.RegisterLaws.{Switches.transmit-asked}
-use Rattle.device_lock.proofs.NicDevice.{EepromImage.Blank.triples_of-blank, RegisterLaws.Owners.is_place-same}
-use Rattle.device_lock.proofs.NicDevice.{RegisterLaws.Within.within-written, SidesOn.sides-after_write}
-use Rattle.device_lock.specs.NicDevice.RegisterFile.{Access.asks_reset, Registers.Registers, Registers.is_wanted}
-use Rattle.device_lock.specs.NicDevice.RegisterLaws.{Footprint.is_place, Footprint.pool_renews, Laws.after_write}
-use Rattle.device_lock.specs.NicDevice.{Access.named_written, Eeprom.reset, Eeprom.with_triples}
-use Rattle.device_lock.specs.NicDevice.{EepromImage.Image.blank}
-use Rattle.device_lock.specs.NicDevice.{EepromImage.Triples.triples_of, PoolReset.written_below_reset}
-use Rattle.device_lock.specs.NicDevice.{Step.step_of, declared.named.Named.Named}
-use Rattle.device_lock.specs.NicDevice.{declared.named.Named.TheVariants.Nothing}
+use Rattle.pmd_driver.proofs.NicDevice.RegisterLaws.{ReadBack.off-reset, Switches.receive-asked}
+use Rattle.pmd_driver.proofs.NicDevice.RegisterLaws.{Switches.transmit-asked}
+use Rattle.pmd_driver.proofs.NicDevice.{EepromImage.Blank.triples_of-blank, RegisterLaws.Owners.is_place-same}
+use Rattle.pmd_driver.proofs.NicDevice.{RegisterLaws.Within.within-written, SidesOn.sides-after_write}
+use Rattle.pmd_driver.specs.NicDevice.RegisterFile.{Access.asks_reset, Registers.Registers, Registers.is_wanted}
+use Rattle.pmd_driver.specs.NicDevice.RegisterLaws.{Footprint.is_place, Footprint.pool_renews, Laws.after_write}
+use Rattle.pmd_driver.specs.NicDevice.{Access.named_written, Eeprom.reset, Eeprom.with_triples}
+use Rattle.pmd_driver.specs.NicDevice.{EepromImage.Image.blank}
+use Rattle.pmd_driver.specs.NicDevice.{EepromImage.Triples.triples_of, PoolReset.written_below_reset}
+use Rattle.pmd_driver.specs.NicDevice.{Step.step_of, declared.named.Named.Named}
+use Rattle.pmd_driver.specs.NicDevice.{declared.named.Named.TheVariants.Nothing}
 use Rattle.driver_laws.proofs.StartLaws.HistoryLaws.Written.{place_in, place_named}
 use Rattle.driver_laws.proofs.StartLaws.{HistoryLaws.Deeds.side_did, RingLaws.DeviceLaws.PoolResets.asked_pool_resets}
 use Rattle.driver_laws.proofs.StartLaws.HistoryLaws.{Limits.settings_reported, Steady.off_steady, Steady.steady_kept}
@@ -26,7 +26,7 @@ use Rattle.driver_laws.specs.StartLaws.HistoryLaws.Sides.{side_of}
 use Rattle.driver_laws.specs.StartLaws.HistoryLaws.Sides.{IsOff}
 use Rattle.std.proofs.lemmas.Bool.{cond_both}
 use Rattle.workers.specs.Quiet.{NoneAsksOn, asks_on}
-use Rattle.device_lock.specs.NicDevice.declared.event.Event.TheVariants as event
+use Rattle.pmd_driver.specs.NicDevice.declared.event.Event.TheVariants as event
 
 -- a side of a queue that is off and not wanted on stays so over every event that doesn't ask the queue on
 

@@ -1,6 +1,6 @@
 use Rattle.std.proofs.Common.{arith, ◌≡◌, ◌<◌, ◌+◌, sym, ap, ◌∙◌}
-use Rattle.device_lock.specs.Watching.{marked}
-use Rattle.device_lock.proofs.Walks.{none_first, none_here, none_there, none_left}
+use Rattle.pmd_driver.specs.DeviceLock.Watching.{marked}
+use Rattle.pmd_driver.proofs.DeviceLock.Walks.{none_first, none_here, none_there, none_left}
 use Rattle.workers.proofs.lending.none_lent.Goals as goal
 
 pub loop-after-init : goal.loop-after-init

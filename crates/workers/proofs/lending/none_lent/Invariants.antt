@@ -1,5 +1,5 @@
 use Rattle.std.proofs.Common.{◌≡◌, ◌+◌, ◌-◌}
-use Rattle.device_lock.specs.Watching.{marked, none_of}
+use Rattle.pmd_driver.specs.DeviceLock.Watching.{marked, none_of}
 use Rattle.workers.proofs.lending.none_lent.Given as goal
 
 abbrev pub invariant-loop-after : goal.invariant-loop-after

@@ -1,6 +1,6 @@
 use Rattle.std.proofs.Common.{arith, ◌≡◌, length, sym, ap, ◌∙◌}
-use Rattle.device_lock.specs.Watching.{marked, none_of}
-use Rattle.device_lock.proofs.Walks.{none_marked}
+use Rattle.pmd_driver.specs.DeviceLock.Watching.{marked, none_of}
+use Rattle.pmd_driver.proofs.DeviceLock.Walks.{none_marked}
 use Rattle.workers.specs.Before.{holds_of, known_before}
 use Rattle.workers.specs.Lending.{lent_after}
 use Rattle.workers.proofs.Walks.{known_here, known_last, known_there}

@@ -1,5 +1,5 @@
 use Rattle.std.proofs.Common.{◌≡◌, drop}
-use Rattle.device_lock.specs.Watching.{marked}
+use Rattle.pmd_driver.specs.DeviceLock.Watching.{marked}
 use Rattle.workers.specs.Before.{known_before}
 use Rattle.workers.specs.Lending.{lent_after, no_block}
 use Rattle.workers.proofs.lending.none_lent_before.Given as goal

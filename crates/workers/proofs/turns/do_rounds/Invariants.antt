@@ -2,7 +2,7 @@ use Rattle.std.proofs.Common.{[], ◌≡◌, ◌+◌, ◌≤◌, length}
 use Rattle.rtrb.specs.Ring.{sent, known_free, SameProducer}
 use Rattle.pmd_driver.specs.Driver.{handed_of}
 use Rattle.pmd_driver.specs.Life.{RunsOn}
-use Rattle.pmd_access.specs.Begun.{BeganAs}
+use Rattle.pmd_driver.specs.PmdAccess.Begun.{BeganAs}
 use Rattle.workers.specs.Reported.{reports_of}
 use Rattle.workers.specs.Kept.{KeepsAll}
 use Rattle.workers.proofs.turns.do_rounds.Given as goal

@@ -1,7 +1,7 @@
 use Rattle.std.proofs.Common.{[], ◌≡◌}
 use Rattle.pmd_driver.specs.Driver.{handed_of}
 use Rattle.pmd_driver.specs.Life.{RunsOn}
-use Rattle.pmd_access.specs.Begun.{BeganAs}
+use Rattle.pmd_driver.specs.PmdAccess.Begun.{BeganAs}
 use Rattle.workers.specs.Kept.{KeepsAll}
 use Rattle.workers.proofs.turns.reap_all.Given as goal
 

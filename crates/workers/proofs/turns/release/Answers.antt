@@ -1,5 +1,5 @@
 use Rattle.std.proofs.Common.{[]}
-use Rattle.pmd_access.specs.Bufs.{numbers_of}
+use Rattle.pmd_driver.specs.PmdAccess.Bufs.{numbers_of}
 use Rattle.workers.proofs.Keeping.{kept_all}
 use Rattle.workers.proofs.turns.release.Goals as goal
 

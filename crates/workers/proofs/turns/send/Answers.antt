@@ -1,5 +1,5 @@
 use Rattle.std.proofs.Common.{Ok, Err, ap, subst}
-use Rattle.pmd_access.specs.Bufs.{numbers_of}
+use Rattle.pmd_driver.specs.PmdAccess.Bufs.{numbers_of}
 use Rattle.pmd_driver.specs.PmdRx.Keeping.{numbers_in}
 use Rattle.pmd_driver.specs.PmdTx.Sends.{returned}
 use Rattle.pmd_driver.specs.PmdTx.declared.answer.TxAnswer.{TxAnswer}

@@ -1,7 +1,7 @@
 use Rattle.std.proofs.Common.{◌≡◌, ℕ, [], ◌∷◌, ◌++◌, length, length-take, ap, ◌∙◌, arith}
 use Rattle.rtrb.specs.Ring.{sent}
-use Rattle.pmd_access.specs.Bufs.{bytes_of}
-use Rattle.pmd_access.specs.Packet.{kept_of}
+use Rattle.pmd_driver.specs.PmdAccess.Bufs.{bytes_of}
+use Rattle.pmd_driver.specs.PmdAccess.Packet.{kept_of}
 use Rattle.pmd_driver.proofs.PmdTx.Starting.{length-blocks}
 use Rattle.workers.specs.declared.reports.Report.{Report}
 use Rattle.workers.proofs.turns.tell.Goals as goal

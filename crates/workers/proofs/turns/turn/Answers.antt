@@ -1,7 +1,7 @@
 use Rattle.std.proofs.Common.{◌≡◌, ◌∷◌, ◌++◌, [], length, List, Option, IfSome, ap, sym, ◌∙◌, subst}
 use Rattle.rtrb.specs.Ring.{sent}
-use Rattle.pmd_access.specs.Packet.{Kept, kept_of}
-use Rattle.pmd_access.specs.declared.packet.Packet.{Packet}
+use Rattle.pmd_driver.specs.PmdAccess.Packet.{Kept, kept_of}
+use Rattle.pmd_driver.specs.PmdAccess.declared.packet.Packet.{Packet}
 use Rattle.pmd_driver.specs.Driver.{handed_of}
 use Rattle.pmd_driver.proofs.Living.{runs_on}
 use Rattle.workers.specs.Reported.{report_of, reports_of}

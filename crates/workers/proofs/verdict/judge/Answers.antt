@@ -1,6 +1,6 @@
 use Rattle.std.proofs.Common.{◌≡◌, ◌↔◌, ◌∙◌, Bool, List, true, false, IsTrue, refl, sym}
 use Rattle.std.proofs.lemmas.Bool.{true≢false}
-use Rattle.device_lock.specs.declared.entry.Entry.{Entry}
+use Rattle.pmd_driver.specs.DeviceLock.declared.entry.Entry.{Entry}
 use Rattle.workers.specs.Judged.{Clears}
 use Rattle.workers.specs.declared.verdict.Doubt.TheVariants.{Disturbed, BeganOtherwise, AskedOnBefore, LentByOthers, TooLong}
 use Rattle.workers.specs.declared.verdict.Driven.{Driven}

@@ -5,7 +5,7 @@ use Rattle.pmd_access.specs.Named.{AtPort}
 use Rattle.pmd_driver.specs.Driver.{Driver}
 use Rattle.pmd_driver.specs.declared.driver.Rings.TheVariants.{Down}
 use Rattle.pmd_driver.proofs.Driving.{stops_as}
-use Rattle.device_lock.specs.NicDevice.DmaArena.Numbers.{is_free}
+use Rattle.pmd_access.specs.NicDevice.DmaArena.Numbers.{is_free}
 use Rattle.pmd_driver.proofs.driver.Pmd.stop.Goals as goal
 
 pub returns-in-Ok-clause-home : goal.returns-in-Ok-clause-home

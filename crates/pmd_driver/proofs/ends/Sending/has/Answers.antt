@@ -1,5 +1,5 @@
 use Rattle.std.proofs.Common.{◌≡◌, ◌<◌, ◌++◌, true, sym, subst, ◌∙◌}
-use Rattle.device_lock.specs.NicDevice.DmaArena.Whereabouts.{times_in_hand}
+use Rattle.pmd_access.specs.NicDevice.DmaArena.Whereabouts.{times_in_hand}
 use Rattle.pmd_tx.specs.Leaving as transmit
 use Rattle.pmd_driver.specs.Ends.{sent_way, waiting_of}
 use Rattle.pmd_driver.specs.declared.ends.Sending.{Sending}

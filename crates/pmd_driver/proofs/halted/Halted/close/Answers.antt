@@ -1,5 +1,5 @@
 use Rattle.std.proofs.Common.{[], refl, sym, subst}
-use Rattle.device_lock.specs.NicDevice.DmaArena.Numbers.{Numbers}
+use Rattle.pmd_access.specs.NicDevice.DmaArena.Numbers.{Numbers}
 use Rattle.pmd_access.specs.Home.{AreOut}
 use Rattle.pmd_driver.specs.Ends.{halted_as, held_of, received_way, sent_way, waiting_of}
 use Rattle.pmd_driver.specs.Halted.{Halted}

@@ -1,5 +1,5 @@
 use Rattle.std.proofs.Common.{◌≡◌, true, sym, subst, refl}
-use Rattle.device_lock.specs.NicDevice.DmaArena.Numbers.{Numbers}
+use Rattle.pmd_access.specs.NicDevice.DmaArena.Numbers.{Numbers}
 use Rattle.pmd_access.specs.Bufs.{numbers_of}
 use Rattle.pmd_driver.specs.Ends.{halted_as}
 use Rattle.pmd_driver.specs.Halted.{Halted, IsHalted, all_out, goes_back}

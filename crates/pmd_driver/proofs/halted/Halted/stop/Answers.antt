@@ -1,7 +1,7 @@
 use Rattle.std.proofs.Common.{◌≡◌, ℕ, List, Result, IfOk, inr, sym, subst, inl, refl}
 use Rattle.std.proofs.lemmas.Result.{IfOk-weaker, IfErr-weaker}
-use Rattle.device_lock.specs.declared.entry.Call.{Call}
-use Rattle.device_lock.specs.NicDevice.DmaArena.Numbers.{is_own, is_free}
+use Rattle.pmd_access.specs.DeviceLock.declared.entry.Call.{Call}
+use Rattle.pmd_access.specs.NicDevice.DmaArena.Numbers.{is_own, is_free}
 use Rattle.pmd_access.specs.Named.{AtPort}
 use Rattle.pmd_driver.specs.Halted.{Halted, IsHalted, all_out, is_free_or_out}
 use Rattle.pmd_driver.specs.Leaving.{leaving_as}

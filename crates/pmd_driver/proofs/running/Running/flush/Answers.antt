@@ -1,5 +1,5 @@
 use Rattle.std.proofs.Common.{[], refl}
-use Rattle.device_lock.specs.NicDevice.DmaArena.Numbers.{is_own}
+use Rattle.pmd_access.specs.NicDevice.DmaArena.Numbers.{is_own}
 use Rattle.pmd_tx.specs.Sends.{IsLate}
 use Rattle.pmd_driver.specs.Bursts.{FailsAmid}
 use Rattle.pmd_driver.specs.Halves.{halves_of}

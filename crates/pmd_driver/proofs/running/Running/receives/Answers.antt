@@ -1,5 +1,5 @@
 use Rattle.std.proofs.Common.{◌≡◌, ◌<◌, ℕ, false, nat_lt, sym, ◌∙◌, subst, arith}
-use Rattle.device_lock.specs.NicDevice.DmaArena.Whereabouts.{times_in_hand}
+use Rattle.pmd_access.specs.NicDevice.DmaArena.Whereabouts.{times_in_hand}
 use Rattle.pmd_rx.specs.Keeping.{blocks_out}
 use Rattle.pmd_driver.specs.Running.{Running}
 use Rattle.pmd_driver.proofs.Several.{counts, counts_none, found, missed}

@@ -1,6 +1,6 @@
 use Rattle.std.proofs.Common.{◌≡◌, nat_lt, drop}
 use Rattle.std.specs.List.{list_any}
-use Rattle.device_lock.specs.NicDevice.DmaArena.Whereabouts.{times_in_hand}
+use Rattle.pmd_access.specs.NicDevice.DmaArena.Whereabouts.{times_in_hand}
 use Rattle.pmd_access.specs.Bufs.{numbers_of}
 use Rattle.pmd_rx.specs.Keeping.{blocks_out}
 use Rattle.pmd_driver.proofs.running.Running.receives.Given as goal

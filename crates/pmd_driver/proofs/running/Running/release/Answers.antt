@@ -1,5 +1,5 @@
 use Rattle.std.proofs.Common.{◌≡◌, ℕ, true, List, refl, sym, subst}
-use Rattle.device_lock.specs.NicDevice.DmaArena.Numbers.{Numbers}
+use Rattle.pmd_access.specs.NicDevice.DmaArena.Numbers.{Numbers}
 use Rattle.pmd_access.specs.Bufs.{numbers_of}
 use Rattle.pmd_driver.specs.Running.{Running, IsUp, goes_back, rings_out}
 use Rattle.pmd_driver.proofs.Counted.{released_kept}

@@ -1,5 +1,5 @@
 use Rattle.std.proofs.Common.{◌≡◌, ℕ, List, ap, sym, subst, ◌∙◌, take-append-drop}
-use Rattle.device_lock.specs.NicDevice.DmaArena.Numbers.{Numbers}
+use Rattle.pmd_access.specs.NicDevice.DmaArena.Numbers.{Numbers}
 use Rattle.pmd_access.specs.Bufs.{numbers_of, with_all_free}
 use Rattle.pmd_access.specs.Home.{AreOut, Homebound}
 use Rattle.pmd_rx.specs.Keeping.{lent_of, numbers_of_all}

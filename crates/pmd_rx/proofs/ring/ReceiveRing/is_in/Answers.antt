@@ -1,5 +1,5 @@
 use Rattle.std.proofs.Common.{◌≡◌, ◌<◌, ◌↔◌, Bool, true, ap, sym, subst, ◌∙◌}
-use Rattle.device_lock.specs.NicDevice.DmaArena.Whereabouts.{times_in_hand}
+use Rattle.pmd_access.specs.NicDevice.DmaArena.Whereabouts.{times_in_hand}
 use Rattle.pmd_access.specs.Slots.{ring_blocks, is_ring_block}
 use Rattle.pmd_access.proofs.Rings.{ring_block_out}
 use Rattle.pmd_rx.specs.Receive.{Receive}

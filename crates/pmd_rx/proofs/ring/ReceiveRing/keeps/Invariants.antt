@@ -1,5 +1,5 @@
 use Rattle.std.proofs.Common.{◌≡◌, take}
-use Rattle.device_lock.specs.NicDevice.DmaArena.Whereabouts.{times_in_hand}
+use Rattle.pmd_access.specs.NicDevice.DmaArena.Whereabouts.{times_in_hand}
 use Rattle.pmd_rx.specs.Keeping.{numbers_of_all}
 use Rattle.pmd_rx.proofs.ring.ReceiveRing.keeps.Given as goal
 

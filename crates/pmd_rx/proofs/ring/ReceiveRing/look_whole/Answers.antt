@@ -1,5 +1,5 @@
 use Rattle.std.proofs.Common.{◌∙◌, [], Ok, Err, refl, ap, arith}
-use Rattle.device_lock.specs.NicDevice.DmaArena.Numbers.{Numbers}
+use Rattle.pmd_access.specs.NicDevice.DmaArena.Numbers.{Numbers}
 use Rattle.pmd_access.proofs.Asking.{asks_none, asks_then}
 use Rattle.pmd_rx.specs.Receive.{Receive}
 use Rattle.pmd_rx.proofs.Acting.{alone_none, alone_then, look_gathers, wrong_gathers}

@@ -1,9 +1,9 @@
 use Rattle.std.proofs.Common.{◌≤◌, length, refl, rules, sym, ap, ◌∙◌, subst}
 use Rattle.rtrb.specs.Ring.{sent, SameProducer}
-use Rattle.device_lock.specs.Pass.{PassValue}
+use Rattle.pmd_driver.specs.DeviceLock.Pass.{PassValue}
 use Rattle.pmd_driver.specs.Blocks.{IsWhole}
-use Rattle.pmd_access.specs.Begun.{OfPass, began_at_lock}
-use Rattle.pmd_access.specs.Stepped.{AtLock}
+use Rattle.pmd_driver.specs.PmdAccess.Begun.{OfPass, began_at_lock}
+use Rattle.pmd_driver.specs.PmdAccess.Stepped.{AtLock}
 use Rattle.pmd_driver.specs.Started.{left_handed}
 use Rattle.workers.specs.Lived.{HasRun}
 use Rattle.workers.specs.Reported.{reports_of}

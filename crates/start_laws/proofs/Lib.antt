@@ -22,6 +22,7 @@ pub mod Points
 pub mod Prelude
 pub mod Reached
 pub mod Sending
+pub mod SetUps
 pub mod StopCalls
 pub mod SwitchedOff
 pub mod TimedOut

@@ -27,6 +27,7 @@ pub mod Quiet
 pub mod Quieting
 pub mod Replies
 pub mod Retagged
+pub mod SetUp
 pub mod Silent
 pub mod Standing
 pub mod Start

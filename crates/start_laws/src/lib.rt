@@ -31,6 +31,7 @@ ghost use Rattle.start_laws.specs.Quiet.{ReceiveGuardIsOff, OffSidesStand};
 ghost use Rattle.start_laws.specs.Quieting.{QuietingLeads, QuietSidesStand};
 ghost use Rattle.start_laws.specs.Replies.{NamedRegistersReply, OffSidesAreSeenOff};
 ghost use Rattle.start_laws.specs.Retagged.{RetaggedIsSame, SameDelivers, SameIsLegal, SameLeads, SameSends};
+ghost use Rattle.start_laws.specs.SetUp.{BytesAreLowestFirst, SetUpIsWritten};
 ghost use Rattle.start_laws.specs.Standing.{StandingSidesAreLeft};
 ghost use Rattle.start_laws.specs.Start.{StartAgrees, StartGoesOn};
 ghost use Rattle.start_laws.specs.TimedOut.{TimeoutsPoll};
@@ -42,6 +43,14 @@ ghost use Rattle.start_laws.specs.Words.{WordsAreTaken};
 #[tactic(auto, using(crate::proofs::Ground::named_queue_has_the_numbers))]
 pub fn named_queue_has_the_numbers()
     ensures { NamedQueueHasTheNumbers }
+{}
+
+/// The set-up of the whole device, in numbers: which addresses it writes, in which order, and with which words, in each
+/// mode, for frames of up to 1,518 bytes and for longer ones. A word of the key or of the redirection table is four of
+/// its bytes, the first one lowest.
+pub fn set_up_is_written()
+    ensures written { SetUpIsWritten }
+    ensures bytes { BytesAreLowestFirst }
 {}
 
 /// A word that a driver writes to a register of a side that is disabled is the side's, whole: its ring's base, length,

@@ -28,6 +28,11 @@ pub record IsKept (vfs fifo : ℕ) (h : Held) (counts : List ℕ) : Type 0 where
   pub small : h.limit ≤ 1000000
   pub counted : (tag : ℕ) → tag < 64 → slice_index counts tag ≡ entries_of tag h.history
 
+-- the history is legal from a new device and leads to the one held
+pub record IsLed (vfs fifo : ℕ) (h : Held) : Type 0 where
+  pub legal : IsLegal (new_state vfs fifo) h.history
+  pub leads : leads_to (new_state vfs fifo) h.history ≡ h.device
+
 -- nothing was called yet
 abbrev pub opened : ℕ → ℕ → ℕ → Held
 opened vfs fifo limit = record { device = new_state vfs fifo; history = []; limit = limit }

@@ -4,13 +4,11 @@ ghost use Rattle.std.specs.Prelude.{◌≡◌, ◌≢◌, ◌<◌, ◌++◌, ◌
 ghost use Rattle.std.specs.Vec.{vec_len, vec_capacity};
 ghost use Rattle.nic_device.specs.Answering.{may_answer};
 ghost use Rattle.nic_device.specs.Resting.{IsIdle, Rests};
-ghost use Rattle.nic_device.specs.State.{new_state};
 ghost use Rattle.nic_device.specs.Step.{lent_block, step_of};
 ghost use Rattle.nic_device.specs.declared.event.Reply.TheVariants.{Idle};
 ghost use Rattle.device_lock.specs.Calls.{calls_in, rested_calls};
 ghost use Rattle.device_lock.specs.Fault.{event_of};
-ghost use Rattle.device_lock.specs.History.{leads_to, IsLegal};
-ghost use Rattle.device_lock.specs.Kept.{after_call};
+ghost use Rattle.device_lock.specs.Kept.{after_call, IsLed};
 ghost use Rattle.device_lock.specs.Pass.{call_of};
 ghost use Rattle.device_lock.specs.Resting.{after_calls, idle_calls};
 ghost use Rattle.device_lock.specs.Stepping.{steps_of_queue};
@@ -157,8 +155,7 @@ impl Calls {
         queue: u16,
     ) -> bool
         requires { tag < 64 }
-        ensures legal { result ≡ true → IsLegal (new_state VFS FIFO) locked.old.history }
-        ensures leads { result ≡ true → leads_to (new_state VFS FIFO) locked.old.history ≡ locked.old.device }
+        ensures led { result ≡ true → IsLed VFS FIFO locked.old }
         ensures idle { result ≡ true → Rests locked.old.device queue }
         ensures under { result ≡ true → locked.new ≡ after_calls locked.old tag (steps_of_queue queue) }
         ensures made { result ≡ true → self.new ≡ self.old ++ idle_calls (steps_of_queue queue) }
@@ -184,8 +181,7 @@ impl Calls {
         step: &Event,
     ) -> bool
         requires { tag < 64 }
-        ensures legal { IsLegal (new_state VFS FIFO) locked.old.history }
-        ensures leads { leads_to (new_state VFS FIFO) locked.old.history ≡ locked.old.device }
+        ensures led { IsLed VFS FIFO locked.old }
         ensures idle { result ≡ true → IsIdle locked.old.device step.now }
         ensures under { result ≡ true → locked.new ≡ after_call locked.old tag step.now }
         ensures made { result ≡ true → self.new ≡ self.old ++ call_of step.now Idle ∷ [] }
@@ -218,8 +214,7 @@ impl Calls {
         event: Event,
     ) -> Result<Reply, CallFault>
         requires { tag < 64 }
-        ensures legal { IsLegal (new_state VFS FIFO) locked.old.history }
-        ensures leads { leads_to (new_state VFS FIFO) locked.old.history ≡ locked.old.device }
+        ensures led { IsLed VFS FIFO locked.old }
         ensures reply { IfOk result (λ reply. reply ≡ (step_of locked.old.device event).reply) }
         ensures fits { IfOk result (λ reply. may_answer event reply ≡ true) }
         ensures under { OnOk result (locked.new ≡ after_call locked.old tag event) }

@@ -3,12 +3,11 @@ ghost use Rattle.nic_device.specs.Answering.{may_answer, note_length};
 ghost use Rattle.std.specs.Vec.{vec_len, vec_capacity};
 ghost use Rattle.nic_device.specs.Resting.{IsIdle, Rests};
 ghost use Rattle.nic_device.specs.Sound.{IsEvent};
-ghost use Rattle.nic_device.specs.State.{new_state};
 ghost use Rattle.nic_device.specs.Step.{lent_block, step_of};
 ghost use Rattle.nic_device.specs.declared.event.Reply.TheVariants.{Idle};
 ghost use Rattle.device_lock.specs.Fault.{event_of};
-ghost use Rattle.device_lock.specs.History.{leads_to, IsLegal, AreEvents, AllBelow};
-ghost use Rattle.device_lock.specs.Kept.{opened, after_call, entries_of};
+ghost use Rattle.device_lock.specs.History.{AreEvents, AllBelow};
+ghost use Rattle.device_lock.specs.Kept.{opened, after_call, entries_of, IsLed};
 ghost use Rattle.device_lock.specs.Resting.{after_calls};
 ghost use Rattle.device_lock.specs.Stepping.{steps_of_queue};
 
@@ -122,8 +121,7 @@ impl<const VFS: u8, const FIFO: u16> Locked<VFS, FIFO> {
     /// The device, to look at. It is where the history leads.
     pub(crate) fn device(&self) -> &Device
         ensures value { result.now ≡ self.now.device }
-        ensures legal { IsLegal (new_state VFS FIFO) self.now.history }
-        ensures leads { leads_to (new_state VFS FIFO) self.now.history ≡ self.now.device }
+        ensures led { IsLed VFS FIFO self.now }
     {
         &self.device
     }
@@ -143,8 +141,7 @@ impl<const VFS: u8, const FIFO: u16> Locked<VFS, FIFO> {
         ensures empty { OnOk result (spare.new.items ≡ []) }
         ensures spare { OnOk result
             (note_length (step_of self.old.device event.now).reply ≤ vec_capacity spare.new) }
-        ensures legal { IsLegal (new_state VFS FIFO) self.old.history }
-        ensures leads { leads_to (new_state VFS FIFO) self.old.history ≡ self.old.device }
+        ensures led { IsLed VFS FIFO self.old }
         ensures unchanged { self.new ≡ self.old }
     {
         ready(alloc, &self.device, calls, spare, &mut self.notes, event)
@@ -233,8 +230,7 @@ impl<const VFS: u8, const FIFO: u16> Locked<VFS, FIFO> {
     /// some were made and no call since. Answers whether they are made.
     pub(crate) fn rest(&mut self, tag: u8, queue: u16) -> bool
         requires { tag < 64 }
-        ensures legal { IsLegal (new_state VFS FIFO) self.old.history }
-        ensures leads { leads_to (new_state VFS FIFO) self.old.history ≡ self.old.device }
+        ensures led { IsLed VFS FIFO self.old }
         ensures idle { result ≡ true → Rests self.old.device queue }
         ensures made { result ≡ true → self.new ≡ after_calls self.old tag (steps_of_queue queue) }
         ensures unchanged { result ≡ false → self.new ≡ self.old }

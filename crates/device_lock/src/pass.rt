@@ -1,17 +1,7 @@
-ghost use Rattle.std.specs.Prelude.{◌≡◌, ◌≢◌, ◌<◌, true, false, Err, IfOk, IfErr, OnOk, OnErr, length, ◌∷◌, []};
-ghost use Rattle.nic_device.specs.Answering.{may_answer};
-ghost use Rattle.nic_device.specs.State.{new_state};
-ghost use Rattle.nic_device.specs.Step.{step_of};
-ghost use Rattle.device_lock.specs.Fault.{event_of};
-ghost use Rattle.device_lock.specs.History.{leads_to, IsLegal};
-ghost use Rattle.device_lock.specs.Kept.{after_call};
-ghost use Rattle.device_lock.specs.Pass.{fresh_pass, with_call};
-ghost use Rattle.device_lock.specs.Stepping.{AreMade, steps_of_queue};
+ghost use Rattle.std.specs.Prelude.{◌≡◌};
+ghost use Rattle.device_lock.specs.Pass.{fresh_pass};
 
 use crate::calls::Calls;
-use crate::fault::CallFault;
-use crate::locked::Locked;
-use nic_device::{Event, Reply};
 use std::alloc::Global;
 use std::marker::Model;
 
@@ -19,8 +9,8 @@ use std::marker::Model;
 #[derive(Drop)]
 pub struct Pass {
     bench: u64,
-    tag: u8,
-    calls: Calls,
+    pub(crate) tag: u8,
+    pub(crate) calls: Calls,
 }
 
 impl Model for Pass {
@@ -62,71 +52,5 @@ impl Pass {
         ensures { result.now ≡ self.now.calls }
     {
         &self.calls
-    }
-}
-
-impl Pass {
-    /// Makes the device steps of a queue where it is at rest, the history has room for their entries, and there is
-    /// memory: each is idle. Else it makes none of them, nor where some were made and no call since. Answers whether
-    /// they are made.
-    pub(crate) fn rest<const VFS: u8, const FIFO: u16>(
-        &mut self,
-        locked: &mut Locked<VFS, FIFO>,
-        queue: u16,
-    ) -> bool
-        requires { self.old.tag < 64 }
-        ensures legal { result ≡ true → IsLegal (new_state VFS FIFO) locked.old.history }
-        ensures leads { result ≡ true → leads_to (new_state VFS FIFO) locked.old.history ≡ locked.old.device }
-        ensures made { result ≡ true → AreMade locked.old self.old (steps_of_queue queue) locked.new self.new }
-        ensures unchanged { result ≡ false → self.new ≡ self.old }
-        ensures refused { result ≡ false → locked.new ≡ locked.old }
-        ensures tag { self.new.tag ≡ self.old.tag }
-    {
-        self.calls.rest_locked(locked, self.tag, queue)
-    }
-
-    /// Makes a device step under the lock where it is idle, comes after those that were kept since the last call, and
-    /// the history has room for its entry. Else it makes nothing. Answers whether it is made.
-    #[inline(always)]
-    pub(crate) fn idle<const VFS: u8, const FIFO: u16>(
-        &mut self,
-        locked: &mut Locked<VFS, FIFO>,
-        step: &Event,
-    ) -> bool
-        requires { self.old.tag < 64 }
-        ensures legal { IsLegal (new_state VFS FIFO) locked.old.history }
-        ensures leads { leads_to (new_state VFS FIFO) locked.old.history ≡ locked.old.device }
-        ensures made { result ≡ true → AreMade locked.old self.old (step.now ∷ []) locked.new self.new }
-        ensures unchanged { result ≡ false → self.new ≡ self.old }
-        ensures refused { result ≡ false → locked.new ≡ locked.old }
-        ensures tag { self.new.tag ≡ self.old.tag }
-    {
-        self.calls.idle_locked(locked, self.tag, step)
-    }
-
-    /// Makes one event under the lock, and keeps its call here.
-    ///
-    /// `HistoryFull` only where the history has as many entries as it may, else `OutOfMemory`. Both hand the event
-    /// back, and change nothing.
-    pub(crate) fn call<const VFS: u8, const FIFO: u16>(
-        &mut self,
-        alloc: Global,
-        locked: &mut Locked<VFS, FIFO>,
-        event: Event,
-    ) -> Result<Reply, CallFault>
-        requires { self.old.tag < 64 }
-        ensures legal { IsLegal (new_state VFS FIFO) locked.old.history }
-        ensures leads { leads_to (new_state VFS FIFO) locked.old.history ≡ locked.old.device }
-        ensures reply { IfOk result (λ reply. reply ≡ (step_of locked.old.device event).reply) }
-        ensures fits { IfOk result (λ reply. may_answer event reply ≡ true) }
-        ensures made { OnOk result (locked.new ≡ after_call locked.old self.old.tag event) }
-        ensures noted { IfOk result (λ reply. self.new ≡ with_call self.old event reply) }
-        ensures own { result ≢ Err (CallFault.ForeignPass event) }
-        ensures full { result ≡ Err (CallFault.HistoryFull event)
-            → length locked.old.history ≡ locked.old.limit }
-        ensures back { IfErr result (λ fault. event_of fault ≡ event) }
-        ensures unchanged { OnErr result ((locked.new ≡ locked.old) × (self.new ≡ self.old)) }
-    {
-        self.calls.make_locked(alloc, locked, self.tag, event)
     }
 }

@@ -22,11 +22,8 @@ pub const MAX_LIMIT: u32 = 1_000_000;
 /// How often the lock is looked for before a thread sleeps.
 const LOOKS: u32 = 100;
 
-/// How many pauses lie between the first two looks. They double from one look to the next.
-const FIRST_PAUSES: u32 = 64;
-
-/// How many pauses lie between two looks at most.
-const MOST_PAUSES: u32 = 4096;
+/// How many pauses lie between two looks: some 20 to 90 microseconds, in which whoever holds the lock makes many calls.
+const PAUSES: u32 = 2048;
 
 /// A device that threads share, known by the number of its bench and of its passes. It has `VFS` virtual functions, at
 /// most 63, and its receive list takes `FIFO` frames, from 1 to 4,096. It can't be dropped: it is closed in the end.
@@ -139,23 +136,21 @@ impl<const VFS: u8, const FIFO: u16> Shared<VFS, FIFO> {
             return Err(CallFault::ForeignPass(event));
         }
         let mut locked = self.hold(rt);
-        pass.call(alloc, &mut *locked, event)
+        pass.calls.make_locked(alloc, &mut *locked, pass.tag, event)
     }
 }
 
 impl<const VFS: u8, const FIFO: u16> Shared<VFS, FIFO> {
     /// What lies under the lock. A call holds it for so short a time that it is looked for some times first, before the
-    /// thread sleeps: more and more rarely, so that whoever holds it goes on undisturbed.
+    /// thread sleeps: rarely, since what is held moves from one processor's cache to the other's each time.
     pub(crate) fn hold<R: Wait>(&self, rt: &R) -> MutexGuard<'_, Locked<VFS, FIFO>> {
-        let mut pauses = FIRST_PAUSES;
         for _ in 0..LOOKS {
             if let Some(locked) = self.lock.try_lock() {
                 return locked;
             }
-            for _ in 0..pauses {
+            for _ in 0..PAUSES {
                 spin_loop();
             }
-            pauses = pauses.saturating_mul(2).min(MOST_PAUSES);
         }
         self.lock.lock(rt)
     }

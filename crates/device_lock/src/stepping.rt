@@ -3,12 +3,11 @@
 ghost use Rattle.std.specs.Prelude.{◌≡◌, ◌≢◌, ◌<◌, ◌↔◌, ◌∷◌, ◌++◌, [], true, Err, IfOk, IfErr, OnOk, OnErr};
 ghost use Rattle.nic_device.specs.Answering.{may_answer};
 ghost use Rattle.nic_device.specs.Run.{state_after};
-ghost use Rattle.nic_device.specs.State.{new_state};
 ghost use Rattle.nic_device.specs.Step.{step_of};
 ghost use Rattle.device_lock.specs.Calling.{IsAnsweredStepped, IsFull, StopsAnswered};
 ghost use Rattle.device_lock.specs.Events.{is_step};
 ghost use Rattle.device_lock.specs.Fault.{event_of};
-ghost use Rattle.device_lock.specs.History.{leads_to, IsLegal};
+ghost use Rattle.device_lock.specs.Kept.{IsLed};
 ghost use Rattle.device_lock.specs.Pass.{IsOwn};
 ghost use Rattle.device_lock.specs.Stepping.{steps_of_queue, AreMade, StepsAndMakes, StopsMaking, StopsStepping};
 
@@ -31,19 +30,18 @@ impl Pass {
     ) -> Result<(), CallFault<()>>
         requires tag { self.old.tag < 64 }
         requires step { is_step step ≡ true }
-        ensures legal { IsLegal (new_state VFS FIFO) locked.old.history }
-        ensures leads { leads_to (new_state VFS FIFO) locked.old.history ≡ locked.old.device }
+        ensures led { IsLed VFS FIFO locked.old }
         ensures made { OnOk result (AreMade locked.old self.old (step ∷ []) locked.new self.new) }
         ensures tag { self.new.tag ≡ self.old.tag }
         ensures own { result ≢ Err (CallFault.ForeignPass tt) }
         ensures full { result ≡ Err (CallFault.HistoryFull tt) → IsFull VFS FIFO }
         ensures unchanged { OnErr result ((locked.new ≡ locked.old) × (self.new ≡ self.old)) }
     {
-        if self.idle(locked, &step) {
+        if self.calls.idle_locked(locked, self.tag, &step) {
             end_event(step);
             return Ok(());
         }
-        match self.call(alloc, locked, step) {
+        match self.calls.make_locked(alloc, locked, self.tag, step) {
             Ok(reply) => match reply.into_buf() {
                 None => Ok(()),
                 Some(_buf) => unreachable!(),
@@ -67,15 +65,14 @@ impl Pass {
         queue: u16,
     ) -> Result<(), CallFault<()>>
         requires { self.old.tag < 64 }
-        ensures legal { IsLegal (new_state VFS FIFO) locked.old.history }
-        ensures leads { leads_to (new_state VFS FIFO) locked.old.history ≡ locked.old.device }
+        ensures led { IsLed VFS FIFO locked.old }
         ensures made { OnOk result (AreMade locked.old self.old (steps_of_queue queue) locked.new self.new) }
         ensures tag { self.new.tag ≡ self.old.tag }
         ensures own { result ≢ Err (CallFault.ForeignPass tt) }
         ensures full { result ≡ Err (CallFault.HistoryFull tt) → IsFull VFS FIFO }
         ensures amid { OnErr result (StopsMaking queue locked.old self.old locked.new self.new) }
     {
-        if self.rest(locked, queue) {
+        if self.calls.rest_locked(locked, self.tag, queue) {
             return Ok(());
         }
         self.make_steps(alloc, locked, queue)
@@ -89,8 +86,7 @@ impl Pass {
         queue: u16,
     ) -> Result<(), CallFault<()>>
         requires { self.old.tag < 64 }
-        ensures legal { IsLegal (new_state VFS FIFO) locked.old.history }
-        ensures leads { leads_to (new_state VFS FIFO) locked.old.history ≡ locked.old.device }
+        ensures led { IsLed VFS FIFO locked.old }
         ensures made { OnOk result (AreMade locked.old self.old (steps_of_queue queue) locked.new self.new) }
         ensures tag { self.new.tag ≡ self.old.tag }
         ensures own { result ≢ Err (CallFault.ForeignPass tt) }
@@ -113,8 +109,7 @@ impl Pass {
         event: Event,
     ) -> Result<Reply, CallFault>
         requires { self.old.tag < 64 }
-        ensures legal { IsLegal (new_state VFS FIFO) locked.old.history }
-        ensures leads { leads_to (new_state VFS FIFO) locked.old.history ≡ locked.old.device }
+        ensures led { IsLed VFS FIFO locked.old }
         ensures made { OnOk result
             (AreMade locked.old self.old (steps_of_queue queue ++ event ∷ []) locked.new self.new) }
         ensures reply { IfOk result (λ reply.
@@ -126,7 +121,7 @@ impl Pass {
         ensures amid { OnErr result (StopsMaking queue locked.old self.old locked.new self.new) }
     {
         match self.step_on(alloc, locked, queue) {
-            Ok(()) => self.call(alloc, locked, event),
+            Ok(()) => self.calls.make_locked(alloc, locked, self.tag, event),
             Err(fault) => Err(fault.replace(event).0),
         }
     }

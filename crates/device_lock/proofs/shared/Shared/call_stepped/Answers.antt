@@ -13,7 +13,7 @@ returns-clause-exact g c =
 pub returns-clause-answered : goal.returns-clause-answered
 returns-clause-answered g c =
     is_answered c.args.queue c.args.event _ c.step_and_call.new.locked c.args.pass.now
-    c.step_and_call.new.self g.row.VFS g.row.FIFO c.step_and_call.ensures.legal c.step_and_call.ensures.leads
+    c.step_and_call.new.self g.row.VFS g.row.FIFO c.step_and_call.ensures.led.legal c.step_and_call.ensures.led.leads
     c.step_and_call.result c.step_and_call.ensures.made c.step_and_call.ensures.reply
 
 pub returns-clause-amid : goal.returns-clause-amid
@@ -24,5 +24,5 @@ returns-clause-amid g c =
 pub returns-clause-stopped : goal.returns-clause-stopped
 returns-clause-stopped g c =
     stops_answered c.args.queue c.args.event _ c.step_and_call.new.locked c.args.pass.now
-    c.step_and_call.new.self g.row.VFS g.row.FIFO c.step_and_call.ensures.legal c.step_and_call.ensures.leads
+    c.step_and_call.new.self g.row.VFS g.row.FIFO c.step_and_call.ensures.led.legal c.step_and_call.ensures.led.leads
     c.step_and_call.result c.step_and_call.ensures.amid

@@ -16,10 +16,6 @@ wrapped_apart size slot i j n a b ne e = ne (grind (arith, nat_tests))
 pub next_below : (size slot : ℕ) → slot < size → next_of size slot < size
 next_below size slot h = grind (arith, nat_tests)
 
-pub next_wrapped : (size at : ℕ) → 0 < size → at + 1 < size + size
-    → next_of size (wrapped size at) ≡ wrapped size (at + 1)
-next_wrapped size at some h = grind (arith, nat_tests)
-
 pub wrapped_next : (size slot k : ℕ) → slot < size → k < size
     → wrapped size (next_of size slot + k) ≡ wrapped size (slot + (k + 1))
 wrapped_next size slot k n h = grind (arith, nat_tests)

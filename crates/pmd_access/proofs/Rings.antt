@@ -1,8 +1,8 @@
 -- The blocks of a driver's ring.
-use Rattle.std.proofs.Common.{◌≡◌, ◌≢◌, ℕ, zero, suc, ◌+◌, ◌-◌, ◌*◌, ◌/◌, ◌%◌, ◌↔◌, ◌<◌, ◌≤◌, ◌⊎◌, inl, inr, Bool, true, false, ◌&&◌, cond, List, [], ◌∷◌, ◌++◌, length, refl, sym, ap, subst, ◌∙◌, append_assoc, arith}
+use Rattle.std.proofs.Common.{◌≡◌, ◌≢◌, ℕ, zero, suc, ◌+◌, ◌-◌, ◌*◌, ◌/◌, ◌%◌, ◌↔◌, ◌<◌, ◌≤◌, inl, inr, Bool, true, false, ◌&&◌, cond, List, [], ◌∷◌, ◌++◌, length, refl, sym, ap, subst, ◌∙◌, append_assoc, arith}
 use Rattle.std.specs.Prelude.{◌==◌, nat_le, nat_lt}
 use Rattle.std.specs.List.{list_any, range_with_len}
-use Rattle.std.proofs.lemmas.Bool.{cases_eq, cases_Bool, cases_lt, both_ways, or_from, or_left, or_right, ne_eqb}
+use Rattle.std.proofs.lemmas.Bool.{cases_eq, cases_Bool, or_from, or_left, or_right, ne_eqb}
 use Rattle.std.proofs.lemmas.Bool.Decides.{nat_tests}
 use Rattle.std.proofs.lemmas.List.FromFn.{length-range_with_len}
 use Rattle.device_lock.specs.NicDevice.DmaArena.Memory.{LiesIn}
@@ -14,12 +14,6 @@ use Rattle.pmd_access.proofs.Outside.{times_first, times_rest}
 
 pub some_blocks : (size : ℕ) → 0 < size → 0 < blocks_for size
 some_blocks size some = omega (arith, some)
-
-pub few_blocks : (size : ℕ) → size ≤ 1024 → blocks_for size ≤ 8
-few_blocks size few = omega (arith, few)
-
-pub one_block : (size : ℕ) → 0 < size → size ≤ 128 → blocks_for size ≡ 1
-one_block size some few = omega (arith, some, few)
 
 -- numbers that follow one another, and one more
 
@@ -61,9 +55,6 @@ slot_fits slot = omega arith
 pub ring_block_is : (ring size k : ℕ) → k < blocks_for size → is_ring_block ring size (ring + k) ≡ true
 ring_block_is ring size k below = grind (arith, nat_tests)
 
-pub ring_block_first : (ring size : ℕ) → 0 < size → is_ring_block ring size ring ≡ true
-ring_block_first ring size some = grind (arith, nat_tests)
-
 pub ring_block_low : (ring size n : ℕ) → is_ring_block ring size n ≡ true → ring ≤ n
 ring_block_low ring size n is = grind (arith, nat_tests)
 
@@ -80,27 +71,6 @@ ring_block_at ring size n is =
 pub ring_block_apart : (ring size n : ℕ) → is_ring_block ring size n ≡ false → (k : ℕ) → k < blocks_for size
     → n ≢ ring + k
 ring_block_apart ring size n other k below e = grind (arith, nat_tests)
-
-pub ring_block_none : (ring size n : ℕ) → ((k : ℕ) → k < blocks_for size → n ≢ ring + k)
-    → is_ring_block ring size n ≡ false
-ring_block_none ring size n apart = elim (cases_Bool (is_ring_block ring size n)) [
-  | inl is ↦
-      let at = ring_block_at ring size n is in
-      absurd (apart at.0 at.1 at.2)
-  | inr other ↦ other
-]
-
--- one that isn't the ring's is before or after them
-pub ring_block_sides : (ring size n : ℕ) → is_ring_block ring size n ≡ false → (n < ring) ⊎ (ring + blocks_for size ≤ n)
-ring_block_sides ring size n other = elim (cases_lt n ring) [
-  | inl low ↦ inl low
-  | inr from ↦ elim (cases_lt n (ring + blocks_for size)) [
-    | inl below ↦
-        let is : is_ring_block ring size n ≡ true = grind (arith, nat_tests) in
-        absurd (both_ways _ other is)
-    | inr high ↦ inr high
-  ]
-]
 
 -- how often a number is among them
 
@@ -195,9 +165,6 @@ each_ring_block ring size P each n is =
 pub each_slot_block : (ring size : ℕ) (P : ℕ → Type 0) → EachRingBlock ring size P → (slot : ℕ) → slot < size
     → P (ring + slot / 128)
 each_slot_block ring size P each slot below = each (slot / 128) (slot_block size slot below)
-
-pub each_of_one : (ring size : ℕ) (P : ℕ → Type 0) → 0 < size → size ≤ 128 → P ring → EachRingBlock ring size P
-each_of_one ring size P some few is k below = subst P (omega (arith, below, one_block size some few)) is
 
 pub each_first : (ring size : ℕ) (P : ℕ → Type 0) → 0 < size → EachRingBlock ring size P → P ring
 each_first ring size P some each = subst P (omega arith) (each 0 (some_blocks size some))

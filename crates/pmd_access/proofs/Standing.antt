@@ -24,31 +24,6 @@ stand_at (suc n) (None ∷ places) k d b is below = absurd is
 stand_at (suc n) (Some c ∷ places) zero d b is below = refl
 stand_at (suc n) (Some c ∷ places) (suc k) d b is below = stand_at n places k d b is (omega (arith, below))
 
-none_at : (places : List (Option Block)) (k : ℕ) → blocks_in places ≡ [] → get_or places k None ≡ None
-none_at [] k is = refl
-none_at (None ∷ places) zero is = refl
-none_at (None ∷ places) (suc k) is = none_at places k is
-none_at (Some c ∷ places) k is = cc
-
-pub stand_behind : (n : ℕ) (places : List (Option Block)) → StandFirst n places → get_or places n None ≡ None
-stand_behind zero places is = none_at places zero is
-stand_behind (suc n) [] is = absurd is
-stand_behind (suc n) (None ∷ places) is = absurd is
-stand_behind (suc n) (Some b ∷ places) is = stand_behind n places is
-
-stands_alone : (places : List (Option Block)) (b : Block) → blocks_in places ≡ [] → 0 < length places
-    → StandFirst 1 (set places 0 (Some b))
-stands_alone [] b is room = absurd (omega (arith, room))
-stands_alone (None ∷ places) b is room = is
-stands_alone (Some c ∷ places) b is room = cc
-
-pub stand_more : (n : ℕ) (places : List (Option Block)) (b : Block) → StandFirst n places → n < length places
-    → StandFirst (suc n) (set places n (Some b))
-stand_more zero places b is room = stands_alone places b is room
-stand_more (suc n) [] b is room = absurd is
-stand_more (suc n) (None ∷ places) b is room = absurd is
-stand_more (suc n) (Some c ∷ places) b is room = stand_more n places b is (omega (arith, room))
-
 alone_is : (places : List (Option Block)) (b : Block) → blocks_in places ≡ [] → 0 < length places
     → blocks_in (set places 0 (Some b)) ≡ b ∷ []
 alone_is [] b is room = absurd (omega (arith, room))

@@ -1,7 +1,6 @@
 -- Where the blocks of a driver are after each of its calls.
-use Rattle.std.proofs.Common.{◌≡◌, ◌≢◌, ℕ, zero, suc, ◌+◌, ◌<◌, ◌≤◌, ◌⊎◌, ◌↔◌, inl, inr, nat_lt, Bool, true, false, cond, List, ◌∷◌, ◌++◌, refl, sym, subst, arith}
+use Rattle.std.proofs.Common.{◌≡◌, ◌≢◌, ℕ, ◌+◌, ◌≤◌, ◌⊎◌, inl, inr, true, false, cond, List, ◌∷◌, ◌++◌, sym, subst, arith}
 use Rattle.std.proofs.lemmas.Bool.{cases_eq}
-use Rattle.std.proofs.lemmas.Bool.Decides.{nat_tests}
 use Rattle.pmd_access.specs.NicDevice.DmaArena.Numbers.{Numbers, is_own, is_free}
 use Rattle.pmd_access.specs.NicDevice.DmaArena.Whereabouts.{times_in_hand}
 use Rattle.pmd_access.specs.Home.{AreOut}
@@ -51,8 +50,3 @@ received_up r s out up keeps same =
     }
 
 -- whether a ring has a block, by how often
-
-pub has_is : (b : Bool) (t : ℕ) → (b ≡ true) ↔ (0 < t) → b ≡ nat_lt 0 t
-has_is true t has = grind (arith, nat_tests, has.0 refl)
-has_is false zero has = refl
-has_is false (suc t) has = absurd (let e : false ≡ true = has.1 (omega arith) in cc)

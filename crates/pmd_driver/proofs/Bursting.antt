@@ -1,5 +1,5 @@
 -- A burst that is sent once room was made for it.
-use Rattle.std.proofs.Common.{◌≡◌, ◌⊎◌, inl, inr, ℕ, ◌<◌, ◌≤◌, List, [], ◌++◌, Option, Some, None, Result, Ok, Err, refl, sym, ap, subst, ◌∙◌, map, append-nil, arith}
+use Rattle.std.proofs.Common.{◌≡◌, ◌⊎◌, inl, inr, ℕ, ◌<◌, ◌≤◌, List, [], ◌++◌, Option, Some, None, Result, Err, refl, sym, ap, subst, ◌∙◌, map, append-nil, arith}
 use Rattle.pmd_access.specs.NicDevice.DmaArena.Numbers.{is_own}
 use Rattle.pmd_access.specs.DeviceLock.Alone.{Blocks}
 use Rattle.pmd_access.specs.DeviceLock.declared.entry.Call.{Call}
@@ -14,7 +14,7 @@ use Rattle.pmd_tx.specs.Sends.{IsLate, accepted_of}
 use Rattle.pmd_tx.specs.declared.answer.Reaped.{Reaped}
 use Rattle.pmd_driver.specs.Apart.{DrivesRings, FindsBy}
 use Rattle.pmd_driver.specs.Blocks.{KeepsUp}
-use Rattle.pmd_driver.specs.Bursts.{FailsAmid, IsRefusedFirst, IsSendBurst, Stops, fault_of, vacant_in}
+use Rattle.pmd_driver.specs.Bursts.{FailsAmid, IsRefusedFirst, IsSendBurst, Stops, vacant_in}
 use Rattle.pmd_driver.specs.DriverCalls.{IsReapCall}
 use Rattle.pmd_driver.specs.Halves.{Halves, halves_of}
 use Rattle.pmd_driver.specs.Queueing.{HasRoom, Posts}
@@ -64,7 +64,7 @@ room_reaped {vacant} {x} {old} {new} {r} {s} few drives reaped keeps = record {
   keeps = keeps;
   room = record {
     room = λ some. absurd (omega (arith, some, few));
-    frees = λ still. (x, reaped, by_result x);
+    frees = λ still. (x, reaped, refl);
   };
   accepted = reaped.accepted;
   layout = reaped.layout;
@@ -72,10 +72,6 @@ room_reaped {vacant} {x} {old} {new} {r} {s} few drives reaped keeps = record {
   late = some_by (λ f. IsLate f) x reaped.late;
   finds = some_by (λ f. FindsBy f (is_own r.arena) old (halves_of r) new) x reaped.finds;
 }
-  where
-    by_result : (y : Result Reaped PmdFault) → fault_in y ≡ fault_of y
-    by_result (Ok done) = refl
-    by_result (Err f) = refl
 
 module _ {vacant : ℕ} {old made : List Call} {r there : Running} (given : List Packet) where
   -- the blocks of the packets stay where they are

@@ -8,25 +8,9 @@ use Rattle.pmd_access.specs.Bufs.{bytes_of, numbers_of}
 use Rattle.pmd_access.specs.Fresh.{IsFresh}
 use Rattle.pmd_access.specs.Home.{IsDrawn}
 use Rattle.pmd_access.specs.declared.packet.Packet.{Packet}
-use Rattle.pmd_driver.specs.Blocks.{KeepsBlocks}
-use Rattle.pmd_driver.specs.Driver.{arena_of, with_arena}
 use Rattle.pmd_driver.specs.Filled.{IsFilled}
-use Rattle.pmd_driver.specs.Life.{KeepsHalves}
-use Rattle.pmd_driver.specs.declared.driver.Rings.{Rings}
-use Rattle.pmd_driver.specs.declared.driver.Rings.TheVariants.{Up, Down}
 
 -- a driver that stays as it is
-
-pub same_arena : (r : Rings) → r ≡ with_arena r (arena_of r)
-same_arena (Up r) = refl
-same_arena (Down h) = refl
-
-pub same_halves : (r : Rings) → KeepsHalves r r
-same_halves (Up r) = (refl, λ n. refl)
-same_halves (Down h) = tt
-
-pub same_blocks : (r : Rings) → KeepsBlocks r [] r []
-same_blocks r = record { owns = λ n. refl; each = λ n. refl }
 
 -- the bytes of fresh blocks
 zero_bytes : (ns : List ℕ) → bytes_of (map zero_block ns) ≡ replicate (2048 * length ns) 0

@@ -1,5 +1,5 @@
 -- Several packets that are handed out.
-use Rattle.std.proofs.Common.{◌≡◌, ℕ, ◌≤◌, true, List, [], ◌∷◌, ◌++◌, length, drop, All, Result, Ok, Err, IfOk, OnErr, refl, sym, ap, subst, ◌∙◌, append_assoc, append-nil, arith}
+use Rattle.std.proofs.Common.{◌≡◌, ℕ, ◌≤◌, true, List, [], ◌∷◌, ◌++◌, length, drop, All, Result, Ok, Err, IfOk, OnErr, refl, sym, ap, subst, ◌∙◌, append_assoc, arith}
 use Rattle.std.proofs.Math.Seq.{drop-append_seam}
 use Rattle.std.proofs.lemmas.List.Elements.{All-cons}
 use Rattle.pmd_access.specs.NicDevice.DmaArena.Numbers.{Numbers}
@@ -112,7 +112,3 @@ burst_few (Ok n) most packets many none = omega (arith, many.0, many.1)
 burst_few (Err f) most packets many none = omega (arith, ap (λ (l : List Packet). length l) none)
 
 -- none came out where all stays
-
-pub none_new : (ps : List Packet) → drop (length ps) ps ≡ []
-none_new ps =
-    ap (λ (l : List Packet). drop (length ps) l) (sym (append-nil ps)) ∙ drop-append_seam ps []

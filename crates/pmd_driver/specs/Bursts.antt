@@ -7,6 +7,7 @@ use Rattle.pmd_access.specs.NicDevice.declared.event.Event.{Event}
 use Rattle.pmd_access.specs.DeviceLock.Alone.{Blocks}
 use Rattle.pmd_access.specs.DeviceLock.declared.entry.Call.{Call}
 use Rattle.pmd_access.specs.Bufs.{numbers_of, with_all_free}
+use Rattle.pmd_access.specs.Asks.{fault_in}
 use Rattle.pmd_access.specs.declared.fault.PmdFault.{PmdFault}
 use Rattle.pmd_access.specs.declared.fault.PmdFault.TheVariants as fault
 use Rattle.pmd_access.specs.declared.packet.Packet.{Packet}
@@ -156,17 +157,12 @@ pub record SendsBurst (given left : List Packet) (result : Result ℕ PmdFault) 
   -- without a fault, the tail has passed all that is outstanding
   pub settled : IfOk result (λ n. s.transmit.posted ≡ length s.transmit.outstanding)
 
--- the fault that a call answers, where it does
-abbrev pub fault_of : {T : Type 0} → Result T PmdFault → Option PmdFault
-fault_of (Ok x) = None
-fault_of (Err f) = Some f
-
 -- where fewer slots than so many are vacant, the blocks of packets that were sent were freed, as far as no fault came
 pub record MakesRoom (vacant : ℕ) (failed : Option PmdFault) (old : List Call) (r : Running) (new : List Call)
     (s : Running) : Type 0 where
   pub room : vacant ≤ vacant_in r.transmit → (new ≡ old) × (s ≡ r) × (failed ≡ None)
   pub frees : vacant_in r.transmit < vacant
-      → (reaped : Result Reaped PmdFault) × IsReapCall reaped old r new s × (failed ≡ fault_of reaped)
+      → (reaped : Result Reaped PmdFault) × IsReapCall reaped old r new s × (failed ≡ fault_in reaped)
 
 -- a fault that came as room was made is answered before any packet is taken
 abbrev pub SendsWith : Option PmdFault → List Packet → List Packet → Result ℕ PmdFault → List Call → Running → List Call

@@ -123,24 +123,23 @@ stopped h i then old mid new queue count made same =
 
 -- all steps were made, and the event was refused
 pub none_after : (r : Result (Reply Block) (CallFault (Event Block))) (queue : ℕ) (h i then : Held)
-    (old mid : PassValue) (calls : List Call)
-    → AreMade h old (steps_of_queue queue) i mid → OnErr r ((then ≡ i) × (calls ≡ mid.calls))
-    → OnErr r (StopsMaking queue h old then (record mid { calls = calls }))
-none_after (Ok x) queue h i then old mid calls made same = tt
-none_after (Err f) queue h i then old mid calls made same =
-    stopped h i then old mid _ queue 4 made (same.0, ap (λ (l : List Call). record mid { calls = l }) same.1)
+    (old mid new : PassValue)
+    → AreMade h old (steps_of_queue queue) i mid → OnErr r ((then ≡ i) × (new ≡ mid))
+    → OnErr r (StopsMaking queue h old then new)
+none_after (Ok x) queue h i then old mid new made same = tt
+none_after (Err f) queue h i then old mid new made same = stopped h i then old mid new queue 4 made same
 
 -- all steps were made, and then the event
 
-module _ (queue : ℕ) (e : Event Block) (h i then : Held) (old mid : PassValue) (calls : List Call)
+module _ (queue : ℕ) (e : Event Block) (h i then : Held) (old mid new : PassValue)
     (made : AreMade h old (steps_of_queue queue) i mid) where
   pub made_after : (r : Result (Reply Block) (CallFault (Event Block)))
-      → OnOk r (then ≡ after_call i mid.tag e) → IfOk r (λ x. calls ≡ mid.calls ++ call_of e x ∷ [])
+      → OnOk r (then ≡ after_call i mid.tag e) → IfOk r (λ x. new ≡ with_call mid e x)
       → IfOk r (λ x. x ≡ (step_of i.device e).reply)
-      → OnOk r (AreMade h old (steps_of_queue queue ++ e ∷ []) then (record mid { calls = calls }))
+      → OnOk r (AreMade h old (steps_of_queue queue ++ e ∷ []) then new)
   made_after (Ok x) under noted reply =
-      both_made h i then old mid _ (steps_of_queue queue) (e ∷ []) made
-      (one_made i then mid _ e x under reply (ap (λ (l : List Call). record mid { calls = l }) noted))
+      both_made h i then old mid new (steps_of_queue queue) (e ∷ []) made
+      (one_made i then mid new e x under reply noted)
   made_after (Err f) under noted reply = tt
 
   pub answer_after : (r : Result (Reply Block) (CallFault (Event Block)))

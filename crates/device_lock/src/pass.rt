@@ -1,7 +1,14 @@
-ghost use Rattle.std.specs.Prelude.{◌≡◌};
-ghost use Rattle.device_lock.specs.Pass.{fresh_pass};
+ghost use Rattle.std.specs.Prelude.{◌≡◌, ◌≢◌, ◌<◌, true, Err, IfOk, IfErr, OnOk, OnErr, length};
+ghost use Rattle.nic_device.specs.Answering.{may_answer};
+ghost use Rattle.nic_device.specs.Step.{step_of};
+ghost use Rattle.device_lock.specs.Fault.{event_of};
+ghost use Rattle.device_lock.specs.Kept.{after_call, IsLed};
+ghost use Rattle.device_lock.specs.Pass.{fresh_pass, with_call};
 
 use crate::calls::Calls;
+use crate::fault::CallFault;
+use crate::locked::Locked;
+use nic_device::{Event, Reply};
 use std::alloc::Global;
 use std::marker::Model;
 
@@ -52,5 +59,30 @@ impl Pass {
         ensures { result.now ≡ self.now.calls }
     {
         &self.calls
+    }
+
+    /// Makes one event under the lock by the pass's tag, and keeps its call here.
+    ///
+    /// `HistoryFull` only where the history has as many entries as it may, else `OutOfMemory`. Both hand the event
+    /// back, and change nothing.
+    pub(crate) fn call<const VFS: u8, const FIFO: u16>(
+        &mut self,
+        alloc: Global,
+        locked: &mut Locked<VFS, FIFO>,
+        event: Event,
+    ) -> Result<Reply, CallFault>
+        requires { self.old.tag < 64 }
+        ensures led { IsLed VFS FIFO locked.old }
+        ensures reply { IfOk result (λ reply. reply ≡ (step_of locked.old.device event).reply) }
+        ensures fits { IfOk result (λ reply. may_answer event reply ≡ true) }
+        ensures made { OnOk result (locked.new ≡ after_call locked.old self.old.tag event) }
+        ensures noted { IfOk result (λ reply. self.new ≡ with_call self.old event reply) }
+        ensures own { result ≢ Err (CallFault.ForeignPass event) }
+        ensures full { result ≡ Err (CallFault.HistoryFull event)
+            → length locked.old.history ≡ locked.old.limit }
+        ensures back { IfErr result (λ fault. event_of fault ≡ event) }
+        ensures unchanged { OnErr result ((locked.new ≡ locked.old) × (self.new ≡ self.old)) }
+    {
+        self.calls.make_locked(alloc, locked, self.tag, event)
     }
 }

@@ -136,7 +136,7 @@ impl<const VFS: u8, const FIFO: u16> Shared<VFS, FIFO> {
             return Err(CallFault::ForeignPass(event));
         }
         let mut locked = self.hold(rt);
-        pass.calls.make_locked(alloc, &mut *locked, pass.tag, event)
+        pass.call(alloc, &mut *locked, event)
     }
 }
 

@@ -41,7 +41,7 @@ impl Pass {
             end_event(step);
             return Ok(());
         }
-        match self.calls.make_locked(alloc, locked, self.tag, step) {
+        match self.call(alloc, locked, step) {
             Ok(reply) => match reply.into_buf() {
                 None => Ok(()),
                 Some(_buf) => unreachable!(),
@@ -121,7 +121,7 @@ impl Pass {
         ensures amid { OnErr result (StopsMaking queue locked.old self.old locked.new self.new) }
     {
         match self.step_on(alloc, locked, queue) {
-            Ok(()) => self.calls.make_locked(alloc, locked, self.tag, event),
+            Ok(()) => self.call(alloc, locked, event),
             Err(fault) => Err(fault.replace(event).0),
         }
     }

@@ -1,4 +1,5 @@
-/* What the library is: its version, and whether its device was proved. out/proved.h is made by the Makefile. */
+/* What the library is: its version, and whether its device was proved. out/proved.h is made by the Makefile; the
+   archive of the plain edition has a mark (plain/kit/c.rs). */
 #include "nic82599.h"
 #include "proved.h"
 
@@ -10,4 +11,13 @@ const char *nic_version(void)
 bool nic_is_proved(void)
 {
     return NIC_PROVED;
+}
+
+__attribute__((weak)) extern const unsigned char nicd_is_plain;
+
+const char *nic_edition(void)
+{
+    if (NIC_PROVED)
+        return "proved";
+    return &nicd_is_plain ? "plain" : "unproved";
 }

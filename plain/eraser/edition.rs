@@ -1,0 +1,198 @@
+//! The edition: which crates there are, and the files that are written of them.
+
+use crate::fault::Fault;
+use crate::layout::laid_out;
+use crate::source::Source;
+use crate::{exports, faults, ghosts, known, paths, rust, uses};
+use std::collections::BTreeSet;
+use std::fs;
+use std::path::{Path, PathBuf};
+
+/// A crate and the libraries that it stands on.
+struct Layer {
+    name: String,
+    libraries: Vec<String>,
+}
+
+/// A file of the edition: its path below the folder of the edition, and its text.
+type File = (PathBuf, String);
+
+/// Writes the edition of a repository to a folder. Gives the number of its files.
+pub fn write(root: &Path, out: &Path) -> Result<usize, Fault> {
+    let layers = layers(root)?;
+    let mut files = Vec::new();
+    let by_hand = copied(&root.join("plain/instead"), Path::new("src"))?;
+    for layer in &layers {
+        files.extend(files_of_crate(root, layer, &by_hand)?);
+    }
+    files.extend(copied(&root.join("plain/kit"), Path::new("src/kit"))?);
+    let head = read(&root.join("plain/head.rs"))?;
+    files.push((PathBuf::from("src/lib.rs"), format!("{head}\n{}", modules(&layers, "pub "))));
+    files.push((PathBuf::from("src/alone.rs"), alone(&head, &layers)));
+    files.push((PathBuf::from("src/main.rs"), read(&root.join("plain/main.rs"))?));
+    files.push((PathBuf::from("Cargo.toml"), CARGO.replace("VERSION", read(&root.join("VERSION"))?.trim())));
+    files.push((PathBuf::from("rustfmt.toml"), "style_edition = \"2024\"\n".to_string()));
+    for (path, text) in &files {
+        let to = out.join(path);
+        if let Some(folder) = to.parent() {
+            fs::create_dir_all(folder).map_err(|error| Fault::of(folder, error))?;
+        }
+        fs::write(&to, text).map_err(|error| Fault::of(&to, error))?;
+    }
+    Ok(files.len())
+}
+
+/// The text of a source of a crate `case` with the library `below`, as a worked case has it.
+pub fn case(path: &str, text: &str) -> Result<String, Fault> {
+    erased(path, text, &Layer { name: "case".to_string(), libraries: vec!["below".to_string()] })
+}
+
+fn read(path: &Path) -> Result<String, Fault> {
+    fs::read_to_string(path).map_err(|error| Fault::of(path, error))
+}
+
+/// The crates of `crates.txt`, lowest first.
+fn layers(root: &Path) -> Result<Vec<Layer>, Fault> {
+    let path = root.join("crates.txt");
+    let text = read(&path)?;
+    let mut found = Vec::new();
+    for (at, line) in text.lines().enumerate() {
+        let line = line.split('#').next().unwrap_or("").trim();
+        if line.is_empty() {
+            continue;
+        }
+        let (front, libraries) = line.split_once(':').ok_or_else(|| Fault::at("crates.txt", at + 1, "no colon"))?;
+        let name = front.split_whitespace().next().unwrap_or("").to_string();
+        found.push(Layer { name, libraries: libraries.split_whitespace().map(str::to_string).collect() });
+    }
+    Ok(found)
+}
+
+/// The crate of this name, and all that it stands on.
+fn below(layers: &[Layer], name: &str) -> BTreeSet<String> {
+    let mut found = BTreeSet::new();
+    let mut left = vec![name.to_string()];
+    while let Some(name) = left.pop() {
+        if let Some(layer) = layers.iter().find(|it| it.name == name) {
+            if found.insert(name) {
+                left.extend(layer.libraries.clone());
+            }
+        }
+    }
+    found
+}
+
+/// The modules of the crate's root. Each is there for the program, for the library for C, or for the tests alone.
+fn modules(layers: &[Layer], visibility: &str) -> String {
+    let (program, library) = (below(layers, "nicbench"), below(layers, "nic82599_c"));
+    let mut names: Vec<&str> = layers.iter().map(|it| it.name.as_str()).collect();
+    names.sort_unstable();
+    let mut text = String::new();
+    for name in names {
+        match (program.contains(name), library.contains(name)) {
+            (true, true) => {}
+            (true, false) => text += "#[cfg(feature = \"bench\")]\n",
+            (false, true) => text += "#[cfg(feature = \"c\")]\n",
+            (false, false) => text += "#[cfg(feature = \"tests\")]\n",
+        }
+        text += &format!("{visibility}mod {name};\n");
+    }
+    text
+}
+
+/// The program as one crate: then only what it calls is compiled.
+fn alone(head: &str, layers: &[Layer]) -> String {
+    let head = head.replacen("#![", "#![cfg_attr(unix, no_main)]\n#![", 1).replace("deny(unsafe_code, ", "deny(");
+    format!("{head}\n{}\nprogram!(nicbench);\n", modules(layers, ""))
+}
+
+const CARGO: &str = "# Written by dev/plain.
+[package]
+name = \"nic82599\"
+version = \"VERSION\"
+edition = \"2021\"
+rust-version = \"1.63\"
+
+[features]
+default = [\"bench\"]
+# The program nicbench.
+bench = []
+# The calls for C.
+c = []
+# The crates of tests.
+tests = [\"bench\"]
+
+[[bin]]
+name = \"nicbench\"
+path = \"src/main.rs\"
+required-features = [\"bench\"]
+
+[profile.release]
+opt-level = 2
+overflow-checks = true
+";
+
+/// The files of a crate: erased, or written by hand in place of that.
+fn files_of_crate(root: &Path, layer: &Layer, by_hand: &[File]) -> Result<Vec<File>, Fault> {
+    let folder = root.join("crates").join(&layer.name).join("src");
+    let mut files = Vec::new();
+    for path in sorted(&folder)? {
+        let name = path.file_stem().map_or(String::new(), |it| it.to_string_lossy().into_owned());
+        if path.extension().map_or(true, |it| it != "rt") {
+            return Err(Fault::of(&path, "a file of a source folder that isn't a source"));
+        }
+        let file = if ["lib", "main"].contains(&name.as_str()) { "mod" } else { &name };
+        let to = Path::new("src").join(&layer.name).join(format!("{file}.rs"));
+        if let Some(file) = by_hand.iter().find(|it| it.0 == to) {
+            files.push(file.clone());
+            continue;
+        }
+        let shown = format!("crates/{}/src/{name}.rt", layer.name);
+        files.push((to, erased(&shown, &read(&path)?, layer)?));
+    }
+    let all = Path::new("src").join(&layer.name);
+    match by_hand.iter().find(|it| it.0.starts_with(&all) && !files.contains(it)) {
+        Some((path, _)) => Err(Fault::of(path, "plain/instead has this file, and the crate has no source of the name")),
+        None => Ok(files),
+    }
+}
+
+/// The plain text of a source.
+fn erased(path: &str, text: &str, layer: &Layer) -> Result<String, Fault> {
+    let mut source = Source::new(path, text)?;
+    ghosts::erase(&mut source)?;
+    known::check(&source)?;
+    paths::check(&source)?;
+    paths::rewrite(&mut source, &layer.name, &layer.libraries);
+    faults::rewrite(&mut source)?;
+    exports::rewrite(&mut source)?;
+    rust::rewrite(&mut source)?;
+    let prelude = paths::prelude(&source);
+    Ok(laid_out(&uses::ordered(&laid_out(&source.text()), &prelude)))
+}
+
+/// The files of a folder and of those in it, by their paths below another one.
+fn copied(from: &Path, to: &Path) -> Result<Vec<File>, Fault> {
+    let mut files = Vec::new();
+    for path in sorted(from)? {
+        let name = path.file_name().map(PathBuf::from).unwrap_or_default();
+        if path.is_dir() {
+            files.extend(copied(&path, &to.join(name))?);
+        } else if path.extension().map_or(false, |it| it == "rs") {
+            files.push((to.join(name), read(&path)?));
+        }
+    }
+    Ok(files)
+}
+
+/// What is in a folder, in order. Nothing where there is none.
+fn sorted(folder: &Path) -> Result<Vec<PathBuf>, Fault> {
+    let mut found = Vec::new();
+    if folder.is_dir() {
+        for it in fs::read_dir(folder).map_err(|error| Fault::of(folder, error))? {
+            found.push(it.map_err(|error| Fault::of(folder, error))?.path());
+        }
+    }
+    found.sort();
+    Ok(found)
+}

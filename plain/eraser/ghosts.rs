@@ -1,0 +1,281 @@
+//! What is erased: clauses, ghost items, what a proof reads. None of it has an effect when the program runs.
+
+use crate::fault::Fault;
+use crate::known;
+use crate::source::Source;
+use crate::token::Kind;
+
+/// Erases all of a source that only a proof reads.
+pub fn erase(source: &mut Source) -> Result<(), Fault> {
+    models(source)?;
+    drops(source)?;
+    clauses(source)?;
+    source.tokens.retain(|it| !it.text.is_empty());
+    ghosts(source)?;
+    source.tokens.retain(|it| !it.text.is_empty());
+    attributes(source)?;
+    derives(source)?;
+    markers(source)?;
+    bounds(source)?;
+    labels(source);
+    source.tokens.retain(|it| !it.text.is_empty());
+    Ok(())
+}
+
+/// `requires name { .. }` and `ensures* name { .. }` between a function's or a closure's head and its body, with the
+/// comments between them.
+fn clauses(source: &mut Source) -> Result<(), Fault> {
+    let mut at = 0;
+    while at < source.tokens.len() {
+        if !is_clause(source, at) {
+            at += 1;
+            continue;
+        }
+        let head = source.before(at).ok_or_else(|| source.fault(at, "a clause of nothing"))?;
+        let mut body = at;
+        while is_clause(source, body) {
+            body = past_clause(source, body)?;
+        }
+        match source.at(body) {
+            ";" => source.clear(head + 1, body),
+            "{" => {
+                let space = space_before_body(source, head, at);
+                source.clear(head + 1, body);
+                source.tokens[head + 1].kind = Kind::Space;
+                source.tokens[head + 1].text = space;
+                closure(source, head, body)?;
+            }
+            other => return Err(source.fault(body, format!("{other} after the clauses of a function"))),
+        }
+        at = body;
+    }
+    Ok(())
+}
+
+fn is_clause(source: &Source, at: usize) -> bool {
+    at < source.tokens.len() && (source.is_word(at, "requires") || source.is_word(at, "ensures"))
+}
+
+/// The first code after a clause.
+fn past_clause(source: &Source, clause: usize) -> Result<usize, Fault> {
+    let mut at = source.after(clause);
+    if source.at(at) == "*" {
+        at = source.after(at);
+    }
+    if source.tokens.get(at).map_or(false, |it| it.kind == Kind::Word) {
+        at = source.after(at);
+    }
+    if source.at(at) != "{" {
+        return Err(source.fault(clause, "a clause of another form than `requires name { .. }`"));
+    }
+    Ok(source.after(source.closing(at)?))
+}
+
+/// What stands before a body: a blank, or a line's end where the head ends with a bound.
+fn space_before_body(source: &Source, head: usize, clause: usize) -> String {
+    if source.at(head) != "," {
+        return " ".to_string();
+    }
+    let indent = source.indent(clause);
+    format!("\n{}", &indent[indent.len().min(4)..])
+}
+
+/// A closure that needed braces only for its clauses: `|it| { e }` is `|it| e`.
+fn closure(source: &mut Source, head: usize, body: usize) -> Result<(), Fault> {
+    if source.at(head) != "|" {
+        return Ok(());
+    }
+    let end = source.closing(body)?;
+    let text = source.code(body + 1, end);
+    if !text.contains('\n') && !text.contains(';') {
+        source.replace(body, end + 1, text);
+    }
+    Ok(())
+}
+
+/// `ghost use ..;`, `ghost name = { .. };` in an impl or a trait, `ghost name: { .. },` in a struct.
+fn ghosts(source: &mut Source) -> Result<(), Fault> {
+    for at in source.words("ghost") {
+        if !source.is_word(at, "ghost") {
+            continue;
+        }
+        let name = source.after(at);
+        let sign = source.after(name);
+        let end = match (source.at(name), source.at(sign)) {
+            ("use", _) | (_, "=") => source.find(name, &[";"])?,
+            (_, ":") => source.find(sign, &[";", ",", "}"])?,
+            _ => return Err(source.fault(at, "a ghost item of another form")),
+        };
+        let past = if source.at(end) == "}" { end } else { end + 1 };
+        let start = source.start_of_item(at);
+        source.erase(start, past);
+    }
+    Ok(())
+}
+
+/// `#[tactic(..)]` and `#[cycle(..)]`. The formatter's own attribute has another name for Rust.
+fn attributes(source: &mut Source) -> Result<(), Fault> {
+    for at in 0..source.tokens.len() {
+        if source.at(at) != "#" {
+            continue;
+        }
+        let (open, is_inner) = match (source.past(at, &["#", "!", "["]), source.past(at, &["#", "["])) {
+            (Some(past), _) => (past - 1, true),
+            (_, Some(past)) => (past - 1, false),
+            _ => continue,
+        };
+        let name = source.after(open);
+        let end = source.closing(open)?;
+        match source.at(name) {
+            "tactic" | "cycle" if is_inner => source.erase(at, end + 1),
+            "tactic" | "cycle" => source.erase_line(at, end + 1),
+            "rattlefmt" => source.tokens[name].text = "rustfmt".to_string(),
+            _ => {}
+        }
+    }
+    Ok(())
+}
+
+/// `Drop` in a derive: each type of Rust's can be dropped.
+fn derives(source: &mut Source) -> Result<(), Fault> {
+    without_derive(source, "Drop").map(|_| ())
+}
+
+/// Takes a name out of all derives. Gives the places of those that had it.
+pub fn without_derive(source: &mut Source, name: &str) -> Result<Vec<usize>, Fault> {
+    let mut found = Vec::new();
+    for at in source.words("derive") {
+        if !source.is_at(at, &["derive", "("]) {
+            continue;
+        }
+        let open = source.after(at);
+        let end = source.closing(open)?;
+        let text = source.code(open + 1, end);
+        let names: Vec<&str> = text.split(',').map(str::trim).filter(|it| !it.is_empty()).collect();
+        if !names.contains(&name) {
+            continue;
+        }
+        found.push(at);
+        let kept: Vec<&str> = names.into_iter().filter(|it| *it != name).collect();
+        if !kept.is_empty() {
+            source.replace(open + 1, end, kept.join(", "));
+            continue;
+        }
+        // (the whole attribute, with its `#[` and `]`)
+        let bracket = source.before(at).unwrap_or(at);
+        let hash = source.before(bracket).unwrap_or(at);
+        let close = source.after(end);
+        if source.at(hash) != "#" || source.at(close) != "]" {
+            return Err(source.fault(at, "a derive of another form than `#[derive(..)]`"));
+        }
+        source.erase_line(hash, close + 1);
+    }
+    Ok(found)
+}
+
+/// `impl Model for ..`, which says what a contract sees.
+fn models(source: &mut Source) -> Result<(), Fault> {
+    for at in source.words("impl") {
+        if !source.is_word(at, "impl") {
+            continue;
+        }
+        let brace = match source.find(at, &["{", ";"]) {
+            Ok(brace) if source.at(brace) == "{" => brace,
+            _ => continue,
+        };
+        let is_model = (at..brace).any(|it| source.is_at(it, &["Model", "for"]) && source.is_word(it, "Model"));
+        if is_model {
+            let end = source.closing(brace)?;
+            let start = source.start_of_item(at);
+            source.erase(start, end + 1);
+        }
+    }
+    Ok(())
+}
+
+/// `impl Drop for T { fn drop(self) .. }` of a type whose `drop` only ends what its fields own: Rust drops the fields.
+fn drops(source: &mut Source) -> Result<(), Fault> {
+    for at in source.words("impl") {
+        if !source.is_at(at, &["impl", "Drop", "for"]) {
+            continue;
+        }
+        let open = source.find(at, &["{"])?;
+        let name = source.text_before(open);
+        if !known::FREED_BY_ITS_FIELDS.contains(&name) {
+            return Err(
+                source.fault(at, format!("whether the fields of {name} free all that its drop does isn't known"))
+            );
+        }
+        let end = source.closing(open)?;
+        let start = source.start_of_item(at);
+        source.erase(start, end + 1);
+    }
+    Ok(())
+}
+
+/// Imports of `Model`; `Send` and `Sync` needn't be imported in Rust.
+fn markers(source: &mut Source) -> Result<(), Fault> {
+    for at in source.words("use") {
+        let path = match source.past(at, &["use", "std", "::", "marker", "::"]) {
+            Some(path) => path,
+            None => continue,
+        };
+        let end = source.find(path, &[";"])?;
+        let text = source.code(path, end);
+        let names = text.trim_matches(|it| it == '{' || it == '}').split(',').map(str::trim);
+        let kept: Vec<&str> = names.filter(|it| !["Model", "Send", "Sync", ""].contains(it)).collect();
+        match kept.as_slice() {
+            [] => source.erase(at, end + 1),
+            [one] => source.replace(path, end, one.to_string()),
+            more => source.replace(path, end, format!("{{{}}}", more.join(", "))),
+        }
+    }
+    Ok(())
+}
+
+/// The bound `Drop`, which says that a type may be dropped: each one may, in Rust.
+fn bounds(source: &mut Source) -> Result<(), Fault> {
+    for at in source.words("Drop") {
+        let before = match source.before(at) {
+            Some(before) if [":", "+"].contains(&source.at(before)) => before,
+            _ => continue,
+        };
+        if source.at(before) == ":" && source.at(source.after(at)) == "+" {
+            return Err(source.fault(at, "the bound Drop before another one"));
+        }
+        source.erase(before, at + 1);
+        let of = source.before(before).unwrap_or(before);
+        let comes = source.before(of).unwrap_or(of);
+        if source.is_word(comes, "where") {
+            let comma = source.after(at);
+            let brace = source.after(comma);
+            if source.at(comma) != "," || source.at(brace) != "{" {
+                return Err(source.fault(at, "the bound Drop beside others after where"));
+            }
+            source.erase(comes, brace);
+            source.tokens[comes].kind = Kind::Space;
+            source.tokens[comes].text = " ".to_string();
+        }
+    }
+    Ok(())
+}
+
+/// The label of a loop that no `break` and no `continue` names: proofs call the loop so.
+fn labels(source: &mut Source) {
+    for at in 0..source.tokens.len() {
+        if !matches!(source.tokens[at].kind, Kind::Life) {
+            continue;
+        }
+        let colon = source.after(at);
+        let word = source.after(colon);
+        if source.at(colon) != ":" || !["while", "loop", "for"].contains(&source.at(word)) {
+            continue;
+        }
+        let label = source.at(at);
+        let is_named = (0..source.tokens.len())
+            .any(|it| source.at(it) == label && ["break", "continue"].contains(&source.text_before(it)));
+        if !is_named {
+            source.clear(at, word);
+        }
+    }
+}

@@ -1,0 +1,55 @@
+//! Writes the plain edition: Rust without contracts, of the crates' sources.
+//!
+//!     eraser ROOT OUT          the edition of the repository ROOT, as one crate in the folder OUT
+//!     eraser --case FILE       what is written of one source, on standard output
+//!
+//! What a proof reads is erased (`ghosts`). What Rust writes otherwise is rewritten, each form by a function of its own
+//! (`rust`, `faults`, `exports`, `paths`). Nothing is guessed: a form that isn't known (`known`) is refused
+//! with its file and line. Status 1: there is such a form, or a file can't be read or written. Status 2: other words.
+
+// (what clippy proposes came later than rustc 1.63)
+#![allow(clippy::unnecessary_map_or)]
+
+mod edition;
+mod exports;
+mod fault;
+mod faults;
+mod ghosts;
+mod known;
+mod layout;
+mod paths;
+mod rust;
+mod source;
+mod token;
+mod uses;
+
+use fault::Fault;
+use std::path::Path;
+use std::process::ExitCode;
+
+fn main() -> ExitCode {
+    let words: Vec<String> = std::env::args().skip(1).collect();
+    let words: Vec<&str> = words.iter().map(String::as_str).collect();
+    let done = match words.as_slice() {
+        ["--case", file] => case(Path::new(file)),
+        [root, out] => edition::write(Path::new(root), Path::new(out)).map(|_| ()),
+        _ => {
+            eprintln!("eraser: it takes ROOT OUT, or --case FILE");
+            return ExitCode::from(2);
+        }
+    };
+    match done {
+        Ok(()) => ExitCode::SUCCESS,
+        Err(fault) => {
+            eprintln!("{fault}");
+            ExitCode::from(1)
+        }
+    }
+}
+
+fn case(path: &Path) -> Result<(), Fault> {
+    let text = std::fs::read_to_string(path).map_err(|error| Fault::of(path, error))?;
+    let name = path.file_name().map_or(String::new(), |it| it.to_string_lossy().into_owned());
+    print!("{}", edition::case(&name, &text)?);
+    Ok(())
+}

@@ -1,0 +1,54 @@
+//! C's handles of a card and of a snapshot: pointers that C never follows.
+//!
+//! In Rattle they are pointers, whose box is made again where they end. A box of Rust, or none, is for C a pointer, or
+//! null: so here they are that, and Rust frees them where they end.
+
+use crate::card::{Card, Kept};
+use crate::kit::c::Held;
+use crate::kit::prelude::*;
+
+/// A handle of a card on the heap. In C it is a struct with one pointer.
+#[repr(C)]
+pub struct Handle {
+    card: Option<Box<Card>>,
+}
+
+/// A handle of a kept card on the heap. In C it is a struct with one pointer.
+#[repr(C)]
+pub struct KeptHandle {
+    kept: Option<Box<Kept>>,
+}
+
+fn address_of<T>(boxed: &Option<Box<T>>) -> usize {
+    boxed.as_ref().map_or(0, |it| &**it as *const T as usize)
+}
+
+impl Handle {
+    /// Borrows the card. C calls nothing with a null handle.
+    #[inline]
+    pub fn lend(&mut self) -> &mut Card {
+        self.card.as_mut().expect("a handle of a card")
+    }
+}
+
+impl KeptHandle {
+    /// Borrows the kept card. C calls nothing with a null handle.
+    #[inline]
+    pub fn lend(&mut self) -> &mut Kept {
+        self.kept.as_mut().expect("a handle of a kept card")
+    }
+}
+
+impl Held for Handle {
+    #[inline]
+    fn address(&self) -> usize {
+        address_of(&self.card)
+    }
+}
+
+impl Held for KeptHandle {
+    #[inline]
+    fn address(&self) -> usize {
+        address_of(&self.kept)
+    }
+}

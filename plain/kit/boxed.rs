@@ -1,0 +1,43 @@
+//! `Box`: a value on the heap, whose place may be refused. It is Rust's box, made another way.
+
+use super::alloc::{AllocFailed, Global};
+use super::raw;
+use alloc::boxed::Box as Boxed;
+use core::marker::PhantomData;
+use core::ops::{Deref, DerefMut};
+
+/// A value on the heap. For C it is a pointer, and `Option<Box<T>>` one that may be null.
+#[derive(Debug, PartialEq, Eq)]
+#[repr(transparent)]
+pub struct Box<T, A = Global>(Boxed<T>, PhantomData<A>);
+
+impl<T> Box<T> {
+    /// A value, moved to the heap; it comes back where there is no memory.
+    #[inline]
+    pub fn new(_alloc: Global, value: T) -> Result<Self, AllocFailed<T>> {
+        match raw::boxed(value) {
+            Ok(place) => Ok(Box(place, PhantomData)),
+            Err(value) => Err(AllocFailed { value }),
+        }
+    }
+
+    pub fn into_inner(it: Self) -> T {
+        *it.0
+    }
+}
+
+impl<T, A> Deref for Box<T, A> {
+    type Target = T;
+
+    #[inline]
+    fn deref(&self) -> &T {
+        &self.0
+    }
+}
+
+impl<T, A> DerefMut for Box<T, A> {
+    #[inline]
+    fn deref_mut(&mut self) -> &mut T {
+        &mut self.0
+    }
+}

@@ -1,0 +1,3 @@
+//! `std::mem`.
+
+pub use core::mem::{replace, swap, ManuallyDrop};

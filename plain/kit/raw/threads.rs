@@ -1,0 +1,78 @@
+//! A thread that is made where memory lacks or not: Rust's own `spawn` takes memory in a way that can't fail.
+
+#[cfg(unix)]
+mod system {
+    use std::os::raw::{c_int, c_void};
+    use std::panic::{catch_unwind, AssertUnwindSafe};
+
+    /// `pthread_t`: a number or a pointer, of a word's size.
+    type Thread = usize;
+
+    extern "C" {
+        fn pthread_create(
+            thread: *mut Thread,
+            attributes: *const c_void,
+            run: extern "C" fn(*mut c_void) -> *mut c_void,
+            task: *mut c_void,
+        ) -> c_int;
+        fn pthread_join(thread: Thread, result: *mut *mut c_void) -> c_int;
+    }
+
+    struct Task<'a> {
+        call: &'a mut (dyn FnMut() + Send),
+        has_panicked: bool,
+    }
+
+    extern "C" fn run(task: *mut c_void) -> *mut c_void {
+        // SAFETY: `beside` passes a task, and doesn't touch it before this thread has ended.
+        let task = unsafe { &mut *task.cast::<Task<'_>>() };
+        task.has_panicked = catch_unwind(AssertUnwindSafe(|| (task.call)())).is_err();
+        core::ptr::null_mut()
+    }
+
+    /// A thread that is waited for, also where its caller panics.
+    struct Joined(Thread);
+
+    impl Drop for Joined {
+        fn drop(&mut self) {
+            // SAFETY: the thread was made and is joined once.
+            unsafe { pthread_join(self.0, core::ptr::null_mut()) };
+        }
+    }
+
+    pub(in crate::kit) fn beside(one: &mut (dyn FnMut() + Send), other: &mut dyn FnMut()) -> bool {
+        let mut task = Task { call: one, has_panicked: false };
+        let at: *mut Task<'_> = &mut task;
+        let mut thread = 0;
+        // SAFETY: the task lives until the thread has ended, since `Joined` waits for it, and may be another thread's,
+        // since its call may.
+        let refused = unsafe { pthread_create(&mut thread, core::ptr::null(), run, at.cast()) };
+        if refused != 0 {
+            return false;
+        }
+        let joined = Joined(thread);
+        other();
+        drop(joined);
+        // SAFETY: the thread has ended.
+        assert!(!unsafe { (*at).has_panicked }, "a thread panicked");
+        true
+    }
+}
+
+#[cfg(not(unix))]
+mod system {
+    use std::thread::{scope, Builder};
+
+    pub(in crate::kit) fn beside(one: &mut (dyn FnMut() + Send), other: &mut dyn FnMut()) -> bool {
+        scope(|all| match Builder::new().spawn_scoped(all, one) {
+            Ok(_) => {
+                other();
+                true
+            }
+            Err(_) => false,
+        })
+    }
+}
+
+/// Calls the one in a thread of its own, and the other here. False where no thread can be made: then none was called.
+pub(in crate::kit) use system::beside;

@@ -1,0 +1,151 @@
+//! `std::sync`: shared values and locks. A lock is taken by who can wait, which Rattle's types say; no lock is
+//! poisoned, since a panic ends the process or the device.
+
+use super::alloc::{AllocError, AllocFailed, Global};
+use super::raw::Shared;
+use core::fmt;
+use core::ops::{Deref, DerefMut};
+use std::sync::PoisonError;
+
+/// A value with several owners, in any threads.
+pub struct Arc<T>(Shared<T>);
+
+impl<T> Arc<T> {
+    /// A value with one owner; it comes back where there is no memory.
+    pub fn new(_alloc: Global, value: T) -> Result<Self, AllocFailed<T>> {
+        Shared::new(value).map(Arc).map_err(|value| AllocFailed { value })
+    }
+
+    /// One more owner; refused where there are too many.
+    pub fn try_clone(it: &Self) -> Result<Self, AllocError> {
+        it.0.another().map(Arc).ok_or(AllocError)
+    }
+
+    pub fn strong_count(it: &Self) -> usize {
+        it.0.owners() as usize
+    }
+}
+
+impl<T> Deref for Arc<T> {
+    type Target = T;
+
+    #[inline]
+    fn deref(&self) -> &T {
+        self.0.value()
+    }
+}
+
+impl<T: fmt::Debug> fmt::Debug for Arc<T> {
+    fn fmt(&self, f: &mut fmt::Formatter<'_>) -> fmt::Result {
+        (**self).fmt(f)
+    }
+}
+
+/// Who can wait.
+pub trait Wait {
+    /// Steps without end, for who looks again and again.
+    fn forever(&self) -> core::iter::Repeat<()> {
+        core::iter::repeat(())
+    }
+}
+
+impl<R: Wait> Wait for &R {}
+
+/// A lock around a value.
+#[derive(Debug)]
+pub struct Mutex<T>(std::sync::Mutex<T>);
+
+/// The value of a lock that is held.
+pub struct MutexGuard<'a, T>(std::sync::MutexGuard<'a, T>);
+
+impl<T> Mutex<T> {
+    pub fn new(value: T) -> Self {
+        Mutex(std::sync::Mutex::new(value))
+    }
+
+    pub fn lock<R: Wait>(&self, _: &R) -> MutexGuard<'_, T> {
+        MutexGuard(self.0.lock().unwrap_or_else(PoisonError::into_inner))
+    }
+
+    /// The value, where nobody holds the lock.
+    pub fn try_lock(&self) -> Option<MutexGuard<'_, T>> {
+        self.0.try_lock().ok().map(MutexGuard)
+    }
+
+    pub fn into_inner(self) -> T {
+        self.0.into_inner().unwrap_or_else(PoisonError::into_inner)
+    }
+
+    pub fn get_mut(&mut self) -> &mut T {
+        self.0.get_mut().unwrap_or_else(PoisonError::into_inner)
+    }
+}
+
+impl<T> Deref for MutexGuard<'_, T> {
+    type Target = T;
+
+    fn deref(&self) -> &T {
+        &self.0
+    }
+}
+
+impl<T> DerefMut for MutexGuard<'_, T> {
+    fn deref_mut(&mut self) -> &mut T {
+        &mut self.0
+    }
+}
+
+/// What threads wait for while they hold a lock.
+#[derive(Debug)]
+pub struct Condvar(std::sync::Condvar);
+
+impl Condvar {
+    pub fn new() -> Self {
+        Condvar(std::sync::Condvar::new())
+    }
+
+    pub fn notify_one(&self) {
+        self.0.notify_one();
+    }
+
+    pub fn notify_all(&self) {
+        self.0.notify_all();
+    }
+
+    /// Waits until a function of the value says that it isn't early.
+    pub fn wait_while<'a, T, R: Wait>(
+        &self,
+        _: &R,
+        guard: MutexGuard<'a, T>,
+        is_early: impl FnMut(&mut T) -> bool,
+    ) -> MutexGuard<'a, T> {
+        MutexGuard(self.0.wait_while(guard.0, is_early).unwrap_or_else(PoisonError::into_inner))
+    }
+}
+
+pub mod atomic {
+    //! `std::sync::atomic`, with Rattle's number whose values obey a rule, which is proved.
+
+    use core::marker::PhantomData;
+    pub use core::sync::atomic::{AtomicU64, Ordering};
+
+    /// What the values of an `AtomicIn` obey.
+    pub trait Rule {}
+
+    /// A number whose values obey a rule.
+    pub struct AtomicIn<R>(AtomicU64, PhantomData<fn() -> R>);
+
+    impl<R: Rule> AtomicIn<R> {
+        pub fn new(word: u64) -> Self {
+            AtomicIn(AtomicU64::new(word), PhantomData)
+        }
+
+        pub fn load(&self, order: Ordering) -> u64 {
+            self.0.load(order)
+        }
+
+        pub fn compare_exchange(&self, old: u64, new: u64, done: Ordering, failed: Ordering) -> Result<u64, u64> {
+            self.0.compare_exchange(old, new, done, failed)
+        }
+    }
+}

@@ -1,5 +1,5 @@
-/* What the measuring programs in C have in common: the clock, a pack of addresses that is shuffled, and the lines that
-   they print, each the name of a measure, how many things, and the nanoseconds. */
+/* What the measuring programs in C have in common: the clock (MEASURE_CLOCK where it's another), a pack of addresses
+   that is shuffled, and the lines that they print, each the name of a measure, how many things, and the nanoseconds. */
 #include <stdint.h>
 #include <stdio.h>
 #include <time.h>
@@ -7,10 +7,14 @@
 /* What is written to registers: it asks for no reset and lets the device make its steps. */
 #define WORD 0x5a5a0050u
 
+#ifndef MEASURE_CLOCK
+#define MEASURE_CLOCK CLOCK_MONOTONIC
+#endif
+
 static uint64_t now(void)
 {
     struct timespec t;
-    clock_gettime(CLOCK_MONOTONIC, &t);
+    clock_gettime(MEASURE_CLOCK, &t);
     return (uint64_t)t.tv_sec * 1000000000u + (uint64_t)t.tv_nsec;
 }
 

@@ -28,13 +28,14 @@ Told = Callable[..., str]
 
 @dataclass(frozen=True)
 class Package:
-    """What its files are made of: the version, the time of the commit, the soname's number and the C library's least
-    version."""
+    """What its files are made of: the version, the time of the commit, the soname's number, the C library's least
+    version, and further packages with libraries that the binaries ask for."""
 
     version: str
     epoch: int
     soname: str
     libc: str
+    libraries: tuple[str, ...] = ()
 
 
 def put(path: Path, data: str | bytes, mode: int = 0o644) -> None:
@@ -52,13 +53,13 @@ def packed(text: str) -> bytes:
     return gzip.compress(text.encode(), 9, mtime=0)
 
 
-def changelog(package: Package) -> bytes:
+def changelog(version: str, epoch: int) -> str:
     """What Debian's tools read of the version; what changed is in CHANGELOG.md."""
-    date = formatdate(package.epoch).replace("-0000", "+0000")
+    date = formatdate(epoch).replace("-0000", "+0000")
     maintainer = re.search(r"Maintainer: (.*)", text_of("control.in"))
     assert maintainer
-    return packed(
-        f"nic82599 ({package.version}) unstable; urgency=medium\n\n"
+    return (
+        f"nic82599 ({version}) unstable; urgency=medium\n\n"
         "  * CHANGELOG.md tells what changed.\n\n"
         f" -- {maintainer[1]}  {date}\n"
     )
@@ -77,6 +78,7 @@ def control(name: str, tree: Path, package: Package, **more: str) -> None:
     """The file control of a tree, and the sums of its files."""
     files = sorted(it for it in tree.rglob("*") if it.is_file() and not it.is_symlink())
     words = {"VERSION": package.version, "ARCHITECTURE": ARCHITECTURE, "LIBC": package.libc, **more}
+    words["MORE"] = "".join(f", {it}" for it in package.libraries)
     words["SIZE"] = str(sum(it.stat().st_size for it in files) // 1024)
     text = text_of(name)
     for word, value in words.items():
@@ -105,7 +107,7 @@ def write(prefix: Path, symbols: dict[Path, Path], package: Package, out: Path, 
     for name in LEFT_OUT:
         (tree / name).unlink()
     put(tree / DOC / "copyright", text_of("copyright"))
-    put(tree / DOC / "changelog.gz", changelog(package))
+    put(tree / DOC / "changelog.gz", packed(changelog(package.version, package.epoch)))
     put(tree / "usr/share/lintian/overrides/nic82599", text_of("lintian-overrides"))
     control("control.in", tree, package)
     plain = package.version.partition("+")[0]

@@ -1,7 +1,8 @@
 """Makes the wheel of this package: pip's build backend (PEP 517 and 660), and what dev/release calls.
 
-It needs the standard library alone, so pip needs no network. The wheel has the modules, the shared library and, where
-it is built, the program `nicbench`. Its bytes are decided by what goes in and by SOURCE_DATE_EPOCH.
+It needs the standard library alone, so pip needs no network. The wheel has the modules, the shared library and the
+program `nicbench`: the proved ones if they are there, otherwise those of the plain edition, which rustc compiles. Its
+bytes are decided by what goes in and by SOURCE_DATE_EPOCH.
 """
 
 import base64
@@ -123,26 +124,28 @@ def make_library() -> None:
         sys.exit("nic82599_wheel: the library can't be made, see above: `make -C c` is to work first")
 
 
-def unproved_script(program: str) -> bytes:
-    """The script that starts an unproved program, which lies there from it."""
-    return (ROOT / "packaging/unproved.in").read_text().replace("@PROGRAM@", program).encode()
+def edition_script(program: str, edition: str) -> bytes:
+    """The script that starts a program that isn't proved, which is at this path from the script."""
+    text = (ROOT / "packaging/edition.in").read_text()
+    return text.replace("@PROGRAM@", program).replace("@EDITION@", edition).encode()
 
 
-def program_files(program: bytes, is_proved: bool) -> dict[str, bytes]:
-    """The program as a wheel has it; an unproved one behind a script that says so."""
-    if is_proved:
+def program_files(program: bytes, edition: str) -> dict[str, bytes]:
+    """The program as a wheel has it; one that isn't proved after a script whose version ends with its edition."""
+    if edition == "proved":
         return {"nic82599/nicbench": program}
-    return {"nic82599/nicbench": unproved_script("unproved/nicbench"), "nic82599/unproved/nicbench": program}
+    script = edition_script(f"{edition}/nicbench", edition)
+    return {"nic82599/nicbench": script, f"nic82599/{edition}/nicbench": program}
 
 
-def built_program() -> Path | None:
-    """The program that ./nicbench would start, where one was made: the proved one, or else the unproved one."""
-    out = ROOT / "crates/nicbench/out"
-    if not (out / "nicbench").exists() and not (out / "unproved/current").exists():
+def built_program() -> tuple[Path, str] | None:
+    """The program that ./nicbench would start, and its edition, proved or plain; None if it can't be made."""
+    words = [ROOT / "dev/plain", "--or-proved", "program"]
+    made = subprocess.run(words, stdout=subprocess.PIPE, stderr=sys.stderr, text=True, check=False)
+    if made.returncode:
         return None
-    words = [ROOT / "dev/unproved", "--or-proved", "program"]
-    made = subprocess.run(words, stdout=subprocess.PIPE, text=True, check=False)
-    return Path(made.stdout.strip()) if made.returncode == 0 else None
+    program = Path(made.stdout.strip())
+    return program, "proved" if program == ROOT / "crates/nicbench/out/nicbench" else "plain"
 
 
 # --- what pip calls ---
@@ -153,9 +156,10 @@ def build_wheel(
 ) -> str:
     make_library()
     binaries = {f"nic82599/{SONAME}": (ROOT / "c/out/libnic82599.so").read_bytes()}
-    program = built_program()
-    if program:
-        binaries |= program_files(program.read_bytes(), "/unproved/" not in str(program))
+    built = built_program()
+    if built:
+        program, edition = built
+        binaries |= program_files(program.read_bytes(), edition)
     return write_wheel(Path(wheel_directory), version(), modules(), binaries)
 
 

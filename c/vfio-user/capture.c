@@ -13,7 +13,7 @@
 #define ENHANCED 6u
 #define BYTE_ORDER 0x1A2B3C4Du
 #define ETHERNET 1u
-#define BLOCK_MOST (1u << 20)
+#define BLOCK_MOST (1u << 24) /* as in python/nic82599/pcap.py */
 
 /* ---- written ---- */
 
@@ -23,19 +23,19 @@ static void put16(uint8_t *to, unsigned int value)
     to[1] = (uint8_t)(value >> 8);
 }
 
-static bool put_block(FILE *file, uint32_t type, const uint8_t *body, size_t length)
+/* A block's head and end around a body of so many bytes; its length. */
+static size_t frame_block(uint8_t *block, uint32_t type, size_t body)
 {
-    uint8_t head[8], end[4];
-    pcap_put_word(head, type);
-    pcap_put_word(head + 4, (uint32_t)(length + 12));
-    pcap_put_word(end, (uint32_t)(length + 12));
-    return fwrite(head, 1, sizeof head, file) == sizeof head && fwrite(body, 1, length, file) == length &&
-           fwrite(end, 1, sizeof end, file) == sizeof end;
+    size_t all = body + 12;
+    pcap_put_word(block, type);
+    pcap_put_word(block + 4, (uint32_t)all);
+    pcap_put_word(block + 8 + body, (uint32_t)all);
+    return all;
 }
 
-bool capture_begin(FILE *file)
+void capture_begin(struct output *to)
 {
-    uint8_t section[16] = {0}, interface[20] = {0};
+    uint8_t blocks[28 + 32] = {0}, *section = blocks + 8, *interface = blocks + 28 + 8;
     pcap_put_word(section, BYTE_ORDER);
     put16(section + 4, 1); /* version 1.0; the section's length isn't known */
     memset(section + 8, 0xFF, 8);
@@ -43,31 +43,32 @@ bool capture_begin(FILE *file)
     put16(interface + 8, 9); /* option: resolution of times, 1 byte, 10^-9 */
     put16(interface + 10, 1);
     interface[12] = 9;
-    return put_block(file, SECTION, section, sizeof section) &&
-           put_block(file, INTERFACE, interface, sizeof interface) && fflush(file) == 0;
+    frame_block(blocks, SECTION, 16);
+    frame_block(blocks + 28, INTERFACE, 20);
+    output_put(to, blocks, sizeof blocks);
 }
 
-bool capture_write(FILE *file, enum capture_direction direction, const uint8_t *frame, size_t length)
+void capture_write(struct output *to, enum capture_direction direction, const uint8_t *frame, size_t length)
 {
-    static const uint8_t zeros[4];
+    static uint8_t block[8 + 20 + CAPTURE_FRAME_MOST + 12 + 4];
+    uint8_t *body = block + 8, *end = body + 20 + (length + 3) / 4 * 4;
     struct timespec now;
-    uint8_t head[28], end[16] = {0};
-    size_t pad = (4 - length % 4) % 4, all = sizeof head + length + pad + sizeof end;
+    if (length > CAPTURE_FRAME_MOST)
+        return;
     clock_gettime(CLOCK_REALTIME, &now);
     uint64_t at = (uint64_t)now.tv_sec * UINT64_C(1000000000) + (uint64_t)now.tv_nsec;
-    pcap_put_word(head, ENHANCED);
-    pcap_put_word(head + 4, (uint32_t)all);
-    pcap_put_word(head + 8, 0); /* the interface */
-    pcap_put_word(head + 12, (uint32_t)(at >> 32));
-    pcap_put_word(head + 16, (uint32_t)at);
-    pcap_put_word(head + 20, (uint32_t)length);
-    pcap_put_word(head + 24, (uint32_t)length);
-    put16(end, 2); /* option: flags, 4 bytes: the direction */
+    pcap_put_word(body, 0); /* the interface */
+    pcap_put_word(body + 4, (uint32_t)(at >> 32));
+    pcap_put_word(body + 8, (uint32_t)at);
+    pcap_put_word(body + 12, (uint32_t)length);
+    pcap_put_word(body + 16, (uint32_t)length);
+    memcpy(body + 20, frame, length);
+    memset(body + 20 + length, 0, (size_t)(end - body) - 20 - length);
+    memset(end, 0, 12);
+    put16(end, 2); /* option: flags, 4 bytes: the direction; then the options' end */
     put16(end + 2, 4);
     end[4] = (uint8_t)direction;
-    pcap_put_word(end + 12, (uint32_t)all);
-    return fwrite(head, 1, sizeof head, file) == sizeof head && fwrite(frame, 1, length, file) == length &&
-           fwrite(zeros, 1, pad, file) == pad && fwrite(end, 1, sizeof end, file) == sizeof end && fflush(file) == 0;
+    output_put(to, block, frame_block(block, ENHANCED, (size_t)(end - body) + 12));
 }
 
 /* ---- read ---- */
@@ -75,7 +76,7 @@ bool capture_write(FILE *file, enum capture_direction direction, const uint8_t *
 static bool begin_section(struct capture_reader *it, const uint8_t *order)
 {
     it->is_big = pcap_word(order, true) == BYTE_ORDER;
-    it->interfaces = it->ethernet = 0;
+    it->interfaces = it->ethernet = it->longest = 0;
     return it->is_big || pcap_word(order, false) == BYTE_ORDER;
 }
 
@@ -100,19 +101,35 @@ static uint32_t half(const struct capture_reader *it, const uint8_t *at)
     return it->is_big ? (uint32_t)at[0] << 8 | at[1] : (uint32_t)at[1] << 8 | at[0];
 }
 
-/* The frame of an enhanced (or simple) block: how long its head is, and whether it is all there and Ethernet's. */
+/* The frame of an enhanced (or simple) block: how long it is, and whether it is all there and Ethernet's. */
 static bool is_frame(const struct capture_reader *it, uint32_t type, const uint8_t *head, size_t body, size_t room,
                      size_t *length)
 {
     uint32_t interface = type == ENHANCED ? pcap_word(head, it->is_big) : 0;
     uint32_t all = pcap_word(head + (type == ENHANCED ? 16 : 0), it->is_big);
-    *length = type == ENHANCED ? pcap_word(head + 12, it->is_big) : all;
+    bool is_cut = type == SIMPLE && it->longest && it->longest < all;
+    *length = type == ENHANCED ? pcap_word(head + 12, it->is_big) : is_cut ? it->longest : all;
     return *length == all && *length <= room && *length <= body && interface < 32 && it->ethernet >> interface & 1;
 }
 
+/* Passes bytes by, at least one; false where the file ends before. */
 static bool skip(FILE *file, size_t length)
 {
-    return fseek(file, (long)length, SEEK_CUR) == 0;
+    return fseek(file, (long)length - 1, SEEK_CUR) == 0 && fgetc(file) != EOF;
+}
+
+/* So many bytes of a block's body are read at once. */
+static size_t head_of(uint32_t type)
+{
+    return type == ENHANCED ? 20 : type == INTERFACE ? 8 : type == SIMPLE ? 4 : 0;
+}
+
+static void add_interface(struct capture_reader *it, const uint8_t *body)
+{
+    if (!it->interfaces)
+        it->longest = pcap_word(body + 4, it->is_big);
+    if (it->interfaces++ < 32 && half(it, body) == ETHERNET)
+        it->ethernet |= 1u << (it->interfaces - 1);
 }
 
 /* One block: CAPTURE_FRAME where it had one, CAPTURE_END where it hadn't. */
@@ -125,12 +142,12 @@ static enum capture_next read_block(struct capture_reader *it, uint8_t *frame, s
     if (is_section && (fread(body, 1, 4, it->file) != 4 || !begin_section(it, body)))
         return CAPTURE_BROKEN;
     uint32_t type = pcap_word(head, it->is_big), all = pcap_word(head + 4, it->is_big);
-    size_t taken = is_section ? 12 : 8, own = type == ENHANCED ? 20 : type == SIMPLE || type == INTERFACE ? 4 : 0;
+    size_t taken = is_section ? 12 : 8, own = head_of(type);
     if (all % 4 || all < 12 + own + (is_section ? 4 : 0) || all > BLOCK_MOST || fread(body, 1, own, it->file) != own)
         return CAPTURE_BROKEN;
     taken += own;
-    if (type == INTERFACE && it->interfaces++ < 32 && half(it, body) == ETHERNET)
-        it->ethernet |= 1u << (it->interfaces - 1);
+    if (type == INTERFACE)
+        add_interface(it, body);
     if (type != ENHANCED && type != SIMPLE)
         return skip(it->file, all - taken) ? CAPTURE_END : CAPTURE_BROKEN;
     if (!is_frame(it, type, body, all - taken - 4, room, length) || fread(frame, 1, *length, it->file) != *length ||

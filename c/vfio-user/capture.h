@@ -8,16 +8,21 @@
 #include <stdint.h>
 #include <stdio.h>
 
+#include "output.h"
+
 enum capture_direction { CAPTURE_IN = 1, CAPTURE_OUT = 2 };
 
-/* Begins a file; false where it can't be written. */
-bool capture_begin(FILE *file);
-bool capture_write(FILE *file, enum capture_direction direction, const uint8_t *frame, size_t length);
+#define CAPTURE_FRAME_MOST 65536u /* bytes: longer frames aren't written */
+
+/* Begins a file. */
+void capture_begin(struct output *to);
+void capture_write(struct output *to, enum capture_direction direction, const uint8_t *frame, size_t length);
 
 struct capture_reader {
     FILE *file;
     bool is_ng, is_big;
     unsigned int interfaces, ethernet; /* of a pcapng section: how many, and which of the first 32 are Ethernet */
+    uint32_t longest;                  /* bytes that its first one keeps of a frame; 0: all */
 };
 
 enum capture_next { CAPTURE_FRAME, CAPTURE_END, CAPTURE_BROKEN };

@@ -5,23 +5,16 @@
 #include <string.h>
 #include <time.h>
 
+#include "log.h"
 #include "memory.h"
 
-#define REFUSALS_TOLD 20
 #define WHY_BYTES 65536
 #define RESETS (NIC_CTRL_RST | NIC_CTRL_LRST)
 
 /* The bus calls back without a word of whom it calls: there is one card. */
 static struct card *the_card;
 
-/* ---- the guests' memory ---- */
-
-static void *memory_of(void *of, unsigned int number, uint64_t address, size_t *length, bool write)
-{
-    const struct card *it = of;
-    const struct function *function = number <= CARD_FUNCTIONS_MOST ? it->active[number] : NULL;
-    return function ? memory_map_run(&function->session.map, address, length, write) : NULL;
-}
+/* ---- what is told ---- */
 
 static void keep_access(struct card *it, const struct function *function, bool is_write, uint32_t offset, uint32_t word)
 {
@@ -33,21 +26,24 @@ static void tell_accesses(const struct card *it)
     uint64_t first = it->access_count > CARD_ACCESSES ? it->access_count - CARD_ACCESSES : 0;
     for (uint64_t i = first; i < it->access_count; i++) {
         const struct card_access *access = &it->accesses[i % CARD_ACCESSES];
-        fprintf(stderr, "  access %" PRIu64 ": function %u %c %05" PRIx32 " %08" PRIx32 "\n", i + 1,
-                access->function->number, access->is_write ? 'w' : 'r', access->offset, access->word);
+        log_line(LOG_CHECK, "  access %" PRIu64 ": function %u %c %05" PRIx32 " %08" PRIx32, i + 1,
+                 access->function->number, access->is_write ? 'w' : 'r', access->offset, access->word);
     }
 }
 
 static void refused(void *of, const char *what, unsigned int number, uint16_t queue, uint64_t address, size_t length)
 {
-    struct card *it = of;
-    bool is_last = ++it->told == REFUSALS_TOLD && !it->options.has_check;
-    if (it->told > REFUSALS_TOLD && !it->options.has_check)
-        return;
-    fprintf(stderr, "card: function %u, queue %u: %s, 0x%" PRIx64 ", %zu bytes%s\n", number, queue, what, address,
-            length, is_last ? "; no more of these are told" : "");
+    const struct card *it = of;
+    log_line(it->options.has_check ? LOG_CHECK : LOG_ACCESS,
+             "card: function %u, queue %u: %s, 0x%" PRIx64 ", %zu bytes", number, queue, what, address, length);
     if (it->options.has_check)
         tell_accesses(it);
+}
+
+static void fault(const char *where, const nic_told *told)
+{
+    log_line(LOG_FAULT, "card: a fault in %s, queue %u slot %u: %s, bus address 0x%" PRIx64, where, told->queue,
+             told->slot, nic_fault_name(told->why), told->bus);
 }
 
 /* ---- what the bus calls: the hooks, and memory.h ---- */
@@ -64,8 +60,9 @@ static void note_enable(uint32_t address)
 
 static uint32_t to_device(unsigned int function, uint32_t address, uint32_t word)
 {
+    (void)function;
     note_enable(address);
-    return rings_to_device(the_card->rings, function, address, word);
+    return rings_to_device(the_card->rings, the_card->writer, address, word);
 }
 
 static uint32_t to_driver(unsigned int function, uint32_t address, uint32_t word)
@@ -76,10 +73,30 @@ static uint32_t to_driver(unsigned int function, uint32_t address, uint32_t word
 
 static uint64_t waiting(const struct card *it);
 
+static void one_out(void *to, const uint8_t *frame, size_t length)
+{
+    struct card *it = to;
+    if (it->sink)
+        it->sink(it->sink_to, frame, length);
+}
+
+/* Sends what is left of a large send, as much as the budget allows: false where some is left yet. */
+static bool send_rest(struct card *it, uint16_t queue)
+{
+    if (!it->offload || !offload_is_cutting(it->offload, queue))
+        return true;
+    offload_cut(it->offload, queue, &it->budget, one_out, it);
+    return !offload_is_cutting(it->offload, queue);
+}
+
+/* Whether the device is to be asked for a step; the queue stays due where its client's budget is spent. */
 static bool stepping(bool is_transmit, uint16_t queue)
 {
-    bool is_due = rings_step(the_card->rings, is_transmit, queue);
-    return is_transmit ? is_due : waiting(the_card) != 0;
+    struct card *it = the_card;
+    if (is_transmit)
+        return send_rest(it, queue) && !budget_is_spent(&it->budget) && rings_step(it->rings, true, queue);
+    rings_step(it->rings, false, queue);
+    return waiting(it) != 0 && !budget_is_spent(&it->budget);
 }
 
 static void on_reset(uint16_t queue)
@@ -95,7 +112,8 @@ void memory_begin(void)
 void memory_tail(bool is_transmit, uint16_t queue, uint32_t tail)
 {
     struct stepper *stepper = &the_card->stepper;
-    rings_tail(the_card->rings, is_transmit, queue, tail, !stepper->has_seed || stepper_toss(stepper));
+    bool fetches = !stepper->has_seed || stepper_toss(stepper);
+    rings_tail(the_card->rings, the_card->writer, is_transmit, queue, tail, fetches);
     if (is_transmit)
         stepper_tail(stepper, queue);
 }
@@ -122,15 +140,9 @@ void *memory_at(uint64_t bus, size_t length)
     return NULL;
 }
 
-static void one_out(void *to, const uint8_t *frame, size_t length)
-{
-    struct card *it = to;
-    if (it->sink)
-        it->sink(it->sink_to, frame, length);
-}
-
 static void sent(uint16_t queue, const uint8_t *frame, size_t length)
 {
+    budget_spend(&the_card->budget, length);
     if (the_card->offload)
         offload_sent(the_card->offload, queue, frame, length, one_out, the_card);
     else
@@ -157,6 +169,7 @@ static void reset(struct card *it, uint32_t word)
 {
     it->stepper.reset.word = 0;
     it->stepper.has_changed = true;
+    budget_spend(&it->budget, BUDGET_RESET);
     it->let_in = bus_counts()->frames_in + bus_counts()->drops;
     bus_write(BUS_PHYSICAL, NIC_CTRL, word);
 }
@@ -175,10 +188,18 @@ static void end_reset(struct card *it)
         reset(it, it->stepper.reset.word);
 }
 
+/* A client accesses a register, and pays for what follows. */
+static void begin_access(struct card *it, struct function *function)
+{
+    it->active[function->number] = function;
+    it->budget.payer = function->socket;
+    budget_spend(&it->budget, BUDGET_ACCESS);
+}
+
 uint32_t card_read(struct card *it, struct function *function, uint32_t offset)
 {
     uint64_t enables = bus_counts()->enables;
-    it->active[function->number] = function;
+    begin_access(it, function);
     watch(it, function, false, offset, 0);
     end_reset(it);
     uint32_t word = bus_read(function->number, offset);
@@ -197,10 +218,18 @@ static void lose(struct card *it, const struct function *function, uint32_t offs
                 function->number, 0, offset, sizeof(uint32_t));
 }
 
+/* Writes a register for a client, whose the rings are that this sets up. */
+static void write_as(struct card *it, struct dma client, unsigned int number, uint32_t offset, uint32_t word)
+{
+    it->writer = client;
+    bus_write(number, offset, word);
+    it->writer = (struct dma){0};
+}
+
 void card_write(struct card *it, struct function *function, uint32_t offset, uint32_t word)
 {
     bool resets = function->number == BUS_PHYSICAL && offset == NIC_CTRL && word & RESETS;
-    it->active[function->number] = function;
+    begin_access(it, function);
     it->stepper.has_changed = true;
     keep_access(it, function, true, offset, word);
     watch(it, function, true, offset, word);
@@ -212,11 +241,15 @@ void card_write(struct card *it, struct function *function, uint32_t offset, uin
     else if (resets)
         reset(it, word);
     else
-        bus_write(function->number, offset, word);
+        write_as(it, dma_of(function), function->number, offset, word);
 }
 
+/* Its client's rings stop, also where another socket of the function has it, and so its other rings go on. */
 void card_reset_function(struct card *it, struct function *function)
 {
+    it->budget.payer = function->socket;
+    budget_spend(&it->budget, BUDGET_RESET);
+    rings_stop_all(it->rings, dma_of(function));
     if (function->number == BUS_PHYSICAL) {
         it->active[BUS_PHYSICAL] = function;
         reset(it, RESETS);
@@ -225,16 +258,26 @@ void card_reset_function(struct card *it, struct function *function)
     }
 }
 
-void card_forget_function(struct card *it, const struct function *function)
+void card_client_goes(struct card *it, const struct function *function)
 {
+    rings_stop_all(it->rings, dma_of(function));
     if (it->active[function->number] == function)
         it->active[function->number] = NULL;
 }
 
 void card_remapped(struct card *it, const struct function *function)
 {
-    (void)function;
+    rings_remapped(it->rings, dma_of(function));
+    it->budget.payer = function->socket;
+    budget_spend(&it->budget, BUDGET_MAP);
     it->stepper.has_changed = true;
+}
+
+bool card_may_serve(struct card *it, const struct function *function)
+{
+    it->budget.payer = function->socket;
+    budget_spend(&it->budget, BUDGET_MESSAGE);
+    return !budget_is_spent(&it->budget);
 }
 
 /* ---- steps ---- */
@@ -242,6 +285,8 @@ void card_remapped(struct card *it, const struct function *function)
 bool card_arrive(struct card *it, const uint8_t *frame, size_t length)
 {
     bool is_in = bus_arrive(frame, length);
+    it->budget.payer = BUDGET_WIRE;
+    budget_spend(&it->budget, BUDGET_STEP + length);
     it->stepper.has_changed = true;
     it->let_in += is_in;
     return is_in;
@@ -260,10 +305,21 @@ bool card_has_room(const struct card *it)
     return waiting(it) < CARD_FIFO / 2;
 }
 
-unsigned int card_receive(struct card *it)
+bool card_takes_frame(const struct card *it)
+{
+    return card_has_room(it) && it->budget.left[BUDGET_WIRE] != 0;
+}
+
+static unsigned int receive(struct card *it)
 {
     rings_prepare_receive(it->rings);
     return waiting(it) ? bus_receive() : 0;
+}
+
+unsigned int card_receive(struct card *it)
+{
+    budget_ask(&it->budget);
+    return receive(it);
 }
 
 /* A message of a function is due only where a cause and its mask are there, and most of the time none is. */
@@ -282,35 +338,77 @@ static bool any_cause(const struct card *it)
     return false;
 }
 
+/* Messages of a function that are due: BUDGET_INTERRUPTS of them at most, and no more after BUDGET_MICROSECONDS. */
+static unsigned int messages(struct card *it, unsigned int function)
+{
+    uint64_t began = budget_time();
+    unsigned int made = 0;
+    do {
+        if (!has_cause(function) || !bus_message(function, on_message))
+            return made;
+        made++;
+    } while (made < BUDGET_INTERRUPTS && !budget_is_late(began));
+    it->is_busy = true;
+    return made;
+}
+
 unsigned int card_messages(struct card *it)
 {
     unsigned int all = 0;
     for (unsigned int function = 0; function <= it->options.functions; function++)
-        while (has_cause(function) && bus_message(function, on_message))
-            all++;
+        all += messages(it, function);
     return all;
+}
+
+/* Sends by this queue, until it has nothing to send or the budget is spent. */
+static void transmit(struct card *it, uint16_t queue)
+{
+    bus_transmit(queue);
+    it->stepper.is_due[queue] =
+        bus_peek(NIC_TDH(queue)) != bus_peek(NIC_TDT(queue)) || (it->offload && offload_is_cutting(it->offload, queue));
 }
 
 void card_transmit(struct card *it, uint16_t queue)
 {
-    bus_transmit(queue);
-    it->stepper.is_due[queue] = bus_peek(NIC_TDH(queue)) != bus_peek(NIC_TDT(queue));
+    budget_ask(&it->budget);
+    transmit(it, queue);
 }
 
-/* Sends what tails gave, also where the queue or the link was off when they did; true where something is left. */
+bool card_has_left_some(const struct card *it)
+{
+    return it->budget.left[BUDGET_CONTROL] == 0;
+}
+
+/* Sends what tails gave, also where the queue or the link was off when they did; true where something is left. Each
+   client's queues are paid for by it, and begin where its budget ended the last turn. */
 static bool transmit_due(struct card *it)
 {
     struct stepper *stepper = &it->stepper;
+    uint16_t first = stepper->first_due;
     bool left = false;
-    for (uint16_t queue = 0; stepper->any_due && queue < BUS_QUEUES; queue++) {
+    for (uint16_t i = 0; stepper->any_due && i < BUS_QUEUES; i++) {
+        uint16_t queue = (uint16_t)((first + i) % BUS_QUEUES);
         if (!stepper->is_due[queue])
             continue;
-        if (!stepper->has_seed || stepper_toss(stepper))
-            card_transmit(it, queue);
+        it->budget.payer = dma_socket(rings_owner(it->rings, true, queue));
+        if (!budget_is_spent(&it->budget) && (!stepper->has_seed || stepper_toss(stepper))) {
+            transmit(it, queue);
+            stepper->first_due = (uint16_t)((queue + 1) % BUS_QUEUES);
+        }
+        it->is_busy |= stepper->is_due[queue] && budget_is_spent(&it->budget);
         left |= stepper->is_due[queue];
     }
     stepper->any_due = left;
     return left;
+}
+
+/* Receives what waits, and is paid for by nobody. */
+static void receive_due(struct card *it)
+{
+    it->budget.payer = BUDGET_WIRE;
+    if (!budget_is_spent(&it->budget))
+        receive(it);
+    it->is_busy |= waiting(it) != 0 && budget_is_spent(&it->budget);
 }
 
 /* Queues go on and off as they were asked to, some of them now: true where something is left. */
@@ -349,7 +447,7 @@ static bool pump_late(struct card *it)
         bus_eeprom();
     left |= transmit_due(it) || reads_eeprom();
     if (waiting(it) && stepper_toss(stepper))
-        card_receive(it);
+        receive_due(it);
     else
         left |= waiting(it) != 0;
     if (any_cause(it) && stepper_toss(stepper))
@@ -359,8 +457,19 @@ static bool pump_late(struct card *it)
     return left;
 }
 
+void card_begin_turn(struct card *it)
+{
+    budget_begin_turn(&it->budget);
+}
+
+bool card_is_busy(const struct card *it)
+{
+    return it->is_busy;
+}
+
 bool card_pump(struct card *it)
 {
+    it->is_busy = false;
     if (it->stepper.is_held)
         return false;
     if (it->stepper.has_seed)
@@ -369,9 +478,10 @@ bool card_pump(struct card *it)
         return false;
     it->stepper.has_changed = false;
     transmit_due(it);
-    card_receive(it);
+    receive_due(it);
     card_messages(it);
-    return false;
+    it->stepper.has_changed |= it->is_busy;
+    return it->is_busy;
 }
 
 /* A reset that goes on isn't held: it has begun. */
@@ -442,14 +552,17 @@ void card_tell_due(const struct card *it, FILE *to)
 bool card_open(struct card *it, const struct card_options *options)
 {
     static const char *const phases[] = {"all", NULL};
-    struct bus_options bus = {
-        .functions = (uint8_t)options->functions,
-        .fifo = CARD_FIFO,
-        .answers = options->answers,
-        .acts_at_writes = true,
-        .phases = phases,
-        .hooks = {.to_device = to_device, .to_driver = to_driver, .stepping = stepping, .reset = on_reset},
-        .trace = options->trace};
+    struct bus_options bus = {.functions = (uint8_t)options->functions,
+                              .fifo = CARD_FIFO,
+                              .answers = options->answers,
+                              .acts_at_writes = true,
+                              .phases = phases,
+                              .hooks = {.to_device = to_device,
+                                        .to_driver = to_driver,
+                                        .stepping = stepping,
+                                        .reset = on_reset,
+                                        .fault = fault},
+                              .trace = options->trace};
     *it = (struct card){.options = *options};
     stepper_begin(&it->stepper);
     if (options->has_seed)
@@ -461,7 +574,7 @@ bool card_open(struct card *it, const struct card_options *options)
     bus_hold(options->has_seed);
     it->offload = options->has_offloads ? offload_new() : NULL;
     const struct rings_options rings = {.device = bus_device(),
-                                        .memory = memory_of,
+                                        .budget = &it->budget,
                                         .refused = refused,
                                         .of = it,
                                         .offload = it->offload,

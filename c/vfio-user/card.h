@@ -6,7 +6,9 @@
 #include <stdbool.h>
 #include <stdint.h>
 
+#include "budget.h"
 #include "bus.h"
+#include "dma.h"
 #include "function.h"
 #include "offload.h"
 #include "rings.h"
@@ -47,12 +49,16 @@ struct card {
     struct offload *offload; /* null: none */
     struct rings *rings;
     struct stepper stepper;
-    struct watch watch;                               /* accesses at which it is held */
-    struct function *active[1 + CARD_FUNCTIONS_MOST]; /* by number: which of its sockets accessed it last */
+    struct budget budget;
+    struct dma writer;  /* while a register is written: the client that does */
+    bool is_busy;       /* work is left only since the budget of this turn is spent */
+    struct watch watch; /* accesses at which it is held */
+    /* by number: which of its sockets accessed it last, so it gets its interrupts */
+    struct function *active[1 + CARD_FUNCTIONS_MOST];
     card_sink *sink;
     void *sink_to;
-    uint64_t let_in, told; /* frames; refusals that were told */
-    uint64_t lost_writes;  /* of registers, while the card was being reset */
+    uint64_t let_in;      /* frames */
+    uint64_t lost_writes; /* of registers, while the card was being reset */
 };
 
 /* Opens the card: false where memory is short. */
@@ -64,19 +70,30 @@ void card_send_to(struct card *it, card_sink *sink, void *to);
 uint32_t card_read(struct card *it, struct function *function, uint32_t offset);
 void card_write(struct card *it, struct function *function, uint32_t offset, uint32_t word);
 void card_reset_function(struct card *it, struct function *function);
-void card_forget_function(struct card *it, const struct function *function);
 void card_remapped(struct card *it, const struct function *function);
+/* The function's client is going: what it set up stops. */
+void card_client_goes(struct card *it, const struct function *function);
+/* A message of its client was served: false where its budget of this turn is spent. */
+bool card_may_serve(struct card *it, const struct function *function);
 
 /* A frame arrives: true where it was let in. */
 bool card_arrive(struct card *it, const uint8_t *frame, size_t length);
-/* Whether there is room for more frames in front of the queues. */
+/* Whether there is room for more frames in front of the queues; and whether one may come in this turn. */
 bool card_has_room(const struct card *it);
+bool card_takes_frame(const struct card *it);
 
-/* The device's steps. card_pump makes those that are due: true where it wants to be called again soon. */
+/* A turn of the loop begins: each client has a piece of work again (budget.h). */
+void card_begin_turn(struct card *it);
+/* The device's steps. card_pump makes those that are due, as many as the budgets of this turn allow: true where it
+   wants to be called again soon; card_is_busy: at once. */
 bool card_pump(struct card *it);
+bool card_is_busy(const struct card *it);
+/* What is asked for at the control socket, as much of it as BUDGET_ASKED allows: descriptors, messages. */
 unsigned int card_receive(struct card *it);
 unsigned int card_messages(struct card *it);
 void card_transmit(struct card *it, uint16_t queue);
+/* Whether the last of these ended since the budget did, and more is left for another request. */
+bool card_has_left_some(const struct card *it);
 
 /* From now on each step is late by this seed, or (null) none is. */
 void card_seed(struct card *it, const uint64_t *seed);

@@ -4,11 +4,13 @@
 #include <errno.h>
 #include <string.h>
 #include <sys/socket.h>
-#include <unistd.h>
 
-void channel_begin(struct channel *it, int file)
+#include "closer.h"
+
+void channel_begin(struct channel *it, int file, unsigned int owner)
 {
     it->file = file;
+    it->owner = owner;
     it->in_at = it->in_end = 0;
     it->file_count = 0;
     it->out = (struct buffer){0};
@@ -17,11 +19,11 @@ void channel_begin(struct channel *it, int file)
 void channel_end(struct channel *it)
 {
     if (it->file >= 0)
-        close(it->file);
+        closer_close_socket(it->file, it->owner);
     for (unsigned int i = 0; i < it->file_count; i++)
-        close(it->files[i].file);
+        closer_close(it->files[i].file, it->owner);
     buffer_clear(&it->out);
-    channel_begin(it, -1);
+    channel_begin(it, -1, it->owner);
 }
 
 /* ---- what comes ---- */
@@ -48,7 +50,7 @@ static bool take_files(struct channel *it, struct msghdr *head)
             int file;
             memcpy(&file, CMSG_DATA(c) + i * sizeof file, sizeof file);
             if (it->file_count == CHANNEL_FILES) {
-                close(file);
+                closer_close(file, it->owner);
                 fits = false;
                 continue;
             }
@@ -64,7 +66,7 @@ enum channel_state channel_receive(struct channel *it)
 {
     union {
         struct cmsghdr aligned;
-        char room[CMSG_SPACE(VFU_FILES_MOST * sizeof(int))];
+        char room[CMSG_SPACE(CHANNEL_FILES_AT_ONCE * sizeof(int))];
     } control;
     settle(it);
     struct iovec part = {it->in + it->in_end, sizeof it->in - it->in_end};
@@ -86,12 +88,13 @@ static bool give_files(struct channel *it, struct message *message, size_t end)
 {
     unsigned int left = 0;
     bool fits = true;
+    message->owner = it->owner;
     message->file_count = 0;
     for (unsigned int i = 0; i < it->file_count; i++) {
         if (it->files[i].end > end) {
             it->files[left++] = it->files[i];
         } else if (message->file_count == VFU_FILES_MOST) {
-            close(it->files[i].file);
+            closer_close(it->files[i].file, it->owner);
             fits = false;
         } else {
             message->files[message->file_count++] = it->files[i].file;
@@ -127,7 +130,7 @@ void message_drop_files(struct message *message)
 {
     for (unsigned int i = 0; i < message->file_count; i++)
         if (message->files[i] >= 0)
-            close(message->files[i]);
+            closer_close(message->files[i], message->owner);
     message->file_count = 0;
 }
 

@@ -14,11 +14,13 @@
 #define CHANNEL_ROOM (4 * VFU_MESSAGE_MOST)
 #define CHANNEL_KEPT (64u << 10)
 #define CHANNEL_FILES (2 * VFU_FILES_MOST)
+#define CHANNEL_FILES_AT_ONCE 253 /* the kernel's limit: fewer would have it close the rest, which takes time */
 
 /* A message, whose files are the receiver's to close or to keep: those that it keeps it sets to -1. */
 struct message {
     struct vfu_header head;
     unsigned int length; /* bytes of the body */
+    unsigned int owner;  /* whose files they are: see closer.h */
     unsigned int file_count;
     int files[VFU_FILES_MOST];
     union {
@@ -29,6 +31,7 @@ struct message {
 
 struct channel {
     int file; /* -1: nobody */
+    unsigned int owner;
     uint8_t in[CHANNEL_ROOM];
     size_t in_at, in_end;
     struct {
@@ -45,7 +48,7 @@ enum channel_state {
     CHANNEL_WRONG /* what it sent is no message, or has too many files */
 };
 
-void channel_begin(struct channel *it, int file);
+void channel_begin(struct channel *it, int file, unsigned int owner);
 void channel_end(struct channel *it);
 
 /* Takes in what has come, as much as there is room for. */

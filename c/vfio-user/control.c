@@ -6,10 +6,9 @@
 #include <stdlib.h>
 #include <string.h>
 #include <sys/socket.h>
-#include <sys/stat.h>
-#include <sys/un.h>
 #include <unistd.h>
 
+#include "local_socket.h"
 #include "server.h"
 #include "tell.h"
 
@@ -86,6 +85,8 @@ static const char *came(struct request *it)
     const struct numbered *expected = &it->server->traffic.expected;
     fprintf(it->to, "%u of %u, twice %u, wrong %u\n", expected->good, expected->count, expected->twice,
             expected->wrong);
+    if (!numbered_is_ready(expected))
+        fprintf(it->to, "%u of %u are made yet\n", expected->made, expected->count);
     return NULL;
 }
 
@@ -168,6 +169,13 @@ static bool one_queue(const char *text, unsigned int *queue)
     return sscanf(text, "%3u%n", queue, &end) == 1 && text[end] == 0 && *queue < BUS_QUEUES;
 }
 
+/* How many descriptors a request's steps were, and whether there would be more of them. */
+static void tell_steps(struct request *it, uint64_t steps)
+{
+    fprintf(it->to, "%" PRIu64 " descriptors%s\n", steps,
+            card_has_left_some(&it->server->card) ? "; more is left: ask again" : "");
+}
+
 static const char *transmit(struct request *it)
 {
     unsigned int queue;
@@ -175,13 +183,13 @@ static const char *transmit(struct request *it)
     if (!one_queue(it->rest, &queue))
         return "tx QUEUE: 0 to 127";
     card_transmit(&it->server->card, (uint16_t)queue);
-    fprintf(it->to, "%" PRIu64 " descriptors\n", bus_counts()->transmit_steps - before);
+    tell_steps(it, bus_counts()->transmit_steps - before);
     return NULL;
 }
 
 static const char *receive(struct request *it)
 {
-    fprintf(it->to, "%u descriptors\n", card_receive(&it->server->card));
+    tell_steps(it, card_receive(&it->server->card));
     return NULL;
 }
 
@@ -240,7 +248,7 @@ static const struct {
     {"restore", restore, "restore NAME: the device is as it was then; the guest isn't"},
     {"due", due, "which steps are due"},
     {"why", why, "what is in the way of what waits"},
-    {"tx", transmit, "tx QUEUE: all of its sending"},
+    {"tx", transmit, "tx QUEUE: all of its sending, some 8 MB at a time"},
     {"rx", receive, "receive steps until there is nothing to do"},
     {"int", interrupt, "all messages that are due"},
     {"qstep", queue_step, "qstep rx QUEUE, qstep tx QUEUE: the queue is on or off as it was asked"},
@@ -279,7 +287,7 @@ static void drop(struct control_client *it)
         close(it->file);
     buffer_clear(&it->out);
     it->file = -1;
-    it->length = 0;
+    it->length = it->in_at = it->in_end = 0;
     it->is_long = it->watches = false;
 }
 
@@ -333,13 +341,15 @@ static void tell_held(struct control *it, struct watch *watch)
             say(&it->clients[i], text, (size_t)length);
 }
 
-static void take(struct control_client *it, const char *bytes, size_t count, struct server *server)
+/* Takes bytes that have come up to a request's end, and obeys it. */
+static void take(struct control_client *it, struct server *server)
 {
-    for (size_t i = 0; i < count && it->file >= 0; i++) {
-        if (bytes[i] != '\n') {
+    while (it->in_at < it->in_end) {
+        char byte = it->in[it->in_at++];
+        if (byte != '\n') {
             it->is_long |= it->length == CONTROL_LINE - 1;
             if (!it->is_long)
-                it->line[it->length++] = bytes[i];
+                it->line[it->length++] = byte;
             continue;
         }
         it->line[it->length] = 0;
@@ -348,26 +358,34 @@ static void take(struct control_client *it, const char *bytes, size_t count, str
         obey(it, server);
         it->length = 0;
         it->is_long = false;
+        return;
     }
 }
 
+static void receive_requests(struct control_client *it)
+{
+    ssize_t got = recv(it->file, it->in, sizeof it->in, MSG_DONTWAIT);
+    it->in_at = 0;
+    it->in_end = got > 0 ? (size_t)got : 0;
+    if (got == 0 || (got < 0 && errno != EAGAIN && errno != EWOULDBLOCK && errno != EINTR))
+        drop(it);
+}
+
+/* More is taken in once all that has come was obeyed, and its answers have gone. */
 static void serve_client(struct control_client *it, short events, struct server *server)
 {
-    char bytes[4096];
     if (events & POLLOUT)
         flush(it);
-    if (it->file < 0 || !(events & (POLLIN | POLLHUP | POLLERR)))
+    if (it->file < 0 || buffer_waiting(&it->out))
         return;
-    ssize_t got = recv(it->file, bytes, sizeof bytes, MSG_DONTWAIT);
-    if (got > 0)
-        take(it, bytes, (size_t)got, server);
-    else if (got == 0 || (errno != EAGAIN && errno != EWOULDBLOCK && errno != EINTR))
-        drop(it);
+    if (it->in_at == it->in_end && events & (POLLIN | POLLHUP | POLLERR))
+        receive_requests(it);
+    take(it, server);
 }
 
 static void accept_client(struct control *it)
 {
-    int file = accept4(it->listener, NULL, NULL, SOCK_CLOEXEC);
+    int file = local_accept(it->listener);
     for (unsigned int i = 0; i < CONTROL_CLIENTS; i++)
         if (file >= 0 && it->clients[i].file < 0) {
             it->clients[i].file = file;
@@ -377,9 +395,22 @@ static void accept_client(struct control *it)
         close(file);
 }
 
+static bool has_requests(const struct control_client *it)
+{
+    return it->file >= 0 && it->in_at < it->in_end && buffer_waiting(&it->out) == 0;
+}
+
+bool control_has_more(const struct control *it)
+{
+    for (unsigned int i = 0; i < CONTROL_CLIENTS; i++)
+        if (has_requests(&it->clients[i]))
+            return true;
+    return false;
+}
+
 void control_polls(const struct control *it, struct pollfd *polls)
 {
-    polls[0] = (struct pollfd){.fd = it->listener, .events = POLLIN};
+    polls[0] = (struct pollfd){.fd = local_rests() ? -1 : it->listener, .events = POLLIN};
     for (unsigned int i = 0; i < CONTROL_CLIENTS; i++) {
         const struct control_client *client = &it->clients[i];
         short out = buffer_waiting(&client->out) ? POLLOUT : 0;
@@ -392,7 +423,7 @@ void control_serve(struct control *it, const struct pollfd *polls, struct server
     if (server->card.watch.met)
         tell_held(it, &server->card.watch);
     for (unsigned int i = 0; i < CONTROL_CLIENTS; i++)
-        if (polls[1 + i].revents && it->clients[i].file >= 0)
+        if (it->clients[i].file >= 0 && (polls[1 + i].revents || has_requests(&it->clients[i])))
             serve_client(&it->clients[i], polls[1 + i].revents, server);
     if (polls[0].revents & POLLIN)
         accept_client(it);
@@ -400,25 +431,12 @@ void control_serve(struct control *it, const struct pollfd *polls, struct server
 
 /* ---- the whole ---- */
 
-bool control_open(struct control *it, const char *path)
+const char *control_open(struct control *it, const char *path)
 {
-    struct sockaddr_un name = {.sun_family = AF_UNIX};
     *it = (struct control){.path = path, .listener = -1};
     for (unsigned int i = 0; i < CONTROL_CLIENTS; i++)
         it->clients[i].file = -1;
-    if (!path)
-        return true;
-    if (strlen(path) >= sizeof name.sun_path) {
-        errno = ENAMETOOLONG;
-        return false;
-    }
-    memcpy(name.sun_path, path, strlen(path));
-    unlink(path);
-    it->listener = socket(AF_UNIX, SOCK_STREAM | SOCK_CLOEXEC | SOCK_NONBLOCK, 0);
-    mode_t mask = umask(0177);
-    bool is_bound = it->listener >= 0 && bind(it->listener, (struct sockaddr *)&name, sizeof name) == 0;
-    umask(mask);
-    return is_bound && listen(it->listener, CONTROL_CLIENTS) == 0;
+    return path ? local_listen(&it->listener, path, CONTROL_CLIENTS) : NULL;
 }
 
 void control_close(struct control *it)
@@ -427,6 +445,6 @@ void control_close(struct control *it)
         drop(&it->clients[i]);
     if (it->listener >= 0) {
         close(it->listener);
-        unlink(it->path);
+        local_forget(it->path);
     }
 }

@@ -11,12 +11,15 @@
 
 #define CONTROL_CLIENTS 4
 #define CONTROL_LINE 256 /* bytes of a request */
+#define CONTROL_IN 4096  /* bytes that wait to be looked at */
 #define CONTROL_POLLS (1 + CONTROL_CLIENTS)
 
 struct server;
 
 struct control_client {
     int file; /* -1: nobody */
+    char in[CONTROL_IN];
+    size_t in_at, in_end;
     char line[CONTROL_LINE];
     size_t length;
     bool is_long; /* the line is longer than that, and is passed over */
@@ -30,11 +33,14 @@ struct control {
     struct control_client clients[CONTROL_CLIENTS];
 };
 
-/* Listens; a path that is null: nothing. False, and errno says why. */
-bool control_open(struct control *it, const char *path);
+/* Listens; a path that is null: nothing. Null, or what is in the way. */
+const char *control_open(struct control *it, const char *path);
 void control_close(struct control *it);
 void control_polls(const struct control *it, struct pollfd *polls);
+/* Obeys one request of each client. */
 void control_serve(struct control *it, const struct pollfd *polls, struct server *server);
+/* Whether requests wait that have come already. */
+bool control_has_more(const struct control *it);
 
 /* One request of a line, whose answer is written to `to`: true where it asked to be told when the device is held. */
 bool control_obey(struct server *server, const char *line, FILE *to);

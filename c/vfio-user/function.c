@@ -3,15 +3,14 @@
 
 #include <inttypes.h>
 #include <poll.h>
-#include <stdio.h>
 #include <string.h>
-#include <sys/socket.h>
-#include <sys/stat.h>
-#include <sys/un.h>
 #include <unistd.h>
 
 #include "bus.h"
 #include "card.h"
+#include "closer.h"
+#include "local_socket.h"
+#include "log.h"
 
 #define INTEL 0x8086u
 #define VIRTUAL_DEVICE 0x10EDu
@@ -20,7 +19,6 @@
 #define COMMANDS 0x0546u
 
 #define VECTORS 64
-#define VIRTUAL_VECTORS 3
 #define TABLE_BAR 4
 #define VIRTUAL_TABLE_BAR 3
 #define PENDING_AT 0x2000u /* of the table's BAR: which messages wait */
@@ -43,7 +41,7 @@ static uint32_t register_bytes(const struct function *it)
 
 static unsigned int vectors_of(const struct function *it)
 {
-    return it->kind == FUNCTION_PHYSICAL ? VECTORS : VIRTUAL_VECTORS;
+    return it->kind == FUNCTION_PHYSICAL ? VECTORS : FUNCTION_VIRTUAL_VECTORS;
 }
 
 /* ---- configuration space ---- */
@@ -115,8 +113,8 @@ static void access_registers(struct function *it, uint64_t offset, uint8_t *byte
 {
     if (offset % 4 || length % 4) {
         if (it->counts.odd_accesses++ == 0)
-            fprintf(stderr, "%s: an access of %" PRIu32 " bytes at 0x%05" PRIx64 ", where registers have 4\n", it->path,
-                    length, offset);
+            log_line(LOG_ACCESS, "%s: an access of %" PRIu32 " bytes at 0x%05" PRIx64 ", where registers have 4",
+                     it->path, length, offset);
         if (!write)
             memset(bytes, 0xFF, length);
         return;
@@ -180,7 +178,13 @@ static void remapped(void *function)
     card_remapped(it->card, it);
 }
 
-static const struct session_calls calls = {region_bytes, access_region, reset, remapped};
+static bool may_serve(void *function)
+{
+    struct function *it = function;
+    return card_may_serve(it->card, it);
+}
+
+static const struct session_calls calls = {region_bytes, access_region, reset, remapped, may_serve};
 
 void function_message(struct function *it, unsigned int vector)
 {
@@ -196,40 +200,13 @@ void function_begin(struct function *it)
 {
     it->listener = -1;
     make_config(it);
-    session_begin(&it->session, &calls, it, vectors_of(it));
+    session_begin(&it->session, &calls, it, vectors_of(it), it->socket);
     it->session.name = it->path;
 }
 
-/* A socket that nobody listens at any more is in the way; one of a server that runs isn't taken from it. */
-static bool is_left_over(const struct sockaddr_un *name)
+const char *function_listen(struct function *it)
 {
-    struct stat about;
-    if (lstat(name->sun_path, &about) != 0 || !S_ISSOCK(about.st_mode))
-        return false;
-    int file = socket(AF_UNIX, SOCK_STREAM | SOCK_CLOEXEC, 0);
-    bool is_served = file < 0 || connect(file, (const struct sockaddr *)name, sizeof *name) == 0;
-    if (file >= 0)
-        close(file);
-    return !is_served;
-}
-
-bool function_listen(struct function *it)
-{
-    struct sockaddr_un name = {.sun_family = AF_UNIX};
-    memcpy(name.sun_path, it->path, sizeof name.sun_path);
-    if (is_left_over(&name))
-        unlink(it->path);
-    it->listener = socket(AF_UNIX, SOCK_STREAM | SOCK_CLOEXEC | SOCK_NONBLOCK, 0);
-    if (it->listener < 0)
-        return false;
-    mode_t mask = umask(0177);
-    bool is_bound = bind(it->listener, (struct sockaddr *)&name, sizeof name) == 0;
-    umask(mask);
-    if (is_bound && listen(it->listener, 4) == 0)
-        return true;
-    close(it->listener);
-    it->listener = -1;
-    return false;
+    return local_listen(&it->listener, it->path, 4);
 }
 
 /* Whether the client has hung up, and only what it sent before is left. */
@@ -242,37 +219,75 @@ static bool is_leaving(const struct session *it)
 /* While a client leaves, the next one waits at the socket. */
 void function_accept(struct function *it)
 {
-    if (is_leaving(&it->session))
+    if (!it->is_leaving && is_leaving(&it->session))
+        function_serve(it, POLLRDHUP);
+    if (it->is_leaving)
         return;
-    int file = accept4(it->listener, NULL, NULL, SOCK_CLOEXEC);
+    int file = local_accept(it->listener);
     if (file < 0)
         return;
     if (session_is_open(&it->session)) {
-        fprintf(stderr, "%s: a second client is turned away\n", it->path);
-        close(file);
+        log_line(LOG_CLIENT, "%s: a second client is turned away", it->path);
+        closer_close_socket(file, it->socket);
         return;
     }
     session_open(&it->session, file);
-    fprintf(stderr, "%s: a client has come\n", it->path);
+    log_line(LOG_CLIENT, "%s: a client has come", it->path);
+}
+
+void function_polls(const struct function *it, struct pollfd polls[FUNCTION_POLLS])
+{
+    const struct session *session = &it->session;
+    bool accepts = !it->is_leaving && !local_rests() && !closer_is_full(it->socket);
+    short events = channel_waiting(&session->channel) ? POLLOUT : 0;
+    if (session_is_ready(session))
+        events |= POLLIN;
+    if (!it->is_leaving)
+        events |= POLLRDHUP;
+    polls[0] = (struct pollfd){.fd = accepts ? it->listener : -1, .events = POLLIN};
+    polls[1] = (struct pollfd){.fd = events ? session->channel.file : -1, .events = events};
+}
+
+bool function_has_more(const struct function *it)
+{
+    const struct session *session = &it->session;
+    return session_is_open(session) && (session->is_stalled || session_is_paused(session)) && session_is_ready(session);
+}
+
+bool function_is_busy(const struct function *it)
+{
+    return session_is_busy(&it->session);
 }
 
 /* The card goes on, as it does where a machine is switched off: whoever comes next finds it after a reset. */
 static void gone(struct function *it)
 {
-    fprintf(stderr, "%s: its client has gone\n", it->path);
+    log_line(LOG_CLIENT, "%s: its client has gone", it->path);
     make_config(it);
-    it->shows_sriov = false;
+    it->shows_sriov = it->is_leaving = false;
     reset_registers(it);
-    card_forget_function(it->card, it);
+    card_client_goes(it->card, it);
+    it->client++;
+}
+
+/* A client that sends no more and doesn't read either has gone. */
+static bool is_gone(const struct function *it)
+{
+    return it->is_leaving && channel_waiting(&it->session.channel) > CHANNEL_KEPT;
 }
 
 void function_serve(struct function *it, short events)
 {
     bool is_open = session_is_open(&it->session);
+    it->is_leaving = it->is_leaving || events & (POLLRDHUP | POLLHUP | POLLERR);
     if (is_open && events & POLLOUT)
         is_open = session_flush(&it->session);
-    if (is_open && events & (POLLIN | POLLHUP | POLLERR))
+    if (is_open && session_is_ready(&it->session) && (it->is_leaving || events & POLLIN || function_has_more(it)))
         is_open = session_serve(&it->session);
+    if (is_open && is_gone(it)) {
+        session_close(&it->session);
+        is_open = false;
+    }
     if (!is_open)
         gone(it);
 }
@@ -280,9 +295,10 @@ void function_serve(struct function *it, short events)
 void function_end(struct function *it)
 {
     session_close(&it->session);
+    session_end(&it->session);
     if (it->listener >= 0) {
         close(it->listener);
-        unlink(it->path);
+        local_forget(it->path);
     }
     it->listener = -1;
 }

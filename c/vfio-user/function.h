@@ -4,6 +4,7 @@
 #ifndef VFU_FUNCTION_H
 #define VFU_FUNCTION_H
 
+#include <poll.h>
 #include <stdbool.h>
 #include <stdint.h>
 
@@ -11,6 +12,8 @@
 #include "session.h"
 
 #define FUNCTION_TABLE_BYTES 0x4000u
+#define FUNCTION_POLLS 2
+#define FUNCTION_VIRTUAL_VECTORS 3
 #define FUNCTION_PATH_MOST 108 /* bytes of a socket's name, with its zero byte */
 
 struct card;
@@ -24,6 +27,8 @@ struct function_counts {
 struct function {
     enum function_kind kind;
     unsigned int number; /* of the bus: 0 the physical function, v + 1 virtual function v */
+    unsigned int socket; /* among all sockets, from 0 on */
+    uint64_t client;     /* how many clients have gone, so the number of the one that it has */
     uint16_t device;
     unsigned int virtual_functions; /* that the physical function has */
     struct card *card;
@@ -31,15 +36,22 @@ struct function {
     bool shows_sriov;
     uint8_t table[FUNCTION_TABLE_BYTES];
     struct session session;
-    int listener; /* -1: none */
+    int listener;    /* -1: none */
+    bool is_leaving; /* its client sends no more: what came before is served, and the next one waits */
     char path[FUNCTION_PATH_MOST];
     struct function_counts counts;
 };
 
 /* Makes a function of a card; its path must be set, for what is told. */
 void function_begin(struct function *it);
-/* Listens at its path: false, and errno says why not. */
-bool function_listen(struct function *it);
+/* Listens at its path: null, or what is in the way. */
+const char *function_listen(struct function *it);
+/* What is to be polled for: its listener, and its client. */
+void function_polls(const struct function *it, struct pollfd polls[FUNCTION_POLLS]);
+/* Whether messages wait that have come already, and can be served now. */
+bool function_has_more(const struct function *it);
+/* Whether its client waits for what the server itself has to do yet. */
+bool function_is_busy(const struct function *it);
 /* Takes the client that waits at the socket, or turns it away where there is one. */
 void function_accept(struct function *it);
 /* Serves its client, whose socket is ready for the events (of poll). */

@@ -1,49 +1,153 @@
 /* nic82599-vfio-user: an Intel 82599 for any program that speaks vfio-user, such as QEMU's device vfio-user-pci. */
 #define _GNU_SOURCE
 #include <errno.h>
-#include <signal.h>
 #include <stdio.h>
+#include <stdlib.h>
 #include <string.h>
+#include <sys/stat.h>
+#include <unistd.h>
 
 #include "ask.h"
+#include "closer.h"
+#include "confine.h"
+#include "ending.h"
+#include "janitor.h"
+#include "local_socket.h"
+#include "log.h"
+#include "notifier.h"
 #include "server.h"
 #include "strays.h"
 #include "tell.h"
 
-static volatile sig_atomic_t ends;
+#define LAST_WORDS_MS 1000 /* that what is written at the end has to go */
 
-static void on_signal(int number)
+/* What is written while the server serves, or at its end; opened before it gives up its rights. */
+struct written {
+    struct output counts, strays;
+};
+
+/* ---- files ---- */
+
+/* Recordings are the library's, which waits for the reader of a FIFO. */
+static bool may_record(const char *name)
 {
-    (void)number;
-    ends = 1;
+    struct stat about;
+    if (!name || stat(name, &about) != 0 || S_ISREG(about.st_mode) || strcmp(name, "/dev/null") == 0)
+        return true;
+    log_line(LOG_SERVER, "%s can't be recorded to: it is no regular file, and could make the server wait", name);
+    return false;
 }
 
-/* SIGTERM and SIGINT end the server where it waits, and nowhere else: *unblocked is the mask there. */
-static bool take_signals(sigset_t *unblocked)
+static bool create(struct output *it, const char *name)
 {
-    struct sigaction action = {.sa_handler = on_signal};
-    sigset_t blocked;
-    sigemptyset(&action.sa_mask);
-    sigemptyset(&blocked);
-    sigaddset(&blocked, SIGTERM);
-    sigaddset(&blocked, SIGINT);
-    signal(SIGPIPE, SIG_IGN);
-    return sigprocmask(SIG_BLOCK, &blocked, unblocked) == 0 && sigaction(SIGTERM, &action, NULL) == 0 &&
-           sigaction(SIGINT, &action, NULL) == 0 && memory_map_guard();
+    if (output_create(it, name))
+        return true;
+    log_line(LOG_SERVER, "%s can't be written: %s", name,
+             errno == ENXIO ? "nobody reads this FIFO; start its reader first" : strerror(errno));
+    return false;
 }
 
-static bool open_files(struct options *options)
+static bool open_trace(struct server *server)
 {
+    if (!create(&server->trace, server->options.trace))
+        return false;
+    server->options.card.trace = output_stream(&server->trace);
+    return server->options.card.trace != NULL;
+}
+
+static bool open_files(struct server *server, struct written *written)
+{
+    const struct options *options = &server->options;
+    server->trace.file = written->strays.file = -1;
+    output_begin(&written->counts, STDOUT_FILENO);
+    if (!may_record(options->record) || !may_record(getenv("NIC82599_RECORD")))
+        return false;
     if (options->record && !nic_record(options->record)) {
-        fprintf(stderr, "%s can't be written\n", options->record);
+        log_line(LOG_SERVER, "%s can't be written", options->record);
         return false;
     }
-    if (!options->trace)
+    return (!options->trace || open_trace(server)) && (!options->strays || create(&written->strays, options->strays));
+}
+
+/* ---- begin and end ---- */
+
+static bool get_ready(const struct options *options)
+{
+    log_open();
+    if (!janitor_start(!options->is_unconfined)) {
+        log_line(LOG_SERVER, "no process can be started: %s", strerror(errno));
+        return false;
+    }
+    if (!ending_open() || !memory_map_guard()) {
+        log_line(LOG_SERVER, "signals can't be taken: %s", strerror(errno));
+        return false;
+    }
+    if (!notifier_open())
+        log_line(LOG_SERVER, "this kernel has no asynchronous reads, so a client can hold the server by its eventfd");
+    return true;
+}
+
+/* From here on the process opens no file. */
+static bool settle(const struct options *options)
+{
+    enum confine_as what = options->wire.kind == WIRE_STREAM ? CONFINE_CALLER : CONFINE_SERVER;
+    janitor_seal();
+    if (!options->is_unconfined)
+        confine_files(what);
+    if (!closer_start()) {
+        log_line(LOG_SERVER, "no thread can be started: %s", strerror(errno));
+        return false;
+    }
+    if (!options->is_unconfined)
+        confine_calls(what);
+    return true;
+}
+
+/* Writes what `tell` gives to an output. */
+static void tell_to(struct output *it, struct server *server, void (*tell)(const struct server *, FILE *))
+{
+    FILE *stream = output_stream(it);
+    if (stream) {
+        tell(server, stream);
+        fclose(stream);
+    }
+}
+
+static void tell_strays(const struct server *server, FILE *to)
+{
+    (void)server;
+    strays_write(to);
+}
+
+/* False: what was to be written isn't. */
+static bool end(struct server *server, struct written *written)
+{
+    if (!server->options.is_quiet)
+        tell_to(&written->counts, server, tell_counts);
+    output_end(&written->counts, LAST_WORDS_MS);
+    if (server->options.strays)
+        tell_to(&written->strays, server, tell_strays);
+    output_end(&written->strays, LAST_WORDS_MS);
+    server_close(server);
+    if (server->options.card.trace)
+        fclose(server->options.card.trace);
+    output_end(&server->trace, LAST_WORDS_MS);
+    bool is_written = !written->strays.error;
+    if (!is_written)
+        log_line(LOG_SERVER, "%s can't be written: %s", server->options.strays, strerror(written->strays.error));
+    log_close();
+    janitor_finish();
+    return is_written;
+}
+
+/* Starts, or says why not, and leaves no socket's name. */
+static bool start(struct server *server, struct written *written)
+{
+    if (open_files(server, written) && server_open(server) && settle(&server->options))
         return true;
-    options->card.trace = fopen(options->trace, "w");
-    if (!options->card.trace)
-        fprintf(stderr, "%s can't be written: %s\n", options->trace, strerror(errno));
-    return options->card.trace != NULL;
+    local_forget_all();
+    log_close();
+    return false;
 }
 
 #define ASK "--ask="
@@ -51,7 +155,7 @@ static bool open_files(struct options *options)
 int main(int count, char **words)
 {
     static struct server server;
-    sigset_t unblocked;
+    static struct written written;
     if (count > 1 && strncmp(words[1], ASK, strlen(ASK)) == 0)
         return ask(words[1] + strlen(ASK), count - 2, words + 2);
     switch (options_read(&server.options, count, words)) {
@@ -59,14 +163,8 @@ int main(int count, char **words)
     case OPTIONS_WRONG: return 3;
     default: break;
     }
-    if (!take_signals(&unblocked) || !open_files(&server.options) || !server_open(&server))
+    if (!get_ready(&server.options) || !start(&server, &written))
         return 2;
-    server_run(&server, &ends, &unblocked);
-    if (!server.options.is_quiet)
-        tell_counts(&server, stdout);
-    bool is_saved = !server.options.strays || strays_save(server.options.strays);
-    server_close(&server);
-    if (server.options.card.trace)
-        fclose(server.options.card.trace);
-    return is_saved ? 0 : 1;
+    server_run(&server);
+    return end(&server, &written) ? 0 : 1;
 }

@@ -1,5 +1,6 @@
 /* A client's memory as it mapped it for the device: ranges of DMA addresses, each a piece of a file that is mapped into
-   this process, or (a ROM's, for instance) one that can't be reached. */
+   this process, or (a ROM's, for instance) one that can't be reached. What is taken back isn't reached any more, and is
+   given back to the kernel in pieces, since that takes time. */
 #ifndef VFU_MEMORY_MAP_H
 #define VFU_MEMORY_MAP_H
 
@@ -7,32 +8,65 @@
 #include <stddef.h>
 #include <stdint.h>
 
+#define MEMORY_FILES_MOST 256  /* of one client */
+#define MEMORY_RETIRED_MOST 64 /* ranges that wait to be given back, before their client waits too */
+
+struct memory_file;
+
 struct memory_range {
     uint64_t address, size;
     uint8_t *at; /* null: nothing of it can be reached */
     bool is_readable, is_writable;
+    uint64_t reach;  /* bytes that are there: fewer than its size once its client has cut the file */
+    uint64_t mapped; /* bytes at `at`: a multiple of the file's pages */
+    struct memory_file *file;
 };
 
 struct memory_map {
     struct memory_range *ranges; /* by address */
     unsigned int count, room;
+    struct memory_range *retired;
+    unsigned int retired_count, retired_room;
+    struct memory_file *files[MEMORY_FILES_MOST];
+    unsigned int file_count;
+    unsigned int owner; /* whose files they are: see closer.h */
 };
 
+/* What clients may have, each of them. */
+struct memory_limits {
+    unsigned int ranges, files;
+    bool trusts_files; /* any file on a disk is mapped; else only memory of the kernel's own: memfd, tmpfs, hugetlbfs */
+};
+
+void memory_map_limit(const struct memory_limits *limits);
+const struct memory_limits *memory_map_limits(void);
+
+void memory_map_begin(struct memory_map *it, unsigned int owner);
+
 /* Adds a range: 0, or a number of errno.h: EINVAL for addresses, sizes and offsets that are no multiples of a page,
-   overflow, or lie behind the file's end; for a file that is none on a disk or in memory; and for a writable range
-   without a file (file -1). EEXIST where it overlaps another; ENOSPC; what mmap says. The file may be closed then. */
+   overflow, or lie after the file's end, and for a writable range without a file (file -1); EPERM for a file that isn't
+   the kernel's own memory; EMFILE and ENOSPC for more files or ranges than a client may have; EEXIST where it overlaps
+   another; what mmap says. The file stays the caller's. */
 int memory_map_add(struct memory_map *it, const struct memory_range *range, int file, uint64_t offset);
 /* Takes back all ranges inside the given one: 0, or EINVAL where one lies across its border. */
 int memory_map_remove(struct memory_map *it, uint64_t address, uint64_t size);
 void memory_map_clear(struct memory_map *it);
 
+/* Gives a bounded piece of what was taken back to the kernel: true where some is left. */
+bool memory_map_give_back(struct memory_map *it);
+/* Whether so much waits to be given back that the client is to wait. */
+bool memory_map_is_busy(const struct memory_map *it);
+/* Gives all of it back: at the end. */
+void memory_map_end(struct memory_map *it);
+
 /* Where the byte at an address is in this process; null: nowhere. *length is how many bytes are wanted, and becomes how
    many of them lie there in one piece. */
 void *memory_map_run(const struct memory_map *it, uint64_t address, size_t *length, bool write);
 
-/* A client may cut a file that it gave: reads beyond its end would end this process by SIGBUS. After this call they
-   give zeros, and pages that were lost so are counted. */
+/* A client may cut a file that it gave: an access beyond its end would end this process by SIGBUS. After this call the
+   access that meets it gives zeros, and the rest of the range can't be reached from then on. */
 bool memory_map_guard(void);
-unsigned long memory_map_lost_pages(void);
+/* Ranges that were cut so. */
+unsigned long memory_map_cuts(void);
 
 #endif

@@ -18,6 +18,7 @@
 /* POPTS of a data descriptor */
 #define SUM_IP 1u
 #define SUM_L4 2u
+#define DONE_HERE NIC_TXD_POPTS_IS(SUM_IP | SUM_L4)
 
 enum l4_type { UDP, TCP, SCTP };
 
@@ -28,9 +29,19 @@ enum l4_type { UDP, TCP, SCTP };
 #define FIN_PSH 0x09u
 #define CWR 0x80u
 
+static uint32_t crc_of(uint32_t byte)
+{
+    for (int bit = 0; bit < 8; bit++)
+        byte = byte >> 1 ^ (byte & 1 ? UINT32_C(0x82F63B78) : 0);
+    return byte;
+}
+
 struct offload *offload_new(void)
 {
-    return calloc(1, sizeof(struct offload));
+    struct offload *it = calloc(1, sizeof *it);
+    for (uint32_t byte = 0; it && byte < sizeof it->crc / sizeof *it->crc; byte++)
+        it->crc[byte] = crc_of(byte);
+    return it;
 }
 
 void offload_free(struct offload *it)
@@ -73,11 +84,16 @@ void offload_become(struct offload *it, struct offload *copy)
     free(copy);
 }
 
+void offload_give_up(struct offload *it, unsigned int queue)
+{
+    it->queues[queue].is_amid = it->queues[queue].is_ready = false;
+}
+
 void offload_forget(struct offload *it, unsigned int queue)
 {
     struct offload_queue *of = &it->queues[queue];
-    of->is_amid = of->is_ready = false;
-    of->length = 0;
+    it->counts.given_up += of->cut != 0;
+    *of = (struct offload_queue){.bytes = of->bytes, .room = of->room};
 }
 
 /* ---- what is asked for ---- */
@@ -152,6 +168,8 @@ uint64_t offload_data(struct offload *it, unsigned int queue, uint64_t second, c
     }
     of->is_amid = !(second & NIC_TXD_EOP);
     of->is_ready = !of->is_amid;
+    if (second & NIC_TXD_POPTS & ~DONE_HERE) /* the device's fault says so, and ends the frame */
+        return second;
     if (of->job.is_large) {
         if (!gather(of, bytes, *length))
             of->job.mss = 0;
@@ -192,14 +210,11 @@ static uint32_t folded(uint32_t sum)
     return ~sum & 0xFFFF;
 }
 
-static uint32_t crc32c(const uint8_t *bytes, size_t length)
+static uint32_t crc32c(const struct offload *it, const uint8_t *bytes, size_t length)
 {
     uint32_t crc = UINT32_MAX;
-    for (size_t i = 0; i < length; i++) {
-        crc ^= bytes[i];
-        for (int bit = 0; bit < 8; bit++)
-            crc = crc >> 1 ^ (crc & 1 ? UINT32_C(0x82F63B78) : 0);
-    }
+    for (size_t i = 0; i < length; i++)
+        crc = crc >> 8 ^ it->crc[(crc ^ bytes[i]) & 0xFF];
     return ~crc;
 }
 
@@ -212,7 +227,8 @@ static void sum_ip(const struct offload_job *job, uint8_t *frame, size_t length)
 }
 
 /* The driver has left the sum of the pseudo header in the field; `more` is what of that follows from the length. */
-static void sum_l4(const struct offload_job *job, uint8_t *frame, size_t length, uint32_t more)
+static void sum_l4(const struct offload *it, const struct offload_job *job, uint8_t *frame, size_t length,
+                   uint32_t more)
 {
     static const uint8_t places[] = {[UDP] = 6, [TCP] = 16, [SCTP] = 8}, ends[] = {[UDP] = 8, [TCP] = 18, [SCTP] = 12};
     size_t at = (size_t)job->mac_length + job->ip_length;
@@ -222,7 +238,7 @@ static void sum_l4(const struct offload_job *job, uint8_t *frame, size_t length,
     uint8_t *field = l4 + places[job->l4_type];
     if (job->l4_type == SCTP) {
         memset(field, 0, 4);
-        uint32_t crc = crc32c(l4, length - at);
+        uint32_t crc = crc32c(it, l4, length - at);
         for (int i = 0; i < 4; i++)
             field[i] = (uint8_t)(crc >> 8 * i);
         return;
@@ -263,18 +279,15 @@ static void put_out(struct offload *it, const struct offload_job *job, size_t le
     sink(to, it->frame, length);
 }
 
-/* One segment: `at` is where its bytes begin behind the headers, which are `head` bytes; `number` counts from 0. */
-static void cut_one(struct offload *it, const struct offload_queue *of, size_t head, size_t at, uint32_t number)
+/* Headers of a large send's segment with `many` bytes after them, the first of which is at `at` of the whole. */
+static void put_headers(struct offload *it, const struct offload_queue *of, size_t head, size_t at, size_t many)
 {
     const struct offload_job *job = &of->job;
     uint8_t *ip = it->frame + job->mac_length, *l4 = ip + job->ip_length;
-    size_t left = of->length - at, many = left < job->mss ? left : job->mss;
     uint32_t l4_bytes = (uint32_t)(job->l4_length + many);
-    memcpy(it->frame, of->bytes, head);
-    memcpy(it->frame + head, of->bytes + at, many);
     if (ip[0] >> 4 == 4) {
         put16(ip + 2, job->ip_length + l4_bytes);
-        put16(ip + 4, get16(ip + 4) + number);
+        put16(ip + 4, get16(ip + 4) + of->segment);
     } else {
         put16(ip + 4, job->ip_length - 40u + l4_bytes);
     }
@@ -282,31 +295,62 @@ static void cut_one(struct offload *it, const struct offload_queue *of, size_t h
         uint32_t sequence = get32(l4 + 4) + (uint32_t)(at - head);
         put16(l4 + 4, sequence >> 16);
         put16(l4 + 6, sequence & 0xFFFF);
-        l4[TCP_FLAGS] &= (uint8_t) ~(left > many ? FIN_PSH : 0);
-        l4[TCP_FLAGS] &= (uint8_t) ~(number ? CWR : 0);
+        l4[TCP_FLAGS] &= (uint8_t) ~(of->length - at > many ? FIN_PSH : 0);
+        l4[TCP_FLAGS] &= (uint8_t) ~(of->segment ? CWR : 0);
     } else if (job->l4_type == UDP) {
         put16(l4 + 4, l4_bytes);
     }
-    if (job->sums_ip)
-        sum_ip(job, it->frame, head + many);
-    sum_l4(job, it->frame, head + many, l4_bytes);
-    it->counts.segments++;
 }
 
-static void cut(struct offload *it, struct offload_queue *of, offload_sink *sink, void *to)
+/* Makes the next segment; how many bytes its frame has. */
+static size_t cut_one(struct offload *it, struct offload_queue *of, size_t head)
 {
     const struct offload_job *job = &of->job;
-    size_t head = (size_t)job->mac_length + job->ip_length + job->l4_length;
+    size_t left = of->length - of->cut, many = left < job->mss ? left : job->mss;
+    memcpy(it->frame, of->bytes, head);
+    memcpy(it->frame + head, of->bytes + of->cut, many);
+    put_headers(it, of, head, of->cut, many);
+    if (job->sums_ip)
+        sum_ip(job, it->frame, head + many);
+    sum_l4(it, job, it->frame, head + many, (uint32_t)(job->l4_length + many));
+    it->counts.segments++;
+    of->segment++;
+    of->cut = many < left ? of->cut + many : 0;
+    return head + many;
+}
+
+static size_t head_of(const struct offload_job *job)
+{
+    return (size_t)job->mac_length + job->ip_length + job->l4_length;
+}
+
+/* The device has sent the frame in a large send's place. */
+static void begin_to_cut(struct offload *it, struct offload_queue *of)
+{
+    const struct offload_job *job = &of->job;
+    size_t head = head_of(job);
     it->counts.large++;
     if (job->mss == 0 || head >= of->length || job->ip_length < 20 || job->l4_length < 8 ||
         (job->l4_type == TCP && job->l4_length < 20) || head + job->mss + TAG_BYTES > sizeof it->frame) {
         it->counts.dropped++;
         return;
     }
-    uint32_t number = 0;
-    for (size_t at = head; at < of->length; at += job->mss) {
-        cut_one(it, of, head, at, number++);
-        put_out(it, job, head + (of->length - at < job->mss ? of->length - at : job->mss), sink, to);
+    of->cut = head;
+    of->segment = 0;
+}
+
+bool offload_is_cutting(const struct offload *it, unsigned int queue)
+{
+    return it->queues[queue].cut != 0;
+}
+
+void offload_cut(struct offload *it, unsigned int queue, struct budget *budget, offload_sink *sink, void *to)
+{
+    struct offload_queue *of = &it->queues[queue];
+    while (of->cut && !budget_is_spent(budget)) {
+        size_t length = cut_one(it, of, head_of(&of->job));
+        budget_spend(budget, BUDGET_STEP + length);
+        put_out(it, &of->job, length, sink, to);
     }
 }
 
@@ -323,7 +367,7 @@ void offload_sent(struct offload *it, unsigned int queue, const uint8_t *frame, 
         return;
     }
     if (job->is_large) {
-        cut(it, of, sink, to);
+        begin_to_cut(it, of);
         return;
     }
     memcpy(it->frame, frame, length);
@@ -332,7 +376,7 @@ void offload_sent(struct offload *it, unsigned int queue, const uint8_t *frame, 
     if (job->sums_ip)
         sum_ip(job, it->frame, all);
     if (job->sums_l4)
-        sum_l4(job, it->frame, all, 0);
+        sum_l4(it, job, it->frame, all, 0);
     sum_legacy(job, it->frame, length);
     put_out(it, job, length, sink, to);
 }

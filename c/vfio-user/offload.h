@@ -3,7 +3,8 @@
    Intel 82599 10 GbE Controller Datasheet (331520) describes it. This is the server's, and tested; nothing of it is
    proved.
 
-   A large send goes to the device as one short frame, and is cut when that goes out. */
+   A large send goes to the device as one short frame, and is cut when that goes out: as many segments at a time as the
+   budget allows. What isn't done here is left in the descriptor, for the device to refuse: IPsec. */
 #ifndef OFFLOAD_H
 #define OFFLOAD_H
 
@@ -11,6 +12,7 @@
 #include <stddef.h>
 #include <stdint.h>
 
+#include "budget.h"
 #include "legacy_form.h"
 
 #define OFFLOAD_QUEUES 128
@@ -34,16 +36,20 @@ struct offload_queue {
     bool is_ready;  /* it has come, and the device hasn't sent it */
     uint8_t *bytes; /* of a large send */
     size_t length, room;
+    size_t cut; /* bytes of a large send that has been sent: where its next segment begins; 0: none is being cut */
+    uint32_t segment;
 };
 
 struct offload_counts {
     uint64_t sums, tags, large, segments, dropped;
+    uint64_t given_up; /* large sends, of queues that were reset or changed hands while they were cut */
 };
 
 struct offload {
     struct offload_queue queues[OFFLOAD_QUEUES];
     struct offload_counts counts;
     uint8_t frame[OFFLOAD_FRAME_MOST];
+    uint32_t crc[256]; /* of a byte, for SCTP's checksum */
 };
 
 typedef void offload_sink(void *to, const uint8_t *frame, size_t length);
@@ -60,10 +66,17 @@ void offload_context(struct offload *it, unsigned int queue, uint64_t first, uin
    is null, or what a legacy descriptor asks for; then `tag` is its. */
 uint64_t offload_data(struct offload *it, unsigned int queue, uint64_t second, const uint8_t *bytes, size_t *length,
                       const struct legacy_sum *legacy, uint16_t tag);
-/* The device sent a frame of this queue: the frames that go on the wire in its place. */
+/* The device sent a frame of this queue: the frame that goes on the wire in its place. A large send waits to be cut. */
 void offload_sent(struct offload *it, unsigned int queue, const uint8_t *frame, size_t length, offload_sink *sink,
                   void *to);
-/* A queue was reset, or its frame given up. */
+/* Whether segments of a large send of this queue wait: its next descriptors have to wait, too. */
+bool offload_is_cutting(const struct offload *it, unsigned int queue);
+/* Segments go on the wire, until the budget is spent or none is left. */
+void offload_cut(struct offload *it, unsigned int queue, struct budget *budget, offload_sink *sink, void *to);
+
+/* A queue is on again: a frame that it had begun never ends. */
+void offload_give_up(struct offload *it, unsigned int queue);
+/* A queue was reset, or is another client's now: nothing of it is left. */
 void offload_forget(struct offload *it, unsigned int queue);
 
 #endif

@@ -33,7 +33,7 @@ static const char help[] =
     "  --capture=FILE         write what passes, as pcapng\n"
     "  --play=FILE            send the frames of a pcap or pcapng file to the card, once it receives\n"
     "  --without=NAME         leave out one of what the server does beyond the bench: offloads, legacy, SWSM, ANLP1,\n"
-    "                         EICS, EERD, ABSENT, FWSM, RXPBSIZE\n"
+    "                         EICS, EERD, ABSENT, FWSM, RXPBSIZE, IPSEC\n"
     "  --bare                 leave out all of them\n"
     "  --control=PATH         listen there for requests: help tells them\n"
     "  --seed=N               make each step of the device, and each reset, at once or late, by this seed\n"
@@ -41,10 +41,18 @@ static const char help[] =
     "  --strays=FILE          at the end write the accesses outside the register table there\n"
     "  --trace=FILE           write each access of a register there\n"
     "  --record=FILE          write what the device is asked as a script, for nicview\n"
-    "  --quiet                don't tell counts at the end\n"
+    "  --quiet                don't print counts at the end\n"
+    "  --trust-files          map any file as a guest's memory: a file system that doesn't answer holds all guests\n"
+    "  --unconfined           keep all rights after the start, for debuggers\n"
     "  --ask=PATH             ask the server whose control socket that is: each word is a request, or each line of\n"
     "                         standard input\n"
-    "  --help, --version      tell this, or the version, and end\n";
+    "  --help, --version      print this, or the version, and end\n"
+    "\n"
+    "Once it serves, the process has no capabilities, and opens, makes and removes no file. It may still read, write\n"
+    "and close what is open, accept clients at its sockets and take files from them, map memory that isn't "
+    "executable,\n"
+    "and, with --wire=stream, connect UNIX sockets. A second process, which can do nothing else, removes the sockets\n"
+    "at the end. docs/guests.md says what that needs of the kernel.\n";
 
 /* What is behind NAME= in a word; null: the word is another. */
 static const char *value_of(const char *word, const char *name)
@@ -190,6 +198,10 @@ static bool read_plain_word(struct options *it, const char *word)
         it->wire.has_hairpin = true;
     } else if (strcmp(word, "--quiet") == 0) {
         it->is_quiet = true;
+    } else if (strcmp(word, "--trust-files") == 0) {
+        it->trusts_files = true;
+    } else if (strcmp(word, "--unconfined") == 0) {
+        it->is_unconfined = true;
     } else {
         return false;
     }
@@ -216,20 +228,19 @@ static enum options_status check(const struct options *it)
 enum options_status options_read(struct options *it, int count, char **words)
 {
     bool is_known;
-    *it = (struct options){
-        .file = -1,
-        .device = PHYSICAL_DEVICE,
-        .card = {.mac = {0x02, 0x00, 0x00, 0x00, 0x82, 0x99},
-                 .answers = BUS_SWSM | BUS_ANLP1 | BUS_EICS | BUS_EERD | BUS_ABSENT | BUS_FWSM | BUS_RXPBSIZE,
-                 .has_offloads = true,
-                 .has_legacy = true},
-        .wire = {.kind = WIRE_RESPOND, .address = RESPONDER}};
+    *it = (struct options){.file = -1,
+                           .device = PHYSICAL_DEVICE,
+                           .card = {.mac = {0x02, 0x00, 0x00, 0x00, 0x82, 0x99},
+                                    .answers = BUS_ALL,
+                                    .has_offloads = true,
+                                    .has_legacy = true},
+                           .wire = {.kind = WIRE_RESPOND, .address = RESPONDER}};
     for (int i = 1; i < count; i++) {
         if (strcmp(words[i], "--help") == 0 || strcmp(words[i], "--version") == 0) {
             if (words[i][2] == 'h')
                 fputs(help, stdout);
             else
-                printf(NAME " %s, %s\n", nic_version(), nic_is_proved() ? "the device is proved" : "unproved");
+                printf(NAME " %s, %s edition\n", nic_version(), nic_edition());
             return OPTIONS_END;
         }
         if (!read_number_word(it, words[i], &is_known))

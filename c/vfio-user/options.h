@@ -18,6 +18,8 @@ struct options {
     struct wire_options wire;
     const char *strays, *trace, *record, *control; /* files, or null */
     bool is_quiet;
+    bool trusts_files;            /* clients' memory may be any file */
+    bool is_unconfined;           /* the process keeps its rights */
     char wire_text[OPTIONS_TEXT]; /* what wire's paths point into */
 };
 

@@ -32,18 +32,25 @@ struct part_of {
     uint8_t part, side, queue;
 };
 
+/* A descriptor that was read ahead. */
+struct ahead {
+    bool is_there;
+    uint32_t slot;
+    nic_desc descriptor;
+};
+
 struct ring {
-    unsigned int function; /* whose guest it is in */
-    uint64_t base, head_address;
-    uint32_t place, blocks; /* of the ring in the device's memory; 0: none */
+    struct dma_address base; /* of the client that set it up */
+    struct dma_address head; /* where a transmit queue's head is written back, of the client that asked for it */
+    uint32_t place, blocks;  /* of the ring in the device's memory; 0: none */
     uint32_t slots;
     bool is_legacy;  /* receive: the driver wants legacy descriptors */
     bool is_touched; /* receive: the next slot may have to be given */
     bool is_given;   /* the device has `slot` */
     uint32_t slot;
-    uint64_t buffer; /* receive: the guest's address of that slot's */
-    nic_desc *ahead; /* descriptors that were read ahead, by slot, and which of them */
-    bool *is_ahead;
+    struct dma_address buffer;       /* receive: that slot's */
+    struct dma sizes_of;             /* receive: who said by SRRCTL how large buffers are */
+    struct ahead ahead[RINGS_AHEAD]; /* a slot's is at its number modulo this */
     uint32_t next_ahead;
 };
 
@@ -79,40 +86,29 @@ static void lend(struct rings *it, uint32_t first, uint32_t count)
             it->is_lent[block] = nic_lend(it->options.device, block) == NIC_DONE;
 }
 
-static void refuse(struct rings *it, const char *what, const struct ring *ring, uint16_t queue, uint64_t address,
-                   size_t length)
+/* The guest's address of a slot. */
+static struct dma_address slot_at(const struct ring *ring, uint32_t slot)
+{
+    return (struct dma_address){ring->base.of, ring->base.at + (uint64_t)NIC_DESC_BYTES * slot};
+}
+
+static void refuse(struct rings *it, const char *what, struct dma_address where, uint16_t queue, size_t length)
 {
     it->counts.refused++;
-    it->options.refused(it->options.of, what, ring->function, queue, address, length);
+    it->options.refused(it->options.of, what, dma_function(where.of), queue, where.at, length);
 }
 
-/* ---- the guest's memory ---- */
-
-/* Copies between the guest and `bytes`, over as many ranges as the bytes lie in; false: some lie in none. */
-static bool copy(struct rings *it, const struct ring *ring, uint64_t address, uint8_t *bytes, size_t length, bool write)
+/* A refusal of the whole ring. */
+static void refuse_ring(struct rings *it, const char *what, const struct ring *ring, uint16_t queue)
 {
-    while (length) {
-        size_t piece = length;
-        void *at = it->options.memory(it->options.of, ring->function, address, &piece, write);
-        if (!at)
-            return false;
-        if (write)
-            memcpy(at, bytes, piece);
-        else
-            memcpy(bytes, at, piece);
-        bytes += piece;
-        address += piece;
-        length -= piece;
-    }
-    return true;
+    refuse(it, what, ring->base, queue, ring->slots * NIC_DESC_BYTES);
 }
 
-/* A descriptor or a head of the guest's, which never lies in two ranges. */
-static void *whole(struct rings *it, const struct ring *ring, uint64_t address, size_t length)
+/* A driver's mistake that isn't an access; it is told once. */
+static void remark(struct rings *it, const char *what, const struct ring *ring, uint16_t queue)
 {
-    size_t piece = length;
-    void *at = it->options.memory(it->options.of, ring->function, address, &piece, true);
-    return piece == length ? at : NULL;
+    it->options.refused(it->options.of, what, dma_function(ring->base.of), queue, ring->base.at,
+                        ring->slots * NIC_DESC_BYTES);
 }
 
 /* ---- places of rings ---- */
@@ -122,10 +118,7 @@ static void give_up_place(struct rings *it, struct ring *ring)
     for (uint32_t i = 0; i < ring->blocks; i++)
         it->owner[ring->place + i] = 0;
     it->counts.blocks -= ring->blocks;
-    free(ring->ahead);
-    free(ring->is_ahead);
-    ring->ahead = NULL;
-    ring->is_ahead = NULL;
+    memset(ring->ahead, 0, sizeof ring->ahead);
     ring->place = ring->blocks = ring->slots = 0;
 }
 
@@ -141,13 +134,6 @@ static uint32_t find_blocks(const struct rings *it, uint32_t count)
     return 0;
 }
 
-static bool make_ahead(struct ring *ring, uint32_t slots)
-{
-    ring->ahead = calloc(slots, sizeof *ring->ahead);
-    ring->is_ahead = calloc(slots, sizeof *ring->is_ahead);
-    return ring->ahead && ring->is_ahead;
-}
-
 /* Makes room for a ring of so many bytes, where it has another length. */
 static void take_place(struct rings *it, enum side side, uint16_t queue, uint32_t bytes)
 {
@@ -155,15 +141,15 @@ static void take_place(struct rings *it, enum side side, uint16_t queue, uint32_
     uint32_t count = (bytes + NIC_BLOCK_BYTES - 1) / NIC_BLOCK_BYTES, slots = bytes / NIC_DESC_BYTES;
     if (slots == ring->slots)
         return;
+    budget_spend(it->options.budget, BUDGET_RING);
     give_up_place(it, ring);
     if (slots == 0)
         return;
     uint32_t place = bytes <= RING_BYTES_MOST ? find_blocks(it, count) : 0;
-    if (!place || !make_ahead(ring, slots)) {
-        give_up_place(it, ring);
+    if (!place) {
         it->counts.without_room++;
-        refuse(it, "room for the ring: the bench has 116 MiB for all rings together, 512 KB each. The base", ring,
-               queue, ring->base, bytes);
+        refuse(it, "room for the ring: the bench has 116 MiB for all rings together, 512 KB each. The base", ring->base,
+               queue, bytes);
         return;
     }
     for (uint32_t i = 0; i < count; i++)
@@ -187,7 +173,7 @@ static void note_slot(struct rings *it, enum side side, uint16_t queue, uint32_t
     if (!it->options.is_recorded)
         return;
     snprintf(text, sizeof text, "guest: %s %u slot %" PRIu32 " at 0x%" PRIx64 ", its buffer at 0x%" PRIx64,
-             side == TRANSMIT ? "tx" : "rx", queue, slot, ring->base + (uint64_t)NIC_DESC_BYTES * slot, buffer);
+             side == TRANSMIT ? "tx" : "rx", queue, slot, slot_at(ring, slot).at, buffer);
     nic_note(it->options.device, text);
 }
 
@@ -198,7 +184,7 @@ static void note_ring(struct rings *it, enum side side, uint16_t queue)
     if (!it->options.is_recorded)
         return;
     snprintf(text, sizeof text, "guest: the ring of %s %u is at 0x%" PRIx64 ", %" PRIu32 " slots, of function %u",
-             side == TRANSMIT ? "tx" : "rx", queue, ring->base, ring->slots, ring->function);
+             side == TRANSMIT ? "tx" : "rx", queue, ring->base.at, ring->slots, dma_function(ring->base.of));
     nic_note(it->options.device, text);
 }
 
@@ -236,8 +222,7 @@ static bool is_on(const struct rings *it, enum side side, uint16_t queue)
 
 static void forget_ahead(struct ring *ring)
 {
-    if (ring->is_ahead)
-        memset(ring->is_ahead, 0, ring->slots * sizeof *ring->is_ahead);
+    memset(ring->ahead, 0, sizeof ring->ahead);
     ring->is_given = false;
 }
 
@@ -246,16 +231,93 @@ static void touch(struct rings *it, struct ring *ring)
     ring->is_touched = it->any_touched = true;
 }
 
-/* What was read ahead isn't what the queue begins with when it is on again. A queue whose SRRCTL was never written has
-   the card's: legacy descriptors, 2 KB. */
-static void enable(struct rings *it, enum side side, uint16_t queue, uint32_t word)
+/* ---- whose a ring is ---- */
+
+static bool is_nobody(struct dma client)
+{
+    return dma_is(client, (struct dma){0});
+}
+
+/* What an offload knows of the side's queue isn't the next client's. */
+static void forget_offload(struct rings *it, enum side side, uint16_t queue)
+{
+    if (it->options.offload && side == TRANSMIT)
+        offload_forget(it->options.offload, queue);
+}
+
+static void switch_off(struct rings *it, enum side side, uint16_t queue)
+{
+    uint32_t address = side == TRANSMIT ? NIC_TXDCTL(queue) : NIC_RXDCTL(queue);
+    nic_told told;
+    nic_write32(it->options.device, address, peek(it, address) & ~NIC_RXDCTL_ENABLE);
+    nic_queue_step(it->options.device, side == TRANSMIT, queue, &told);
+}
+
+/* The ring is nobody's from now on, so it reaches no memory. Its place stays as long as the device may look at it:
+   until a reset, or until a client sets up another ring there. */
+static void stop(struct rings *it, enum side side, uint16_t queue)
+{
+    struct ring *ring = &it->rings[side][queue];
+    ring->base.of = ring->head.of = ring->buffer.of = (struct dma){0};
+    forget_ahead(ring);
+    forget_offload(it, side, queue);
+    switch_off(it, side, queue);
+    it->counts.stopped++;
+}
+
+/* A ring that is off becomes a client's, who sets it up: of another client's nothing is left. */
+static void claim(struct rings *it, enum side side, uint16_t queue, struct dma client)
+{
+    struct ring *ring = &it->rings[side][queue];
+    bool has_head = dma_is(ring->head.of, client);
+    bool has_foreign_sizes = !is_nobody(ring->sizes_of) && !dma_is(ring->sizes_of, client);
+    if (dma_is(ring->base.of, client))
+        return;
+    give_up_place(it, ring);
+    *ring = (struct ring){
+        .base = {client, 0}, .head = ring->head, .is_legacy = ring->is_legacy, .sizes_of = ring->sizes_of};
+    if (side == TRANSMIT && !has_head) {
+        ring->head = (struct dma_address){{0}, 0};
+        nic_write32(it->options.device, NIC_TDWBAL(queue), 0);
+    }
+    if (has_foreign_sizes) {
+        ring->is_legacy = false;
+        nic_write32(it->options.device, NIC_SRRCTL(queue), NIC_SRRCTL_BSIZEPACKET_IS(LEGACY_BUFFER_KB));
+    }
+    forget_offload(it, side, queue);
+    nic_write32(it->options.device, side == TRANSMIT ? NIC_TDBAL(queue) : NIC_RDBAL(queue), 0);
+}
+
+/* False: it is another client's ring, and stops. `what` a client did. */
+static bool check_owner(struct rings *it, enum side side, uint16_t queue, struct dma client, const char *what)
+{
+    const struct ring *ring = &it->rings[side][queue];
+    if (dma_is(ring->base.of, client) || (is_nobody(ring->base.of) && ring->slots == 0))
+        return true;
+    refuse_ring(it, what, ring, queue);
+    if (!is_nobody(ring->base.of))
+        stop(it, side, queue);
+    return false;
+}
+
+/* ---- registers, again ---- */
+
+/* What was read ahead, and an offload of a frame that never ended, isn't what the queue begins with when it is on
+   again. A queue whose SRRCTL was never written has the card's: legacy descriptors, 2 KB. */
+static void enable(struct rings *it, enum side side, uint16_t queue, struct dma client, uint32_t word)
 {
     struct ring *ring = &it->rings[side][queue];
     uint32_t control = peek(it, NIC_SRRCTL(queue));
     if (word & NIC_RXDCTL_ENABLE)
         note_ring(it, side, queue);
-    forget_ahead(ring);
-    ring->next_ahead = peek(it, side == TRANSMIT ? NIC_TDH(queue) : NIC_RDH(queue));
+    if (!is_on(it, side, queue)) {
+        forget_ahead(ring);
+        ring->next_ahead = peek(it, side == TRANSMIT ? NIC_TDH(queue) : NIC_RDH(queue));
+        if (word & NIC_RXDCTL_ENABLE)
+            check_owner(it, side, queue, client, "the start of another client's ring, which stops. The ring");
+        if (it->options.offload && side == TRANSMIT)
+            offload_give_up(it->options.offload, queue);
+    }
     if (side == TRANSMIT)
         return;
     touch(it, ring);
@@ -267,8 +329,12 @@ static void enable(struct rings *it, enum side side, uint16_t queue, uint32_t wo
     nic_write32(it->options.device, NIC_SRRCTL(queue), legacy_receive(control));
 }
 
-static uint32_t set_control(struct rings *it, struct ring *ring, uint32_t word)
+/* How large a ring's buffers are is its client's to say: a frame would run on in that client's memory. */
+static uint32_t set_control(struct rings *it, uint16_t queue, struct dma client, uint32_t word)
 {
+    struct ring *ring = &it->rings[RECEIVE][queue];
+    check_owner(it, RECEIVE, queue, client, "a size of buffers for another client's ring, which stops. The ring");
+    ring->sizes_of = client;
     ring->is_legacy = it->options.has_legacy && legacy_is_receive(word);
     return ring->is_legacy ? legacy_receive(word) : word;
 }
@@ -279,8 +345,8 @@ static uint32_t set_place(struct rings *it, struct part_of at, uint32_t word)
     struct ring *ring = &it->rings[at.side][at.queue];
     uint32_t place;
     switch (at.part) {
-    case LOW: ring->base = (ring->base & ~(uint64_t)UINT32_MAX) | (word & ~LEAST_BASE); break;
-    case HIGH: ring->base = (ring->base & UINT32_MAX) | (uint64_t)word << 32; return 0;
+    case LOW: ring->base.at = (ring->base.at & ~(uint64_t)UINT32_MAX) | (word & ~LEAST_BASE); break;
+    case HIGH: ring->base.at = (ring->base.at & UINT32_MAX) | (uint64_t)word << 32; return 0;
     default: take_place(it, at.side, at.queue, word & RING_LENGTH); break;
     }
     place = (uint32_t)bus_of(ring->place);
@@ -290,34 +356,36 @@ static uint32_t set_place(struct rings *it, struct part_of at, uint32_t word)
     return word;
 }
 
-static uint32_t set_head_address(struct rings *it, struct part_of at, uint32_t word)
+/* Half of the address where heads go. A client doesn't complete another one's. */
+static uint32_t set_head_address(struct rings *it, struct part_of at, struct dma client, uint32_t word)
 {
-    struct ring *ring = &it->rings[TRANSMIT][at.queue];
+    struct dma_address *head = &it->rings[TRANSMIT][at.queue].head;
+    if (!dma_is(head->of, client))
+        *head = (struct dma_address){client, 0};
     if (at.part == HEAD_HIGH) {
-        ring->head_address = (ring->head_address & UINT32_MAX) | (uint64_t)word << 32;
+        head->at = (head->at & UINT32_MAX) | (uint64_t)word << 32;
         return 0;
     }
-    ring->head_address = (ring->head_address & ~(uint64_t)UINT32_MAX) | word;
+    head->at = (head->at & ~(uint64_t)UINT32_MAX) | word;
     lend(it, HEADS, 1);
     return (word & 3) | ((uint32_t)bus_of(HEADS) + HEAD_BYTES * at.queue);
 }
 
-uint32_t rings_to_device(struct rings *it, unsigned int function, uint32_t address, uint32_t word)
+uint32_t rings_to_device(struct rings *it, struct dma client, uint32_t address, uint32_t word)
 {
     struct part_of at = address < RINGS_SPACE ? it->parts[address / 4] : (struct part_of){0};
-    struct ring *ring = &it->rings[at.side][at.queue];
     switch (at.part) {
     case LOW:
     case HIGH:
     case LENGTH:
         if (is_on(it, at.side, at.queue)) /* read-only: the device takes none of it */
             return word;
-        ring->function = function;
+        claim(it, at.side, at.queue, client);
         return set_place(it, at, word);
     case HEAD_LOW:
-    case HEAD_HIGH: return set_head_address(it, at, word);
-    case CONTROL: return set_control(it, ring, word);
-    case ENABLE: enable(it, at.side, at.queue, word); return word;
+    case HEAD_HIGH: return set_head_address(it, at, client, word);
+    case CONTROL: return set_control(it, at.queue, client, word);
+    case ENABLE: enable(it, at.side, at.queue, client, word); return word;
     default: return word;
     }
 }
@@ -327,10 +395,10 @@ uint32_t rings_to_driver(const struct rings *it, uint32_t address, uint32_t word
     struct part_of at = address < RINGS_SPACE ? it->parts[address / 4] : (struct part_of){0};
     const struct ring *ring = &it->rings[at.side][at.queue];
     switch (at.part) {
-    case LOW: return (uint32_t)ring->base;
-    case HIGH: return (uint32_t)(ring->base >> 32);
-    case HEAD_LOW: return (uint32_t)ring->head_address;
-    case HEAD_HIGH: return (uint32_t)(ring->head_address >> 32);
+    case LOW: return (uint32_t)ring->base.at;
+    case HIGH: return (uint32_t)(ring->base.at >> 32);
+    case HEAD_LOW: return (uint32_t)ring->head.at;
+    case HEAD_HIGH: return (uint32_t)(ring->head.at >> 32);
     case CONTROL: return ring->is_legacy ? word & ~NIC_SRRCTL_DESCTYPE : word;
     default: return word;
     }
@@ -356,36 +424,86 @@ void rings_head(struct rings *it, bool is_transmit, uint16_t queue, uint32_t hea
     ring->next_ahead = head;
 }
 
+void rings_stop_all(struct rings *it, struct dma client)
+{
+    for (unsigned int side = 0; side < 2; side++)
+        for (uint16_t queue = 0; queue < RINGS_QUEUES; queue++) {
+            struct ring *ring = &it->rings[side][queue];
+            if (dma_is(ring->base.of, client))
+                stop(it, side, queue);
+            if (dma_is(ring->head.of, client))
+                ring->head.of = (struct dma){0};
+        }
+}
+
+void rings_remapped(struct rings *it, struct dma client)
+{
+    for (unsigned int side = 0; side < 2; side++)
+        for (uint16_t queue = 0; queue < RINGS_QUEUES; queue++) {
+            struct ring *ring = &it->rings[side][queue];
+            if (ring->slots && dma_is(ring->base.of, client) && !dma_has(ring->base, ring->slots * NIC_DESC_BYTES))
+                memset(ring->ahead, 0, sizeof ring->ahead);
+        }
+}
+
+struct dma rings_owner(const struct rings *it, bool is_transmit, uint16_t queue)
+{
+    return it->rings[is_transmit][queue].base.of;
+}
+
 /* ---- descriptors go to the device ---- */
 
-static bool read_slot(struct rings *it, const struct ring *ring, uint32_t slot, nic_desc *descriptor)
+static bool read_slot(const struct ring *ring, uint32_t slot, nic_desc *descriptor)
 {
     uint8_t bytes[NIC_DESC_BYTES];
-    if (!copy(it, ring, ring->base + (uint64_t)NIC_DESC_BYTES * slot, bytes, sizeof bytes, false))
+    if (!dma_read(slot_at(ring, slot), bytes, sizeof bytes))
         return false;
     *descriptor = nic_desc_of_bytes(bytes);
     return true;
 }
 
-void rings_tail(struct rings *it, bool is_transmit, uint16_t queue, uint32_t tail, bool fetches)
+/* How many slots lie from one up to another, which isn't among them. */
+static uint32_t slots_between(const struct ring *ring, uint32_t from, uint32_t to)
+{
+    return to >= from ? to - from : ring->slots - from + to;
+}
+
+/* Slots are given away, and what was read ahead of them is old. The first of them are read, where there is room. */
+static void read_ahead(struct rings *it, struct ring *ring, uint32_t from, uint32_t to, bool fetches)
+{
+    uint32_t given = slots_between(ring, from, to), reads = given < RINGS_AHEAD ? given : RINGS_AHEAD;
+    for (unsigned int i = 0; i < RINGS_AHEAD; i++)
+        if (ring->ahead[i].is_there && slots_between(ring, from, ring->ahead[i].slot) < given)
+            ring->ahead[i].is_there = false;
+    for (uint32_t slot = from; fetches && reads; reads--, slot = slot + 1 < ring->slots ? slot + 1 : 0) {
+        struct ahead *ahead = &ring->ahead[slot % RINGS_AHEAD];
+        if (ahead->is_there)
+            continue;
+        ahead->slot = slot;
+        ahead->is_there = read_slot(ring, slot, &ahead->descriptor);
+        it->counts.ahead++;
+    }
+}
+
+void rings_tail(struct rings *it, struct dma client, bool is_transmit, uint16_t queue, uint32_t tail, bool fetches)
 {
     struct ring *ring = &it->rings[is_transmit][queue];
     if (!is_transmit)
         touch(it, ring);
     if (ring->slots == 0 && tail == 0) /* a driver that clears what it doesn't use */
         return;
+    if (!check_owner(it, is_transmit, queue, client, "a tail in another client's ring, which stops. The ring"))
+        return;
     if (tail >= ring->slots) {
         it->counts.tails_outside++;
-        refuse(it, "a tail outside its ring: the ring's end", ring, queue, ring->base, ring->slots * NIC_DESC_BYTES);
+        refuse_ring(it, "a tail outside its ring: the ring's end", ring, queue);
         return;
     }
     if (!is_on(it, is_transmit, queue) && tail != peek(it, is_transmit ? NIC_TDH(queue) : NIC_RDH(queue)) &&
         it->counts.tails_off++ == 0)
-        it->options.refused(it->options.of, "a tail in a ring that is off, the first of them", ring->function, queue,
-                            ring->base, ring->slots * NIC_DESC_BYTES);
-    uint32_t slot = ring->next_ahead < ring->slots ? ring->next_ahead : tail;
-    for (; slot != tail; slot = slot + 1 < ring->slots ? slot + 1 : 0)
-        ring->is_ahead[slot] = fetches && read_slot(it, ring, slot, &ring->ahead[slot]);
+        remark(it, "a tail in a ring that is off, the first of them", ring, queue);
+    budget_spend(it->options.budget, BUDGET_STEP);
+    read_ahead(it, ring, ring->next_ahead < ring->slots ? ring->next_ahead : tail, tail, fetches);
     ring->next_ahead = tail;
 }
 
@@ -415,17 +533,18 @@ static void put_slot(struct rings *it, struct ring *ring, uint32_t slot, nic_des
 
 static bool take_slot(struct rings *it, struct ring *ring, uint16_t queue, uint32_t slot, nic_desc *descriptor)
 {
-    bool is_ahead = ring->is_ahead[slot];
-    ring->is_ahead[slot] = false;
-    if (is_ahead)
-        *descriptor = ring->ahead[slot];
-    else if (!read_slot(it, ring, slot, descriptor)) {
-        refuse(it, "a descriptor", ring, queue, ring->base + (uint64_t)NIC_DESC_BYTES * slot, NIC_DESC_BYTES);
+    struct ahead *ahead = &ring->ahead[slot % RINGS_AHEAD];
+    bool is_ahead = ahead->is_there && ahead->slot == slot;
+    budget_spend(it->options.budget, BUDGET_STEP);
+    if (is_ahead) {
+        *descriptor = ahead->descriptor;
+        ahead->is_there = false;
+    } else if (!read_slot(ring, slot, descriptor)) {
+        refuse(it, "a descriptor", slot_at(ring, slot), queue, NIC_DESC_BYTES);
         return false;
     }
     if (!descriptor->first && !descriptor->second && it->counts.zeros++ == 0)
-        it->options.refused(it->options.of, "a descriptor of zeros; is the guest's memory shared (share=on)? The ring",
-                            ring->function, queue, ring->base, ring->slots * NIC_DESC_BYTES);
+        remark(it, "a descriptor of zeros; is the guest's memory shared (share=on)? The ring", ring, queue);
     return true;
 }
 
@@ -438,8 +557,8 @@ static void give_receive(struct rings *it, uint16_t queue)
         return;
     lend(it, place, RECEIVE_BLOCKS);
     if (take_slot(it, ring, queue, slot, &descriptor)) {
-        ring->buffer = descriptor.first & NIC_RXD_BUFFER;
-        note_slot(it, RECEIVE, queue, slot, ring->buffer);
+        ring->buffer = (struct dma_address){ring->base.of, descriptor.first & NIC_RXD_BUFFER};
+        note_slot(it, RECEIVE, queue, slot, ring->buffer.at);
         descriptor = (nic_desc){bus_of(place), 0};
     }
     put_slot(it, ring, slot, descriptor); /* which points to nothing where the guest's can't be read: a fault */
@@ -456,10 +575,12 @@ static nic_desc data_for_device(struct rings *it, struct ring *ring, uint16_t qu
         guest.second = legacy_transmit(guest.second, &sum, &tag);
     size_t length = guest.second & NIC_TXD_DTALEN;
     uint32_t place = TRANSMIT_FIRST + TRANSMIT_BLOCKS * queue;
-    if (!copy(it, ring, guest.first, it->copy, length, false)) {
-        refuse(it, "a frame's bytes", ring, queue, guest.first, length);
+    const struct dma_address buffer = {ring->base.of, guest.first};
+    if (!dma_read(buffer, it->copy, length)) {
+        refuse(it, "a frame's bytes", buffer, queue, length);
         return (nic_desc){0, guest.second & ~(NIC_TXD_POPTS | NIC_TXD_TSE | NIC_TXD_VLE)};
     }
+    budget_spend(it->options.budget, length);
     it->counts.frames_bytes += length;
     if (offload)
         guest.second = offload_data(offload, queue, guest.second, it->copy, &length, is_legacy ? &sum : NULL, tag);
@@ -477,6 +598,8 @@ static bool give_transmit(struct rings *it, uint16_t queue)
     struct ring *ring = &it->rings[TRANSMIT][queue];
     nic_desc descriptor = {0, NIC_TXD_DATA | NIC_TXD_EOP | NIC_TXD_DTALEN_IS(1)};
     uint32_t slot;
+    if (it->options.offload && offload_is_cutting(it->options.offload, queue))
+        return false;
     enum next next = next_slot(it, TRANSMIT, queue, &slot);
     if (next != SLOT_TO_GIVE)
         return next != NO_SLOT;
@@ -561,10 +684,9 @@ static void filled(struct rings *it, uint64_t bus)
     struct ring *ring = ring_at(it, bus, &queue, &slot);
     if (!ring || nic_get_desc(it->options.device, bus_of(ring->place), slot, &descriptor) != NIC_DONE)
         return;
-    uint64_t address = ring->base + (uint64_t)NIC_DESC_BYTES * slot;
-    uint64_t *to = whole(it, ring, address, NIC_DESC_BYTES);
+    uint64_t *to = dma_whole(slot_at(ring, slot), NIC_DESC_BYTES);
     if (!to) {
-        refuse(it, "a descriptor that is written back", ring, queue, address, NIC_DESC_BYTES);
+        refuse(it, "a descriptor that is written back", slot_at(ring, slot), queue, NIC_DESC_BYTES);
         return;
     }
     if (ring->is_legacy) {
@@ -586,21 +708,23 @@ void rings_written(struct rings *it, uint64_t bus, size_t length)
         return;
     uint16_t queue = (uint16_t)((block - RECEIVE_FIRST) / RECEIVE_BLOCKS);
     struct ring *ring = &it->rings[RECEIVE][queue];
-    uint64_t address = ring->buffer + (bus - bus_of(RECEIVE_FIRST + RECEIVE_BLOCKS * queue));
+    struct dma_address to = ring->buffer;
+    to.at += bus - bus_of(RECEIVE_FIRST + RECEIVE_BLOCKS * queue);
     if (nic_dma_read(it->options.device, bus, it->copy, length) != NIC_DONE)
         return;
+    budget_spend(it->options.budget, length);
     it->counts.frames_bytes += length;
-    if (!copy(it, ring, address, it->copy, length, true))
-        refuse(it, "a buffer for a frame", ring, queue, address, length);
+    if (!dma_write(to, it->copy, length))
+        refuse(it, "a buffer for a frame", to, queue, length);
 }
 
 static void head_written_back(struct rings *it, uint16_t queue, uint64_t bus)
 {
-    struct ring *ring = &it->rings[TRANSMIT][queue];
-    uint64_t address = ring->head_address & ~UINT64_C(3);
+    struct dma_address address = it->rings[TRANSMIT][queue].head;
     uint8_t bytes[4];
     uint32_t head = 0;
-    uint32_t *to = whole(it, ring, address, sizeof bytes);
+    address.at &= ~UINT64_C(3);
+    uint32_t *to = dma_whole(address, sizeof bytes);
     if (nic_dma_read(it->options.device, bus, bytes, sizeof bytes) != NIC_DONE)
         return;
     for (unsigned int i = 0; i < sizeof bytes; i++)
@@ -608,7 +732,7 @@ static void head_written_back(struct rings *it, uint16_t queue, uint64_t bus)
     if (to)
         __atomic_store_n(to, head, RELEASE);
     else
-        refuse(it, "a head that is written back", ring, queue, address, sizeof bytes);
+        refuse(it, "a head that is written back", address, queue, sizeof bytes);
 }
 
 /* Of a transmit descriptor DD is set, and nothing else changes. */
@@ -621,12 +745,11 @@ void rings_written_back(struct rings *it, uint16_t queue, uint64_t bus)
         head_written_back(it, queue, bus);
         return;
     }
-    uint64_t address = ring->base + (uint64_t)NIC_DESC_BYTES * slot;
-    uint64_t *to = whole(it, ring, address, NIC_DESC_BYTES);
+    uint64_t *to = dma_whole(slot_at(ring, slot), NIC_DESC_BYTES);
     if (to)
         __atomic_fetch_or(&to[1], NIC_TXWB_DD, RELEASE);
     else
-        refuse(it, "a descriptor that is written back", ring, queue, address, NIC_DESC_BYTES);
+        refuse(it, "a descriptor that is written back", slot_at(ring, slot), queue, NIC_DESC_BYTES);
 }
 
 /* ---- the whole ---- */
@@ -641,49 +764,17 @@ struct rings *rings_new(const struct rings_options *options)
     return it;
 }
 
-static void give_up_places(struct rings *it)
-{
-    for (unsigned int queue = 0; queue < RINGS_QUEUES; queue++) {
-        give_up_place(it, &it->rings[RECEIVE][queue]);
-        give_up_place(it, &it->rings[TRANSMIT][queue]);
-    }
-}
-
 void rings_free(struct rings *it)
 {
-    if (it)
-        give_up_places(it);
     free(it);
-}
-
-/* Descriptors that were read ahead, in memory of the copy's own: false where that is short. */
-static bool copy_ahead(struct ring *ring, const struct ring *from)
-{
-    ring->ahead = NULL;
-    ring->is_ahead = NULL;
-    if (!from->ahead)
-        return true;
-    if (!make_ahead(ring, from->slots))
-        return false;
-    memcpy(ring->ahead, from->ahead, from->slots * sizeof *ring->ahead);
-    memcpy(ring->is_ahead, from->is_ahead, from->slots * sizeof *ring->is_ahead);
-    return true;
 }
 
 struct rings *rings_copy(const struct rings *it)
 {
     struct rings *copy = malloc(sizeof *copy);
-    bool fits = copy != NULL;
-    if (!copy)
-        return NULL;
-    *copy = *it;
-    for (unsigned int queue = 0; queue < RINGS_QUEUES; queue++)
-        for (unsigned int side = 0; side < 2; side++)
-            fits &= copy_ahead(&copy->rings[side][queue], &it->rings[side][queue]);
-    if (fits)
-        return copy;
-    rings_free(copy);
-    return NULL;
+    if (copy)
+        *copy = *it;
+    return copy;
 }
 
 void rings_become(struct rings *it, struct rings *copy)
@@ -691,7 +782,6 @@ void rings_become(struct rings *it, struct rings *copy)
     const struct rings_options options = it->options;
     struct rings_counts counts = it->counts;
     counts.blocks = copy->counts.blocks;
-    give_up_places(it);
     *it = *copy;
     it->options = options;
     it->counts = counts;

@@ -1,7 +1,12 @@
 /* Guests' memory of any size behind the device's 128 MiB of bus addresses. On the guest's side base registers and
    descriptors hold the guest's addresses, on the device's side the device's: each ring has a place of its own length
-   there, and each queue a place for the buffer that it is at. A descriptor is read when a tail gives it away, as the
-   card prefetches, or when its turn comes; its buffer when the device acts on it.
+   there, and each queue a place for the buffer that it is at. The first descriptors that a tail gives away are read
+   then, as the card prefetches, the others when their turn comes; a buffer when the device acts on it.
+
+   A ring is its client's who set it up: its descriptors and buffers lie in that client's memory and in no other's. Once
+   another client writes the base or the length, all of it is forgotten. Where another writes the tail or how large
+   buffers are, or turns the ring on, or its own client goes, it stops: the queue goes off, and what the device would
+   still fetch is a fault.
 
    All is copied and nothing in place, since the guest runs while calls do. What the guest polls is written last, by a
    release store: a frame's bytes first, DD behind them. */
@@ -12,6 +17,8 @@
 #include <stddef.h>
 #include <stdint.h>
 
+#include "budget.h"
+#include "dma.h"
 #include "nic82599.h"
 #include "offload.h"
 
@@ -19,10 +26,7 @@
 #define RINGS_BLOCKS 65536u
 #define RINGS_SPACE 0x20000u     /* bytes of the physical function's registers */
 #define RING_BYTES_MOST 0x80000u /* 32,768 descriptors: what the card takes */
-
-/* Where bytes of a function's guest are in this process. *length is how many are wanted, and becomes how many of them
-   are there in one piece; null: none. */
-typedef void *rings_memory(void *of, unsigned int function, uint64_t address, size_t *length, bool write);
+#define RINGS_AHEAD 64u          /* descriptors of a ring that are read ahead */
 
 /* An access that goes nowhere, or a driver's mistake: told by whoever has the rings. `what` is a noun. */
 typedef void rings_refused(void *of, const char *what, unsigned int function, uint16_t queue, uint64_t address,
@@ -30,7 +34,7 @@ typedef void rings_refused(void *of, const char *what, unsigned int function, ui
 
 struct rings_options {
     nic *device;
-    rings_memory *memory;
+    struct budget *budget; /* which pays for what is copied */
     rings_refused *refused;
     void *of;
     struct offload *offload; /* null: descriptors go to the device as they are */
@@ -39,7 +43,7 @@ struct rings_options {
 };
 
 struct rings_counts {
-    uint64_t descriptors, frames_bytes, refused, tails_outside, tails_off, without_room, zeros;
+    uint64_t descriptors, frames_bytes, refused, tails_outside, tails_off, without_room, zeros, stopped, ahead;
     uint32_t blocks, blocks_most; /* of rings */
 };
 
@@ -52,15 +56,22 @@ const struct rings_counts *rings_counts(const struct rings *it);
 struct rings *rings_copy(const struct rings *it);
 void rings_become(struct rings *it, struct rings *copy);
 
-/* A word on its way to the device, or back, by the physical function's address of the register. */
-uint32_t rings_to_device(struct rings *it, unsigned int function, uint32_t address, uint32_t word);
+/* A word on its way to the device, or back, by the physical function's address of the register, from this client. */
+uint32_t rings_to_device(struct rings *it, struct dma client, uint32_t address, uint32_t word);
 uint32_t rings_to_driver(const struct rings *it, uint32_t address, uint32_t word);
 
-/* A tail is about to be written; `fetches`: the descriptors up to it are read now. */
-void rings_tail(struct rings *it, bool is_transmit, uint16_t queue, uint32_t tail, bool fetches);
+/* A client is about to write a tail; `fetches`: the first descriptors up to it are read now. */
+void rings_tail(struct rings *it, struct dma client, bool is_transmit, uint16_t queue, uint32_t tail, bool fetches);
 /* A head was written, or a queue reset: what was read ahead is forgotten. */
 void rings_head(struct rings *it, bool is_transmit, uint16_t queue, uint32_t head);
 void rings_reset(struct rings *it, uint16_t queue);
+
+/* A client has gone, or is reset: its rings stop. */
+void rings_stop_all(struct rings *it, struct dma client);
+/* Its ranges of memory have changed: what was read ahead of rings that have lost theirs is forgotten. */
+void rings_remapped(struct rings *it, struct dma client);
+/* Whose ring it is; nobody's where it was stopped, or none was set up. */
+struct dma rings_owner(const struct rings *it, bool is_transmit, uint16_t queue);
 
 /* Gives the device what its next step of this queue needs: before each transmit step, and behind a receive step. False:
    the transmit queue has nothing that could be sent. */

@@ -6,11 +6,19 @@
 #include <stdio.h>
 #include <string.h>
 #include <sys/socket.h>
-#include <time.h>
 
-#define POLLS (2 * SERVER_FUNCTIONS + WIRE_POLLS + CONTROL_POLLS)
+#include "ending.h"
+#include "local_socket.h"
+#include "log.h"
+#include "resources.h"
+
 #define FRAMES_MOST 64 /* that arrive before others have their turn */
 #define LATE_MS 1      /* between the times at which late steps may be made */
+
+/* What is polled for, by whose it is. */
+struct events {
+    struct pollfd ending, functions[SERVER_FUNCTIONS][FUNCTION_POLLS], wire[WIRE_POLLS], control[CONTROL_POLLS];
+};
 
 static void from_card(void *to, const uint8_t *frame, size_t length)
 {
@@ -24,9 +32,11 @@ static void from_card(void *to, const uint8_t *frame, size_t length)
 static struct function *add_function(struct server *it, enum function_kind kind, unsigned int number)
 {
     static const char *const endings[] = {"", ".vf", ".shadow"};
-    struct function *function = &it->functions[it->function_count++];
+    unsigned int socket = it->function_count++;
+    struct function *function = &it->functions[socket];
     *function = (struct function){.kind = kind,
                                   .number = number,
+                                  .socket = socket,
                                   .device = it->options.device,
                                   .virtual_functions = it->options.card.functions,
                                   .card = &it->card};
@@ -41,10 +51,10 @@ static struct function *add_function(struct server *it, enum function_kind kind,
 
 static bool listen_at(struct function *function)
 {
-    if (function_listen(function))
-        return true;
-    fprintf(stderr, "no socket %s: %s\n", function->path, strerror(errno));
-    return false;
+    const char *error = function_listen(function);
+    if (error)
+        log_line(LOG_SERVER, "no socket %s: %s", function->path, error);
+    return !error;
 }
 
 /* A socket that was given: one that listens, or a client's. */
@@ -53,7 +63,7 @@ static bool take_file(struct function *function, int file)
     int listens = 0;
     socklen_t length = sizeof listens;
     if (getsockopt(file, SOL_SOCKET, SO_ACCEPTCONN, &listens, &length) != 0) {
-        fprintf(stderr, "--fd=%d is no socket: %s\n", file, strerror(errno));
+        log_line(LOG_SERVER, "--fd=%d is no socket: %s", file, strerror(errno));
         return false;
     }
     if (listens)
@@ -76,16 +86,26 @@ static bool open_functions(struct server *it)
     return true;
 }
 
+/* Each function has a socket, and a virtual one a shadow's too. */
+static bool share_resources(const struct options *options)
+{
+    unsigned int clients = 1 + 2 * options->card.functions;
+    return resources_share(clients, VECTORS_MOST + (clients - 1) * FUNCTION_VIRTUAL_VECTORS, options->trusts_files);
+}
+
 bool server_open(struct server *it)
 {
+    if (!share_resources(&it->options))
+        return false;
     if (!card_open(&it->card, &it->options.card)) {
-        fprintf(stderr, "memory is short\n");
+        log_line(LOG_SERVER, "memory is short");
         return false;
     }
     if (!wire_open(&it->wire, &it->options.wire))
         return false;
-    if (!control_open(&it->control, it->options.control)) {
-        fprintf(stderr, "no socket %s: %s\n", it->options.control, strerror(errno));
+    const char *error = control_open(&it->control, it->options.control);
+    if (error) {
+        log_line(LOG_SERVER, "no socket %s: %s", it->options.control, error);
         return false;
     }
     traffic_begin(&it->traffic, it->options.card.mac);
@@ -116,8 +136,11 @@ static bool plays(const struct server *it)
  */
 static bool pass_frames(struct server *it)
 {
+    uint64_t began = budget_time();
     bool left = card_pump(&it->card);
-    for (unsigned int i = 0; i < FRAMES_MOST && card_has_room(&it->card); i++) {
+    for (unsigned int i = 0; i < FRAMES_MOST && card_takes_frame(&it->card); i++) {
+        if (i && budget_is_late(began))
+            break;
         size_t length = wire_next(&it->wire, plays(it));
         const struct frame *made = length ? NULL : traffic_next(&it->traffic);
         if (!length && !made)
@@ -131,41 +154,99 @@ static bool pass_frames(struct server *it)
     return left;
 }
 
-static nfds_t fill_polls(const struct server *it, struct pollfd *polls)
+static void fill(const struct server *it, struct events *events)
 {
-    nfds_t count = 0;
-    for (unsigned int i = 0; i < it->function_count; i++) {
-        const struct function *function = &it->functions[i];
-        const struct session *session = &function->session;
-        short out = channel_waiting(&session->channel) ? POLLOUT : 0, in = session_is_ready(session) ? POLLIN : 0;
-        polls[count++] = (struct pollfd){.fd = function->listener, .events = POLLIN};
-        polls[count++] = (struct pollfd){.fd = session->channel.file, .events = (short)(in | out)};
-    }
-    wire_polls(&it->wire, polls + count, card_has_room(&it->card));
-    control_polls(&it->control, polls + count + WIRE_POLLS);
-    return count + WIRE_POLLS + CONTROL_POLLS;
+    events->ending = (struct pollfd){.fd = ending_file(), .events = POLLIN};
+    for (unsigned int i = 0; i < SERVER_FUNCTIONS; i++)
+        for (unsigned int k = 0; k < FUNCTION_POLLS; k++)
+            events->functions[i][k] = (struct pollfd){.fd = -1};
+    for (unsigned int i = 0; i < it->function_count; i++)
+        function_polls(&it->functions[i], events->functions[i]);
+    wire_polls(&it->wire, events->wire, card_has_room(&it->card));
+    control_polls(&it->control, events->control);
 }
 
-static void serve_functions(struct server *it, const struct pollfd *polls)
+/* Waits for them so many milliseconds (-1: for ever). Only files that are there are named to the kernel, which takes no
+   more than the process may have. */
+static void wait_for(struct events *events, int milliseconds)
+{
+    struct pollfd *all = &events->ending, polls[sizeof *events / sizeof(struct pollfd)];
+    unsigned int places[sizeof *events / sizeof(struct pollfd)];
+    nfds_t count = 0;
+    for (unsigned int i = 0; i < sizeof *events / sizeof(struct pollfd); i++) {
+        all[i].revents = 0;
+        if (all[i].fd < 0)
+            continue;
+        places[count] = i;
+        polls[count++] = all[i];
+    }
+    int ready = poll(polls, count, milliseconds);
+    if (ready < 0 && errno != EINTR) {
+        log_line(LOG_SERVER, "waiting for events failed: %s", strerror(errno));
+        poll(NULL, 0, LATE_MS);
+    }
+    for (nfds_t i = 0; ready > 0 && i < count; i++)
+        all[places[i]].revents = polls[i].revents;
+}
+
+static void serve_functions(struct server *it, const struct events *events)
 {
     for (unsigned int i = 0; i < it->function_count; i++) {
         struct function *function = &it->functions[i];
-        short events = polls[2 * i + 1].revents;
+        short ready = events->functions[i][1].revents;
         /* first who was there: a client may have gone, and the next one come */
-        if (events && session_is_open(&function->session))
-            function_serve(function, events);
-        if (polls[2 * i].revents & POLLIN)
+        if (session_is_open(&function->session) && (ready || function_has_more(function)))
+            function_serve(function, ready);
+        if (events->functions[i][0].revents & POLLIN)
             function_accept(function);
     }
+}
+
+/* What clients took back goes to the kernel, a piece of each in a turn. */
+static bool give_back(struct server *it)
+{
+    bool left = false;
+    for (unsigned int i = 0; i < it->function_count; i++)
+        left |= session_give_back(&it->functions[i].session);
+    return left;
+}
+
+/* Whether there is work that waits for no event, but for the next turn. */
+static bool has_more(const struct server *it)
+{
+    if (card_has_room(&it->card) && (wire_has_more(&it->wire, plays(it)) || traffic_has_more(&it->traffic)))
+        return true;
+    for (unsigned int i = 0; i < it->function_count; i++)
+        if (function_has_more(&it->functions[i]))
+            return true;
+    return card_is_busy(&it->card) || traffic_is_busy(&it->traffic) || control_has_more(&it->control);
+}
+
+/* Whether a client waits for files to be closed. */
+static bool is_closing(const struct server *it)
+{
+    for (unsigned int i = 0; i < it->function_count; i++)
+        if (function_is_busy(&it->functions[i]))
+            return true;
+    return false;
+}
+
+static int sooner(int milliseconds, int other)
+{
+    return milliseconds < 0 || milliseconds > other ? other : milliseconds;
 }
 
 /* Milliseconds to wait for events; -1: for ever. */
 static int patience(const struct server *it, bool is_late)
 {
-    int wire = wire_patience(&it->wire);
-    if (card_has_room(&it->card) && (wire_has_more(&it->wire, plays(it)) || traffic_has_more(&it->traffic)))
-        return 0;
-    return is_late ? LATE_MS : wire;
+    int wait = wire_patience(&it->wire);
+    if (is_late || is_closing(it))
+        wait = sooner(wait, LATE_MS);
+    if (local_rests())
+        wait = sooner(wait, LOCAL_REST_MS);
+    if (log_is_waiting())
+        wait = sooner(wait, LOG_WAIT_MS);
+    return wait;
 }
 
 static bool has_ended(const struct server *it)
@@ -174,23 +255,20 @@ static bool has_ended(const struct server *it)
     return physical->listener < 0 && !session_is_open(&physical->session);
 }
 
-void server_run(struct server *it, const volatile sig_atomic_t *ends, const sigset_t *unblocked)
+void server_run(struct server *it)
 {
+    card_begin_turn(&it->card);
     bool is_late = pass_frames(it);
-    while (!*ends && !has_ended(it)) {
-        struct pollfd polls[POLLS];
-        nfds_t count = fill_polls(it, polls);
-        int milliseconds = patience(it, is_late);
-        struct timespec time = {milliseconds / 1000, milliseconds % 1000 * 1000000L};
-        int ready = ppoll(polls, count, milliseconds < 0 ? NULL : &time, unblocked);
-        if (ready < 0 && errno != EINTR)
-            break;
-        if (ready > 0)
-            serve_functions(it, polls);
-        else
-            memset(polls, 0, sizeof polls);
-        wire_serve(&it->wire, polls + count - CONTROL_POLLS - WIRE_POLLS);
-        control_serve(&it->control, polls + count - CONTROL_POLLS, it);
+    while (!ending_is_asked() && !has_ended(it)) {
+        struct events events;
+        fill(it, &events);
+        wait_for(&events, give_back(it) || has_more(it) ? 0 : patience(it, is_late));
+        card_begin_turn(&it->card);
+        serve_functions(it, &events);
+        wire_serve(&it->wire, events.wire);
+        control_serve(&it->control, events.control, it);
+        traffic_prepare(&it->traffic, BUDGET_EXPECTED);
         is_late = pass_frames(it);
+        log_tick();
     }
 }

@@ -2,7 +2,6 @@
 #ifndef VFU_SERVER_H
 #define VFU_SERVER_H
 
-#include <signal.h>
 #include <stdbool.h>
 
 #include "card.h"
@@ -22,14 +21,15 @@ struct server {
     struct control control;
     struct traffic traffic;
     struct snapshots snapshots;
+    struct output trace;
     struct function functions[SERVER_FUNCTIONS];
     unsigned int function_count;
 };
 
 /* Opens all: false, and a line on standard error says what can't be had. */
 bool server_open(struct server *it);
-/* Serves until *ends isn't 0, or the client of --fd has gone. */
-void server_run(struct server *it, const volatile sig_atomic_t *ends, const sigset_t *unblocked);
+/* Serves until it is asked to end (ending.h), or the client of --fd has gone. */
+void server_run(struct server *it);
 void server_close(struct server *it);
 
 #endif

@@ -6,8 +6,11 @@
 #include <stdio.h>
 #include <string.h>
 
-static const char capabilities[] = "{\"capabilities\":{\"max_msg_fds\":16,\"max_data_xfer_size\":4096,"
-                                   "\"pgsizes\":4096,\"max_dma_maps\":16384,\"write_multiple\":true}}";
+#include "budget.h"
+#include "closer.h"
+#include "log.h"
+
+#define CAPABILITIES_MOST 200 /* bytes of the text */
 
 /* A message that is being answered: `reply` is how many bytes of its body go back. */
 struct work {
@@ -46,8 +49,11 @@ static int version(struct work *it)
     if (asked->major != 0)
         return EINVAL;
     asked->minor = 0;
-    memcpy((uint8_t *)asked + sizeof *asked, capabilities, sizeof capabilities);
-    it->reply = sizeof *asked + sizeof capabilities;
+    int length = snprintf((char *)asked + sizeof *asked, CAPABILITIES_MOST,
+                          "{\"capabilities\":{\"max_msg_fds\":16,\"max_data_xfer_size\":4096,\"pgsizes\":4096,"
+                          "\"max_dma_maps\":%u,\"write_multiple\":true}}",
+                          memory_map_limits()->ranges);
+    it->reply = (unsigned int)sizeof *asked + (unsigned int)length + 1;
     it->session->has_version = true;
     return 0;
 }
@@ -59,11 +65,27 @@ static void tell_of_memory(struct session *it, const struct vfu_dma_map *asked)
     if (it->is_told_of_memory)
         return;
     it->is_told_of_memory = true;
-    fprintf(stderr,
-            "%s: memory at 0x%" PRIx64 ", 0x%" PRIx64 " bytes, isn't shared, so the card can't reach it. If it is the "
-            "guest's RAM, start QEMU with -object memory-backend-memfd,id=ram,size=SIZE,share=on "
-            "-machine memory-backend=ram\n",
-            it->name, asked->address, asked->size);
+    log_line(LOG_MESSAGE,
+             "%s: memory at 0x%" PRIx64 ", 0x%" PRIx64 " bytes, isn't shared, so the card can't reach it. If it is the "
+             "guest's RAM, start QEMU with -object memory-backend-memfd,id=ram,size=SIZE,share=on "
+             "-machine memory-backend=ram",
+             it->name, asked->address, asked->size);
+}
+
+/* Memory with a file that isn't mapped, though the client may ask for it. */
+static void tell_of_file(const struct session *it, const struct vfu_dma_map *asked, int error)
+{
+    if (error == EPERM)
+        log_line(LOG_MESSAGE,
+                 "%s: memory at 0x%" PRIx64 " is refused: it is of a file system that could make the server wait. Use "
+                 "memory-backend-memfd, or tmpfs or hugetlbfs; --trust-files takes any file",
+                 it->name, asked->address);
+    else if (error == ENOSPC)
+        log_line(LOG_MESSAGE, "%s: memory at 0x%" PRIx64 " is refused: a client may have %u ranges at once", it->name,
+                 asked->address, memory_map_limits()->ranges);
+    else if (error == EMFILE)
+        log_line(LOG_MESSAGE, "%s: memory at 0x%" PRIx64 " is refused: a client may have %u files of memory at once",
+                 it->name, asked->address, memory_map_limits()->files);
 }
 
 static int dma_map(struct work *it)
@@ -80,6 +102,8 @@ static int dma_map(struct work *it)
     int error = memory_map_add(&it->session->map, &range, has_file ? it->message->files[0] : -1, asked->offset);
     if (error == 0)
         it->session->calls->remapped(it->session->function);
+    else
+        tell_of_file(it->session, asked, error);
     return error;
 }
 
@@ -300,21 +324,22 @@ static enum channel_state serve_one(struct session *it, struct message *message)
 
 /* ---- a client ---- */
 
-void session_begin(struct session *it, const struct session_calls *calls, void *function, unsigned int vectors)
+void session_begin(struct session *it, const struct session_calls *calls, void *function, unsigned int vectors,
+                   unsigned int owner)
 {
-    channel_begin(&it->channel, -1);
-    it->map = (struct memory_map){0};
+    channel_begin(&it->channel, -1, owner);
+    memory_map_begin(&it->map, owner);
     vectors_begin(&it->vectors, vectors);
     it->calls = calls;
     it->function = function;
-    it->has_version = it->is_told_of_memory = it->is_stalled = false;
+    it->has_version = it->is_told_of_memory = it->is_stalled = it->is_paused = false;
     it->counts = (struct session_counts){0};
 }
 
 void session_open(struct session *it, int file)
 {
-    channel_begin(&it->channel, file);
-    it->has_version = it->is_told_of_memory = it->is_stalled = false;
+    channel_begin(&it->channel, file, it->channel.owner);
+    it->has_version = it->is_told_of_memory = it->is_stalled = it->is_paused = false;
 }
 
 bool session_is_open(const struct session *it)
@@ -324,14 +349,35 @@ bool session_is_open(const struct session *it)
 
 bool session_is_ready(const struct session *it)
 {
-    return channel_waiting(&it->channel) <= CHANNEL_KEPT;
+    return channel_waiting(&it->channel) <= CHANNEL_KEPT && !session_is_busy(it);
+}
+
+bool session_is_busy(const struct session *it)
+{
+    return memory_map_is_busy(&it->map) || closer_is_full(it->channel.owner);
+}
+
+bool session_is_paused(const struct session *it)
+{
+    return it->is_paused;
 }
 
 void session_close(struct session *it)
 {
+    it->is_paused = false;
     channel_end(&it->channel);
     memory_map_clear(&it->map);
     vectors_clear(&it->vectors);
+}
+
+bool session_give_back(struct session *it)
+{
+    return memory_map_give_back(&it->map);
+}
+
+void session_end(struct session *it)
+{
+    memory_map_end(&it->map);
 }
 
 static bool end_unless_open(struct session *it, enum channel_state state)
@@ -339,19 +385,21 @@ static bool end_unless_open(struct session *it, enum channel_state state)
     if (state == CHANNEL_OPEN)
         return true;
     if (state == CHANNEL_WRONG)
-        fprintf(stderr, "%s: what the client sends isn't the protocol, so it is let go\n", it->name);
+        log_line(LOG_MESSAGE, "%s: what the client sends isn't the protocol, so it is let go", it->name);
     session_close(it);
     return false;
 }
 
+/* What a client sent before it went is served too, but for what waits then. */
 bool session_serve(struct session *it)
 {
     struct message message;
+    uint64_t began = budget_time();
     enum channel_state state = channel_receive(&it->channel);
-    it->is_stalled = false;
+    it->is_stalled = it->is_paused = false;
     while (state != CHANNEL_WRONG) {
         it->is_stalled = !session_is_ready(it);
-        if (it->is_stalled && state == CHANNEL_OPEN)
+        if (it->is_stalled)
             break;
         enum channel_state now = CHANNEL_OPEN;
         if (!channel_next(&it->channel, &message, &now)) {
@@ -362,13 +410,14 @@ bool session_serve(struct session *it)
         state = now == CHANNEL_OPEN ? state : now;
         if (now != CHANNEL_OPEN)
             break;
+        it->is_paused = !it->calls->may_serve(it->function) || budget_is_late(began);
+        if (it->is_paused)
+            return true;
     }
     return end_unless_open(it, state);
 }
 
 bool session_flush(struct session *it)
 {
-    if (!end_unless_open(it, channel_flush(&it->channel)))
-        return false;
-    return !it->is_stalled || !session_is_ready(it) || session_serve(it);
+    return end_unless_open(it, channel_flush(&it->channel));
 }

@@ -18,6 +18,8 @@ struct session_calls {
     void (*reset)(void *function);
     /* the ranges of memory have changed */
     void (*remapped)(void *function);
+    /* a message was served; false: others have their turn before the next one */
+    bool (*may_serve)(void *function);
 };
 
 struct session_counts {
@@ -32,11 +34,14 @@ struct session {
     void *function;
     const char *name; /* of the socket, for what is told on standard error */
     bool has_version, is_told_of_memory;
-    bool is_stalled; /* messages that came wait for what is sent to go */
+    bool is_stalled; /* messages that came wait for what is sent to go, or for what is given back */
+    bool is_paused;  /* messages that came wait for the next turn */
     struct session_counts counts;
 };
 
-void session_begin(struct session *it, const struct session_calls *calls, void *function, unsigned int vectors);
+/* `owner`: a number of the session's own, for closer.h. */
+void session_begin(struct session *it, const struct session_calls *calls, void *function, unsigned int vectors,
+                   unsigned int owner);
 /* A client has connected: its socket, which is the session's from now on. */
 void session_open(struct session *it, int file);
 bool session_is_open(const struct session *it);
@@ -44,8 +49,17 @@ bool session_is_open(const struct session *it);
 bool session_serve(struct session *it);
 /* Sends what waits; false as above. */
 bool session_flush(struct session *it);
-/* Whether the session takes in more now. */
+/* Whether the session takes in more now: not while replies wait to be read, nor while much of what its client had is
+   being given back to the kernel. */
 bool session_is_ready(const struct session *it);
+/* Whether messages that came wait for the next turn, in which session_serve goes on. */
+bool session_is_paused(const struct session *it);
 void session_close(struct session *it);
+/* Whether its client waits for what the server itself has to do. */
+bool session_is_busy(const struct session *it);
+/* Gives a piece of what the client took back to the kernel: true where some is left. */
+bool session_give_back(struct session *it);
+/* After it was closed, at the end: gives back all. */
+void session_end(struct session *it);
 
 #endif

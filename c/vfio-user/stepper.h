@@ -19,6 +19,7 @@ struct stepper {
     uint64_t state;                              /* of the coin */
     bool has_changed;                            /* since steps were made something happened that may make some due */
     bool is_due[STEPPER_QUEUES], any_due;        /* transmit queues whose tail moved */
+    uint16_t first_due;                          /* which of them has its turn first */
     bool is_asked[2][STEPPER_QUEUES], any_asked; /* sides of queues, the transmit side at 1, that are to go on or off */
     struct late_reset reset;
 };

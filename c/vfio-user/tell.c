@@ -46,6 +46,12 @@ static void tell_wire(const struct wire_counts *it, FILE *to)
             it->lost_nobody, it->lost_full, it->too_long);
 }
 
+static void tell_output(const struct output *it, FILE *to, const char *name)
+{
+    if (it->lost)
+        fprintf(to, "%s: %" PRIu64 " records were lost, since nobody read them\n", name, it->lost);
+}
+
 void tell_counts(const struct server *it, FILE *to)
 {
     const struct bus_counts *bus = bus_counts();
@@ -53,6 +59,8 @@ void tell_counts(const struct server *it, FILE *to)
     for (unsigned int i = 0; i < it->function_count; i++)
         tell_function(&it->functions[i], to);
     tell_wire(&it->wire.counts, to);
+    tell_output(&it->wire.capture, to, "capture");
+    tell_output(&it->trace, to, "trace");
     fprintf(to,
             "device: received %" PRIu64 " frames in %" PRIu64 " descriptors, sent %" PRIu64 " from %" PRIu64
             "; faults %" PRIu64 "\n",
@@ -62,23 +70,24 @@ void tell_counts(const struct server *it, FILE *to)
     tell_whys(to, "faults", bus->fault_whys, nic_fault_name);
     fprintf(to,
             "answers in the device's place: SWSM %" PRIu64 ", ANLP1 %" PRIu64 ", EICS %" PRIu64 ", EERD %" PRIu64
-            ", ABSENT %" PRIu64 ", FWSM %" PRIu64 ", RXPBSIZE %" PRIu64 "\n",
+            ", ABSENT %" PRIu64 ", FWSM %" PRIu64 ", RXPBSIZE %" PRIu64 ", IPSEC %" PRIu64 "\n",
             bus->answered[0], bus->answered[1], bus->answered[2], bus->answered[3], bus->answered[4], bus->answered[5],
-            bus->answered[6]);
+            bus->answered[6], bus->answered[7]);
     fprintf(to,
-            "rings: %" PRIu64 " descriptors, %" PRIu64 " bytes of frames; at most %" PRIu32 " KB of rings; accesses "
+            "rings: %" PRIu64 " descriptors, read ahead %" PRIu64 ", %" PRIu64 " bytes of frames; at most %" PRIu32
+            " KB of rings; accesses "
             "refused %" PRIu64 ", of them tails outside %" PRIu64 ", rings without room %" PRIu64
-            "; tails in rings that are off %" PRIu64 ", writes lost in resets %" PRIu64 "\n",
-            rings->descriptors, rings->frames_bytes, rings->blocks_most * 2, rings->refused, rings->tails_outside,
-            rings->without_room, rings->tails_off, it->card.lost_writes);
+            "; tails in rings that are off %" PRIu64 ", writes lost in resets %" PRIu64 ", rings stopped %" PRIu64 "\n",
+            rings->descriptors, rings->ahead, rings->frames_bytes, rings->blocks_most * 2, rings->refused,
+            rings->tails_outside, rings->without_room, rings->tails_off, it->card.lost_writes, rings->stopped);
     if (it->card.offload) {
         const struct offload_counts *offload = &it->card.offload->counts;
         fprintf(to,
                 "offloads: checksums in %" PRIu64 " frames, tags in %" PRIu64 "; %" PRIu64 " large sends in %" PRIu64
-                " segments, dropped %" PRIu64 "\n",
-                offload->sums, offload->tags, offload->large, offload->segments, offload->dropped);
+                " segments, dropped %" PRIu64 ", given up %" PRIu64 "\n",
+                offload->sums, offload->tags, offload->large, offload->segments, offload->dropped, offload->given_up);
     }
-    if (memory_map_lost_pages())
-        fprintf(to, "memory: %lu pages were lost, of files that their client cut\n", memory_map_lost_pages());
+    if (memory_map_cuts())
+        fprintf(to, "memory: %lu times a client cut a file that it had given\n", memory_map_cuts());
     fflush(to);
 }

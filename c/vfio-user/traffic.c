@@ -25,7 +25,17 @@ void traffic_send(struct traffic *it, unsigned int count, uint16_t most)
 bool traffic_expect(struct traffic *it, unsigned int count, uint16_t most, const uint8_t from[6])
 {
     numbered_end(&it->expected);
-    return numbered_begin(&it->expected, count, most, peer, from);
+    return numbered_start(&it->expected, count, most, peer, from);
+}
+
+void traffic_prepare(struct traffic *it, size_t bytes)
+{
+    numbered_prepare(&it->expected, bytes);
+}
+
+bool traffic_is_busy(const struct traffic *it)
+{
+    return !numbered_is_ready(&it->expected);
 }
 
 bool traffic_has_more(const struct traffic *it)

@@ -11,6 +11,7 @@
 #include "numbered.h"
 
 #define TRAFFIC_MOST 1000000u /* frames */
+#define TRAFFIC_EARLY 65536u  /* frames of the card's that may come while the expected ones are being made */
 
 struct traffic {
     uint8_t card[6];
@@ -24,9 +25,12 @@ struct traffic {
 
 void traffic_begin(struct traffic *it, const uint8_t card[6]);
 void traffic_end(struct traffic *it);
-/* `count` frames of FRAME_MIN to `most` bytes go to the card; or are expected of it: false where memory is short. */
+/* `count` frames of FRAME_MIN to `most` bytes go to the card; or are expected of it: false where memory is short. Those
+   that are expected are made in pieces: traffic_prepare makes some `bytes` of them, while traffic_is_busy. */
 void traffic_send(struct traffic *it, unsigned int count, uint16_t most);
 bool traffic_expect(struct traffic *it, unsigned int count, uint16_t most, const uint8_t from[6]);
+void traffic_prepare(struct traffic *it, size_t bytes);
+bool traffic_is_busy(const struct traffic *it);
 /* The next frame for the card; null: none. */
 const struct frame *traffic_next(struct traffic *it);
 bool traffic_has_more(const struct traffic *it);

@@ -1,10 +1,9 @@
 #define _GNU_SOURCE
 #include "vectors.h"
 
-#include <errno.h>
-#include <fcntl.h>
-#include <sys/stat.h>
 #include <unistd.h>
+
+#include "notifier.h"
 
 void vectors_begin(struct vectors *it, unsigned int count)
 {
@@ -23,18 +22,9 @@ void vectors_clear(struct vectors *it)
     it->pending = 0;
 }
 
-/* Any other file's write could wait, or go where nobody wants it. */
-static bool is_eventfd(int file)
-{
-    struct stat about;
-    int flags = fcntl(file, F_GETFL);
-    return fstat(file, &about) == 0 && (about.st_mode & S_IFMT) == 0 && flags >= 0 &&
-           fcntl(file, F_SETFL, flags | O_NONBLOCK) == 0;
-}
-
 bool vectors_set(struct vectors *it, unsigned int vector, int file)
 {
-    if (vector >= it->count || (file >= 0 && !is_eventfd(file)))
+    if (vector >= it->count || (file >= 0 && !notifier_takes(file)))
         return false;
     if (it->files[vector] >= 0)
         close(it->files[vector]);
@@ -44,11 +34,7 @@ bool vectors_set(struct vectors *it, unsigned int vector, int file)
 
 static bool send_one(struct vectors *it, unsigned int vector)
 {
-    uint64_t one = 1;
-    if (it->files[vector] < 0)
-        return false;
-    /* EAGAIN: the client was told so often that it will look */
-    if (write(it->files[vector], &one, sizeof one) != (ssize_t)sizeof one && errno != EAGAIN)
+    if (it->files[vector] < 0 || !notifier_send(it->files[vector]))
         return false;
     it->sent[vector]++;
     return true;

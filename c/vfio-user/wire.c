@@ -2,72 +2,44 @@
 #include "wire.h"
 
 #include <errno.h>
+#include <fcntl.h>
 #include <string.h>
 #include <sys/socket.h>
-#include <sys/un.h>
+#include <sys/stat.h>
 #include <unistd.h>
 
+#include "closer.h"
+#include "local_socket.h"
+#include "log.h"
 #include "respond.h"
 
 #define LENGTH_BYTES 4u
 #define FRAME_LEAST 60u
 #define STREAM_ROOM (64u << 10)
 #define AGAIN_MS 300
+#define CAPTURE_END_MS 1000 /* that what is kept of a capture has to go at the end */
 #define SOCKET_BYTES (4 << 20)
 
 static const uint8_t responder[6] = {0x02, 0x00, 0x00, 0x00, 0x00, 0x01};
 
 /* ---- sockets ---- */
 
-static bool name_of(const char *path, struct sockaddr_un *name)
-{
-    *name = (struct sockaddr_un){.sun_family = AF_UNIX};
-    if (strlen(path) >= sizeof name->sun_path)
-        return false;
-    memcpy(name->sun_path, path, strlen(path));
-    return true;
-}
-
 static void hang_up(struct wire *it)
 {
     if (it->file >= 0)
-        close(it->file);
+        closer_close_socket(it->file, CLOSER_WIRE);
     it->file = -1;
     buffer_clear(&it->in);
     buffer_clear(&it->out);
 }
 
-static bool connect_stream(struct wire *it)
-{
-    struct sockaddr_un name;
-    name_of(it->options.path, &name);
-    it->file = socket(AF_UNIX, SOCK_STREAM | SOCK_CLOEXEC, 0);
-    if (it->file >= 0 && connect(it->file, (const struct sockaddr *)&name, sizeof name) == 0)
-        return true;
-    hang_up(it);
-    return false;
-}
-
-static bool bind_at(int file, const char *path)
-{
-    struct sockaddr_un name;
-    name_of(path, &name);
-    unlink(path);
-    return file >= 0 && bind(file, (const struct sockaddr *)&name, sizeof name) == 0;
-}
-
-static bool open_datagrams(struct wire *it)
+static const char *open_datagrams(struct wire *it)
 {
     int bytes = SOCKET_BYTES;
-    it->file = socket(AF_UNIX, SOCK_DGRAM | SOCK_CLOEXEC | SOCK_NONBLOCK, 0);
-    setsockopt(it->file, SOL_SOCKET, SO_SNDBUF, &bytes, sizeof bytes);
-    return bind_at(it->file, it->options.path);
-}
-
-static bool open_listener(struct wire *it)
-{
-    it->listener = socket(AF_UNIX, SOCK_STREAM | SOCK_CLOEXEC | SOCK_NONBLOCK, 0);
-    return bind_at(it->listener, it->options.path) && listen(it->listener, 1) == 0;
+    const char *error = local_bind(&it->file, SOCK_DGRAM, it->options.path);
+    if (!error)
+        setsockopt(it->file, SOL_SOCKET, SO_SNDBUF, &bytes, sizeof bytes);
+    return error;
 }
 
 /* ---- the other end ---- */
@@ -107,7 +79,7 @@ static void flush_stream(struct wire *it)
 static void flush_datagrams(struct wire *it)
 {
     struct sockaddr_un peer;
-    name_of(it->options.peer, &peer);
+    local_name(&peer, it->options.peer);
     while (buffer_waiting(&it->out)) {
         const uint8_t *front = buffer_front(&it->out);
         size_t length = get_length(front);
@@ -156,16 +128,18 @@ static void send_out(struct wire *it, const uint8_t *frame, size_t length)
 
 static void capture(struct wire *it, enum capture_direction direction, const uint8_t *frame, size_t length)
 {
-    if (!it->capture || capture_write(it->capture, direction, frame, length))
+    if (it->capture.file < 0)
         return;
-    fprintf(stderr, "%s can't be written, so it ends here: %s\n", it->options.capture, strerror(errno));
-    fclose(it->capture);
-    it->capture = NULL;
+    capture_write(&it->capture, direction, frame, length);
+    if (!it->capture.error)
+        return;
+    log_line(LOG_WIRE, "%s can't be written, so it ends here: %s", it->options.capture, strerror(it->capture.error));
+    output_end(&it->capture, 0);
 }
 
 void wire_send(struct wire *it, const uint8_t *frame, size_t length)
 {
-    uint8_t reply[WIRE_FRAME_MOST];
+    static uint8_t reply[WIRE_FRAME_MOST];
     it->counts.out++;
     it->counts.out_bytes += length;
     capture(it, CAPTURE_OUT, frame, length);
@@ -195,14 +169,23 @@ static size_t from_local(struct wire *it)
     return length;
 }
 
-/* Reads what has come, while less than a longest frame waits. */
+/* Whether a whole frame has come, or what can't be one; until then it is read on. */
+static bool has_frame(const struct wire *it)
+{
+    size_t waiting = buffer_waiting(&it->in);
+    if (waiting < LENGTH_BYTES)
+        return false;
+    size_t length = get_length(buffer_front(&it->in));
+    return length > WIRE_LENGTH_MOST || waiting >= LENGTH_BYTES + length;
+}
+
 static void read_stream(struct wire *it)
 {
     static const uint8_t nothing[1];
     uint8_t bytes[STREAM_ROOM];
-    if (buffer_waiting(&it->in) > STREAM_ROOM)
+    if (has_frame(it))
         return;
-    ssize_t got = recv(it->file, bytes, sizeof bytes, MSG_DONTWAIT);
+    ssize_t got = closer_receive(it->file, bytes, sizeof bytes, MSG_DONTWAIT, CLOSER_WIRE);
     if (got > 0 && buffer_put(&it->in, nothing, 0, bytes, (size_t)got))
         return;
     if (got < 0 && (errno == EAGAIN || errno == EWOULDBLOCK || errno == EINTR))
@@ -215,9 +198,9 @@ static size_t from_stream(struct wire *it)
 {
     while (buffer_waiting(&it->in) >= LENGTH_BYTES) {
         size_t length = get_length(buffer_front(&it->in));
-        if (length > 4 * WIRE_FRAME_MOST + LENGTH_BYTES) {
-            fprintf(stderr, "%s: a frame of %zu bytes is none, so the wire's other end is let go\n", it->options.path,
-                    length);
+        if (length > WIRE_LENGTH_MOST) {
+            log_line(LOG_WIRE, "%s: a frame of %zu bytes is none, so the wire's other end is let go", it->options.path,
+                     length);
             hang_up(it);
             return 0;
         }
@@ -236,14 +219,15 @@ static size_t from_stream(struct wire *it)
 
 static size_t from_datagram(struct wire *it)
 {
-    for (;;) {
-        ssize_t got = recv(it->file, it->frame, sizeof it->frame, MSG_DONTWAIT | MSG_TRUNC);
+    while (!closer_is_full(CLOSER_WIRE)) {
+        ssize_t got = closer_receive(it->file, it->frame, sizeof it->frame, MSG_DONTWAIT | MSG_TRUNC, CLOSER_WIRE);
         if (got <= 0)
             return 0;
         if ((size_t)got <= sizeof it->frame)
             return (size_t)got;
         it->counts.too_long++;
     }
+    return 0;
 }
 
 static size_t from_file(struct wire *it)
@@ -257,8 +241,8 @@ static size_t from_file(struct wire *it)
         return length;
     }
     if (next == CAPTURE_BROKEN)
-        fprintf(stderr, "%s: what comes after %llu frames is none of Ethernet's that is whole\n", it->options.play,
-                (unsigned long long)it->counts.played);
+        log_line(LOG_WIRE, "%s: what comes after %llu frames is none of Ethernet's that is whole", it->options.play,
+                 (unsigned long long)it->counts.played);
     fclose(it->played);
     it->played = NULL;
     return 0;
@@ -287,9 +271,11 @@ size_t wire_next(struct wire *it, bool plays)
 
 void wire_polls(const struct wire *it, struct pollfd *polls, bool takes)
 {
-    short events = (short)((takes ? POLLIN : 0) | (buffer_waiting(&it->out) ? POLLOUT : 0));
+    bool reads = takes && !closer_is_full(CLOSER_WIRE);
+    short events = (short)((reads ? POLLIN : 0) | (buffer_waiting(&it->out) ? POLLOUT : 0));
     polls[0] = (struct pollfd){.fd = events ? it->file : -1, .events = events};
-    polls[1] = (struct pollfd){.fd = it->listener, .events = POLLIN};
+    polls[1] =
+        (struct pollfd){.fd = local_rests() || closer_is_full(CLOSER_WIRE) ? -1 : it->listener, .events = POLLIN};
     /* whether a datagram goes depends on the other end's queue, of which poll says nothing */
     if (it->options.kind == WIRE_DGRAM)
         polls[0].events &= ~POLLOUT;
@@ -298,15 +284,15 @@ void wire_polls(const struct wire *it, struct pollfd *polls, bool takes)
 void wire_serve(struct wire *it, const struct pollfd *polls)
 {
     if (polls[1].revents) {
-        int file = accept4(it->listener, NULL, NULL, SOCK_CLOEXEC);
+        int file = local_accept(it->listener);
         if (file >= 0) {
             hang_up(it);
             it->file = file;
         }
         return;
     }
-    if (it->file < 0 && it->options.kind == WIRE_STREAM)
-        connect_stream(it);
+    if (it->file < 0 && it->options.kind == WIRE_STREAM && !closer_is_full(CLOSER_WIRE))
+        it->file = local_connect(it->options.path);
     flush(it);
     if (it->file >= 0 && it->options.kind != WIRE_DGRAM && polls[0].revents & (POLLIN | POLLHUP | POLLERR))
         read_stream(it);
@@ -316,70 +302,82 @@ bool wire_has_more(const struct wire *it, bool plays)
 {
     if (buffer_waiting(&it->local) || (plays && it->played))
         return true;
-    return buffer_waiting(&it->in) >= LENGTH_BYTES &&
-           buffer_waiting(&it->in) >= LENGTH_BYTES + get_length(buffer_front(&it->in));
+    return has_frame(it);
 }
 
 int wire_patience(const struct wire *it)
 {
-    if (it->options.kind == WIRE_DGRAM && buffer_waiting(&it->out))
+    if ((it->options.kind == WIRE_DGRAM && buffer_waiting(&it->out)) || closer_is_full(CLOSER_WIRE))
         return 1;
     return it->options.kind == WIRE_STREAM && it->file < 0 ? AGAIN_MS : -1;
 }
 
 /* ---- the whole ---- */
 
-static bool open_socket(struct wire *it)
+/* Null, or what is in the way. Where nobody listens for a stream yet, it connects later. */
+static const char *open_socket(struct wire *it)
 {
     struct sockaddr_un name;
     const struct wire_options *options = &it->options;
     if (options->kind == WIRE_NONE || options->kind == WIRE_RESPOND)
-        return true;
-    if (!name_of(options->path, &name) || (options->kind == WIRE_DGRAM && !name_of(options->peer, &name))) {
-        errno = ENAMETOOLONG;
+        return NULL;
+    if (!local_name(&name, options->path) || (options->kind == WIRE_DGRAM && !local_name(&name, options->peer)))
+        return strerror(ENAMETOOLONG);
+    if (options->kind == WIRE_DGRAM)
+        return open_datagrams(it);
+    if (options->kind == WIRE_LISTEN)
+        return local_listen(&it->listener, options->path, 1);
+    it->file = local_connect(options->path);
+    return NULL;
+}
+
+static bool open_capture(struct wire *it, const char *name)
+{
+    if (!output_create(&it->capture, name)) {
+        log_line(LOG_SERVER, "%s can't be written: %s", name,
+                 errno == ENXIO ? "nobody reads this FIFO; start its reader first" : strerror(errno));
         return false;
     }
-    if (options->kind == WIRE_STREAM) {
-        connect_stream(it); /* or later */
+    capture_begin(&it->capture);
+    return true;
+}
+
+static bool open_played(struct wire *it, const char *name)
+{
+    struct stat about;
+    int file = open(name, O_RDONLY | O_CLOEXEC | O_NONBLOCK | O_NOCTTY);
+    bool is_file = file >= 0 && fstat(file, &about) == 0 && S_ISREG(about.st_mode);
+    it->played = is_file ? fdopen(file, "rb") : NULL;
+    if (!it->played && file >= 0)
+        close(file);
+    if (it->played && capture_open(&it->play, it->played))
         return true;
-    }
-    return options->kind == WIRE_LISTEN ? open_listener(it) : open_datagrams(it);
+    log_line(LOG_SERVER, "%s is no capture of Ethernet frames", name);
+    return false;
 }
 
 bool wire_open(struct wire *it, const struct wire_options *options)
 {
-    *it = (struct wire){.options = *options, .file = -1, .listener = -1};
-    if (!open_socket(it)) {
-        fprintf(stderr, "no wire at %s: %s\n", options->path, strerror(errno));
+    *it = (struct wire){.options = *options, .file = -1, .listener = -1, .capture = {.file = -1}};
+    const char *error = open_socket(it);
+    if (error) {
+        log_line(LOG_SERVER, "no wire at %s: %s", options->path, error);
         return false;
     }
-    if (options->capture) {
-        it->capture = fopen(options->capture, "wb");
-        if (!it->capture || !capture_begin(it->capture)) {
-            fprintf(stderr, "%s can't be written: %s\n", options->capture, strerror(errno));
-            return false;
-        }
-    }
-    if (options->play) {
-        it->played = fopen(options->play, "rb");
-        if (!it->played || !capture_open(&it->play, it->played)) {
-            fprintf(stderr, "%s is no capture of Ethernet frames\n", options->play);
-            return false;
-        }
-    }
-    return true;
+    return (!options->capture || open_capture(it, options->capture)) &&
+           (!options->play || open_played(it, options->play));
 }
 
 void wire_close(struct wire *it)
 {
+    bool has_name = it->listener >= 0 || (it->options.kind == WIRE_DGRAM && it->file >= 0);
     hang_up(it);
     buffer_clear(&it->local);
     if (it->listener >= 0)
         close(it->listener);
-    if (it->listener >= 0 || it->options.kind == WIRE_DGRAM)
-        unlink(it->options.path);
-    if (it->capture)
-        fclose(it->capture);
+    if (has_name)
+        local_forget(it->options.path);
+    output_end(&it->capture, CAPTURE_END_MS);
     if (it->played)
         fclose(it->played);
 }

@@ -13,7 +13,8 @@
 #include "buffer.h"
 #include "capture.h"
 
-#define WIRE_FRAME_MOST 16384u /* bytes: longer ones no card sends or takes */
+#define WIRE_FRAME_MOST 65536u  /* bytes: longer ones no card sends or takes */
+#define WIRE_LENGTH_MOST 69632u /* QEMU sends none longer: what claims to be isn't its format */
 #define WIRE_KEPT (16u << 20)
 #define WIRE_POLLS 2
 
@@ -41,7 +42,8 @@ struct wire {
     struct buffer out;   /* for the other end: stream: bytes; dgram: frames behind their lengths */
     struct buffer in;    /* of a stream */
     struct buffer local; /* replies and hairpins, behind their lengths */
-    FILE *capture, *played;
+    struct output capture;
+    FILE *played;
     struct capture_reader play;
     uint8_t frame[WIRE_FRAME_MOST];
 };

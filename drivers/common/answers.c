@@ -10,7 +10,11 @@
 #define FWSM_VALID 0x8000u
 #define RXPBSIZE 0x03C00u
 #define RXPBSIZE_ALL 0x80000u /* bits 19:10: 512 KB */
-#define ANLP1_STATE 0x10000u  /* bits 19:16, the state of the negotiation: not 0, so one is going on */
+#define SECTXSTAT 0x08804u
+#define SECRXSTAT 0x08D04u
+#define SECURITY_READY 0x1u  /* the security block has nothing to do */
+#define SECURITY_OFF 0x2u    /* IPsec isn't there: on the card by a fuse or a pin */
+#define ANLP1_STATE 0x10000u /* bits 19:16, the state of the negotiation: not 0, so one is going on */
 
 static const struct {
     const char *name;
@@ -31,6 +35,8 @@ static const struct {
      "the table lacks it, and Linux 6.12 warns of a firmware error every two seconds"},
     {"RXPBSIZE", BUS_RXPBSIZE, "RXPBSIZE[0] (0x03C00) by itself: 512 KB",
      "the table lacks it, and Linux warns that it has no headroom"},
+    {"IPSEC", BUS_IPSEC, "SECTXSTAT (0x08804) and SECRXSTAT (0x08D04) by themselves: ready, and IPsec off",
+     "the table lacks them, and Linux takes 0 for a card that encrypts"},
 };
 
 static uint32_t semaphore;
@@ -81,6 +87,8 @@ uint32_t answer_stray(uint32_t address, uint32_t word)
         word = FWSM_VALID;
     if (address == RXPBSIZE && given(BUS_RXPBSIZE))
         word = RXPBSIZE_ALL;
+    if ((address == SECTXSTAT || address == SECRXSTAT) && given(BUS_IPSEC))
+        word = SECURITY_READY | SECURITY_OFF;
     return word;
 }
 

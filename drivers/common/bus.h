@@ -27,13 +27,15 @@
 
 /* What the bus answers in the device's place, each for a reason that bus_tell_answers prints. */
 enum bus_answer {
-    BUS_SWSM = 1,     /* the drivers' semaphore */
-    BUS_ANLP1 = 2,    /* the state of the negotiation with the link partner */
-    BUS_EICS = 4,     /* a read of EICS gives EICR's causes, and clears none */
-    BUS_EERD = 8,     /* the EEPROM is answered under master disable */
-    BUS_ABSENT = 16,  /* a function while the mode has no pool for it */
-    BUS_FWSM = 32,    /* the state of the firmware, which the card would have */
-    BUS_RXPBSIZE = 64 /* the size of the packet buffer */
+    BUS_SWSM = 1,      /* the drivers' semaphore */
+    BUS_ANLP1 = 2,     /* the state of the negotiation with the link partner */
+    BUS_EICS = 4,      /* a read of EICS gives EICR's causes, and clears none */
+    BUS_EERD = 8,      /* the EEPROM is answered under master disable */
+    BUS_ABSENT = 16,   /* a function while the mode has no pool for it */
+    BUS_FWSM = 32,     /* the state of the firmware, which the card would have */
+    BUS_RXPBSIZE = 64, /* the size of the packet buffer */
+    BUS_IPSEC = 128,   /* whether the card encrypts: it doesn't */
+    BUS_ALL = 255
 };
 
 /* What a run may do at events; each may be null. */
@@ -52,6 +54,8 @@ struct bus_hooks {
     uint32_t (*to_driver)(unsigned int function, uint32_t address, uint32_t word);
     bool (*stepping)(bool is_transmit, uint16_t queue);
     void (*reset)(uint16_t queue);
+    /* a fault of the device, in place of the line that says so on standard error; `where`: "sending" or "receiving" */
+    void (*fault)(const char *where, const nic_told *told);
 };
 
 struct bus_options {
@@ -78,7 +82,7 @@ struct bus_counts {
     uint64_t receive_steps, transmit_steps, frames_in, frames_out, enables, eeprom_words;
     uint64_t to_device, to_driver;        /* bytes copied, by copies.c */
     uint64_t absent_reads, absent_writes; /* of functions that the mode has no pool for */
-    uint64_t answered[7];                 /* how often each answer was given, by enum bus_answer's bit */
+    uint64_t answered[8];                 /* how often each answer was given, by enum bus_answer's bit */
     uint64_t faults, refusals;            /* what never happens in a good run; told on standard error */
     uint64_t fault_whys[16];              /* faults by enum nic_fault */
     uint64_t drops, not_let_in;           /* frames, by receive steps and at arrival; by enum nic_why: */

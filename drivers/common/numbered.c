@@ -1,6 +1,7 @@
 #include "numbered.h"
 
 #include <stdlib.h>
+#include <string.h>
 
 #include "frames.h"
 
@@ -22,29 +23,80 @@ static uint32_t place_of(const struct numbered *it, uint64_t print)
     return place;
 }
 
-bool numbered_begin(struct numbered *it, unsigned int count, uint16_t most, const uint8_t to[6], const uint8_t from[6])
+static void end_early(struct numbered *it)
 {
-    struct frame *frame = malloc(sizeof *frame);
-    *it = (struct numbered){.count = count, .room = 16};
+    free(it->frame);
+    free(it->early);
+    it->frame = NULL;
+    it->early = NULL;
+    it->early_count = 0;
+}
+
+bool numbered_start(struct numbered *it, unsigned int count, uint16_t most, const uint8_t to[6], const uint8_t from[6])
+{
+    *it = (struct numbered){.count = count, .room = 16, .most = most};
+    memcpy(it->to, to, sizeof it->to);
+    memcpy(it->from, from, sizeof it->from);
     while (it->room < 2 * count)
         it->room *= 2;
     it->prints = calloc(count + 1u, sizeof *it->prints);
     it->places = calloc(it->room, sizeof *it->places);
     it->has_come = calloc(count + 1u, sizeof *it->has_come);
-    bool fits = frame && it->prints && it->places && it->has_come;
-    for (unsigned int number = 1; fits && number <= count; number++) {
-        frame_make(frame, number, most, to, from);
-        it->prints[number - 1] = print_of(frame->bytes, frame->length);
-        it->places[place_of(it, it->prints[number - 1])] = number;
-    }
-    free(frame);
+    it->frame = malloc(sizeof *it->frame);
+    it->early = malloc(NUMBERED_EARLY * sizeof *it->early);
+    bool fits = it->frame && it->early && it->prints && it->places && it->has_come;
     if (!fits)
         numbered_end(it);
     return fits;
 }
 
+bool numbered_is_ready(const struct numbered *it)
+{
+    return it->made == it->count;
+}
+
+/* A frame with this print has come: false where it is none of those that are made. */
+static bool take_print(struct numbered *it, uint64_t print)
+{
+    uint32_t number = it->places ? it->places[place_of(it, print)] : 0;
+    if (!number)
+        return false;
+    if (it->has_come[number - 1]) {
+        it->twice++;
+    } else {
+        it->has_come[number - 1] = true;
+        it->good++;
+    }
+    return true;
+}
+
+void numbered_prepare(struct numbered *it, size_t bytes)
+{
+    if (!it->frame)
+        return;
+    for (size_t made = 0; it->made < it->count && made < bytes; made += it->frame->length) {
+        frame_make(it->frame, it->made + 1, it->most, it->to, it->from);
+        it->prints[it->made] = print_of(it->frame->bytes, it->frame->length);
+        it->places[place_of(it, it->prints[it->made])] = it->made + 1;
+        it->made++;
+    }
+    if (!numbered_is_ready(it))
+        return;
+    for (unsigned int i = 0; i < it->early_count; i++)
+        it->wrong += !take_print(it, it->early[i]);
+    end_early(it);
+}
+
+bool numbered_begin(struct numbered *it, unsigned int count, uint16_t most, const uint8_t to[6], const uint8_t from[6])
+{
+    bool fits = numbered_start(it, count, most, to, from);
+    numbered_prepare(it, SIZE_MAX);
+    return fits;
+}
+
 void numbered_end(struct numbered *it)
 {
+    end_early(it);
     free(it->prints);
     free(it->places);
     free(it->has_come);
@@ -53,13 +105,11 @@ void numbered_end(struct numbered *it)
 
 void numbered_take(struct numbered *it, const uint8_t *bytes, size_t length)
 {
-    uint32_t number = it->places ? it->places[place_of(it, print_of(bytes, length))] : 0;
-    if (!number) {
+    uint64_t print = print_of(bytes, length);
+    if (take_print(it, print))
+        return;
+    if (numbered_is_ready(it) || it->early_count == NUMBERED_EARLY)
         it->wrong++;
-    } else if (it->has_come[number - 1]) {
-        it->twice++;
-    } else {
-        it->has_come[number - 1] = true;
-        it->good++;
-    }
+    else
+        it->early[it->early_count++] = print;
 }

@@ -3,8 +3,9 @@
 
 #include "inside.h"
 #include "memory.h"
+#include "verdict.h"
 
-#define FRAME_ROOM 16384
+#define FRAME_ROOM 65536 /* bytes: the device sends at most 65,531, by MAXFRS, and fills up to 60 */
 #define VECTORS 16
 #define OTHER_CAUSES 0x3FFF0000u /* of EICR: those that are no queue's */
 #define WHYS 16
@@ -16,16 +17,23 @@ static void fault(const char *where, const nic_told *told)
 {
     counts.faults++;
     counts.fault_whys[told->why % WHYS]++;
-    fprintf(stderr, "bus: a fault in %s, queue %u slot %u: %s, bus address 0x%" PRIx64 "\n", where, told->queue,
-            told->slot, nic_fault_name(told->why), told->bus);
+    if (hooks.fault)
+        hooks.fault(where, told);
+    else
+        fprintf(stderr, "bus: a fault in %s, queue %u slot %u: %s, bus address 0x%" PRIx64 "\n", where, told->queue,
+                told->slot, nic_fault_name(told->why), told->bus);
 }
 
 static void collect(uint16_t queue)
 {
     static uint8_t room[FRAME_ROOM];
     nic_told told;
-    if (nic_collect(bus_device(), room, sizeof room, &told) != NIC_FRAME)
+    uint8_t status = nic_collect(bus_device(), room, sizeof room, &told);
+    if (status != NIC_FRAME) { /* it would stay in front of all that are sent from now on */
+        problem("a frame of %zu bytes of queue %u can't be collected: %s", nic_next_out(bus_device()), queue,
+                nic_status_name(status));
         return;
+    }
     if (++counts.frames_out == bus_inside.options.turn_out)
         room[told.len - 1] ^= 1;
     if (bus_inside.sink)
@@ -41,6 +49,8 @@ void steps_transmit(uint16_t queue)
         uint8_t status = nic_tx_step(bus_device(), queue, &told);
         if (status == NIC_FAULT)
             fault("sending", &told);
+        if (status == NIC_OUT_OF_MEMORY)
+            problem("queue %u can't send: memory is short", queue);
         if (status != NIC_ADVANCED && status != NIC_SENT)
             return;
         counts.transmit_steps++;
@@ -108,7 +118,7 @@ void bus_send_to(bus_sink *to)
 
 bool bus_arrive(const uint8_t *frame, size_t length)
 {
-    nic_told told;
+    nic_told told = {0}; /* where memory is short it isn't written */
     if (nic_arrive(bus_device(), frame, length, &told) == NIC_DONE)
         return true;
     counts.not_let_in++;

@@ -125,7 +125,7 @@ static void map_memory(struct peer *it)
     CHECK(peer_map(it, RAM + 4, PAGE, 0, 3, ram_file) == EINVAL);
     CHECK(peer_map(it, RAM, 100, 0, 3, ram_file) == EINVAL);
     CHECK(peer_map(it, UINT64_MAX - PAGE + 1, 2 * PAGE, 0, 3, ram_file) == EINVAL);
-    CHECK(peer_map(it, RAM, RAM_BYTES, 0, 3, it->file) == EINVAL); /* a socket */
+    CHECK(peer_map(it, RAM, RAM_BYTES, 0, 3, it->file) == EPERM); /* a socket */
     CHECK(peer_map(it, RAM, RAM_BYTES, 0, 3, ram_file) == 0);
     CHECK(peer_map(it, RAM, PAGE, 0, 3, ram_file) == EEXIST);
     CHECK(peer_map(it, RAM + RAM_BYTES - PAGE, 2 * PAGE, 0, 3, ram_file) == EEXIST);

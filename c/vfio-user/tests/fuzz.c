@@ -1,5 +1,8 @@
-/* Messages by chance to a server, shaped as the protocol has them, some of them spoilt: fuzz SEED MESSAGES. It runs
-   under the sanitizers; in the end it must be there, with no more files open than in the beginning. */
+/* Messages by chance to a server, shaped as the protocol has them, some of them spoilt, from three clients at once,
+   while the wire's other end and the control socket do the same. It runs under the sanitizers; in the end it must be
+   there, with no more files open than in the beginning.
+
+     fuzz SEED MESSAGES FOLDER */
 #define _GNU_SOURCE
 #include <dirent.h>
 #include <errno.h>
@@ -14,6 +17,7 @@
 #include "peer/peer.h"
 
 #define SESSION_MOST 300 /* messages of one client */
+#define HOST_MOST 60     /* of the host's, which brings its queues up when it comes */
 #define FILES 8
 #define FILE_BYTES (64u * 4096)
 
@@ -236,34 +240,125 @@ static void bring_up(struct peer *it)
     peer_write(it, NIC_TDT(0), 1 + (uint32_t)(chance() % 20));
 }
 
-/* One client's messages; how many they were. */
-static unsigned int one_client(const char *path, bool is_host, unsigned int most)
-{
+/* ---- clients, all at once ---- */
+
+#define CLIENTS 3 /* the host's guest, a function's, and the host's shadow of it */
+
+struct client {
     struct peer peer;
-    unsigned int sent = 0;
-    peer_open(&peer, path);
+    char path[120];
+    bool is_open;
+    unsigned int left; /* messages until it goes */
+};
+
+static struct client clients[CLIENTS];
+static unsigned long sent, came;
+
+static void come(struct client *it)
+{
     bool has_version = !one_in(20);
-    CHECK(!has_version || peer_version(&peer) == 0);
-    if (has_version && is_host && !one_in(3))
-        bring_up(&peer);
-    for (bool is_open = true; is_open && sent < most; sent++) {
-        uint16_t command = make_message();
-        is_open = peer_try(&peer, command, one_in(3) ? VFU_NO_REPLY : (uint32_t)one_in(2000), body, length, files,
-                           file_count, one_in(2000) ? (uint32_t)number() : 0);
-        for (unsigned int i = 0; i < file_count; i++)
-            close(files[i]);
-        if (one_in(10))
-            spoil_memory();
-        if (one_in(500))
-            CHECK(ftruncate(memory_file, one_in(2) ? 4096 : 0) == 0 && ftruncate(memory_file, FILE_BYTES) == 0);
-        is_open = is_open && drain(&peer);
-    }
-    shutdown(peer.file, SHUT_WR); /* what was sent is served yet */
-    while (recv(peer.file, body, sizeof body, 0) > 0)
-        ;
-    peer_close(&peer);
-    return sent;
+    peer_open(&it->peer, it->path);
+    CHECK(!has_version || peer_version(&it->peer) == 0);
+    if (has_version && it == clients && !one_in(3))
+        bring_up(&it->peer);
+    it->is_open = true;
+    it->left = 1 + (unsigned int)(chance() % (it == clients ? HOST_MOST : SESSION_MOST));
+    came++;
 }
+
+/* What was sent is served yet. */
+static void leave(struct client *it)
+{
+    shutdown(it->peer.file, SHUT_WR);
+    while (recv(it->peer.file, body, sizeof body, 0) > 0)
+        ;
+    peer_close(&it->peer);
+    it->is_open = false;
+}
+
+static void one_message(struct client *it)
+{
+    uint16_t command = make_message();
+    bool is_open = peer_try(&it->peer, command, one_in(3) ? VFU_NO_REPLY : (uint32_t)one_in(2000), body, length, files,
+                            file_count, one_in(2000) ? (uint32_t)number() : 0);
+    for (unsigned int i = 0; i < file_count; i++)
+        close(files[i]);
+    sent++;
+    if (one_in(10))
+        spoil_memory();
+    if (one_in(500))
+        CHECK(ftruncate(memory_file, one_in(2) ? 4096 : 0) == 0 && ftruncate(memory_file, FILE_BYTES) == 0);
+    is_open = is_open && drain(&it->peer);
+    if (!is_open || --it->left == 0)
+        leave(it);
+}
+
+/* ---- the wire's other end, and the control socket ---- */
+
+static struct peer wire = {-1, 0}, control = {-1, 0};
+static char wire_path[120], control_path[120];
+
+/* Sends what goes at once; a frame that goes in part is spoilt. */
+static void send_some(struct peer *it, const char *path, const uint8_t *bytes, size_t count)
+{
+    if (it->file < 0)
+        it->file = peer_stream(path);
+    ssize_t went = send(it->file, bytes, count, MSG_DONTWAIT | MSG_NOSIGNAL);
+    if ((went >= 0 || errno == EAGAIN || errno == EWOULDBLOCK) && drain(it))
+        return;
+    close(it->file);
+    it->file = -1;
+}
+
+static void wire_sends(void)
+{
+    static uint8_t bytes[4 + 65536 + 8];
+    uint32_t count = (uint32_t)(one_in(30) ? chance() % 65540 : chance() % 1600);
+    uint32_t told = one_in(200) ? (uint32_t)number() : count;
+    for (unsigned int i = 0; i < 4; i++)
+        bytes[i] = (uint8_t)(told >> 8 * (3 - i));
+    memset(bytes + 4, one_in(2) ? 0xFF : 0x02, 12);
+    for (unsigned int i = 0; i < 16; i++)
+        bytes[16 + chance() % 200] = (uint8_t)chance();
+    send_some(&wire, wire_path, bytes, 4 + count);
+}
+
+static void ask(void)
+{
+    static const char *const requests[] = {
+        "counts",     "due",         "hold",           "go",
+        "go",         "go",          "seed 5",         "seed off",
+        "snapshot a", "restore a",   "tx 0",           "rx",
+        "int",        "qstep tx 0",  "qstep rx 0",     "eestep",
+        "link down",  "link up",     "link up",        "frames 50 200",
+        "came",       "hold at off", "hold at r EICR", "expect 100 200",
+        "peek 00800", "turn 1 1",    "tx 999999",      "\377\1\2",
+    };
+    const char *request = one_in(500) ? "why" : requests[chance() % (sizeof requests / sizeof *requests)];
+    uint8_t line[64];
+    size_t count = strlen(request);
+    memcpy(line, request, count);
+    if (one_in(30))
+        line[chance() % (count + 1)] = (uint8_t)chance();
+    if (!one_in(50))
+        line[count++] = '\n';
+    send_some(&control, control_path, line, count);
+}
+
+static void turn(void)
+{
+    struct client *client = &clients[chance() % CLIENTS];
+    if (client->is_open)
+        one_message(client);
+    else
+        come(client);
+    if (one_in(5))
+        wire_sends();
+    if (one_in(30))
+        ask();
+}
+
+/* ---- the whole ---- */
 
 static unsigned int open_files(void)
 {
@@ -278,31 +373,65 @@ static unsigned int open_files(void)
     return count;
 }
 
-int main(int count, char **words)
+/* With one client, a wire and a control socket that are as they should be. */
+static unsigned int files_at_rest(void)
 {
-    static const char *const server_words[] = {"--functions=1", "--wire=respond", "--hairpin", NULL};
-    unsigned long most = count > 2 ? strtoul(words[2], NULL, 10) : 20000, sent = 0, clients = 0;
-    char function_path[120];
-    struct peer peer;
-    chance_state = count > 1 ? strtoul(words[1], NULL, 10) + 1 : 1;
+    struct peer *peer = &clients[0].peer;
+    unsigned int many;
+    wire.file = wire.file < 0 ? peer_stream(wire_path) : wire.file;
+    close(control.file);
+    control.file = peer_stream(control_path);
+    CHECK(strstr(peer_request(control.file, "go"), "ok"));
+    peer_open(peer, clients[0].path);
+    CHECK(peer_version(peer) == 0);
+    many = open_files();
+    peer_close(peer);
+    return many;
+}
+
+static void begin(const char *folder)
+{
+    static char wire_word[140], control_word[140];
+    static const char *const words[] = {"--functions=1", "--hairpin", wire_word, control_word, NULL};
+    static const char *const endings[CLIENTS] = {"", ".vf0", ".shadow0"};
+    snprintf(wire_path, sizeof wire_path, "%s/fuzz.%ld.wire", folder, (long)getpid());
+    snprintf(control_path, sizeof control_path, "%s/fuzz.%ld.control", folder, (long)getpid());
+    snprintf(wire_word, sizeof wire_word, "--wire=listen:%s", wire_path);
+    snprintf(control_word, sizeof control_word, "--control=%s", control_path);
     memory_file = memfd_create("memory", MFD_CLOEXEC);
     CHECK(ftruncate(memory_file, FILE_BYTES) == 0);
     memory = mmap(NULL, FILE_BYTES, PROT_READ | PROT_WRITE, MAP_SHARED, memory_file, 0);
     CHECK(memory != MAP_FAILED);
-    const char *path = server_start(server_words);
-    snprintf(function_path, sizeof function_path, "%s.vf0", path);
-    peer_open(&peer, path);
-    CHECK(peer_version(&peer) == 0);
-    unsigned int open_first = open_files();
-    peer_close(&peer);
-    for (; sent < most; clients++)
-        sent += one_in(5) ? one_client(function_path, false, 1 + (unsigned int)(chance() % SESSION_MOST))
-                          : one_client(path, true, 1 + (unsigned int)(chance() % SESSION_MOST));
-    peer_open(&peer, path);
-    CHECK(peer_version(&peer) == 0);
-    CHECK(open_files() == open_first);
-    peer_close(&peer);
+    const char *path = server_start(words);
+    for (unsigned int i = 0; i < CLIENTS; i++)
+        snprintf(clients[i].path, sizeof clients[i].path, "%s%s", path, endings[i]);
+}
+
+/* Files that are being closed may take a moment. */
+static void check_files(unsigned int first)
+{
+    bool is_same = false;
+    for (int i = 0; i < 6000 && !is_same; i++) {
+        is_same = files_at_rest() == first;
+        if (!is_same)
+            usleep(10000);
+    }
+    CHECK(is_same); /* (to look once more would open others) */
+}
+
+int main(int count, char **words)
+{
+    unsigned long most = count > 2 ? strtoul(words[2], NULL, 10) : 20000;
+    chance_state = count > 1 ? strtoul(words[1], NULL, 10) + 1 : 1;
+    begin(count > 3 ? words[3] : "/tmp");
+    unsigned int first = files_at_rest();
+    while (sent < most)
+        turn();
+    for (unsigned int i = 0; i < CLIENTS; i++)
+        if (clients[i].is_open)
+            leave(&clients[i]);
+    check_files(first);
     server_stop();
-    printf("fuzz: %lu messages of %lu clients\n", sent, clients);
+    printf("fuzz: %lu messages of %lu clients\n", sent, came);
     return 0;
 }

@@ -51,6 +51,20 @@ static void check_stand_in(uint64_t second, size_t length)
     CHECK(is_last ? length > 0 && length <= OFFLOAD_STAND_IN : length == 0);
 }
 
+/* Large sends are cut in pieces by budgets of all sizes, and each makes a segment at least. */
+static void cut_in_pieces(void)
+{
+    static struct budget budget;
+    static size_t piece = 1;
+    while (offload_is_cutting(offload, 3)) {
+        uint64_t before = offload->counts.segments;
+        budget.left[0] = piece = piece * 5 % 8191;
+        offload_cut(offload, 3, &budget, print_frame, NULL);
+        CHECK(offload->counts.segments > before);
+        CHECK(!offload_is_cutting(offload, 3) || budget_is_spent(&budget));
+    }
+}
+
 static void take_data(uint64_t second, bool is_legacy, const char *text)
 {
     static uint8_t bytes[LINE_MOST / 2];
@@ -74,6 +88,7 @@ static void take_data(uint64_t second, bool is_legacy, const char *text)
     if (!(second & NIC_TXD_EOP))
         return;
     offload_sent(offload, 3, frame, frame_length, print_frame, NULL);
+    cut_in_pieces();
     frame_length = 0;
     puts(".");
 }

@@ -77,17 +77,42 @@ static void passes_a_stream(int peer)
     CHECK(wire_next(&wire, false) == 0 && !wire_has_more(&wire, false));
 }
 
+/* Sends a frame of this length in two pieces, of which the first ends so many bytes after 65,536, and looks at it in
+   between: it is read on, whatever the length. */
+static void in_two_pieces(int peer, size_t length, size_t after)
+{
+    static uint8_t bytes[4 + 80000];
+    size_t first = 65536 + after;
+    for (unsigned int i = 0; i < 4; i++)
+        bytes[i] = (uint8_t)(length >> 8 * (3 - i));
+    for (size_t sent = 0; sent < first;) {
+        ssize_t went = send(peer, bytes + sent, first - sent, MSG_DONTWAIT);
+        sent += went > 0 ? (size_t)went : 0;
+        serve(went > 0);
+        CHECK(wire_next(&wire, false) == 0 && wire.file >= 0);
+    }
+    for (unsigned int i = 0; i < 100 && buffer_waiting(&wire.in) < first; i++)
+        serve(true);
+    CHECK(!wire_has_more(&wire, false) && buffer_waiting(&wire.in) == first);
+    CHECK(send(peer, bytes + first, 4 + length - first, 0) == (ssize_t)(4 + length - first));
+    serve(true);
+    CHECK(wire_has_more(&wire, false));
+}
+
 /* A frame that no card takes is passed over; a length that none has ends the connection. */
 static void bad_lengths(int peer)
 {
-    static uint8_t bytes[4 + 20000];
-    memcpy(bytes, "\0\0\116\40", 4); /* 20,000 */
-    CHECK(send(peer, bytes, sizeof bytes, 0) == (ssize_t)sizeof bytes);
+    static uint8_t bytes[68];
+    in_two_pieces(peer, 65536, 1);
+    CHECK(wire_next(&wire, false) == 65536 && wire.counts.too_long == 0);
+    in_two_pieces(peer, 65540, 3);
+    CHECK(wire_next(&wire, false) == 0 && wire.counts.too_long == 1);
+    in_two_pieces(peer, WIRE_LENGTH_MOST, 0);
     memcpy(bytes, "\0\0\0\0\0\0\0\74", 8); /* none, then one of 60 */
     CHECK(send(peer, bytes, 68, 0) == 68);
     for (unsigned int i = 0; i < 100 && !wire_next(&wire, false); i++)
         serve(true);
-    CHECK(wire.counts.too_long == 1);
+    CHECK(wire.counts.too_long == 2);
     memcpy(bytes, "\377\377\377\377", 4);
     CHECK(send(peer, bytes, 4, 0) == 4);
     serve(true);
@@ -159,7 +184,7 @@ static void datagrams(void)
 {
     const struct wire_options options = {.kind = WIRE_DGRAM, .path = first_path, .peer = second_path};
     struct sockaddr_un name = name_of(second_path), own = name_of(first_path);
-    static uint8_t frame[20000], got[20000];
+    static uint8_t frame[70000], got[20000];
     CHECK(wire_open(&wire, &options));
     wire_send(&wire, frame, 60);
     CHECK(wire.counts.lost_nobody == 1);
@@ -177,7 +202,7 @@ static void datagrams(void)
         CHECK(recv(peer, got, sizeof got, 0) == 1514 && memcmp(got, frame, 1514) == 0);
     }
     CHECK(wire.counts.lost_nobody == 1 && wire.counts.lost_full == 0 && wire_patience(&wire) == -1);
-    CHECK(sendto(peer, frame, 20000, 0, (const struct sockaddr *)&own, sizeof own) == 20000);
+    CHECK(sendto(peer, frame, sizeof frame, 0, (const struct sockaddr *)&own, sizeof own) == sizeof frame);
     CHECK(sendto(peer, frame, 77, 0, (const struct sockaddr *)&own, sizeof own) == 77);
     CHECK(wire_next(&wire, false) == 77 && memcmp(wire.frame, frame, 77) == 0 && wire.counts.too_long == 1);
     close(peer);

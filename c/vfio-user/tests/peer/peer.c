@@ -2,6 +2,7 @@
 #include "peer.h"
 
 #include <errno.h>
+#include <poll.h>
 #include <signal.h>
 #include <stdio.h>
 #include <stdlib.h>
@@ -13,19 +14,16 @@
 #include <unistd.h>
 
 #include "../../../tests/check.h"
+#include "closer.h"
+#include "ending.h"
+#include "log.h"
+#include "notifier.h"
 #include "options.h"
 #include "server.h"
 #include "tell.h"
 
 static pid_t server;
 static char server_path[100];
-static volatile sig_atomic_t server_ends;
-
-static void on_term(int number)
-{
-    (void)number;
-    server_ends = 1;
-}
 
 static int serve(const char *const *words)
 {
@@ -33,22 +31,18 @@ static int serve(const char *const *words)
     char path[120];
     char *all[32] = {"server", path};
     int count = 2;
-    sigset_t blocked, unblocked;
     snprintf(path, sizeof path, "--socket-path=%s", server_path);
     for (; *words; words++)
         all[count++] = (char *)(uintptr_t)*words;
-    sigemptyset(&blocked);
-    sigaddset(&blocked, SIGTERM);
-    sigprocmask(SIG_BLOCK, &blocked, &unblocked);
-    signal(SIGTERM, on_term);
-    signal(SIGPIPE, SIG_IGN);
-    if (!memory_map_guard() || options_read(&it.options, count, all) != OPTIONS_GO ||
-        (it.options.record && !nic_record(it.options.record)) || !server_open(&it))
+    if (!ending_open() || !notifier_open() || !memory_map_guard() || !closer_start() ||
+        options_read(&it.options, count, all) != OPTIONS_GO || (it.options.record && !nic_record(it.options.record)) ||
+        !server_open(&it))
         return 2;
-    server_run(&it, &server_ends, &unblocked);
+    server_run(&it);
     if (!it.options.is_quiet)
         tell_counts(&it, stdout);
     server_close(&it);
+    log_close();
     return 0;
 }
 
@@ -73,19 +67,25 @@ void server_stop(void)
     CHECK(WIFEXITED(status) && WEXITSTATUS(status) == 0);
 }
 
-void peer_open(struct peer *it, const char *path)
+int peer_stream(const char *path)
 {
     struct sockaddr_un name = {.sun_family = AF_UNIX};
     snprintf(name.sun_path, sizeof name.sun_path, "%s", path);
-    it->id = 0;
     for (int i = 0; i < 500; i++) {
-        it->file = socket(AF_UNIX, SOCK_STREAM | SOCK_CLOEXEC, 0);
-        if (connect(it->file, (const struct sockaddr *)&name, sizeof name) == 0)
-            return;
-        close(it->file);
+        int file = socket(AF_UNIX, SOCK_STREAM | SOCK_CLOEXEC, 0);
+        if (connect(file, (const struct sockaddr *)&name, sizeof name) == 0)
+            return file;
+        close(file);
         usleep(10000);
     }
     CHECK(!"the server doesn't listen");
+    return -1;
+}
+
+void peer_open(struct peer *it, const char *path)
+{
+    it->id = 0;
+    it->file = peer_stream(path);
 }
 
 void peer_close(struct peer *it)
@@ -233,4 +233,71 @@ uint32_t peer_vectors(struct peer *it, uint32_t first, uint32_t count, const int
 {
     struct vfu_irq_set set = {sizeof set, VFU_SET_EVENTFD | VFU_SET_TRIGGER, VFU_MSIX, first, count};
     return peer_ask(it, VFU_DEVICE_SET_IRQS, &set, sizeof set, files, file_count, NULL, 0);
+}
+
+/* ---- control socket and wire ---- */
+
+const char *peer_request(int control, const char *words)
+{
+    static char answer[1u << 16];
+    size_t length = 0;
+    CHECK(send(control, words, strlen(words), 0) == (ssize_t)strlen(words) && send(control, "\n", 1, 0) == 1);
+    do {
+        ssize_t got = recv(control, answer + length, sizeof answer - 1 - length, 0);
+        CHECK(got > 0);
+        length += (size_t)got;
+        answer[length] = 0;
+    } while (!strstr(answer, "ok\n") && !strstr(answer, "error: "));
+    return answer;
+}
+
+uint64_t peer_count(int control, const char *words)
+{
+    const char *at = strstr(peer_request(control, "counts"), words);
+    CHECK(at != NULL);
+    return strtoull(at + strlen(words), NULL, 10);
+}
+
+static void take_all(int file, uint8_t *to, size_t length)
+{
+    while (length) {
+        ssize_t got = recv(file, to, length, 0);
+        CHECK(got > 0);
+        to += got;
+        length -= (size_t)got;
+    }
+}
+
+size_t peer_frame(int wire, uint8_t *frame, size_t room, int milliseconds)
+{
+    struct pollfd poll_for = {wire, POLLIN, 0};
+    uint8_t head[4];
+    if (poll(&poll_for, 1, milliseconds) != 1)
+        return 0;
+    take_all(wire, head, sizeof head);
+    size_t length = (size_t)head[0] << 24 | (size_t)head[1] << 16 | (size_t)head[2] << 8 | head[3];
+    CHECK(length <= room);
+    take_all(wire, frame, length);
+    return length;
+}
+
+static void put_all(int file, const uint8_t *bytes, size_t length)
+{
+    while (length) {
+        ssize_t went = send(file, bytes, length, MSG_NOSIGNAL);
+        CHECK(went > 0);
+        bytes += went;
+        length -= (size_t)went;
+    }
+}
+
+bool peer_put_frame(int wire, const uint8_t *frame, size_t length)
+{
+    const uint8_t head[4] = {(uint8_t)(length >> 24), (uint8_t)(length >> 16), (uint8_t)(length >> 8), (uint8_t)length};
+    struct pollfd poll_for = {wire, POLLOUT, 0};
+    if (poll(&poll_for, 1, 0) != 1)
+        return false;
+    put_all(wire, head, sizeof head);
+    put_all(wire, frame, length);
+    return true;
 }

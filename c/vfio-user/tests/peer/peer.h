@@ -48,4 +48,15 @@ uint32_t peer_version(struct peer *it);
 /* Gives vectors from `first` on these files. */
 uint32_t peer_vectors(struct peer *it, uint32_t first, uint32_t count, const int *files, unsigned int file_count);
 
+/* A stream connection to a control socket, or to a wire that listens, also where its server is just starting. */
+int peer_stream(const char *path);
+/* A request at the control socket: its whole answer, which the next one overwrites. */
+const char *peer_request(int control, const char *words);
+/* A number of the answer to `counts`, which follows these words. */
+uint64_t peer_count(int control, const char *words);
+/* The next whole frame on a wire, waited for so many milliseconds at most: its length; 0: none has come. */
+size_t peer_frame(int wire, uint8_t *frame, size_t room, int milliseconds);
+/* Sends a frame on a wire: false where that takes no more now. */
+bool peer_put_frame(int wire, const uint8_t *frame, size_t length);
+
 #endif

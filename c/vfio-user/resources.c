@@ -1,0 +1,80 @@
+#define _POSIX_C_SOURCE 200809L
+#include "resources.h"
+
+#include <inttypes.h>
+#include <stdint.h>
+#include <stdio.h>
+#include <sys/resource.h>
+
+#include "channel.h"
+#include "closer.h"
+#include "log.h"
+#include "memory_map.h"
+#include "protocol.h"
+
+#define OWN_FILES 40u      /* standard ones, control, wire, and what is written */
+#define MEMORY_LEAST 4u    /* files of memory, of each client */
+#define FILES_MOST 65536u  /* that are asked for */
+#define OWN_MAPPINGS 2048u /* the program's */
+#define MAPPINGS_USUAL 65530u
+
+/* How many files this process may have: as many as it is allowed. */
+static uint64_t all_files(void)
+{
+    struct rlimit limit;
+    if (getrlimit(RLIMIT_NOFILE, &limit) != 0)
+        return 0;
+    uint64_t most = limit.rlim_max > FILES_MOST ? FILES_MOST : limit.rlim_max;
+    if (limit.rlim_cur < most) {
+        limit.rlim_cur = most;
+        setrlimit(RLIMIT_NOFILE, &limit);
+        getrlimit(RLIMIT_NOFILE, &limit);
+    }
+    return limit.rlim_cur;
+}
+
+static uint64_t all_mappings(void)
+{
+    uint64_t most = 0;
+    FILE *file = fopen("/proc/sys/vm/max_map_count", "re");
+    if (file) {
+        if (fscanf(file, "%" SCNu64, &most) != 1)
+            most = 0;
+        fclose(file);
+    }
+    return most ? most : MAPPINGS_USUAL;
+}
+
+static unsigned int between(uint64_t number, unsigned int least, unsigned int most)
+{
+    return number < least ? least : number > most ? most : (unsigned int)number;
+}
+
+/* A range is two mappings at most, and as many wait to be given back as there are. */
+static unsigned int ranges_of(unsigned int clients)
+{
+    uint64_t all = all_mappings();
+    uint64_t each = all > OWN_MAPPINGS ? (all - OWN_MAPPINGS) / (2 * clients) : 0;
+    return between(each > MEMORY_RETIRED_MOST ? each - MEMORY_RETIRED_MOST : 0, MEMORY_RETIRED_MOST, VFU_MAPS_MOST);
+}
+
+bool resources_share(unsigned int clients, unsigned int vectors, bool trusts_files)
+{
+    uint64_t all = all_files();
+    uint64_t least = OWN_FILES + vectors + (2 + MEMORY_LEAST) * clients;
+    /* those of messages that have come and of the wire, and those that wait to be closed */
+    uint64_t passing = 2 * CHANNEL_FILES_AT_ONCE + CLOSER_FOREIGN_MOST +
+                       clients * (CHANNEL_FILES + CLOSER_FOREIGN_MOST + CLOSER_OWN_MOST);
+    if (all < least) {
+        log_line(LOG_SERVER,
+                 "%u sockets need at least %" PRIu64 " open files, and this process may have %" PRIu64
+                 ": raise the limit (ulimit -n)",
+                 clients, least, all);
+        return false;
+    }
+    uint64_t left = all > least + passing ? (all - least - passing) / clients : 0;
+    memory_map_limit(&(struct memory_limits){.ranges = ranges_of(clients),
+                                             .files = between(left, MEMORY_LEAST, MEMORY_FILES_MOST),
+                                             .trusts_files = trusts_files});
+    return true;
+}

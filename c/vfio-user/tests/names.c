@@ -1,0 +1,190 @@
+/* Names of sockets, over the program itself: none is taken that isn't a dead socket of the same user, all are for one
+   user alone, and a server that ends leaves another's alone. names PROGRAM FOLDER */
+#define _GNU_SOURCE
+#include <fcntl.h>
+#include <signal.h>
+#include <string.h>
+#include <sys/socket.h>
+#include <sys/stat.h>
+#include <sys/un.h>
+#include <unistd.h>
+
+#include "../../tests/check.h"
+#include "local_socket.h"
+#include "peer/peer.h"
+#include "peer/program.h"
+
+static const struct way {
+    const char *option;
+    int type; /* of the socket that it makes */
+} ways[] = {{"--socket-path=", SOCK_STREAM},
+            {"--control=", SOCK_STREAM},
+            {"--wire=listen:", SOCK_STREAM},
+            {"--wire=dgram:", SOCK_DGRAM}};
+
+#define WAYS (sizeof ways / sizeof *ways)
+
+static const char *path;
+
+/* A server whose socket of this way has the name. */
+static pid_t start(const struct way *way, int errors)
+{
+    static char word[300];
+    bool is_first = strcmp(way->option, "--socket-path=") == 0;
+    const char *words[] = {word, "--quiet", is_first ? NULL : program_path("--socket-path=", "other"), NULL};
+    snprintf(word, sizeof word, "%s%s%s", way->option, path, way->type == SOCK_DGRAM ? ",/nowhere" : "");
+    return program_start(words, NULL, errors);
+}
+
+static struct sockaddr_un name_of(const char *text)
+{
+    struct sockaddr_un name = {.sun_family = AF_UNIX};
+    snprintf(name.sun_path, sizeof name.sun_path, "%s", text);
+    return name;
+}
+
+static int bound(int type)
+{
+    struct sockaddr_un name = name_of(path);
+    int file = socket(AF_UNIX, type | SOCK_CLOEXEC, 0);
+    CHECK(file >= 0 && bind(file, (const struct sockaddr *)&name, sizeof name) == 0);
+    return file;
+}
+
+/* A server that starts says why not, and leaves what is there. */
+static void is_refused(const struct way *way, const char *why)
+{
+    char said[512] = "";
+    struct stat before, after;
+    int ends[2];
+    CHECK(pipe(ends) == 0 && lstat(path, &before) == 0);
+    pid_t server = start(way, ends[1]);
+    close(ends[1]);
+    CHECK(program_status(server) == 2 && read(ends[0], said, sizeof said - 1) > 0 && strstr(said, why));
+    CHECK(lstat(path, &after) == 0 && before.st_ino == after.st_ino && before.st_dev == after.st_dev);
+    close(ends[0]);
+}
+
+static void wait_for_name(void)
+{
+    for (int i = 0; i < 60000 && access(path, F_OK) != 0; i++)
+        usleep(1000);
+    CHECK(access(path, F_OK) == 0);
+}
+
+/* A file, a folder and a link stay. */
+static void other_things(const struct way *way, bool is_long)
+{
+    int file = open(path, O_WRONLY | O_CREAT | O_EXCL | O_CLOEXEC, 0600);
+    CHECK(file >= 0 && write(file, "precious", 8) == 8);
+    close(file);
+    is_refused(way, "no socket is there already");
+    CHECK(unlink(path) == 0);
+    if (!is_long)
+        return;
+    CHECK(mkdir(path, 0700) == 0);
+    is_refused(way, "no socket is there already");
+    CHECK(rmdir(path) == 0 && symlink("/nowhere", path) == 0);
+    is_refused(way, "no socket is there already");
+    CHECK(unlink(path) == 0);
+}
+
+/* A socket that somebody has stays, whether anybody listens there or not; a dead one is replaced. */
+static void other_sockets(const struct way *way, bool is_long)
+{
+    const int types[] = {way->type, SOCK_DGRAM, SOCK_SEQPACKET};
+    struct stat about;
+    for (unsigned int i = 0; i < (is_long ? 3 : 1); i++) {
+        int file = bound(types[i]);
+        is_refused(way, "a server has this socket already");
+        close(file);
+        CHECK(chmod(path, 0640) == 0);
+        pid_t server = start(way, -1);
+        for (int k = 0; k < 60000 && (lstat(path, &about) != 0 || (about.st_mode & 0777) != 0600); k++)
+            usleep(1000);
+        CHECK((about.st_mode & 0777) == 0600);
+        CHECK(program_end(server) == 0 && access(path, F_OK) != 0);
+    }
+}
+
+/* The first server has its name, mode 0600, whatever the umask; a second one is refused, and the first goes on. */
+static void two_servers(const struct way *way)
+{
+    struct stat about;
+    mode_t mask = umask(0);
+    pid_t first = start(way, -1);
+    umask(mask);
+    wait_for_name();
+    CHECK(lstat(path, &about) == 0 && S_ISSOCK(about.st_mode) && (about.st_mode & 0777) == 0600);
+    is_refused(way, "a server has this socket already");
+    CHECK(program_rests(first) && program_end(first) == 0 && access(path, F_OK) != 0);
+}
+
+/* What has taken a server's name meanwhile isn't removed at its end. */
+static void name_of_another(const struct way *way)
+{
+    pid_t server = start(way, -1);
+    wait_for_name();
+    CHECK(program_rests(server) && unlink(path) == 0);
+    int file = bound(SOCK_STREAM);
+    CHECK(program_end(server) == 0 && access(path, F_OK) == 0 && unlink(path) == 0);
+    close(file);
+}
+
+/* A server that looks whether a socket is dead isn't a client: the first one's client isn't disturbed. */
+static void is_no_client(void)
+{
+    char said[4096] = "";
+    struct peer peer;
+    int ends[2];
+    CHECK(pipe(ends) == 0);
+    pid_t server = start(&ways[0], ends[1]);
+    close(ends[1]);
+    peer_open(&peer, path);
+    CHECK(peer_version(&peer) == 0);
+    is_refused(&ways[0], "a server has this socket already");
+    CHECK(peer_config(&peer, 0, 4) == 0x10F78086);
+    peer_close(&peer);
+    CHECK(program_end(server) == 0);
+    size_t length = 0;
+    for (ssize_t got = 1; got > 0; length += got > 0 ? (size_t)got : 0)
+        got = read(ends[0], said + length, sizeof said - 1 - length);
+    const char *first = strstr(said, "a client has come");
+    CHECK(first && !strstr(first + 1, "a client has come") && !strstr(said, "turned away"));
+    close(ends[0]);
+}
+
+/* The module by itself: names that are too long, and a listener that rests where no file is left. */
+static void module(void)
+{
+    char longer[200];
+    int file = 5;
+    memset(longer, 'x', sizeof longer);
+    longer[sizeof longer - 1] = 0;
+    CHECK(local_listen(&file, longer, 1) && file == -1 && local_connect(longer) < 0 && local_connect(path) < 0);
+    CHECK(!local_listen(&file, path, 1) && file >= 0 && !local_rests() && local_accept(file) < 0 && !local_rests());
+    int client = local_connect(path);
+    CHECK(client >= 0);
+    close(client);
+    close(file);
+    local_forget(path);
+    CHECK(access(path, F_OK) != 0);
+}
+
+int main(int count, char **words)
+{
+    CHECK(count == 3);
+    signal(SIGPIPE, SIG_IGN);
+    program_is(words[1], words[2]);
+    path = program_path("", "name");
+    for (size_t i = 0; i < WAYS; i++) {
+        other_things(&ways[i], i == 0);
+        other_sockets(&ways[i], i == 0);
+        two_servers(&ways[i]);
+        name_of_another(&ways[i]);
+    }
+    is_no_client();
+    module();
+    printf("names: passed\n");
+    return 0;
+}

@@ -12,8 +12,12 @@ by bus address (`nic.memory[0x800:0x83c]`). Frames come in by `arrive` and out b
 with the refusal's name, and leaves the device unchanged. What the device reports is a small dataclass.
 
 The library is looked for in this order: where the variable NIC82599_LIBRARY says; beside this file; in c/out of the
-clone, where `make -C c` puts it; in the system. Calls hold the interpreter's lock, so the calls of several threads come
-one after the other.
+clone, where `make -C c` puts it; in the system.
+
+Several threads may call one controller. If one of them closes it, the others' calls raise `Closed`. Each call of the
+library holds the interpreter's lock, so calls come one after the other, and no answer goes to another thread. A method
+of several calls (`lend` of several blocks, `settle` of more than 256 events) lets others act between these. A signal's
+handler may call too. If it raises, as ctrl-C does, the call that it interrupts was made or wasn't.
 """
 
 from __future__ import annotations
@@ -23,6 +27,9 @@ import sys
 if sys.version_info < (3, 11):  # noqa: UP036
     raise ImportError(f"nic82599 needs Python 3.11 or newer, and this is {sys.version_info[0]}.{sys.version_info[1]}")
 
+if not getattr(sys, "_is_gil_enabled", lambda: True)():
+    raise ImportError("nic82599 needs the interpreter's lock, which keeps calls apart: start Python with PYTHON_GIL=1")
+
 import ctypes
 import operator
 import os
@@ -30,11 +37,12 @@ import re
 from collections.abc import Callable, Iterable, Iterator
 from dataclasses import dataclass
 from difflib import get_close_matches
-from functools import cache
+from functools import cache, partial
 from typing import TYPE_CHECKING, NamedTuple, NoReturn, SupportsIndex, cast, overload
 
 from . import places, statuses
-from .buffers import bytes_of
+from .buffers import bytes_of, shown_number
+from .keeping import Lent, end_once, held
 from .pcap import NoCapture, read_pcap, write_pcap
 from .registers import FIELDS, OFFSETS, REGISTERS
 from .version import VERSION as __version__
@@ -46,18 +54,18 @@ if TYPE_CHECKING:
     from .rings import Ring
 
 __all__ = [
-    "Advanced", "BadBlocks", "BadFifo", "BadMemory", "Closed", "Done", "Dropped", "Event", "Fault", "Frame",
+    "Advanced", "BadBlocks", "BadFifo", "BadMemory", "Broken", "Closed", "Done", "Dropped", "Event", "Fault", "Frame",
     "Function", "ImageRefused", "LibraryMissing", "Memory", "Message", "Nic", "NicError", "NoBlock", "NoCapture",
     "NoGroup", "NoQueue", "NoSuchRegister", "NotLent", "OutOfMemory", "Sent", "Snapshot", "Stray", "TextRefused",
-    "TooLong", "TooManyVfs", "Word", "Wrote", "address_of", "fields_of", "library_version", "offset_of", "proved",
-    "read_pcap", "record", "rss_hash", "write_pcap",
+    "TooLong", "TooManyVfs", "Word", "Wrote", "address_of", "edition", "fields_of", "library_version", "offset_of",
+    "proved", "read_pcap", "record", "rss_hash", "write_pcap",
 ]  # fmt: skip
 
 BLOCK_BYTES = 2048
 QUEUES = 128
 # How many pools there are, and how many queues each has, by GCR_EXT bits 1:0.
 _POOLS = ((0, 0), (16, 8), (32, 4), (64, 2))
-_LONGEST = 16_384
+_Room = ctypes.c_char * 16_384
 
 
 # --- refusals ---
@@ -69,6 +77,10 @@ class NicError(Exception):
 
 class LibraryMissing(NicError):
     """The C library isn't there, or isn't one."""
+
+
+class Broken(NicError):
+    """The library met a fault of its own, which standard error names: the controller can only be closed."""
 
 
 class Closed(NicError):
@@ -274,6 +286,7 @@ _REFUSALS: dict[int, type[NicError]] = {
     statuses.NO_BLOCK: NoBlock,
     statuses.BAD_MEMORY: BadMemory,
     statuses.CLOSED: Closed,
+    statuses.BROKEN: Broken,
 }
 _IMAGE = {
     statuses.IMAGE_ODD_LENGTH: "OddLength",
@@ -355,6 +368,7 @@ def _library(path: str | os.PathLike[str] | None = None) -> ctypes.PyDLL:
             library.nic_record.argtypes, library.nic_record.restype = [ctypes.c_char_p], ctypes.c_bool
             library.nic_version.argtypes, library.nic_version.restype = [], ctypes.c_char_p
             library.nic_is_proved.argtypes, library.nic_is_proved.restype = [], ctypes.c_bool
+            library.nic_edition.argtypes, library.nic_edition.restype = [], ctypes.c_char_p
         except (OSError, AttributeError) as fault:
             raise LibraryMissing(f"{place} is no library of the controller: {fault}") from fault
         _loaded[place] = library
@@ -368,6 +382,15 @@ def proved() -> bool:
     True
     """
     return bool(_library().nic_is_proved())
+
+
+def edition() -> str:
+    """Which edition of the library this is: "proved", "plain" or "unproved" (nic_edition in nic82599.h).
+
+    >>> edition() in ("proved", "plain", "unproved")
+    True
+    """
+    return str(_library().nic_edition().decode())
 
 
 def library_version() -> str:
@@ -399,7 +422,15 @@ def _whole(value: int, bits: int, what: str) -> int:
     """A number that fits so many bits: ctypes would cut it off."""
     number = operator.index(value)
     if not 0 <= number < 1 << bits:
-        raise ValueError(f"{what} {number} is no number of {bits} bits")
+        raise ValueError(f"{what} {shown_number(number)} is no number of {bits} bits")
+    return number
+
+
+def _size(given: int, bits: int, refusal: type[NicError], what: str) -> int:
+    """A size of a controller, as far as a call of C takes it; its refusal."""
+    number = operator.index(given)
+    if not 0 <= number < 1 << bits:
+        raise refusal(f"{refusal.__doc__} ({shown_number(number)} {what})")
     return number
 
 
@@ -412,12 +443,16 @@ def _side(side: str) -> str:
 
 # --- names ---
 
-_NAME = re.compile(r"(\w+?)(?:\[(\d+)\])?")
+# No index has more digits than its leading zeros and three.
+_NAME = re.compile(r"(\w+?)(?:\[(\d{1,9})\])?")
+# So much of a name is looked at and shown where it is none.
+_NAME_SHOWN = 40
 
 
 def _no_name(name: str, names: Iterable[str]) -> NoSuchRegister:
-    near = get_close_matches(name.split("[")[0].upper(), list(names), 3, 0.6)
-    return NoSuchRegister(f"no register {name}" + (f"; there are {', '.join(near)}" if near else ""))
+    near = get_close_matches(name[:_NAME_SHOWN].split("[")[0].upper(), list(names), 3, 0.6)
+    shown = name if len(name) <= _NAME_SHOWN else f"{name[:_NAME_SHOWN]}.. ({len(name):,} letters)"
+    return NoSuchRegister(f"no register {shown}" + (f"; there are {', '.join(near)}" if near else ""))
 
 
 @cache
@@ -588,8 +623,7 @@ class Memory:
 
     def __init__(self, nic: Nic) -> None:
         self._nic = nic
-        # What is lent in place, by block: it is kept, and its object can't be resized or closed meanwhile.
-        self._kept: dict[int, object] = {}
+        self._lent = Lent(nic._is_closed)
         # The explorer's refusal.
         self._before_lending: Callable[[], None] | None = None
 
@@ -598,34 +632,43 @@ class Memory:
         and writes them where they are, from a bus address on, and so may the program between two calls. Both the bus
         address and the number of bytes are multiples of 2,048. The buffer is kept, and can't be resized or closed,
         until `unlend`, `Nic.take` or `Nic.close`. BadMemory, NoBlock, OutOfMemory, and TypeError of a buffer that can't
-        be written; then none of it is lent."""
+        be written, or that ctypes.resize can move; then none of it is lent. (numpy's `resize` with refcheck=False moves
+        an array that is lent: don't call it.) If a signal's handler raises during the call, the buffer is lent and
+        kept, or neither."""
         if self._before_lending:
             self._before_lending()
-        length = memoryview(buffer).nbytes
-        held = (ctypes.c_ubyte * length).from_buffer(buffer)
-        self._nic._ask("nic_lend_memory", _whole(bus, 64, "bus address"), ctypes.addressof(held), length)
-        self._kept.update(dict.fromkeys(self._blocks(bus, length), held))
+        at, buffer = _whole(bus, 64, "bus address"), held(buffer)
+        words = at, ctypes.addressof(buffer), len(buffer)
+        self._noted("nic_lend_memory", words, self._blocks(at, len(buffer)), buffer)
 
     def unlend(self, bus: int, length: int) -> None:
         """Takes such memory back, also a part of what was lent at once; its bytes stay. BadMemory, and NotLent if not
         all of it is lent in place: then none is taken back."""
-        self._nic._ask("nic_unlend_memory", _whole(bus, 64, "bus address"), _whole(length, 64, "length"))
-        self._forget(*self._blocks(bus, length))
+        words = _whole(bus, 64, "bus address"), _whole(length, 64, "length")
+        self._noted("nic_unlend_memory", words, self._blocks(*words))
+
+    def _take(self, block: int) -> None:
+        """Takes a block back."""
+        self._noted("nic_take", (block,), range(block, block + 1))
+
+    def _noted(self, name: str, words: tuple[int, ...], blocks: range, buffer: object = None) -> None:
+        """A call that lends blocks in a buffer, or takes them back, or is refused."""
+        nic = self._nic
+        nic._answer(name, words, self._lent.noted(nic._bound(name, *words), blocks, buffer))
 
     @staticmethod
     def _blocks(bus: int, length: int) -> range:
         return range(bus // BLOCK_BYTES, (bus + length) // BLOCK_BYTES)
 
-    def _forget(self, *blocks: int) -> None:
-        """These blocks have no memory in place any more; without arguments none has."""
-        for block in blocks or list(self._kept):
-            self._kept.pop(block, None)
-
     def read(self, bus: int, length: int) -> bytes:
         """`length` bytes from a bus address on."""
-        room = ctypes.create_string_buffer(max(_whole(length, 32, "length"), 1))
-        self._nic._ask("nic_dma_read", _whole(bus, 64, "bus address"), room, length)
-        return room.raw[:length]
+        at, count = _whole(bus, 64, "bus address"), _whole(length, 32, "length")
+        if count and at + count > self._nic._most_memory:
+            self._nic._refuse_closed()
+            raise _refused(statuses.NOT_LENT, f"dma_read {at}, {count}")
+        room = ctypes.create_string_buffer(max(count, 1))
+        self._nic._ask("nic_dma_read", at, room, count)
+        return room.raw[:count]
 
     def write(self, bus: int, data: HasBytes) -> None:
         """Writes bytes from a bus address on; those of an array, whatever the size of its items."""
@@ -637,7 +680,9 @@ class Memory:
             raise ValueError("a range of memory has two ends and no step: memory[0x800:0x83c]")
         start, stop = operator.index(part.start), operator.index(part.stop)
         if stop < start:
-            raise ValueError(f"a range of memory that ends before it begins: 0x{start:x} to 0x{stop:x}")
+            raise ValueError(
+                f"a range of memory that ends before it begins: {shown_number(start)} to {shown_number(stop)}"
+            )
         return start, stop - start
 
     @overload
@@ -682,18 +727,14 @@ class Snapshot(_OneOwner):
     _copied_by = "restore it as often as you like"
 
     def __init__(self, nic: Nic) -> None:
-        self._kept: _Kept | None = None
+        self._kept = _Kept()
         self._library = nic._library
         self.vfs, self.fifo, self.blocks = nic.vfs, nic.fifo, nic.blocks
-        kept = _Kept()
-        nic._ask("nic_snapshot", ctypes.byref(kept))
-        self._kept = kept
+        nic._ask("nic_snapshot", self._kept)
 
     def drop(self) -> None:
         """Ends the snapshot with its memory; a second time it does nothing."""
-        kept, self._kept = self._kept, None
-        if kept is not None:
-            self._library.nic_free_snapshot(kept)
+        end_once(self._library.nic_free_snapshot, self._kept)
 
     def __enter__(self) -> Snapshot:
         return self
@@ -702,11 +743,11 @@ class Snapshot(_OneOwner):
         self.drop()
 
     def __del__(self) -> None:
-        if getattr(self, "_kept", None) is not None:
+        if hasattr(self, "_library") and self._kept.kept:
             self.drop()
 
     def __repr__(self) -> str:
-        ended = "" if self._kept else ", dropped"
+        ended = "" if self._kept.kept else ", dropped"
         return f"<Snapshot of {self.vfs} virtual functions and {self.blocks} blocks{ended}>"
 
 
@@ -725,34 +766,27 @@ class Nic(_Registers, _OneOwner):
     def __init__(
         self, vfs: int = 0, fifo: int = 64, blocks: int = 256, *, library: str | os.PathLike[str] | None = None
     ) -> None:
-        self._handle: _Handle | None = None
         self._library = _library(library)
-        self.vfs, self.fifo, self.blocks = vfs, fifo, blocks
+        self._handle = _Handle()
         sizes = (
             (vfs, 8, TooManyVfs, "virtual functions"), (fifo, 16, BadFifo, "frames"), (blocks, 32, BadBlocks, "blocks")
         )  # fmt: skip
-        for given, bits, refusal, what in sizes:
-            if not 0 <= operator.index(given) < 1 << bits:
-                raise refusal(f"{refusal.__doc__} ({given} {what})")
-        handle = _Handle()
-        status = self._library.nic_new(vfs, fifo, blocks, ctypes.byref(handle))
-        if status != statuses.DONE:
-            raise _refused(status, f"{vfs} virtual functions, {fifo} frames, {blocks} blocks")
-        self._told = _Told()
-        self._room = ctypes.create_string_buffer(_LONGEST)
+        self.vfs, self.fifo, self.blocks = (_size(*it) for it in sizes)
+        # The largest number of bytes that it ever could have lent.
+        self._most_memory = self.blocks * BLOCK_BYTES
         self.memory = Memory(self)
-        self._handle = handle
+        status = self._library.nic_new(self.vfs, self.fifo, self.blocks, ctypes.byref(self._handle))
+        if status != statuses.DONE:
+            raise _refused(status, f"{self.vfs} virtual functions, {self.fifo} frames, {self.blocks} blocks")
         if _watcher:
             _watcher(self)
 
     def close(self) -> None:
         """Ends the controller with its memory and its frames; a second time it does nothing."""
-        if _watcher and self._handle is not None:
+        if _watcher and not self._is_closed():
             _watcher(self)
-        handle, self._handle = self._handle, None
-        if handle is not None:
-            self._library.nic_free(handle)
-            self.memory._forget()
+        end_once(self._library.nic_free, self._handle)
+        self.memory._lent.take_in()
 
     def __enter__(self) -> Nic:
         return self
@@ -761,25 +795,49 @@ class Nic(_Registers, _OneOwner):
         self.close()
 
     def __del__(self) -> None:
-        if getattr(self, "_handle", None) is not None:
+        if hasattr(self, "memory") and not self._is_closed():
             self.close()
 
     def __repr__(self) -> str:
-        ended = "" if self._handle else ", closed"
+        ended = ", closed" if self._is_closed() else ""
         return f"<Nic of {self.vfs} virtual functions and {self.blocks} blocks{ended}>"
 
-    def _call(self, name: str, *words: object) -> int:
-        """The status of a call."""
-        if self._handle is None:
+    def _is_closed(self) -> bool:
+        return self._handle.device is None
+
+    def _refuse_closed(self) -> None:
+        if self._handle.device is None:
             raise Closed("the controller was closed")
+
+    def _bound(self, name: str, *words: object) -> Callable[[], int]:
+        """A call with its words."""
+        return partial(getattr(self._library, name), self._handle, *words)
+
+    def _call(self, name: str, *words: object) -> int:
+        """The status of a call; Closed, Broken."""
+        status = cast(int, getattr(self._library, name)(self._handle, *words))
+        if status == statuses.CLOSED:
+            self._refuse_closed()
+        if status == statuses.BROKEN:
+            raise _refused(status, name)
+        return status
+
+    def _count(self, name: str, *words: object) -> int:
+        """What a call counts; Closed."""
+        self._refuse_closed()
         return cast(int, getattr(self._library, name)(self._handle, *words))
 
-    def _ask(self, name: str, *words: object) -> None:
-        """A call that is done or refused."""
-        status = self._call(name, *words)
+    def _answer(self, name: str, words: tuple[object, ...], status: int) -> None:
+        """The answer of a call that is done or refused."""
+        if status == statuses.CLOSED:
+            self._refuse_closed()
         if status != statuses.DONE:
             shown = ", ".join(str(word) for word in words if isinstance(word, int))
             raise _refused(status, f"{name.removeprefix('nic_')} {shown}".strip())
+
+    def _ask(self, name: str, *words: object) -> None:
+        """A call that is done or refused."""
+        self._answer(name, words, self._call(name, *words))
 
     # --- snapshots ---
 
@@ -791,11 +849,14 @@ class Nic(_Registers, _OneOwner):
     def restore(self, kept: Snapshot) -> None:
         """Restores a snapshot of this controller or of another one, as often as you like. OutOfMemory, and Closed if
         the snapshot was dropped; then the controller is unchanged."""
-        if kept._kept is None:
-            raise Closed("the snapshot was dropped")
         if kept._library is not self._library:
             raise ValueError("a snapshot of another library's controller")
-        self._ask("nic_restore", ctypes.byref(kept._kept))
+        # (before the call: what a handler raises after it would leave this too small)
+        self._most_memory = max(self._most_memory, kept.blocks * BLOCK_BYTES)
+        status = self._call("nic_restore", kept._kept)
+        if status == statuses.CLOSED:
+            raise Closed("the snapshot was dropped")
+        self._answer("nic_restore", (), status)
         self.vfs, self.fifo, self.blocks = kept.vfs, kept.fifo, kept.blocks
 
     # --- registers ---
@@ -837,8 +898,7 @@ class Nic(_Registers, _OneOwner):
     def take(self, *blocks: int) -> None:
         """Takes these blocks back, and what they held is gone. NotLent at the first that isn't lent."""
         for block in blocks:
-            self._ask("nic_take", _whole(block, 32, "block"))
-            self.memory._forget(block)
+            self.memory._take(_whole(block, 32, "block"))
 
     def ring(self, side: str, queue: int) -> Ring:
         """What a ring holds now, `rx` or `tx` of a queue: printed it is lines of text, and a notebook shows a table.
@@ -857,20 +917,20 @@ class Nic(_Registers, _OneOwner):
 
     def next_out(self) -> int:
         """The length of the frame that `collect` would give; 0 if there is none."""
-        return self._call("nic_next_out")
+        return self._count("nic_next_out")
 
     def collect(self) -> Frame | None:
         """Takes the oldest frame that went out, or None."""
-        length = self.next_out()
-        if length > len(self._room):
-            self._room = ctypes.create_string_buffer(length)
-        told = self._told
-        status = self._call("nic_collect", self._room, len(self._room), ctypes.byref(told))
-        if status == statuses.IDLE:
-            return None
-        if status != statuses.FRAME:
-            raise _refused(status, "collect")
-        return Frame(told.queue, self._room.raw[: told.len])
+        while True:
+            length = self.next_out()
+            room, told = _Room() if length <= ctypes.sizeof(_Room) else ctypes.create_string_buffer(length), _Told()
+            status = self._call("nic_collect", room, len(room), ctypes.byref(told))
+            if status == statuses.IDLE:
+                return None
+            if status == statuses.FRAME:
+                return Frame(told.queue, ctypes.string_at(room, told.len))
+            if status != statuses.NO_ROOM:  # (another thread took that frame, and a longer one follows)
+                raise _refused(status, "collect")
 
     def link(self, up: bool) -> bool:
         """The link goes up or down; False if it was so already."""
@@ -884,7 +944,7 @@ class Nic(_Registers, _OneOwner):
 
     def _event(self, call: str, *words: object) -> Event | None:
         """What an event reports; None if it was idle."""
-        told = self._told
+        told = _Told()
         status = self._call(call, *words, ctypes.byref(told))
         if status == statuses.IDLE:
             return None
@@ -915,7 +975,7 @@ class Nic(_Registers, _OneOwner):
         """Sends the next message of the physical function, or of a virtual one. NoGroup."""
         group = 0 if function is None else _whole(function, 8, "virtual function") + 1
         if group > 255:
-            raise NoGroup(f"{NoGroup.__doc__} ({function})")
+            raise NoGroup(f"{NoGroup.__doc__} ({group - 1})")
         return cast("Message | None", self._event("nic_int_step", group))
 
     def settle(self, queues: int = QUEUES) -> list[Event]:
@@ -945,11 +1005,12 @@ class Nic(_Registers, _OneOwner):
         ...         event
         Message(function=None, vector=0)
         """
-        where, told = _Settling(_whole(queues, 16, "number of queues"), 0), _Told()
+        given = _whole(queues, 16, "number of queues")
+        where, told = _Settling(given, 0), _Told()
         while (status := self._call("nic_next_step", ctypes.byref(where), ctypes.byref(told))) == statuses.MORE:
             yield _TELLERS[told.status](told)
         if status != statuses.DONE:
-            raise _refused(status, f"steps {queues}")
+            raise _refused(status, f"steps {given}")
 
     # --- why nothing happens ---
 
@@ -965,9 +1026,8 @@ class Nic(_Registers, _OneOwner):
         rx 0: RXDCTL[0].ENABLE 0: the queue is off; it was asked for, but no `qstep rx 0` followed
         """
         text = ctypes.create_string_buffer(4096)
-        if (length := self._call("nic_why", text, len(text))) >= len(text):
+        while (length := self._count("nic_why", text, len(text))) >= len(text):
             text = ctypes.create_string_buffer(length + 1)
-            self._call("nic_why", text, len(text))
         return text.value.decode().rstrip("\n")
 
     # --- the EEPROM ---

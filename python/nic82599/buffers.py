@@ -2,6 +2,7 @@
 
 from __future__ import annotations
 
+import operator
 from collections.abc import Iterable
 from typing import TYPE_CHECKING, SupportsBytes
 
@@ -9,6 +10,15 @@ if TYPE_CHECKING:
     from _typeshed import ReadableBuffer
 
     HasBytes = ReadableBuffer | SupportsBytes | Iterable[int]
+
+
+def shown_number(number: int) -> str:
+    """A number for a message, of which Python itself writes no more than 4,300 digits.
+
+    >>> shown_number(4096), shown_number(-1 << 16_000)
+    ('4096', 'of 16,001 bits')
+    """
+    return str(number) if number.bit_length() <= 128 else f"of {number.bit_length():,} bits"
 
 
 def bytes_of(data: HasBytes) -> bytes:
@@ -25,5 +35,6 @@ def bytes_of(data: HasBytes) -> bytes:
         return memoryview(data).tobytes()  # type: ignore[arg-type]
     except TypeError:
         if hasattr(data, "__index__"):
-            raise TypeError(f"{type(data).__name__} {data} is a number, and bytes are wanted") from None
+            shown = shown_number(operator.index(data))  # type: ignore[arg-type]
+            raise TypeError(f"{type(data).__name__} {shown} is a number, and bytes are wanted") from None
     return bytes(data)

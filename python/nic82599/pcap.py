@@ -17,6 +17,9 @@ if TYPE_CHECKING:
 ETHERNET = 1
 MAGICS = {b"\xd4\xc3\xb2\xa1": "<", b"\x4d\x3c\xb2\xa1": "<", b"\xa1\xb2\xc3\xd4": ">", b"\xa1\xb2\x3c\x4d": ">"}
 SECTION, INTERFACE, SIMPLE, ENHANCED = 0x0A0D0D0A, 1, 3, 6
+# What begins the bodies of the blocks of pcapng that matter here, in bytes, and how long any block is at most.
+HEADS, BLOCK_MOST = {SECTION: 4, INTERFACE: 8, SIMPLE: 4, ENHANCED: 20}, 1 << 24
+ORDERS = {b"\x4d\x3c\x2b\x1a": "<", b"\x1a\x2b\x3c\x4d": ">"}
 HEADER = struct.pack("<IHHiIII", 0xA1B2C3D4, 2, 4, 0, 0, 0xFFFF, ETHERNET)
 
 
@@ -44,7 +47,7 @@ def _whole(data: bytes, at: int, kept: int, length: int) -> bytes:
     if kept != length:
         raise NoCapture(f"a frame of {length} bytes was captured in part: {kept} bytes")
     if at + kept > len(data):
-        raise NoCapture("the capture is cut off")
+        raise NoCapture("a frame is cut off, by the end of the capture or of its block")
     return data[at : at + kept]
 
 
@@ -66,31 +69,39 @@ def _pcapng_frames(data: bytes) -> Iterator[bytes]:
         (kind,) = _unpacked(order + "I", data, at)
         if kind == SECTION:
             # Each section says its own byte order, by the number behind its length.
-            order = "<" if data[at + 8 : at + 12] == b"\x4d\x3c\x2b\x1a" else ">"
-            links = []
+            order, links = _order_of(data[at + 8 : at + 12]), []
         (size,) = _unpacked(order + "I", data, at + 4)
-        if size < 12 or size % 4 or at + size > len(data):
+        if size % 4 or not 12 + HEADS.get(kind, 0) <= size <= BLOCK_MOST:
+            raise NoCapture(f"a block of type {kind} has {size} bytes, which it can't have")
+        if at + size > len(data):
             raise NoCapture("the capture is cut off")
         if kind == INTERFACE:
             links.append(_unpacked(order + "HHI", data, at + 8)[::2])
         elif kind in (SIMPLE, ENHANCED):
-            yield _packet_in(data, at + 8, order, kind, links)
+            yield _packet_in(data[at + 8 : at + size - 4], order, kind, links)
         at += size
 
 
-def _packet_in(data: bytes, at: int, order: str, kind: int, links: list[tuple[int, ...]]) -> bytes:
-    """The frame of a block of pcapng."""
-    number = _unpacked(order + "I", data, at)[0] if kind == ENHANCED else 0
+def _order_of(number: bytes) -> str:
+    """The byte order of a section."""
+    if number not in ORDERS:
+        raise NoCapture("a section whose byte order is none")
+    return ORDERS[number]
+
+
+def _packet_in(data: bytes, order: str, kind: int, links: list[tuple[int, ...]]) -> bytes:
+    """The frame in the body of a block of pcapng."""
+    number = _unpacked(order + "I", data, 0)[0] if kind == ENHANCED else 0
     if number >= len(links):
         raise NoCapture("a packet of an interface that the capture doesn't describe")
     link, longest = links[number]
     if link != ETHERNET:
         raise NoCapture(f"a packet of link type {link}, and not of Ethernet")
     if kind == ENHANCED:
-        kept, length = _unpacked(order + "II", data, at + 12)
-        return _whole(data, at + 20, kept, length)
-    (length,) = _unpacked(order + "I", data, at)
-    return _whole(data, at + 4, min(length, longest or length), length)
+        kept, length = _unpacked(order + "II", data, 12)
+        return _whole(data, HEADS[ENHANCED], kept, length)
+    (length,) = _unpacked(order + "I", data, 0)
+    return _whole(data, HEADS[SIMPLE], min(length, longest or length), length)
 
 
 def record_of(microseconds: int, frame: bytes) -> bytes:

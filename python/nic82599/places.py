@@ -18,7 +18,7 @@ SONAME = "libnic82599.so.0"
 # Where Debian has the libraries of a machine below a prefix.
 MULTIARCH = f"lib/{os.uname().machine}-linux-gnu"
 BUILDS_LIBRARY = "`make -C c` in a clone builds it, a release package has it"
-BUILDS_PROGRAM = "a release package has it; `./nicbench --version` in a clone makes it, and then `pip install` packs it"
+BUILDS_PROGRAM = "a release package has it, and `pip install ./python` in a clone makes it if rustc is installed"
 
 
 class Missing(Exception):

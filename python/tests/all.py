@@ -27,18 +27,22 @@ import chance  # noqa: E402
 import descriptors_of_device  # noqa: E402
 import ends  # noqa: E402
 import explorer  # noqa: E402
+import files_by_others  # noqa: E402
+import interrupted  # noqa: E402
 import nic82599  # noqa: E402
 import nic82599.buffers  # noqa: E402
 import nic82599.descriptors  # noqa: E402
+import nic82599.tools.printable  # noqa: E402
 import packing  # noqa: E402
 import report_card  # noqa: E402
+import together  # noqa: E402
 import weak_memory  # noqa: E402
 import why_nothing  # noqa: E402
 
 
 def texts() -> int:
     """How many examples the texts show, each of which gives what stands there."""
-    told = [doctest.testmod(it) for it in (nic82599, nic82599.buffers, nic82599.descriptors)]
+    told = [doctest.testmod(it) for it in (nic82599, nic82599.buffers, nic82599.descriptors, nic82599.tools.printable)]
     told.append(doctest.testfile(str(PROMPT), module_relative=False))
     if any(it.failed for it in told):
         sys.exit(1)
@@ -76,12 +80,15 @@ def main() -> None:
     print(f"{texts()} examples of texts")
     print(types())
     print(f"{units(calls)} tests of calls")
+    print(f"{units(interrupted)} tests of interrupted calls")
+    print(f"{units(together)} tests of several threads")
     print(f"{units(descriptors_of_device)} tests of descriptors")
     print(f"{units(explorer)} tests of the explorer")
     print(f"{units(weak_memory)} tests of weak memory, values and timers")
     print(f"{units(report_card)} tests of the report card")
     print(f"{units(packing)} tests of the package")
     print(f"{units(ends)} tests of how tools end")
+    print(f"{units(files_by_others)} tests of files that others made")
     print(f"{units(why_nothing)} tests of why nothing happens")
     made = answers = 0
     with tempfile.TemporaryDirectory() as folder:

@@ -4,6 +4,7 @@ from __future__ import annotations
 
 import array
 import copy
+import ctypes
 import gc
 import mmap
 import os
@@ -12,6 +13,7 @@ import re
 import subprocess
 import sys
 import tempfile
+import tracemalloc
 import typing
 import unittest
 from pathlib import Path
@@ -195,6 +197,25 @@ class Registers(unittest.TestCase):
         with self.assertRaisesRegex(nic82599.NoSuchRegister, "RXDCTL"):
             nic["RXDCTRL[3]"] = 1
 
+    def test_long_numbers(self) -> None:
+        """Numbers of more digits than Python turns into text are refused as others are, in a line that isn't long."""
+        nic, digits, number = self.nic, "9" * 5000, 10**5000
+        for call, refusal in (
+            (lambda: nic[f"RDT[{digits}]"], nic82599.NoSuchRegister),
+            (lambda: nic.vf(0)[f"VFRDT[{digits}]"], nic82599.NoSuchRegister),
+            (lambda: nic["R" * 100_000], nic82599.NoSuchRegister),
+            (lambda: nic[number], ValueError), (lambda: nic.vf(-number), ValueError),
+            (lambda: nic.tx_step(number), ValueError), (lambda: nic.memory.read(number, 1), ValueError),
+            (lambda: nic.memory[number:1], ValueError), (lambda: nic.arrive(number), TypeError),
+            (lambda: Nic(vfs=number), nic82599.TooManyVfs), (lambda: Nic(blocks=-number), nic82599.BadBlocks),
+        ):  # fmt: skip
+            with self.assertRaises(refusal) as caught:
+                call()
+            self.assertLess(len(str(caught.exception)), 200)
+            self.assertNotIn("limit", str(caught.exception))
+        self.assertNotIn(f"RDT[{digits}]", nic)
+        self.assertEqual(nic["RDT[000003]"], 0)
+
     def test_strays(self) -> None:
         nic = self.nic
         with self.assertRaises(nic82599.Stray) as caught:
@@ -304,6 +325,16 @@ class Registers(unittest.TestCase):
         self.assertEqual((one["VFRDT[7]"], nic["RDT[15]"]), (9, 9))
 
 
+class Index:
+    """A number that has `__index__` alone."""
+
+    def __init__(self, number: int | None) -> None:
+        self.number = number
+
+    def __index__(self) -> int:
+        return self.number  # type: ignore[return-value]
+
+
 class MemoryOfPackets(unittest.TestCase):
     def test_ranges(self) -> None:
         with Nic(blocks=3) as nic:
@@ -378,6 +409,70 @@ class MemoryOfPackets(unittest.TestCase):
         own.extend(b"not lent any more")
         with self.assertRaises(nic82599.Closed):
             memory.lend(0, bytearray(2048))
+
+    def test_numbers_by_index(self) -> None:
+        """A number of another kind, as a wrapper of addresses is, does what the number does."""
+        with Nic(Index(1), Index(8), Index(4)) as nic:
+            own = bytearray(2048)
+            nic.memory.lend(Index(2048), own)
+            self.assertRaises(BufferError, own.clear)
+            nic.memory.write(Index(2048), b"own")
+            self.assertEqual(nic.memory.read(Index(2048), Index(3)), b"own")
+            self.assertEqual(nic.memory[Index(2048) : Index(2050)], b"ow")
+            nic.memory.unlend(Index(2048), Index(2048))
+            own.clear()
+            nic.lend(Index(3))
+            nic.take(Index(3))
+            self.assertEqual((nic.settle(Index(2)), list(nic.steps(Index(2))), nic.tx_step(Index(1))), ([], [], None))
+            self.assertEqual((nic.blocks, repr(nic)), (4, "<Nic of 1 virtual functions and 4 blocks>"))
+
+    def test_an_index_that_raises(self) -> None:
+        """Then nothing is lent."""
+        with Nic(blocks=4) as nic:
+            own = bytearray(2048)
+            for bus in (Index(None), "0", 1.0):
+                with self.assertRaises(TypeError):
+                    nic.memory.lend(bus, own)
+            own.clear()
+            self.assertNotIn(0, nic.memory)
+
+    def test_memory_that_moves(self) -> None:
+        """What ctypes.resize would move isn't lent; what it can't is."""
+        given = (ctypes.c_ubyte * 4096)()
+        with Nic(blocks=4) as nic:
+            parts = (ctypes.c_ubyte * 2048 * 2)()
+            for buffer in (given, memoryview(given), memoryview(given)[2048:], parts[1]):
+                with self.assertRaisesRegex(TypeError, "ctypes.resize can move the memory of c_ubyte_Array_"):
+                    nic.memory.lend(0, buffer)
+            self.assertNotIn(0, nic.memory)
+            fixed = (ctypes.c_ubyte * 4096).from_buffer(bytearray(4096))
+            nic.memory.lend(0, fixed)
+            self.assertRaises(ValueError, ctypes.resize, fixed, 8192)
+            nic.memory[0:3] = b"own"
+            self.assertEqual(bytes(fixed[:3]), b"own")
+
+    def test_long_reads(self) -> None:
+        """Of more than a controller has: refused before there is memory for it."""
+        with Nic(blocks=2) as nic, Nic(blocks=4) as larger:
+            nic.lend()
+            larger.lend()
+            tracemalloc.start()
+            try:
+                for call in (
+                    lambda: nic.memory.read(0, 2**32 - 1), lambda: nic.memory[0 : 2**31],
+                    lambda: nic.memory.read(1, 4096), lambda: nic.memory.read(1 << 63, 1 << 30),
+                ):  # fmt: skip
+                    self.assertRaises(nic82599.NotLent, call)
+                self.assertLess(tracemalloc.get_traced_memory()[1], 1 << 20)
+            finally:
+                tracemalloc.stop()
+            self.assertEqual(nic.memory.read(1, 4095), bytes(4095))
+            with larger.snapshot() as kept:
+                nic.restore(kept)
+            self.assertEqual(nic.memory.read(0, 8192), bytes(8192))
+        for length in (1, 2**32 - 1):
+            with self.assertRaises(nic82599.Closed):
+                nic.memory.read(0, length)
 
     def test_in_place_and_snapshots(self) -> None:
         own = bytearray(b"1" * 2048)

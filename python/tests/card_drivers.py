@@ -5,6 +5,7 @@ from __future__ import annotations
 import os
 import sys
 import threading
+import time
 
 from nic82599.descriptors import is_sent, rx_descriptor, tx_descriptor
 from nic82599.drive import Can, Driver, Filter, Mutex, Rss, Setup
@@ -307,6 +308,56 @@ class OutsideDma(Both):
     def receive(self, queue: int) -> bytes | tuple[bytes, int] | None:
         self.dma_write(0x1000, bytes(8))
         return super().receive(queue)
+
+
+class ActsOnTheTerminal(Both):
+    """What it prints and says has escapes."""
+
+    def receive(self, queue: int) -> bytes | tuple[bytes, int] | None:
+        print("\x1b]0;title\x07: note: \x1b[31mred")
+        self.fail("red \x1b[31m and \u202e turned")
+
+
+class ReadsTooMuch(Both):
+    def receive(self, queue: int) -> bytes | tuple[bytes, int] | None:
+        self.dma_read(0, 1 << 31)
+        return super().receive(queue)
+
+
+def left_behind() -> None:
+    """A process that would stay, which tells its number to the test."""
+    with open(os.environ["PROCESSES"], "a") as file:
+        file.write(f"{os.getpid()}\n")
+    time.sleep(1000)
+
+
+class Forks(Both):
+    """Its child sleeps, with the card's pipes."""
+
+    def receive(self, queue: int) -> bytes | tuple[bytes, int] | None:
+        if os.fork() == 0:
+            left_behind()
+        return super().receive(queue)
+
+
+class ForksAndGoesOn(Both):
+    """Its child goes on as if it were on the card."""
+
+    def receive(self, queue: int) -> bytes | tuple[bytes, int] | None:
+        os.fork()
+        return super().receive(queue)
+
+
+class LeavesADaemon(Both):
+    """Nobody's child, in a session of its own."""
+
+    def open(self, setup: Setup) -> bool:
+        if os.fork() == 0:
+            os.setsid()
+            if os.fork() == 0:
+                left_behind()
+            os._exit(0)
+        return super().open(setup)
 
 
 class ExitsInReceive(Both):

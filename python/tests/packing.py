@@ -38,8 +38,8 @@ def program_itself() -> Path:
         return program
     subprocess.run([program, "--version"], capture_output=True, check=True)
     made = backend.built_program()
-    assert made, "the launcher keeps no program"
-    return made
+    assert made, "there is no program"
+    return made[0]
 
 
 class Wheel(unittest.TestCase):
@@ -139,14 +139,14 @@ exit ${#}
 """
 
 
-class Unproved(unittest.TestCase):
-    """A program without its proofs says so behind its version, and is else what it is."""
+class Edition(unittest.TestCase):
+    """A program that isn't proved says which edition it is at the end of its version, and is otherwise what it is."""
 
     def setUp(self) -> None:
         kept = tempfile.TemporaryDirectory()
         self.addCleanup(kept.cleanup)
         self.folder = Path(kept.name) / "a folder"
-        for name, data in backend.program_files(PROGRAM, False).items():
+        for name, data in backend.program_files(PROGRAM, "plain").items():
             file = self.folder / name
             file.parent.mkdir(parents=True, exist_ok=True)
             file.write_bytes(data)
@@ -158,11 +158,11 @@ class Unproved(unittest.TestCase):
         return made.returncode, made.stdout, made.stderr
 
     def test_version(self) -> None:
-        program = self.folder / "nic82599/unproved/nicbench"
+        program = self.folder / "nic82599/plain/nicbench"
         program.write_bytes(b'#!/bin/sh\necho "nicbench 1.2.3"\n')
         for way in ("nic82599/nicbench", "link"):
             for word in ("--version", "-V"):
-                self.assertEqual(self.started(way, word), (0, "nicbench 1.2.3+unproved\n", ""))
+                self.assertEqual(self.started(way, word), (0, "nicbench 1.2.3+plain\n", ""))
         program.write_bytes(b"#!/bin/sh\nexit 2\n")
         self.assertEqual(self.started("link", "--version"), (2, "", ""))
 
@@ -173,7 +173,7 @@ class Unproved(unittest.TestCase):
                 self.assertEqual(self.started(way, *words), want)
 
     def test_proved(self) -> None:
-        self.assertEqual(backend.program_files(PROGRAM, True), {"nic82599/nicbench": PROGRAM})
+        self.assertEqual(backend.program_files(PROGRAM, "proved"), {"nic82599/nicbench": PROGRAM})
 
 
 class Clone(unittest.TestCase):

@@ -3,6 +3,7 @@ names what is wrong, and what no driver may do is a failed row beside which othe
 
 from __future__ import annotations
 
+import ctypes
 import os
 import re
 import subprocess
@@ -10,6 +11,7 @@ import sys
 import tempfile
 import unittest
 from pathlib import Path
+from xml.etree import ElementTree
 
 import card_drivers as drivers
 from nic82599 import places
@@ -52,6 +54,7 @@ WRONG = {
     "FrameTooLong": ("receive-one", "check: a frame of 9725 bytes is handed up in queue 0"),
     "WordTooLong": ("interrupt-receive", "check: ValueError: 4294967296 is no word of a register"),
     "OutsideDma": ("receive-one", "memory: receive0 writes 0x1000, which isn't lent"),
+    "ReadsTooMuch": ("receive-one", "memory: receive0 reads 0x0, which isn't lent"),
     "ExitsInReceive": ("receive-one", "check: SystemExit: 0"),
     "EndsTheProcess": ("receive-one", "crash: the process ended with status 0"),
     "AbortsInClose": ("open-close", "crash: the process was ended by signal 6"),
@@ -72,6 +75,7 @@ def ran(driver: type[Driver], *words: str) -> tuple[int, str]:
             os.dup2(file.fileno(), 2)
             status = program(driver, ["card", *words])
             sys.stdout.flush()
+            ctypes.CDLL(None).fflush(None)  # (what the library printed)
             os._exit(status)
         status = os.waitstatus_to_exitcode(os.waitpid(process, 0)[1])
         file.seek(0)
@@ -173,8 +177,55 @@ class Refusals(unittest.TestCase):
             drivers.Both().read32("STATUS")
 
 
+def adopts() -> bool:
+    """Whether a process here can have the children of its children."""
+    given = ctypes.c_int()
+    return sys.platform == "linux" and ctypes.CDLL(None).prctl(37, ctypes.byref(given), 0, 0, 0) == 0
+
+
+def is_there(process: int) -> bool:
+    """Whether a process runs."""
+    try:
+        state = Path(f"/proc/{process}/stat").read_text().rpartition(")")[2].split()[0]
+    except OSError:
+        return False
+    return state != "Z"
+
+
 class Command(unittest.TestCase):
     """The command, as an author starts it."""
+
+    def test_nothing_acts_on_the_terminal(self) -> None:
+        if places.clone() is None:
+            self.skipTest("the command needs a clone")
+        how = {**os.environ, "PYTHONPATH": str(HERE.parent)}
+        with tempfile.TemporaryDirectory() as folder:
+            rows = ["--rows", "receive-one", "--runs", "10", "--every", "10", "--no-pages", "-o", folder]
+            driver = f"{HERE / 'card_drivers.py'}:ActsOnTheTerminal"
+            words = [sys.executable, "-P", "-m", "nic82599.drive", driver, *rows]
+            made = subprocess.run(words, env=how, capture_output=True, text=True, check=False)
+            self.assertIn(r"check: red \x1b[31m and \u202e turned", made.stdout)
+            told = [made.stdout, made.stderr, *((Path(folder) / f"card.{it}").read_text() for it in ("txt", "html"))]
+            self.assertEqual(re.findall("[\x00-\x08\x0b-\x1f\x7f-\x9f\u202e]", "".join(told)), [])
+            failure = ElementTree.parse(Path(folder) / "card.xml").find("testcase/failure")
+            self.assertIn(r"red \x1b[31m", failure.get("message") if failure is not None else "")
+
+    def test_nothing_is_left(self) -> None:
+        """What a driver starts ends with its row, and doesn't keep the card from its end."""
+        if places.clone() is None or not Path("/proc/self/stat").exists():
+            self.skipTest("the command needs a clone, and the test /proc")
+        for name in ("Forks", "ForksAndGoesOn", *(["LeavesADaemon"] if adopts() else [])):
+            with self.subTest(name), tempfile.TemporaryDirectory() as folder:
+                told = Path(folder) / "processes"
+                told.touch()
+                how = {**os.environ, "PYTHONPATH": str(HERE.parent), "PROCESSES": str(told)}
+                rows = ["--rows", "receive-one", "--runs", "10", "--every", "10", "--no-pages", "-o", folder]
+                words = [sys.executable, "-P", "-m", "nic82599.drive", f"{HERE / 'card_drivers.py'}:{name}", *rows]
+                made = subprocess.run(words, env=how, capture_output=True, text=True, timeout=300, check=False)
+                self.assertIn(f"{drivers.Both.name}: 1 passed, 0 failed", made.stdout, made.stderr)
+                processes = [int(it) for it in told.read_text().split()]
+                self.assertEqual(len(processes) > 0, name != "ForksAndGoesOn")
+                self.assertEqual([it for it in processes if is_there(it)], [])
 
     def test_a_card(self) -> None:
         how = {**os.environ, "PYTHONPATH": str(HERE.parent)}

@@ -20,6 +20,7 @@ from types import FrameType, TracebackType
 from typing import TYPE_CHECKING, Any
 
 from .. import dma, places
+from ..tools.printable import printable
 from .values import MAILBOX_WORDS, MOST_FRAME, Filter, Rss, Setup
 
 if TYPE_CHECKING:
@@ -31,6 +32,8 @@ NAME = "libnic82599_drive.so"
 OWN = (os.path.dirname(__file__) + os.sep, dma.__file__, contextlib.__file__, "<frozen ")
 MOST_LINES, MOST_FRAMES, MOST_WORDS, MOST_FILE, MOST_TRACEBACK = 4, 20, 120, 512, 16_384
 ANY_WORD = 1 << 32
+# All packet memory of a card, of which the first block is nobody's.
+MOST_DMA = 524_288
 
 # What the card asks of a driver, by the numbers of c/drive/python/calls.c. Those from `receive` on may be missing.
 FUNCTIONS = (
@@ -223,12 +226,12 @@ def _traceback_of(fault: BaseException) -> str:
         trace = trace.tb_next
     if trace is None:
         return ""
-    return "".join(traceback.format_exception(type(fault), fault, trace, limit=-MOST_FRAMES))
+    return printable("".join(traceback.format_exception(type(fault), fault, trace, limit=-MOST_FRAMES)))
 
 
 def _words_of(fault: BaseException) -> str:
     """What was raised and where, in one line."""
-    told = " ".join(str(fault).split())
+    told = printable(" ".join(str(fault).split()))
     told = told if isinstance(fault, Failed) else f"{type(fault).__name__}{': ' * bool(told)}{told}"
     lines = list(_frames_of(fault))
     places_of = " < ".join(f"{os.path.basename(file)}:{line}" for file, line in reversed(lines[-MOST_LINES:]))
@@ -260,6 +263,7 @@ class Card:
         self._conditions: dict[int, Callable[[], object]] = {}
         self._numbers = 0
         self._traceback: mmap.mmap | None = None
+        self._is_child = False
         self._asked: list[Callable[[int, int, int], int]] = [
             partial(self._plain, name) if name in _PLAIN else getattr(self, f"_{name}") for name in FUNCTIONS
         ]
@@ -269,6 +273,7 @@ class Card:
     def call(self, name: str, *words: object) -> int:
         """A call, by its name in _CALLS; the driver is left where the schedule is over."""
         call = self._calls.get(name)
+        self._leave_child()
         if call is None:
             raise RuntimeError(f"{name} is called by a driver on its card: python3 -m nic82599.drive --help")
         told = call(*words)
@@ -277,8 +282,10 @@ class Card:
         return told
 
     def dma_read(self, bus: int, length: int) -> bytes:
-        room = ctypes.create_string_buffer(length)
-        self.call("dma_read", bus, room, length)
+        # (more than the card has isn't lent, so of more than that no byte is read)
+        count = min(length, MOST_DMA)
+        room = ctypes.create_string_buffer(count)
+        self.call("dma_read", bus, room, count)
         return room.raw
 
     def wait_until(self, condition: Callable[[], object]) -> None:
@@ -342,8 +349,19 @@ class Card:
         except Over:
             return OVER
         except BaseException as fault:
+            self._leave_child()
             self._raised(fault)
             return RAISED
+        finally:
+            self._leave_child()
+
+    def _forked(self) -> None:
+        self._is_child = True
+
+    def _leave_child(self) -> None:
+        """Ends a process that the driver forked, which is on no card, where it makes a call or comes back to one."""
+        if self._is_child:
+            os._exit(0)
 
     def _raised(self, fault: BaseException) -> None:
         """Tells the words, and keeps the whole of it for the process that started this one."""
@@ -385,6 +403,7 @@ class Card:
             driver.slots, _CALL(self._call), _BEGIN_THREAD(self._begin_thread), _LINES(self._lines),
         )  # fmt: skip
         argv = (ctypes.c_char_p * (len(words) + 1))(*(os.fsencode(word) for word in words), None)
+        os.register_at_fork(after_in_child=self._forked)
         gc.freeze()
         sys.stdout.flush()
         status: int = self._library.nicp_main(len(words), argv, ctypes.byref(given))

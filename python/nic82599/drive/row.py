@@ -2,6 +2,7 @@
 
 from __future__ import annotations
 
+import ctypes
 import importlib.util
 import os
 import signal
@@ -113,5 +114,6 @@ def main(words: list[str]) -> int:
 if __name__ == "__main__":
     told = main([os.environ.get("NIC82599_PROGRAM", sys.argv[0]), *sys.argv[1:]])
     sys.stdout.flush()
+    ctypes.CDLL(None).fflush(None)  # (what the library printed is the C library's to write)
     # (threads of schedules stand in the library still)
     os._exit(told)

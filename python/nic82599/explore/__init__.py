@@ -279,7 +279,8 @@ class Scenario(Dma):
         run.stand()
 
     def dma_read(self, bus: int, length: int) -> bytes:
-        """Bytes of lent memory; zeros where one of them isn't lent, which is a failure unless that is allowed."""
+        """Bytes of lent memory; where one of them isn't lent zeros, of at most all memory that there is. That is a
+        failure unless it is allowed."""
         data, note, run = None, "", self._run if self._run and self._run.self else None
         if run:
             run.self.load = (bus, length)
@@ -297,7 +298,7 @@ class Scenario(Dma):
             run.polled(f"peek {bus}", (data or b"").hex())
         if data is None:
             self._refused(run, "reads", bus)
-        return data if data is not None else bytes(length)
+        return data if data is not None else bytes(min(length, self._nic._most_memory))
 
     def _load(self, run: Run | None, bus: int, length: int) -> tuple[bytes, str]:
         """What is read, and what is said of it. NotLent."""

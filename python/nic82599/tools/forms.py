@@ -10,6 +10,7 @@ import re
 from collections.abc import Callable
 from dataclasses import dataclass
 
+from .printable import shortened
 from .regs import ROWS, near
 from .script import Refused
 
@@ -50,6 +51,7 @@ MOST = {
     "QUEUE": 65_535,
     "WORD": 3,
 }
+MOST_DIGITS, TOO_LARGE = 20, 1 << 128
 NUMBER = re.compile(r"0x[0-9a-fA-F]+|[0-9]+")
 NAME = re.compile(r"[A-Za-z_][A-Za-z0-9_]*")
 TARGET = re.compile(r"([A-Za-z_][A-Za-z0-9_]*)(?:\[([^\]]*)\])?")
@@ -67,8 +69,11 @@ class Place:
 
 
 def number_of(word: str) -> int | None:
-    """A number as scripts write it."""
-    return int(word, 0 if word.startswith("0x") else 10) if NUMBER.fullmatch(word) else None
+    """A number as scripts write it; one of too many digits is as one that is too large for any place."""
+    if not NUMBER.fullmatch(word):
+        return None
+    digits = word.removeprefix("0x").lstrip("0") or "0"
+    return int(digits, 16 if word.startswith("0x") else 10) if len(digits) <= MOST_DIGITS else TOO_LARGE
 
 
 def words_of(line: str) -> list[tuple[int, str]]:
@@ -217,7 +222,7 @@ class Looker:
                     )
             value = number_of(word)
             if value is not None and value > MOST.get(kind, value):
-                return self._at(n, f"{kind} is at most {MOST[kind]}, and this is {value}")
+                return self._at(n, f"{kind} is at most {MOST[kind]}, and this is {shortened(word)}")
         return None
 
     def _too_long(self) -> Place:

@@ -10,6 +10,7 @@ import nic82599
 from nic82599 import Nic, Snapshot
 from nic82599.printed import printed
 
+from .printable import shortened
 from .script import Bench, Instruction, Op, Script
 
 OPS = {
@@ -20,12 +21,14 @@ OPS = {
 # A snapshot is kept each so many steps, or further apart where they would be more than so many bytes.
 APART, ROOM = 1_024, 128 << 20
 MOST_BLOCKS = 65_536
+# A number of a recording has no more.
+MOST_DIGITS = 20
 
 
 def _number(word: str) -> int:
     """A number from 0 on; ValueError."""
-    if not word[:1].isdigit():
-        raise ValueError(f"{word} is no number")
+    if not word[:1].isdigit() or len(word) > MOST_DIGITS:
+        raise ValueError(f"{shortened(word)} is no number")
     return int(word, 0)
 
 

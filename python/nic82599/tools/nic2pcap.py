@@ -25,11 +25,13 @@ from collections.abc import Iterable, Iterator
 
 from ..pcap import HEADER, Packet, pcapng_of, record_of
 from .memory import Frame, look_at_frames
+from .printable import shortened
 from .recording import trace_of
 from .tool import MOST_STEPS, add_version, called, ended, number, sizes
 from .trace import Trace
 
-FRAME = re.compile(r"(\d+) frame queue (\d+) ((?:[0-9a-f]{2})*)")
+# A time in microseconds has no more digits, and a queue neither.
+FRAME = re.compile(r"([0-9]{1,15}) frame queue ([0-9]{1,5}) ((?:[0-9a-f]{2})*)")
 
 
 class NoFrame(Exception):
@@ -38,12 +40,12 @@ class NoFrame(Exception):
 
 def frames_in(lines: Iterable[str]) -> Iterator[tuple[int, int, bytes]]:
     """The instruction's number, the queue and the bytes of each frame."""
-    for line in lines:
+    for number, line in enumerate(lines, 1):
         line = line.rstrip("\r\n")
         if re.match(r"\d+ frame ", line):
             found = FRAME.fullmatch(line)
             if not found:
-                raise NoFrame(f"no line of a frame: {line[:60]}")
+                raise NoFrame(f"standard input:{number}: no line of a frame: {shortened(line)}")
             yield int(found[1]), int(found[2]), bytes.fromhex(found[3])
 
 
@@ -91,7 +93,8 @@ def of_run(given: argparse.Namespace) -> int:
 def of_printed(given: argparse.Namespace) -> int:
     """Makes a pcap of what a run printed."""
     try:
-        found = [it for it in frames_in(sys.stdin) if given.queue in (None, it[1])]
+        lines = (it.decode("ascii", "replace") for it in sys.stdin.buffer)
+        found = [it for it in frames_in(lines) if given.queue in (None, it[1])]
         with open(given.out, "wb") as file:
             file.write(HEADER + b"".join(record_of(number, frame) for number, _, frame in found))
     except (NoFrame, OSError) as fault:

@@ -19,6 +19,7 @@ from collections.abc import Callable
 
 from .advice import Advice
 from .forms import Place, explained
+from .printable import shortened
 from .recording import is_recording, of_recording, read, refuse_sizes
 from .refusals import MOST, refusals
 from .run import Run, of_trace
@@ -43,7 +44,7 @@ def refusal(path: str, text: str, refused: Refused, place: Place) -> None:
     """Prints a refusal, with the line and its word."""
     where = f"{path}:{place.line}:{place.column + 1}" if place.line else path
     close = f"; near: {', '.join(place.near)}" if place.near else ""
-    print(f"{where}: refused {refused.name}: {place.text}{close}")
+    print(f"{where}: refused {refused.name}: {shortened(place.text, 300)}{shortened(close, 300)}")
     if place.line:
         line = text.split("\n")[place.line - 1].rstrip("\r").replace("\t", " ")
         begin = max(0, min(place.column - 60, len(line) - 100))

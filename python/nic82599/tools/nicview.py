@@ -26,6 +26,7 @@ from . import draw
 from . import page
 from . import perfetto
 from .as_script import script
+from .printable import printable
 from .recording import is_recording, read, refuse_sizes, run_of
 from .script import Fault, read_bytes
 from .tool import MOST_STEPS, Parser, called, ended, limit, number, sizes
@@ -52,6 +53,7 @@ def write(path: str | None, text: str) -> None:
     if path is None:
         sys.stdout.write(text)
         return
+    text = printable(text)
     try:
         Path(path).write_text(text)
     except OSError as error:

@@ -10,16 +10,19 @@ what was there then.
 from __future__ import annotations
 
 import contextlib
+import copy
 import re
 from bisect import bisect_right
+from collections import deque
 from collections.abc import Iterator
 from dataclasses import dataclass, field, replace
 
 import nic82599
-from nic82599 import Nic, NicError, Snapshot
+from nic82599 import BLOCK_BYTES, Nic, NicError, Snapshot
 
 from .advice import Advice
 from .library import MOST_BLOCKS, Library, instruction, played
+from .printable import shortened
 from .regs import ENABLE, REGISTERS, first
 from .run import Run, bench_of, of_script, of_trace
 from .script import HEAD, Bench, Fault, Instruction, Op, Script, read_bytes, text_of
@@ -30,6 +33,8 @@ from .trace import trace as of_text
 # What a line of a recording can be wrong by.
 BAD = (ValueError, KeyError, IndexError, OverflowError, TypeError, NicError)
 EMPTY = ": no bytes"
+# The controller and its snapshots have so many bytes of lent memory and frames at most.
+MOST_HELD = 1 << 30
 # What the program said of what comes next (nic_note).
 NOTE = "# note: "
 # What the card of a virtual machine says of a ring; of the last of each it goes on to be so.
@@ -69,7 +74,7 @@ class Recording:
 
     def fault(self, number: int, fault: Exception) -> Fault:
         """That of a line."""
-        what = f"{type(fault).__name__} {fault}".strip()
+        what = shortened(f"{type(fault).__name__} {fault}".strip(), 160)
         return Fault(f"{self.path}:{number}: this is no line of a recording that can be made again ({what})")
 
     def script(self) -> Script:
@@ -99,7 +104,7 @@ def read(path: str, raw: bytes) -> Recording:
     lines = text.split("\n")[:-1]
     head = HEAD.fullmatch(lines[0]) if lines else None
     if not head:
-        raise Fault(f"{path} has no whole first line: a recording begins with `#: nic vfs 0 fifo 64 blocks 256`")
+        raise Fault(f"{path}:1: it has no whole first line: a recording begins as `#: nic vfs 0 fifo 64 blocks 256`")
     made = Recording(path, lines, *(int(one) for one in head.groups()))
     _take(made)
     return made
@@ -139,6 +144,70 @@ def cut(made: Recording, limit: int) -> None:
         made.notes.append(f"{made.before:,} events came before the first step that is shown")
 
 
+class TooMuch(ValueError):
+    """A recording asks for more memory than the tools take."""
+
+
+class Held:
+    """How many bytes a recording's controller and its snapshots have at most, by the replies: of lent blocks, of frames
+    that wait, and of those that went out. TooMuch."""
+
+    def __init__(self, fifo: int) -> None:
+        self.lent = self.out = self.waiting = self.of_kept = 0
+        self.frames: deque[int] = deque()
+        self.fifo = fifo
+        self.kept: dict[str, tuple[int, int, list[int]]] = {}
+
+    @property
+    def size(self) -> int:
+        return self.lent + self.waiting + self.out
+
+    def follow(self, one: Instruction, reply: str, data: list[bytes]) -> None:
+        """Takes in an instruction."""
+        if one.op == Op.LEND and reply == "done":
+            self.lent += BLOCK_BYTES * len(one.blocks)
+        elif one.op == Op.UNLEND and reply.startswith("taken"):
+            self.lent -= BLOCK_BYTES
+        elif one.op == Op.ARRIVE and reply == "done":
+            self._arrive(len(data[one.x]))
+        elif one.op == Op.RX and self.frames and not reply.startswith("idle") and not reply.endswith(" more"):
+            self.waiting -= self.frames.popleft()
+        elif one.op == Op.TX and reply.startswith("sent"):
+            self.out += int(reply.split()[-1])
+            self._refuse()
+        elif one.op == Op.COLLECT and reply.startswith("frame"):
+            self.out -= min(len(reply.split()[-1]) // 2, self.out)
+
+    def _arrive(self, length: int) -> None:
+        """A frame waits. (A reset, which lets go of all, isn't looked for: no more than the fifo has room for wait.)"""
+        self.frames.append(length)
+        self.waiting += length
+        if len(self.frames) > self.fifo:
+            self.waiting -= self.frames.popleft()
+
+    def keep(self, name: str) -> None:
+        """A snapshot of this name is made."""
+        self.drop(name)
+        self.kept[name] = self.lent, self.out, list(self.frames)
+        self.of_kept += self.size
+        self._refuse()
+
+    def back(self, name: str) -> None:
+        """It is restored."""
+        self.lent, self.out, frames = self.kept[name]
+        self.frames, self.waiting = deque(frames), sum(frames)
+
+    def drop(self, name: str) -> None:
+        """It isn't there any more."""
+        if name in self.kept:
+            lent, out, frames = self.kept.pop(name)
+            self.of_kept -= lent + out + sum(frames)
+
+    def _refuse(self) -> None:
+        if self.of_kept + self.size > MOST_HELD:
+            raise TooMuch(f"its snapshots and frames need more than {MOST_HELD >> 20:,} MiB here")
+
+
 class Player:
     """Makes a recording again, line by line, up to what is shown."""
 
@@ -150,6 +219,7 @@ class Player:
         except BAD as fault:
             raise Fault(f"{recording.path} can't be made again: {fault}") from None
         self.snapshots: dict[str, Snapshot] = {}
+        self.held = Held(recording.fifo)
         self.others = 0
 
     def play(self) -> None:
@@ -169,20 +239,25 @@ class Player:
         made, at = self.recording, begin
         try:
             for at in range(begin, end):
-                self.others += played(self.nic, made.instructions[at], made.data) != made.replies[at]
+                reply = played(self.nic, made.instructions[at], made.data)
+                self.held.follow(made.instructions[at], reply, made.data)
+                self.others += reply != made.replies[at]
         except BAD as fault:
             raise made.fault(made.line_of[at], fault) from None
 
     def _directive(self, words: list[str]) -> None:
         match words:
             case ["snapshot", name]:
+                self.held.keep(name)
                 self.snapshots[name] = self.nic.snapshot()
             case ["restore", "0"]:
                 raise ValueError("it restores a snapshot that isn't in this recording")
             case ["restore", name]:
                 self.nic.restore(self.snapshots[name])
+                self.held.back(name)
             case ["drop", name]:
                 self.snapshots.pop(name).drop()
+                self.held.drop(name)
             case ["image", *text]:
                 self.nic.install_image(bytes.fromhex("".join(text)))
             case ["text", *text]:
@@ -269,9 +344,11 @@ def _steps(player: Player, script: Script, bench: Library, start: dict[int, int]
     """The steps with the registers that each of them changed, as far as its kind can, and of these further ones."""
     nic, plan, words, steps = player.nic, Plan(bench, script, start), dict(start), []
     nic.restore(bench.kept)
+    held = copy.deepcopy(player.held)
     for number, one in enumerate(script.instructions):
         try:
             step = Step(number, number, played(nic, one, script.data))
+            held.follow(one, step.reply, script.data)
         except BAD as fault:
             raise player.recording.fault(script.before + script.line_of[number], fault) from None
         for address in sorted(set(plan.after(one, step.reply)) | always):

@@ -87,7 +87,7 @@ class Run:
 
 FAILED = re.compile(r"\s*# FAILED (\w+): (.*)")
 CUT = re.compile(r"\s*# CUT: (.*)")
-SIZES = re.compile(r"\s*# .*, by: nicbench run --vfs (\d+) --fifo (\d+)\s*")
+SIZES = re.compile(r"\s*# .*, by: nicbench run --vfs ([0-9]{1,6}) --fifo ([0-9]{1,6})\s*")
 
 
 def finding_of(run: Trace) -> Finding | None:

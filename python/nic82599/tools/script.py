@@ -115,7 +115,7 @@ class Instruction:
 
 
 # The first line of a recording, with the sizes of its device.
-HEAD = re.compile(r"#: nic vfs (\d+) fifo (\d+) blocks (\d+)")
+HEAD = re.compile(r"#: nic vfs ([0-9]{1,9}) fifo ([0-9]{1,9}) blocks ([0-9]{1,9})")
 
 # The starter compiles the program where there is none: that is done once, before any calls side by side.
 _STARTED = Lock()
@@ -195,9 +195,9 @@ def _hear(stream: object) -> str:
     said = []
     for line in stream:  # type: ignore[attr-defined]
         text = line.decode(errors="replace")
-        if "compiles" in text:
+        if "compil" in text:
             print(text, end="", file=sys.stderr, flush=True)
-        if "so this is the unproved program" not in text:
+        if "so this is the plain edition" not in text:
             said.append(text)
     return "".join(said)
 

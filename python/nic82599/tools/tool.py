@@ -3,17 +3,20 @@
 from __future__ import annotations
 
 import argparse
+import contextlib
 import os
 import re
 import sys
-from collections.abc import Callable
-from typing import Any, NoReturn
+from collections.abc import Callable, Iterator
+from typing import IO, Any, NoReturn, cast
 
 from .. import places
 from ..version import VERSION
+from .printable import Printable, shortened
 from .script import Fault, Refused
 
-
+# A number of a command line has no more.
+MOST_DIGITS = 18
 # The largest --limit: of a script, which may run on and on, and of a recording.
 MOST_OF_SCRIPT, MOST_STEPS = 100_000, 100_000_000
 
@@ -44,9 +47,9 @@ def number(low: int, high: int) -> Callable[[str], int]:
     """A number between two others."""
 
     def read(word: str) -> int:
-        value = int(word) if word.isdigit() else -1
+        value = int(word) if word.isascii() and word.isdigit() and len(word) <= MOST_DIGITS else -1
         if not low <= value <= high:
-            raise argparse.ArgumentTypeError(f"{word} is no number from {low} to {high}")
+            raise argparse.ArgumentTypeError(f"{shortened(word)} is no number from {low} to {high}")
         return value
 
     return read
@@ -84,6 +87,22 @@ def ended(main: Callable[[], int], name: str, unwritten: int = 2) -> int:
     written."""
     if sys.stdout is None:  # (it is closed)
         sys.stdout = open(os.devnull, "w")  # noqa: SIM115
+    with _printable_output():
+        return _ended(main, name, unwritten)
+
+
+@contextlib.contextmanager
+def _printable_output() -> Iterator[None]:
+    """What is printed may come from a file: nothing of it acts on a terminal."""
+    former = sys.stdout, sys.stderr
+    sys.stdout, sys.stderr = (cast("IO[str]", Printable(it) if it else it) for it in former)
+    try:
+        yield
+    finally:
+        sys.stdout, sys.stderr = former
+
+
+def _ended(main: Callable[[], int], name: str, unwritten: int) -> int:
     try:
         try:
             return main()
@@ -105,5 +124,8 @@ def ended(main: Callable[[], int], name: str, unwritten: int = 2) -> int:
         print(f"{name}: {what} ({fault.strerror})", file=sys.stderr)
         drop_output()
         return unwritten
+    except MemoryError:
+        print(f"{name}: there is no memory for what it asks", file=sys.stderr)
+        return 2
     except KeyboardInterrupt:
         return 130

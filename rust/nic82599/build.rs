@@ -1,7 +1,7 @@
 //! Finds the library of `make -C c` or of an installation, and links it: where NIC82599_DIR says (a folder with the
 //! archive, or a prefix of which `lib` or Debian's folder of the machine has it); in `c/out` of the clone that this
-//! crate lies in, or so in the prefix; where pkg-config says. The archive is taken where there is one, so that a
-//! program needs no other file.
+//! crate lies in, where it is made if it isn't there yet, or so in the prefix; where pkg-config says. The archive is
+//! taken where there is one, so that a program needs no other file.
 //!
 //! Without a library the crate's own compilation says why, and its pages are made all the same.
 
@@ -47,7 +47,28 @@ fn library() -> Result<(PathBuf, Option<String>), String> {
     if let Some(folder) = around.into_iter().find(|it| has_library(it) && version_beside(it).is_some()) {
         return Ok((folder.clone(), version_beside(&folder)));
     }
+    let is_here = env::var_os("TARGET") == env::var_os("HOST");
+    let clone = here.ancestors().skip(1).take(5).find(|it| it.join("c/take_crate").exists());
+    if let Some(clone) = clone.filter(|_| is_here) {
+        make(clone)?;
+        let folder = clone.join("c/out");
+        return Ok((folder.clone(), version_beside(&folder)));
+    }
     by_pkg_config().ok_or_else(|| format!("no library of the controller: {HELP}"))
+}
+
+/// Makes the library of a clone by `make -C c`, whose crate is then that of the plain edition, by cargo's own rustc.
+fn make(clone: &Path) -> Result<(), String> {
+    let mut command = Command::new("make");
+    command.arg("-C").arg(clone.join("c"));
+    for name in ["MAKEFLAGS", "MFLAGS", "MAKELEVEL", "CARGO_MAKEFLAGS", "TARGET", "OUT_DIR", "V"] {
+        command.env_remove(name);
+    }
+    let told = command.output().map_err(|why| format!("make can't be started ({why}): {HELP}"))?;
+    if told.status.success() {
+        return Ok(());
+    }
+    Err(format!("`make -C c` in {} fails:\n{}", clone.display(), String::from_utf8_lossy(&told.stderr).trim()))
 }
 
 /// Where Debian has the libraries of a machine below a prefix.

@@ -104,6 +104,16 @@ pub fn is_proved() -> bool {
     ffi::is_proved()
 }
 
+/// Which edition of the library this is: `proved`, `plain` (compiled by a Rust compiler from the same sources without
+/// their proofs) or `unproved` (compiled so by Rattle's).
+///
+/// ```
+/// assert!(["proved", "plain", "unproved"].contains(&nic82599::edition()));
+/// ```
+pub fn edition() -> &'static str {
+    ffi::edition()
+}
+
 /// Records each controller that is made from now on in a file, the next ones in PATH.2, PATH.3 and so on; %p in the
 /// path is the number of the process. `None`: no more. Without a call of it the variable NIC82599_RECORD has the path.
 /// `tools/niclint --trace PATH` says why steps of a recording did nothing, and `tools/nicview PATH` draws it.

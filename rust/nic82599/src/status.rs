@@ -25,6 +25,7 @@ pub(crate) const NO_BLOCK: u8 = 37;
 pub(crate) const MORE: u8 = 38;
 pub(crate) const BAD_MEMORY: u8 = 39;
 pub(crate) const CLOSED: u8 = 40;
+pub(crate) const BROKEN: u8 = 41;
 pub(crate) const IMAGE: u8 = 64;
 pub(crate) const IMAGE_ODD_LENGTH: u8 = 65;
 pub(crate) const IMAGE_BAD_SIZE: u8 = 66;

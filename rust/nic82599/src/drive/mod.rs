@@ -50,7 +50,7 @@
 //! Each call of a [`Platform`] is a point at which another function of the driver may run: `receive` of one queue
 //! amid `send` of another, a handler amid both. So the functions take `&self`, and what the driver keeps lies in a
 //! `Cell`. No guard of a `RefCell` is held over a call of the platform, and no lock of `std`: locks are
-//! [`explore::Lock`](crate::explore::Lock). What a schedule leaves behind is lost and isn't dropped, as
+//! [`explore::Lock`](crate::explore::Lock). A function that a schedule leaves amid a call is ended by a panic, as
 //! [`explore`](crate::explore) says.
 
 mod raw;

@@ -13,8 +13,10 @@ use std::rc::Rc;
 use std::slice;
 
 use super::{Driver, Filter, Frame, Platform, Rss, Setup, MAILBOX_WORDS, MOST_FRAME};
-use crate::explore::raw::{arguments, caught, fail, is_running, plain_calls, text, told, within, Driven};
-use crate::explore::{hook_panics, Bus};
+use crate::explore::raw::{
+    arguments, at_point, caught, fail, plain_calls, text, told, unwinding, why_not, within, Driven,
+};
+use crate::explore::{self, hook_panics, Bus};
 use crate::nic::Sizes;
 
 /// `struct nicd_setup`.
@@ -97,8 +99,7 @@ extern "C" {
 }
 
 thread_local! {
-    /// What the driver keeps in this schedule. A stack that an earlier schedule left behind is never gone on with, so
-    /// what it borrowed may end.
+    /// What the driver keeps in this schedule.
     static DRIVER: RefCell<Option<Rc<dyn Any>>> = const { RefCell::new(None) };
     /// Virtual functions of the device, as far as `open` was told.
     static FUNCTIONS: Cell<u8> = const { Cell::new(0) };
@@ -106,10 +107,12 @@ thread_local! {
 
 /// A result of one of the driver's functions, or this one where it panics, which fails the row.
 fn called<D: Driver, T>(failed: T, action: impl FnOnce(&D, &Platform) -> T) -> T {
-    let done = caught(|| {
-        let kept = DRIVER.with(|it| it.borrow().clone()).expect("the driver is made as a schedule begins");
-        let driver: &D = kept.downcast_ref().expect("the process has one driver");
-        action(driver, &Platform { bus: Bus::new() })
+    let done = unwinding(|| {
+        caught(|| {
+            let kept = DRIVER.with(|it| it.borrow().clone()).expect("the driver is made as a schedule begins");
+            let driver: &D = kept.downcast_ref().expect("the process has one driver");
+            action(driver, &Platform { bus: Bus::new() })
+        })
     });
     done.unwrap_or_else(|words| {
         let words = told(words);
@@ -280,9 +283,10 @@ impl Driven for Device {
 
 /// The program: its exit status.
 pub(super) fn run<D: Driver>(words: Vec<String>) -> u8 {
-    const REFUSED: u8 = 2;
-    if is_running() {
-        return REFUSED; // (a card in a function of a driver)
+    const REFUSED: u8 = explore::raw::REFUSED as u8;
+    if let Some(why) = why_not() {
+        eprintln!("{}: {why}", D::NAME);
+        return REFUSED;
     }
     hook_panics();
     let is_quiet = !words.iter().any(|it| it == "--replay");
@@ -306,7 +310,7 @@ plain_calls! {
 
 pub(super) fn deliver(queue: u16, bytes: &[u8]) {
     // SAFETY: the frame has as many bytes as its length.
-    unsafe { nicd_deliver(queue, bytes.as_ptr(), u32::try_from(bytes.len()).unwrap_or(u32::MAX)) }
+    at_point(|| unsafe { nicd_deliver(queue, bytes.as_ptr(), u32::try_from(bytes.len()).unwrap_or(u32::MAX)) })
 }
 
 /// A piece of memory that the card counts. What is kept in it lies elsewhere: the card gives the piece to others once

@@ -42,14 +42,14 @@
 //!
 //! A program's `main` is [`main`], which takes the words of the command line.
 //!
-//! Searches fork processes, and a schedule leaves tasks behind that aren't ended: what lies on their stacks is lost,
-//! and isn't dropped. So a task holds nothing over a call of its `Bus` whose drop somebody counts on: no guard of a
-//! `RefCell` (which another task then finds borrowed), no lock of `std` (use [`Lock`]), and no thread.
+//! Searches fork processes. A task holds no guard of a `RefCell` over a call of its `Bus`, since another task then
+//! finds it borrowed, and no lock of `std`: use [`Lock`]. A task that a schedule leaves during a call is ended by a
+//! panic, which calls no hook, drops what is on its stack and waits for its scoped threads. While a task panics its
+//! calls do nothing: they return 0, false or `Ok`. A drop that panics then ends the process, which the search reports
+//! as a crash. With `panic = "abort"` there is no such panic, so searches are refused.
 //!
-//! While a search runs, what the library takes on its thread is the search's memory, which puts it back for each
-//! schedule and gives it up at its end. So a [`Nic`] or a snapshot that a scenario's functions open isn't kept behind
-//! the search, and one that was opened before isn't used in them. Other threads of the process open, use and drop
-//! theirs as without a search.
+//! A [`Nic`] or a snapshot of the program's own is no part of the search, like any other value: a scenario's functions
+//! may open and use one, no schedule puts it back, and it may be kept after the search.
 
 mod kit;
 pub(crate) mod raw;
@@ -190,8 +190,8 @@ pub fn main(scenario: impl Scenario) -> ExitCode {
 }
 
 /// Searches as the words say, for a test: `search(Race, &["--runs", "500", "--out", "target"])`. One search of the
-/// process runs at a time; one that a task begins is refused. A panic of a task is told with its file and line, and
-/// isn't printed but by `--replay`: the first search puts a hook in front of the one that the process has.
+/// process runs at a time; one that a task or a panic begins is refused. A panic of a task is told with its file and
+/// line, and isn't printed but by `--replay`: the first search puts a hook in front of the one that the process has.
 pub fn search(scenario: impl Scenario, words: &[&str]) -> Outcome {
     let program = env::args().next().unwrap_or_default();
     run(scenario, std::iter::once(program).chain(words.iter().map(|&it| it.to_owned())).collect())
@@ -213,8 +213,9 @@ pub(crate) fn hook_panics() {
 }
 
 fn run(scenario: impl Scenario, words: Vec<String>) -> Outcome {
-    if raw::is_running() {
-        return Outcome::Refused; // (a search in a task of one)
+    if let Some(why) = raw::why_not() {
+        eprintln!("{}: {why}", scenario.name());
+        return Outcome::Refused;
     }
     let Sizes { vfs, fifo, blocks } = scenario.sizes();
     let allowed = u32::from(scenario.allows_faults()) | u32::from(scenario.allows_not_lent()) << 1;
@@ -629,10 +630,7 @@ pub struct Guard<'a> {
 
 impl Drop for Guard<'_> {
     fn drop(&mut self) {
-        // A task that panics has failed, and nobody goes on behind it.
-        if !std::thread::panicking() {
-            self.lock.raw.unlock();
-        }
+        self.lock.raw.unlock();
     }
 }
 

@@ -2,8 +2,10 @@
 //!
 //! The explorer is one for the whole process, and runs on the thread that called `nicx_main`: [`run`] lets one caller
 //! in at a time, and `Bus` and `Look` are made here alone, for functions that the explorer calls. Tasks have stacks of
-//! their own. One that a schedule leaves behind is never gone on with, so what it borrowed may end; what lies on its
-//! stack is forgotten, as by `mem::forget`. No panic leaves a function that C calls: each is caught where it came in.
+//! their own. A schedule that is over unwinds each task that it leaves amid a call, before others use its stack
+//! (`c/explore/engine/left.h`): the call returns, and [`at_point`] begins a panic that drops what lies on the stack.
+//! While a task panics its calls do nothing, so no other task runs amid a panic. No panic leaves a function that C
+//! calls: each is caught where it came in, with its payload.
 #![allow(unsafe_code)]
 
 use std::any::Any;
@@ -16,14 +18,63 @@ use std::panic::{self, AssertUnwindSafe, Location};
 use std::ptr;
 use std::rc::Rc;
 use std::sync::{Mutex, PoisonError};
+use std::thread;
 
 use crate::ffi::{Handle, RawNic};
 use crate::nic::{Nic, Sizes};
+use crate::status;
+
+/// The exit status of a search that is refused.
+pub(crate) const REFUSED: c_int = 2;
 
 pub(super) const ANYWHERE: c_int = -1;
 pub(super) const BESIDE: c_int = -2;
 
 type Function = extern "C" fn(*mut c_void);
+
+/// What a call gives in a task that panics, where it isn't made: 0, false, a status that refuses nothing.
+pub(crate) trait Unmade {
+    const UNMADE: Self;
+}
+
+impl Unmade for () {
+    const UNMADE: () = ();
+}
+
+impl Unmade for bool {
+    const UNMADE: bool = false;
+}
+
+impl Unmade for u32 {
+    const UNMADE: u32 = 0;
+}
+
+impl Unmade for u64 {
+    const UNMADE: u64 = 0;
+}
+
+impl Unmade for c_int {
+    const UNMADE: c_int = 0;
+}
+
+impl Unmade for u8 {
+    const UNMADE: u8 = status::DONE;
+}
+
+/// The panic of a task that its schedule leaves behind.
+struct Left;
+
+/// Makes a call at which the schedule may leave the task that makes it: then it doesn't return.
+pub(crate) fn at_point<T: Unmade>(call: impl FnOnce() -> T) -> T {
+    if thread::panicking() {
+        return T::UNMADE;
+    }
+    let told = call();
+    if is_left() {
+        panic::resume_unwind(Box::new(Left));
+    }
+    told
+}
 
 /// Calls that take no pointer: the declaration of each, and a function that makes it.
 macro_rules! plain_calls {
@@ -34,12 +85,13 @@ macro_rules! plain_calls {
         $(
             pub(super) fn $name($($word: $kind),*) $(-> $told)? {
                 // SAFETY: it takes no pointer.
-                unsafe { $call($($word),*) }
+                crate::explore::raw::at_point(|| unsafe { $call($($word),*) })
             }
         )+
     };
 }
 
+#[cfg(feature = "drive")]
 pub(crate) use plain_calls;
 
 /// `struct nicx_scenario`.
@@ -110,6 +162,9 @@ extern "C" {
     fn nicx_fail(words: *const c_char);
     fn nicx_device() -> *mut RawNic;
     fn nicx_close();
+    fn nicxi_unwinds(it_does: bool) -> bool;
+    fn nicxi_is_left() -> bool;
+    fn nicxi_unwound() -> !;
 }
 
 // In `begin`, in tasks and handlers; a `Bus` is only in their hands, and in those of `bring_up`.
@@ -218,6 +273,12 @@ impl Running {
     }
 }
 
+/// Whether the schedule is over, and what runs is a task that it left and that unwinds its stack.
+pub(crate) fn is_left() -> bool {
+    // SAFETY: it takes nothing.
+    unsafe { nicxi_is_left() }
+}
+
 /// Whether a search is running on this thread.
 pub(crate) fn is_running() -> bool {
     RUNNING.with(|it| !it.get().is_null())
@@ -257,6 +318,11 @@ fn driven(action: impl FnOnce(&dyn Driven) -> Option<String>) -> *const c_char {
 pub(crate) fn caught<T>(action: impl FnOnce() -> T) -> Result<T, String> {
     panic::catch_unwind(AssertUnwindSafe(action)).map_err(|panic| {
         let words = words_of(&*panic);
+        if panic.is::<&str>() || panic.is::<String>() || panic.is::<Left>() {
+            drop(panic);
+        } else {
+            mem::forget(panic); // (its drop may panic)
+        }
         match PLACE.with(|it| it.borrow_mut().take()) {
             Some(place) => format!("{words} ({place})"),
             None => words,
@@ -274,9 +340,10 @@ extern "C" fn bring_up() -> *const c_char {
 }
 
 extern "C" fn begin() {
-    // What the last schedule left behind isn't gone on with.
-    running(|it| it.threads.borrow_mut().clear());
+    // The closures of the last schedule, whose tasks are unwound. What they captured may panic as it is dropped.
+    let before = running(|it| mem::take(&mut *it.threads.borrow_mut()));
     let wrong = driven(|it| {
+        drop(before);
         it.begin();
         None
     });
@@ -312,9 +379,25 @@ pub(super) fn looked<T>(action: impl FnOnce(&Nic) -> T) -> T {
 extern "C" fn go(argument: *mut c_void) {
     // SAFETY: it is the address of a thread of this schedule, which is kept until the next one begins.
     let thread = unsafe { &*argument.cast::<Thread>() };
-    if let Err(words) = caught(|| (thread.function)()) {
+    if let Err(words) = unwinding(|| caught(|| (thread.function)())) {
         fail(words);
     }
+}
+
+/// Does something on the stack of a task or a handler that C called, and whose frames are unwound where the schedule
+/// leaves it: then this doesn't return.
+pub(crate) fn unwinding<T>(action: impl FnOnce() -> T) -> T {
+    // SAFETY: it takes no pointer.
+    let outer = unsafe { nicxi_unwinds(true) };
+    let done = action();
+    if is_left() && !outer {
+        drop(done);
+        // SAFETY: what is on this stack from C's call on is dropped, since it is all in `action`: the stack is C's.
+        unsafe { nicxi_unwound() }
+    }
+    // SAFETY: it takes no pointer.
+    unsafe { nicxi_unwinds(outer) };
+    done
 }
 
 /// Words as the explorer takes them, which stay until the next ones are told.
@@ -332,13 +415,27 @@ pub(crate) fn fail(words: String) {
 extern "C" fn holds<F: Fn() -> bool>(argument: *mut c_void) -> bool {
     // SAFETY: it is the address of the condition in `wait_until`, which stands on the stack of the task that waits.
     let condition = unsafe { &*argument.cast::<F>() };
-    // A condition that panics ends the process, which the search takes for a crash.
-    caught(condition).unwrap_or_else(|_| std::process::abort())
+    // A condition that panics ends the process, which the search takes for a crash. One that makes a call that acts is
+    // refused, and the task on whose stack it is asked unwinds from there.
+    caught(condition).unwrap_or_else(|_| if is_left() { false } else { std::process::abort() })
 }
 
 /// The words of a command line as C has them: the pointers are those of the texts, and one that is null behind them.
 pub(crate) fn arguments(words: &[CString]) -> Vec<*mut c_char> {
     words.iter().map(|it| it.as_ptr() as *mut c_char).chain([ptr::null_mut()]).collect()
+}
+
+/// Why no search begins here, or `None`.
+pub(crate) fn why_not() -> Option<&'static str> {
+    if is_running() {
+        Some("a task of a search begins another one")
+    } else if thread::panicking() {
+        Some("it is begun amid a panic, in which tasks make no calls")
+    } else if cfg!(panic = "abort") {
+        Some("the profile has panic = \"abort\", and a task that a schedule leaves is ended by a panic")
+    } else {
+        None
+    }
 }
 
 /// What a search of the process's one explorer ends with: an action that makes it, and asks `driven`.
@@ -353,7 +450,13 @@ pub(crate) fn within(driven: &dyn Driven, is_quiet: bool, action: impl FnOnce() 
     // SAFETY: no schedule is at work. (A scenario that was refused is open still, and closing twice does nothing.)
     unsafe { nicx_close() };
     RUNNING.with(|it| it.set(ptr::null()));
-    status
+    match caught(|| drop(running)) {
+        Err(words) if status == 0 => {
+            eprintln!("what a closure of a task captured panics as it is dropped: {words}");
+            REFUSED
+        }
+        _ => status,
+    }
 }
 
 /// Searches as the words say: the explorer's exit status.
@@ -416,17 +519,17 @@ pub(super) fn frame(frame: &[u8]) {
 
 pub(super) fn dma_read(bus: u64, bytes: &mut [u8]) -> u8 {
     // SAFETY: the buffer has as many bytes as its length.
-    unsafe { nicx_dma_read(bus, bytes.as_mut_ptr(), bytes.len()) }
+    at_point(|| unsafe { nicx_dma_read(bus, bytes.as_mut_ptr(), bytes.len()) })
 }
 
 pub(super) fn dma_write(bus: u64, bytes: &[u8]) -> u8 {
     // SAFETY: the buffer has as many bytes as its length.
-    unsafe { nicx_dma_write(bus, bytes.as_ptr(), bytes.len()) }
+    at_point(|| unsafe { nicx_dma_write(bus, bytes.as_ptr(), bytes.len()) })
 }
 
 pub(super) fn wait_until<F: Fn() -> bool>(condition: &F) {
     // SAFETY: the condition stays on this stack while the task waits, and `holds` takes it for what it is.
-    unsafe { nicx_wait_until(holds::<F>, condition as *const F as *mut c_void) }
+    at_point(|| unsafe { nicx_wait_until(holds::<F>, condition as *const F as *mut c_void) })
 }
 
 // --- the kit ---
@@ -453,31 +556,36 @@ pub(super) fn rss(flow: &RawFlow) -> (u32, u16) {
 
 pub(super) fn function_sends(mailbox: &mut RawMailbox, words: &[u32]) {
     // SAFETY: the mailbox is borrowed, and the words are as many as their length.
-    unsafe { nicx_function_sends(mailbox, words.as_ptr(), words.len() as u32) }
+    at_point(|| unsafe { nicx_function_sends(mailbox, words.as_ptr(), words.len() as u32) })
 }
 
 pub(super) fn function_receives(mailbox: &mut RawMailbox, words: &mut [u32]) -> bool {
     // SAFETY: as above.
-    unsafe { nicx_function_receives(mailbox, words.as_mut_ptr(), words.len() as u32) }
+    at_point(|| unsafe { nicx_function_receives(mailbox, words.as_mut_ptr(), words.len() as u32) })
 }
 
 pub(super) fn function_is_acked(mailbox: &mut RawMailbox) -> bool {
     // SAFETY: the mailbox is borrowed.
-    unsafe { nicx_function_is_acked(mailbox) }
+    at_point(|| unsafe { nicx_function_is_acked(mailbox) })
 }
 
 pub(super) fn host_sends(vf: u8, words: &[u32]) {
     // SAFETY: the words are as many as their length.
-    unsafe { nicx_host_sends(vf, words.as_ptr(), words.len() as u32) }
+    at_point(|| unsafe { nicx_host_sends(vf, words.as_ptr(), words.len() as u32) })
 }
 
 pub(super) fn host_receives(vf: u8, words: &mut [u32]) -> bool {
     // SAFETY: as above.
-    unsafe { nicx_host_receives(vf, words.as_mut_ptr(), words.len() as u32) }
+    at_point(|| unsafe { nicx_host_receives(vf, words.as_mut_ptr(), words.len() as u32) })
 }
 
-/// A lock, with its name for reports. It isn't `Sync`, since it has a cell.
+/// A lock, with its name for reports. It isn't `Sync`, since it has a cell. The explorer knows a lock that is held by
+/// its address, so it lies in a box, which stays where a guard was forgotten.
 pub(super) struct Lock {
+    parts: ManuallyDrop<Box<LockParts>>,
+}
+
+struct LockParts {
     raw: UnsafeCell<RawLock>,
     _name: CString,
 }
@@ -485,16 +593,33 @@ pub(super) struct Lock {
 impl Lock {
     pub(super) fn new(name: &str) -> Lock {
         let name = text(name);
-        Lock { raw: UnsafeCell::new(RawLock { name: name.as_ptr(), kept: 0 }), _name: name }
+        let raw = UnsafeCell::new(RawLock { name: name.as_ptr(), kept: 0 });
+        Lock { parts: ManuallyDrop::new(Box::new(LockParts { raw, _name: name })) }
     }
 
     pub(super) fn lock(&self) {
-        // SAFETY: the lock and its name stay as long as this one, which is borrowed; the explorer alone changes it.
-        unsafe { nicx_lock(self.raw.get()) }
+        // SAFETY: the lock and its name stay as long as this one, which is borrowed, and longer where it is held; the
+        // explorer alone changes it.
+        at_point(|| unsafe { nicx_lock(self.parts.raw.get()) });
     }
 
+    /// A task that panics gives no lock back: it has failed. What a schedule leaves held is free in the next one.
     pub(super) fn unlock(&self) {
         // SAFETY: as above.
-        unsafe { nicx_unlock(self.raw.get()) }
+        at_point(|| unsafe { nicx_unlock(self.parts.raw.get()) });
+        if is_left() {
+            // SAFETY: the schedule is over, so the explorer doesn't look at its locks any more.
+            unsafe { (*self.parts.raw.get()).kept = 0 };
+        }
+    }
+}
+
+impl Drop for Lock {
+    fn drop(&mut self) {
+        // SAFETY: the explorer isn't at work while this is.
+        if unsafe { (*self.parts.raw.get()).kept } == 0 {
+            // SAFETY: nobody holds it, so nobody else has its address; and it isn't used after this.
+            unsafe { ManuallyDrop::drop(&mut self.parts) }
+        }
     }
 }

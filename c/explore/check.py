@@ -5,6 +5,7 @@
 
 from __future__ import annotations
 
+import os
 import re
 import shutil
 import subprocess
@@ -352,8 +353,9 @@ def check_faults(kit: Kit) -> str:
     for mode, wanted in FAULTS.items():
         junit = out / "result.xml"
         words = [program, mode, "--quiet", "--jobs", 2, "--out", out, "--junit", junit]
-        if mode in ("hang", "endless", "ticks"):
-            words += ["--no-shrink", "--hang", 2]
+        words += ["--no-shrink"] if mode in ("hang", "endless", "ticks") else []
+        # (on a busy machine a crash is reported late)
+        words += ["--hang", 2 if mode == "hang" else 60]
         told(ran(words, 1), f"FAILED {wanted}", mode)
         failure = xml.etree.ElementTree.parse(junit).find("testcase/failure")
         if failure is None or not (failure.text or "").strip().startswith("# "):
@@ -435,8 +437,10 @@ def check_choices(kit: Kit) -> str:
     """Values and timers by each strategy: what is found, how it is shrunk, and that its schedule fails again."""
     program, out = kit.build(HERE / "tests/choices.c"), kit.out("chosen")
     for mode, (status, wanted) in CHOICES.items():
+        # (each schedule of a shrinking would hang for so long; and a busy machine is no hang)
+        limit = ["--hang", 1, "--no-shrink"] if mode == "hang" else ["--hang", 60]
         for strategy in STRATEGIES:
-            words = [program, mode, "--quiet", "--jobs", 2, "--hang", 2, "--out", out, "--strategy", strategy]
+            words = [program, mode, "--quiet", "--jobs", 2, *limit, "--out", out, "--strategy", strategy]
             words += ["--runs", 2000]
             told(ran(words, status), wanted, f"choices {mode}, {strategy}")
             schedule = out / "choices.schedule"
@@ -724,18 +728,49 @@ def check_races(kit: Kit) -> str:
     return f"{len(modes)} orders of accesses"
 
 
-UNSEEN = "note: plain accesses and atomics weren't seen: build with -fsanitize=thread to find data races"
+UNSEEN = "plain accesses and atomics aren't seen, so no bug in their order is found: compile with -fsanitize=thread"
+
+# What is told of each of these drivers, which break only where somebody acts just before a call has its effect.
+POINTS = {
+    "wait": r"deadlock: run waits in pthread_cond_wait for changed at points\.c:\d+, and nobody can act",
+    "broadcast": r"deadlock: run waits in pthread_cond_wait for changed at points\.c:\d+, and nobody can act",
+    "cnd_wait": r"deadlock: run waits in cnd_wait for changed11 at points\.c:\d+, and nobody can act",
+    "return": "check: a thread that said it is done hasn't ended",
+    "exit": "check: a thread that said it is done hasn't ended",
+    "detach": "check: a thread that is to be detached was joined",
+}
+
+
+def check_points(kit: Kit) -> str:
+    """A thread that acts just before a call's effect is found, and the twins have no such schedule."""
+    source, out = HERE / "tests/points.c", kit.out("points")
+    words = ["--quiet", "--jobs", 2, "--out", out, "--no-shrink"]
+    wrong, right = (kit.build_form(source, *defines, of_memory=True) for defines in ([], ["FIXED"]))
+    if modes_of(source) != list(POINTS):
+        raise Wrong(f"points.c has the modes {', '.join(modes_of(source))}")
+    for mode, wanted in POINTS.items():
+        told(ran([wrong, mode, *words], 1), f"FAILED {wanted}", mode)
+        bounds = ["--strategy", "exhaustive", "--preemptions", 2]
+        told(ran([right, mode, *words, *bounds]), "these are all schedules", f"{mode}, fixed")
+    source = HERE / "tests/main_returns.c"
+    program, twin = (
+        kit.build_form(source, *defines, of_memory=True, form="program") for defines in ([], ["FIXED"])
+    )
+    told(ran([program, *words], 1), "FAILED end: the program exits with status 3", "main_returns")
+    ran([twin, *words, "--runs", 1000])
+    return f"{len(POINTS) + 1} drivers that break just before a call's effect"
 
 
 def check_program(kit: Kit, runs: int) -> str:
     """A whole program is searched as it stands: its bug is found by its end, and as a race; and its twin passes."""
     source, out = HERE / "examples/forwarder.c", kit.out("program")
     words = ["--quiet", "--jobs", 2, "--out", out]
-    for of_memory, wanted in ((False, "end: main returns 1"), (True, r"race: transmit.*: thread-\d at forwarder")):
+    lost = "(end: main returns 1|deadlock: main waits in pthread_cond_wait for sent)"
+    for of_memory, wanted in ((False, lost), (True, r"race: transmit.*: thread-\d at forwarder")):
         program = kit.build_form(source, form="program", of_memory=of_memory)
         said = ran([program, *words], 1)
         told(said, f"FAILED {wanted}", "forwarder")
-        schedule = re.findall(r"the schedule is (\S+),", said)[0]
+        schedule = re.findall(r"the schedule is (.+?),", said)[0]
         told(ran([program, "--replay", schedule], 1), f"FAILED {wanted}", "forwarder")
         twin = kit.build_form(source, "FIXED", form="program", of_memory=of_memory)
         said = ran([twin, *words, "--runs", runs, "--strict"])
@@ -775,7 +810,10 @@ def sanitized_explorer(folder: Path, compiler: str, flags: list[str]) -> Path:
     """The engine itself with the sanitizers' checks in it."""
     made = folder / "explorer"
     archive = made / "libnic82599_explore.a"
-    ran(["make", "-s", "-C", C, f"OUT={made}", f"CC={compiler}", f"EXPLORE_FLAGS={' '.join(flags)}", archive])
+    # (by its way from there: a name with a space would be refused)
+    out = os.path.relpath(made, C)
+    flagged = f"EXPLORE_FLAGS={' '.join(flags)}"
+    ran(["make", "-s", "-C", C, f"OUT={out}", f"CC={compiler}", flagged, f"{out}/{archive.name}"])
     return archive
 
 
@@ -791,22 +829,19 @@ AMOUNTS = {
 
 def check_forms(kit: Kit, runs: int) -> list[str]:
     """A driver's own threads and memory: their archive has no sanitizers' checks in it."""
-    return [check_form(kit), check_cpp(kit), check_races(kit), check_program(kit, runs)]
+    return [check_form(kit), check_points(kit), check_cpp(kit), check_races(kit), check_program(kit, runs)]
 
 
-def check_all(kit: Kit, amount: str) -> list[str]:
-    """All that is here, in so large an amount."""
+def check_told_faults(kit: Kit) -> list[str]:
+    """What is told of faults, values and refusals."""
+    parts = (check_names, check_faults, check_never, check_choices, check_weak, check_kit)
+    return [check(kit) for check in (*parts, check_bounds, check_shards, check_refusals)]
+
+
+def check_searches(kit: Kit, amount: str) -> list[str]:
+    """Orders of independent steps, the corpus, the examples, and searches beside threads."""
     states, scenarios, runs, preemptions, each, searches = AMOUNTS[amount]
     return [
-        check_names(kit),
-        check_faults(kit),
-        check_never(kit),
-        check_choices(kit),
-        check_weak(kit),
-        check_kit(kit),
-        check_bounds(kit),
-        check_shards(kit),
-        check_refusals(kit),
         check_orders(kit, states),
         check_sleeping(kit, scenarios),
         check_apart(kit),
@@ -816,3 +851,8 @@ def check_all(kit: Kit, amount: str) -> list[str]:
         check_threads(kit, searches),
         *([] if amount == "few" else check_forms(kit, runs // 10)),
     ]
+
+
+def check_all(kit: Kit, amount: str) -> list[str]:
+    """All that is here, in so large an amount."""
+    return [*check_told_faults(kit), *check_searches(kit, amount)]

@@ -117,17 +117,17 @@ def check_places(kit: Kit, program: Path) -> str:
 PARTS = {
     "reader": ["it never parts from the schedule", "FAILED check: the head moved"],
     "mended": [
-        r"parts from the schedule here, at \S+:\d+\n.*it was: task reader, r RDH\[0\] = 0x00000001.*\n"
+        r"parts from the schedule here, at .*:\d+\n.*it was: task reader, r RDH\[0\] = 0x00000001.*\n"
         r".*it is:  task reader, w EIMC 0x00000020",
         "FAILED check: the head moved",
     ],
     "renamed": [
-        r"parts from the schedule here, at \S+:\d+ \(it can't act now\)\n"
+        r"parts from the schedule here, at .*:\d+ \(it can't act now\)\n"
         r'.*it was: "task reader", which the scenario hasn\'t\n',
         r"told: (fine|FAILED check: the head moved)$",
     ],
     "frameless": [
-        r"parts from the schedule here, at \S+:\d+ \(it can't act now\)\n.*it was: arrive, done\n"
+        r"parts from the schedule here, at .*:\d+ \(it can't act now\)\n.*it was: arrive, done\n"
         r".*it is:  task reader, r RDH\[0\] = 0x00000000",
         "told: fine$",
     ],

@@ -10,14 +10,15 @@ EXPLORE_OBJECTS := $(patsubst $(HERE)/explore/engine/%.c,$(OUT)/explore/%.o,$(EX
 # The lines of the page of a failure as texts of C.
 $(OUT)/explore/page.inc: $(HERE)/explore/engine/page.html
 	@mkdir -p $(OUT)/explore
-	sed -e 's/[\\"]/\\&/g' -e 's/.*/"&\\n",/' $< >$@
+	$Qsed -e 's/[\\"]/\\&/g' -e 's/.*/"&\\n",/' $< >$@
 
 $(OUT)/explore/page.o: $(OUT)/explore/page.inc
 
 $(OUT)/explore/%.o: $(HERE)/explore/engine/%.c $(EXPLORE_HEADERS)
 	@mkdir -p $(OUT)/explore
-	$(CC) -std=c99 $(EXPLORE_FLAGS) -Wall -Wextra -pedantic -fPIC -I$(HERE)/include -I$(OUT)/explore -c -o $@ $<
+	$Q$(CC) -std=c99 $(EXPLORE_FLAGS) -Wall -Wextra -pedantic -fPIC -I$(HERE)/include -I$(OUT)/explore -c -o $@ $<
 
 $(OUT)/libnic82599_explore.a: $(EXPLORE_OBJECTS)
-	rm -f $@
-	$(AR) rcs $@ $^
+	$(call SAY,$(@F))
+	$Qrm -f $@
+	$Q$(AR) rcs $@ $^

@@ -10,37 +10,38 @@ THREADS_FORM    := $(addprefix $(OUT)/nic82599_,threads.opts program.opts thread
 
 $(OUT)/threads/%.o: $(HERE)/explore/threads/%.c $(THREADS_HEADERS) $(EXPLORE_HEADERS)
 	@mkdir -p $(OUT)/threads
-	$(CC) -std=c99 $(EXPLORE_FLAGS) -Wall -Wextra -pedantic -fPIC -I$(HERE)/include -c -o $@ $<
+	$Q$(CC) -std=c99 $(EXPLORE_FLAGS) -Wall -Wextra -pedantic -fPIC -I$(HERE)/include -c -o $@ $<
 
 # What is turned are the functions __wrap_NAME: the linker calls them in the place of NAME, and what the engine itself
 # calls, here too, stays NAME.
 $(OUT)/threads/turned: $(THREADS_OBJECTS)
-	nm -g --defined-only $^ | sed -n 's/.* T __wrap_//p' | LC_ALL=C sort -u >$@
+	$Qnm -g --defined-only $^ | sed -n 's/.* T __wrap_//p' | LC_ALL=C sort -u >$@
 
 $(OUT)/threads/names.syms: $(OUT)/threads/turned
-	sed -e 's/.*/& __real_&/' $< >$@
+	$Qsed -e 's/.*/& __real_&/' $< >$@
 
 $(OUT)/threads/not-turned/%.o: $(OUT)/%.o $(OUT)/threads/names.syms
 	@mkdir -p $(@D)
-	$(OBJCOPY) --redefine-syms=$(OUT)/threads/names.syms $< $@
+	$Q$(OBJCOPY) --redefine-syms=$(OUT)/threads/names.syms $< $@
 
 # The library itself is in it too, for the same reason: its own calls aren't turned.
 $(OUT)/threads/not-turned/device.o: $(OUT)/device.o $(OUT)/threads/names.syms
-	grep -v '^nic_' $(OUT)/threads/names.syms >$(OUT)/threads/others.syms
-	$(OBJCOPY) --redefine-syms=$(OUT)/threads/others.syms $< $@
+	$Qgrep -v '^nic_' $(OUT)/threads/names.syms >$(OUT)/threads/others.syms
+	$Q$(OBJCOPY) --redefine-syms=$(OUT)/threads/others.syms $< $@
 
 $(OUT)/libnic82599_threads.a: $(THREADS_ALL) $(OUT)/threads/not-turned/device.o
-	rm -f $@
-	$(AR) rcs $@ $^
+	$(call SAY,$(@F))
+	$Qrm -f $@
+	$Q$(AR) rcs $@ $^
 
 $(OUT)/nic82599_threads.opts: $(OUT)/threads/turned
-	{ sed -n '/^main$$/!s/.*/-Wl,--wrap=&,-u,__wrap_&/p' $<; \
+	$Q{ sed -n '/^main$$/!s/.*/-Wl,--wrap=&,-u,__wrap_&/p' $<; \
 	  echo '-Wl,-u,nicxi_threads_form -Wl,-T,nic82599_threads.ld -l:libnic82599_threads.a'; } >$@
 
 $(OUT)/nic82599_program.opts: $(OUT)/threads/turned
-	{ sed 's/.*/-Wl,--wrap=&,-u,__wrap_&/' $<; \
+	$Q{ sed 's/.*/-Wl,--wrap=&,-u,__wrap_&/' $<; \
 	  echo '-Wl,-u,nicxi_threads_form -Wl,-T,nic82599_threads.ld -l:libnic82599_threads.a'; } >$@
 
 $(OUT)/nic82599_threads.ld: $(HERE)/explore/threads/nic82599_threads.ld
 	@mkdir -p $(OUT)
-	cp $< $@
+	$Qcp $< $@

@@ -6,6 +6,7 @@
 
 #include "engine.h"
 #include "independent.h"
+#include "left.h"
 #include "parts.h"
 #include "weak.h"
 #include "words.h"
@@ -47,8 +48,8 @@ static struct polls *polls_of(struct thread *self)
     return self ? &self->polls : &nicxi.outside;
 }
 
-/* Others go first, where somebody can act. */
-static void let_others(struct thread *self)
+/* Others go first, where somebody can act: false where the thread is left. */
+static bool let_others(struct thread *self)
 {
     if (polls_of(self)->times >= POLLS) {
         if (self)
@@ -57,9 +58,12 @@ static void let_others(struct thread *self)
             nicxi_wait_outside();
     }
     if (!self)
-        return;
+        return true;
     nicxi_next(self);
+    if (nicxi_is_left())
+        return false;
     nicxi_went_on(self);
+    return true;
 }
 
 /* What one of the last reads told already is nothing new. */
@@ -194,7 +198,8 @@ uint32_t nicx_read32(uint32_t address)
         return 0;
     struct step *step = before(STEP_READ);
     step->address = address;
-    let_others(nicxi.self);
+    if (!let_others(nicxi.self))
+        return 0;
     step->status = nic_read32(&nicxi.device, address, &step->word);
     order_behind();
     note_poll(step);
@@ -210,7 +215,8 @@ uint8_t nicx_write32(uint32_t address, uint32_t word)
     step->address = address;
     step->word = word;
     note_change();
-    let_others(nicxi.self);
+    if (!let_others(nicxi.self))
+        return NIC_STRAY;
     order_before();
     step->status = nic_write32(&nicxi.device, address, word);
     after(step);
@@ -224,7 +230,8 @@ uint32_t nicx_vf_read32(uint8_t vf, uint32_t offset)
     struct step *step = before(STEP_VF_READ);
     step->vf = vf;
     step->address = offset;
-    let_others(nicxi.self);
+    if (!let_others(nicxi.self))
+        return 0;
     note_physical(step);
     step->status = nic_vf_read32(&nicxi.device, vf, offset, &step->word);
     order_behind();
@@ -242,7 +249,8 @@ uint8_t nicx_vf_write32(uint8_t vf, uint32_t offset, uint32_t word)
     step->address = offset;
     step->word = word;
     note_change();
-    let_others(nicxi.self);
+    if (!let_others(nicxi.self))
+        return NIC_STRAY;
     note_physical(step);
     order_before();
     step->status = nic_vf_write32(&nicxi.device, vf, offset, word);
@@ -278,7 +286,8 @@ uint8_t nicx_dma_read(uint64_t bus, uint8_t *bytes, size_t length)
     step->bus = bus;
     step->length = (uint32_t)length;
     step->address = (uint32_t)bus;
-    let_others(nicxi.self);
+    if (!let_others(nicxi.self))
+        return NIC_NOT_LENT;
     step->status = load(step, bytes);
     step->word = length ? bytes[0] : 0;
     note_poll(step);
@@ -296,7 +305,8 @@ uint8_t nicx_dma_write(uint64_t bus, const uint8_t *bytes, size_t length)
     step->bus = bus;
     step->length = (uint32_t)length;
     note_change();
-    let_others(nicxi.self);
+    if (!let_others(nicxi.self))
+        return NIC_NOT_LENT;
     step->status = store(step, bytes);
     after(step);
     judge(step);
@@ -331,7 +341,8 @@ static uint8_t move_block(uint8_t kind, uint32_t block)
     step->address = block;
     step->bus = (uint64_t)block * NIC_BLOCK_BYTES;
     note_change();
-    let_others(nicxi.self);
+    if (!let_others(nicxi.self))
+        return NIC_NOT_LENT;
     if (nicxi.is_weak && nicxi.self)
         nicxi_released(nicxi.self);
     step->status = kind == STEP_LEND ? nic_lend(&nicxi.device, block) : nic_take(&nicxi.device, block);
@@ -360,7 +371,8 @@ void nicxi_memory_point(enum local local, uint64_t at, uint32_t size)
     step->word = (uint32_t)local;
     step->bus = at;
     step->length = size;
-    let_others(nicxi.self);
+    if (!let_others(nicxi.self))
+        return;
     nicxi_told(step);
 }
 

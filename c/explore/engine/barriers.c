@@ -1,4 +1,5 @@
 /* Barriers of the driver's own. Where memory isn't weak they are nothing, and no points. */
+#include "left.h"
 #include "weak.h"
 
 static bool is_barrier_here(void)
@@ -14,6 +15,8 @@ static void stand_at(enum local local, bool releases, bool acquires)
     self->next.kind = STEP_LOCAL;
     self->next.word = (uint32_t)local;
     nicxi_next(self);
+    if (nicxi_is_left())
+        return;
     nicxi_went_on(self);
     self->next.length = releases ? nicxi_released(self) : 0;
     if (acquires)

@@ -114,6 +114,7 @@ struct thread {
     uint8_t state;
     uint8_t stack;
     bool is_service;
+    bool unwinds;       /* its stack has frames that are unwound once it is left (left.h) */
     bool is_void;       /* since it waited it has changed nothing that can be seen */
     uint64_t voided;    /* the changes there were as it last acted without one */
     bool pending;       /* a handler that is to start, a timer that is armed */
@@ -180,13 +181,15 @@ struct omitted {
     bool frames[NICX_FRAMES], links[NICX_FRAMES];
 };
 
-enum phase { CLOSED, BRINGING_UP, BEGINNING, RUNNING, ENDING };
+/* LEAVING: the schedule is over, and threads that it left unwind their stacks (left.h). */
+enum phase { CLOSED, BRINGING_UP, BEGINNING, RUNNING, ENDING, LEAVING };
 
 /* What is told behind a search, since it is no failure and may be its reason. */
 struct notes {
     uint32_t strays; /* accesses of no register */
     char stray[160]; /* the first of them, and whose it was */
     uint32_t beyond; /* one more than a queue at or above `queues` that was asked to go on */
+    uint32_t leaves; /* one more than the thread that unwinds its stack (left.h) */
 };
 
 /* Who hears of each event: for scripts and for what a replay prints. */
@@ -273,7 +276,8 @@ extern struct engine nicxi;
 /* The words of a failure; the first one stays. */
 void nicxi_failed(uint8_t outcome, const char *form, ...);
 
-/* The schedule has failed: a thread that runs is left where it is, and doesn't go on. */
+/* The schedule has failed: a thread that runs is left where it is, and doesn't go on. This returns where no thread
+   runs, and in a thread that is left (left.h): then the caller returns too. */
 void nicxi_leave(void);
 /* Whether a call that acts may be made: not by what may only look, which fails. */
 bool nicxi_may_act(void);
@@ -284,7 +288,7 @@ void nicxi_forget_polls(struct polls *polls);
 /* A bring-up begins. */
 void nicxi_outside_begins(void);
 
-/* Somebody else may act, until the thread that runs is chosen. */
+/* Somebody else may act, until the thread that runs is chosen, or is left (left.h). */
 void nicxi_next(struct thread *self);
 
 /* A thread was chosen, and goes on. */

@@ -88,6 +88,14 @@ static bool is_searcher(void)
     return __atomic_load_n(&searcher, __ATOMIC_RELAXED) == &mark;
 }
 
+bool nicxi_heap_pause(void)
+{
+    if (!is_searcher())
+        return false;
+    __atomic_store_n(&searcher, NULL, __ATOMIC_RELAXED);
+    return true;
+}
+
 bool nicxi_heap_has(const void *piece)
 {
     return piece_has(__atomic_load_n(&memory, __ATOMIC_RELAXED), piece);

@@ -13,6 +13,10 @@
 bool nicxi_heap_open(void);
 /* From here on it is this thread whose memory is taken from the piece, and no other: it makes a schedule. */
 void nicxi_heap_is_mine(void);
+/* What the library takes on this thread is taken from malloc, until nicxi_heap_is_mine: for a controller of the
+   caller's own, which stays when the search's goes back to what it was. False where that is so already, and nothing
+   changes. */
+bool nicxi_heap_pause(void);
 void nicxi_heap_close(void);
 
 /* Whether the library took memory of it: then it may be kept and brought back. */

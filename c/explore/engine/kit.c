@@ -3,6 +3,7 @@
 #include <string.h>
 
 #include "engine.h"
+#include "left.h"
 
 /* --- descriptors --- */
 
@@ -204,7 +205,7 @@ static uint32_t function_looks(nicx_mailbox *mailbox)
 
 static void function_takes(nicx_mailbox *mailbox)
 {
-    for (;;) {
+    while (!nicxi_is_left()) {
         nicx_vf_write32(mailbox->vf, NIC_VFMAILBOX, NIC_PVFMAILBOX_VFU);
         if (function_looks(mailbox) & NIC_PVFMAILBOX_VFU)
             return;
@@ -247,7 +248,7 @@ bool nicx_function_is_acked(nicx_mailbox *mailbox)
 
 static void host_takes(uint8_t vf)
 {
-    for (;;) {
+    while (!nicxi_is_left()) {
         nicx_write32(NIC_PFMAILBOX(vf), NIC_PFMAILBOX_PFU);
         if (nicx_read32(NIC_PFMAILBOX(vf)) & NIC_PFMAILBOX_PFU)
             return;

@@ -133,7 +133,12 @@ bool nicxi_start(struct post *post, uint32_t hang, void (*work)(struct post *, v
 static void tell_hang(const struct post *post, nicx_result *result)
 {
     char name[96];
-    uint32_t at = post->at;
+    uint32_t at = post->at, leaves = post->notes.leaves;
+    if (leaves) {
+        snprintf(result->words, sizeof result->words, "the stack of %s isn't unwound: a thread or a drop there hangs",
+                 nicxi.threads[leaves - 1].name);
+        return;
+    }
     while (at > 1 && nicxi_is_value(post->schedule[at - 1]))
         at--;
     if (at)

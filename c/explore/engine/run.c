@@ -8,6 +8,7 @@
 
 #include "engine.h"
 #include "heap.h"
+#include "left.h"
 #include "parts.h"
 #include "process.h"
 #include "symbols.h"
@@ -98,6 +99,8 @@ bool nicxi_may_act(void)
 {
     if (maker != &mark && nicxi.phase != CLOSED)
         nicxi_refuse_thread();
+    if (nicxi_is_left())
+        return false;
     if (!nicxi.asker)
         return true;
     nicxi_failed(NICX_MISUSE, "%s makes a call that acts: it may only look", nicxi.asker);
@@ -415,6 +418,8 @@ static bool is_wait(const struct step *step)
 
 void nicxi_next(struct thread *self)
 {
+    if (nicxi_is_left())
+        return;
     if (self) {
         note_act(self);
         look();
@@ -435,6 +440,8 @@ void nicxi_next(struct thread *self)
             return;
         }
     }
+    if (nicxi_is_left()) /* (in a condition, whose call left this thread) */
+        return;
     nicxi.self = NULL;
     if (self)
         nicxi_fiber_switch(&self->fiber, &nicxi.main);
@@ -456,6 +463,7 @@ static void begin_threads(void)
         thread->voided = 0;
         nicxi_forget_polls(&thread->polls);
         thread->locks = 0;
+        thread->unwinds = false;
         thread->next.waits = false;
         thread->pending = thread->pending && thread->is_timer;
         thread->is_void = thread->is_timed = false;
@@ -549,6 +557,7 @@ void nicx_run(const nicx_chooser *chooser, nicx_result *result)
     nicxi.result.points = *nicxi.points;
     nicxi.result.switches = nicxi.switches;
     *result = nicxi.result;
+    nicxi_unwind_all();
 }
 
 const uint16_t *nicx_schedule(uint32_t *points)

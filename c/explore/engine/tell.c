@@ -37,18 +37,25 @@ bool nicxi_tell_nothing(const struct options *options, const struct totals *tota
                coverage->fault);
     else if (allows_faults)
         printf("%s: note: faults are allowed, and none was met\n", name);
-    if (nicxi_form && !nicxi_races)
-        printf("%s: note: plain accesses and atomics weren't seen: build with -fsanitize=thread to find data races\n",
-               name);
     uint32_t never = nicxi_never(coverage, tell_never, stdout);
     bool fails = never && options->is_strict;
     printf("%s: nothing was found%s\n", name, fails ? ", and some of it never ran: --strict" : "");
     return fails;
 }
 
+/* The first line of a search that is blind to some of what the driver's threads do. */
+static void tell_unseen(void)
+{
+    if (nicxi_form && !nicxi_races)
+        printf("%s: plain accesses and atomics aren't seen, so no bug in their order is found: compile with "
+               "-fsanitize=thread\n",
+               nicxi.scenario->name);
+}
+
 void nicxi_tell_totals(const struct options *options, const struct totals *totals)
 {
     double seconds = totals->seconds > 0 ? totals->seconds : 1e-9;
+    tell_unseen();
     printf("%s: %" PRIu64 " schedules, %" PRIu64 " points, %.1f s (%.0f schedules a second), %s, seed %" PRIu64 "\n",
            nicxi.scenario->name, totals->runs, totals->points, totals->seconds, (double)totals->runs / seconds,
            nicxi_strategy_name(options->strategy), options->seed);

@@ -2,6 +2,7 @@
 #include <stdint.h>
 #include <string.h>
 
+#include "left.h"
 #include "parts.h"
 #include "weak.h"
 
@@ -87,24 +88,28 @@ bool nicxi_others_acted(const struct thread *thread)
 
 /* --- points without an access --- */
 
-static void stand(enum thread_state state, enum local local)
+/* False where the thread is left, or none runs. */
+static bool stand(enum thread_state state, enum local local)
 {
     if (!nicxi_may_act())
-        return;
+        return false;
     struct thread *self = nicxi.self;
     if (!self) {
         if (state == WAITING || state == PAUSED || state == UNTIL)
             nicxi_wait_outside();
-        return;
+        return false;
     }
     self->next.kind = STEP_LOCAL;
     self->next.word = (uint32_t)local;
     self->state = (uint8_t)state;
     nicxi_next(self);
+    if (nicxi_is_left())
+        return false;
     nicxi_went_on(self);
     if (state == LOCKED || local == LOCAL_UNLOCK)
         self->is_void = false;
     nicxi_told(&self->next);
+    return true;
 }
 
 void nicx_point(void)
@@ -224,7 +229,8 @@ void nicx_lock(nicx_mutex *lock)
         return;
     self->lock = lock;
     self->next.bus = (uint64_t)(uintptr_t)lock;
-    stand(LOCKED, LOCAL_LOCK);
+    if (!stand(LOCKED, LOCAL_LOCK))
+        return;
     lock->kept = nicxi.epoch << 8 | (number_of(self) + 1);
     note_lock(self, lock);
 }
@@ -236,10 +242,12 @@ void nicx_unlock(nicx_mutex *lock)
         return;
     self->lock = lock;
     self->next.bus = (uint64_t)(uintptr_t)lock;
-    stand(READY, LOCAL_UNLOCK);
+    if (!stand(READY, LOCAL_UNLOCK))
+        return;
     if (lock->kept != (nicxi.epoch << 8 | (number_of(self) + 1))) {
         nicxi_failed(NICX_MISUSE, "%s unlocks %s, which it doesn't hold", self->name, name_of(lock));
         nicxi_leave();
+        return;
     }
     if (nicxi.is_weak)
         nicxi_released(self);
@@ -261,6 +269,7 @@ void nicx_interrupts_on(void)
     if (!self->masked) {
         nicxi_failed(NICX_MISUSE, "%s turns interrupts on that aren't off", self->name);
         nicxi_leave();
+        return;
     }
     self->masked--;
 }

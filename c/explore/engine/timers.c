@@ -1,5 +1,6 @@
 /* Timers: handlers that time starts. Armed, one fires once: at rest, or at any point up to the last one that it may. */
 #include "engine.h"
+#include "left.h"
 
 bool nicxi_fires_at_rest(const struct actor *actor)
 {
@@ -23,7 +24,8 @@ uint32_t nicxi_list_due(uint16_t *can)
     return count;
 }
 
-/* The timer of this number, once the thread that calls has come to its turn; null where there is none. */
+/* The timer of this number, once the thread that calls has come to its turn; null where there is none, or the thread is
+   left. */
 static struct thread *timer_of(int number, enum local local)
 {
     struct thread *self = nicxi.self;
@@ -39,6 +41,8 @@ static struct thread *timer_of(int number, enum local local)
     self->next.kind = STEP_LOCAL;
     self->next.word = (uint32_t)local;
     nicxi_next(self);
+    if (nicxi_is_left())
+        return NULL;
     nicxi_went_on(self);
     self->is_void = false;
     self->next.of = (uint16_t)number;

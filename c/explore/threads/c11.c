@@ -1,4 +1,5 @@
-/* Threads of C11, by those of POSIX: in this C library their objects are the same. */
+/* Threads of C11, by those of POSIX: in this C library their objects are the same. Each call has its own name and
+   place. */
 #define _GNU_SOURCE
 #include <errno.h>
 #include <stdint.h>
@@ -7,18 +8,8 @@
 #include "form.h"
 #include "threads.h"
 
-int __wrap_pthread_mutex_lock(pthread_mutex_t *mutex);
-int __wrap_pthread_mutex_trylock(pthread_mutex_t *mutex);
-int __wrap_pthread_mutex_timedlock(pthread_mutex_t *mutex, const struct timespec *until);
-int __wrap_pthread_mutex_unlock(pthread_mutex_t *mutex);
 int __wrap_pthread_mutex_destroy(pthread_mutex_t *mutex);
 int __wrap_pthread_cond_init(pthread_cond_t *cond, const pthread_condattr_t *how);
-int __wrap_pthread_cond_wait(pthread_cond_t *cond, pthread_mutex_t *mutex);
-int __wrap_pthread_cond_timedwait(pthread_cond_t *cond, pthread_mutex_t *mutex, const struct timespec *until);
-int __wrap_pthread_cond_signal(pthread_cond_t *cond);
-int __wrap_pthread_cond_broadcast(pthread_cond_t *cond);
-int __wrap_pthread_once(pthread_once_t *once, void (*function)(void));
-int __wrap_pthread_detach(pthread_t number);
 pthread_t __wrap_pthread_self(void);
 int __wrap_pthread_key_delete(pthread_key_t key);
 void *__wrap_pthread_getspecific(pthread_key_t key);
@@ -39,18 +30,18 @@ static int as_c11(int status)
 #define MUTEX ((pthread_mutex_t *)(void *)mutex)
 #define COND ((pthread_cond_t *)(void *)cond)
 
-C11(mtx_lock, (mtx_t * mutex), (mutex), __wrap_pthread_mutex_lock(MUTEX))
-C11(mtx_trylock, (mtx_t * mutex), (mutex), __wrap_pthread_mutex_trylock(MUTEX))
+C11(mtx_lock, (mtx_t * mutex), (mutex), nicxi_mutex_lock(MUTEX, BLOCKING, "mtx_lock", HERE))
+C11(mtx_trylock, (mtx_t * mutex), (mutex), nicxi_mutex_lock(MUTEX, TRYING, "mtx_trylock", HERE))
 C11(mtx_timedlock, (mtx_t * mutex, const struct timespec *until), (mutex, until),
-    __wrap_pthread_mutex_timedlock(MUTEX, until))
-C11(mtx_unlock, (mtx_t * mutex), (mutex), __wrap_pthread_mutex_unlock(MUTEX))
+    nicxi_mutex_lock(MUTEX, TIMED, "mtx_timedlock", HERE))
+C11(mtx_unlock, (mtx_t * mutex), (mutex), nicxi_mutex_unlock(MUTEX, "mtx_unlock", HERE))
 C11(cnd_init, (cnd_t * cond), (cond), __wrap_pthread_cond_init(COND, NULL))
-C11(cnd_wait, (cnd_t * cond, mtx_t *mutex), (cond, mutex), __wrap_pthread_cond_wait(COND, MUTEX))
+C11(cnd_wait, (cnd_t * cond, mtx_t *mutex), (cond, mutex), nicxi_cond_wait(COND, MUTEX, false, "cnd_wait", HERE))
 C11(cnd_timedwait, (cnd_t * cond, mtx_t *mutex, const struct timespec *until), (cond, mutex, until),
-    __wrap_pthread_cond_timedwait(COND, MUTEX, until))
-C11(cnd_signal, (cnd_t * cond), (cond), __wrap_pthread_cond_signal(COND))
-C11(cnd_broadcast, (cnd_t * cond), (cond), __wrap_pthread_cond_broadcast(COND))
-C11(thrd_detach, (thrd_t thread), (thread), __wrap_pthread_detach(thread))
+    nicxi_cond_wait(COND, MUTEX, true, "cnd_timedwait", HERE))
+C11(cnd_signal, (cnd_t * cond), (cond), nicxi_cond_signal(COND, false, "cnd_signal"))
+C11(cnd_broadcast, (cnd_t * cond), (cond), nicxi_cond_signal(COND, true, "cnd_broadcast"))
+C11(thrd_detach, (thrd_t thread), (thread), nicxi_detach(thread, "thrd_detach"))
 C11(tss_create, (tss_t * key, tss_dtor_t destructor), (key, destructor), nicxi_make_key(key, destructor))
 C11(tss_set, (tss_t key, void *value), (key, value), __wrap_pthread_setspecific(key, value))
 
@@ -85,7 +76,7 @@ void __real_call_once(once_flag *flag, void (*function)(void));
 void __wrap_call_once(once_flag *flag, void (*function)(void))
 {
     if (nicxi_is_ours())
-        __wrap_pthread_once((pthread_once_t *)(void *)flag, function);
+        nicxi_once((pthread_once_t *)(void *)flag, function, "call_once", HERE);
     else
         __real_call_once(flag, function);
 }

@@ -92,6 +92,15 @@ void nicxi_block_lock(struct thread *self, bool (*condition)(void *), void *argu
 void nicxi_hold(struct thread *self, const void *object, const void *at);
 void nicxi_drop(struct thread *self, const void *object);
 
+/* A mutex is taken, tried, or waited for until time is over; and given back. Each answers as the call of POSIX does. */
+enum how { BLOCKING, TRYING, TIMED };
+int nicxi_mutex_lock(pthread_mutex_t *mutex, enum how how, const char *call, const void *at);
+int nicxi_mutex_unlock(pthread_mutex_t *mutex, const char *call, const void *at);
+int nicxi_cond_wait(pthread_cond_t *cond, pthread_mutex_t *mutex, bool is_timed, const char *call, const void *at);
+int nicxi_cond_signal(pthread_cond_t *cond, bool is_all, const char *call);
+int nicxi_once(pthread_once_t *once, void (*function)(void), const char *call, const void *at);
+int nicxi_detach(pthread_t number, const char *call);
+
 /* Of mutexes, for condition variables. */
 bool nicxi_mutex_is_free(const pthread_mutex_t *mutex);
 bool nicxi_mutex_is_mine(const struct thread *self, const pthread_mutex_t *mutex);

@@ -92,8 +92,6 @@ static void look_at(const struct thread *self, const pthread_mutex_t *mutex, con
                      nicxi_line(at, where));
 }
 
-enum how { BLOCKING, TRYING, TIMED };
-
 /* Until it may be taken, or for a time; where nobody else is there yet nobody else has it. */
 static void stand_before(struct thread *self, bool (*may)(void *), void *lock, enum how how, const char *call,
                          const void *at)
@@ -122,7 +120,7 @@ static bool take_again(struct thread *self, pthread_mutex_t *mutex, enum how how
     return true;
 }
 
-static int lock(pthread_mutex_t *mutex, enum how how, const char *call, const void *at)
+int nicxi_mutex_lock(pthread_mutex_t *mutex, enum how how, const char *call, const void *at)
 {
     struct thread *self = nicxi_caller();
     int answer;
@@ -139,20 +137,21 @@ static int lock(pthread_mutex_t *mutex, enum how how, const char *call, const vo
     return 0;
 }
 
-TURNED(int, pthread_mutex_lock, (pthread_mutex_t * mutex), (mutex), lock(mutex, BLOCKING, "pthread_mutex_lock", HERE))
+TURNED(int, pthread_mutex_lock, (pthread_mutex_t * mutex), (mutex),
+       nicxi_mutex_lock(mutex, BLOCKING, "pthread_mutex_lock", HERE))
 TURNED(int, pthread_mutex_trylock, (pthread_mutex_t * mutex), (mutex),
-       lock(mutex, TRYING, "pthread_mutex_trylock", HERE))
+       nicxi_mutex_lock(mutex, TRYING, "pthread_mutex_trylock", HERE))
 TURNED(int, pthread_mutex_timedlock, (pthread_mutex_t * mutex, const struct timespec *until), (mutex, until),
-       lock(mutex, TIMED, "pthread_mutex_timedlock", HERE))
+       nicxi_mutex_lock(mutex, TIMED, "pthread_mutex_timedlock", HERE))
 TURNED(int, pthread_mutex_clocklock, (pthread_mutex_t * mutex, clockid_t clock, const struct timespec *until),
-       (mutex, clock, until), lock(mutex, TIMED, "pthread_mutex_clocklock", HERE))
+       (mutex, clock, until), nicxi_mutex_lock(mutex, TIMED, "pthread_mutex_clocklock", HERE))
 
-static int unlock(pthread_mutex_t *mutex, const void *at)
+int nicxi_mutex_unlock(pthread_mutex_t *mutex, const char *call, const void *at)
 {
     struct thread *self = nicxi_caller();
     look_at(self, mutex, at);
     if (self)
-        nicxi_call(READY, "pthread_mutex_unlock", mutex);
+        nicxi_call(READY, call, mutex);
     if (!nicxi_mutex_is_mine(self, mutex)) {
         if ((mutex->__data.__kind & KIND) == NORMAL)
             tell_not_held(self, mutex, at);
@@ -163,7 +162,8 @@ static int unlock(pthread_mutex_t *mutex, const void *at)
     return 0;
 }
 
-TURNED(int, pthread_mutex_unlock, (pthread_mutex_t * mutex), (mutex), unlock(mutex, HERE))
+TURNED(int, pthread_mutex_unlock, (pthread_mutex_t * mutex), (mutex),
+       nicxi_mutex_unlock(mutex, "pthread_mutex_unlock", HERE))
 
 /* The C library's own call makes a mutex that is free, of its kind. */
 int __real_pthread_mutex_destroy(pthread_mutex_t *mutex);

@@ -90,6 +90,7 @@ static struct sizes find_sizes(void)
 static void end_program(const char *how, int status)
 {
     nicxi_program_begins();
+    nicxi_call(READY, "exit", NULL); /* the others may act until it ends */
     if (status)
         snprintf(program.end, sizeof program.end, "%s %d", how, status);
     nicxi_cover_thread(0);

@@ -98,6 +98,7 @@ static void run(void *argument)
     nicxi_race_acquire(&task->begins);
     task->result = task->begins(task->argument);
     destroy_values(task);
+    nicxi_call(READY, "return", (const void *)(uintptr_t)task->begins);
 }
 
 int nicxi_create(pthread_t *told, void *(*function)(void *), void *argument, size_t room, bool is_detached,
@@ -193,19 +194,20 @@ TURNED(int, pthread_tryjoin_np, (pthread_t number, void **result), (number, resu
 TURNED(int, pthread_timedjoin_np, (pthread_t number, void **result, const struct timespec *until),
        (number, result, until), join(number, result, false, true, "pthread_timedjoin_np", HERE))
 
-int __real_pthread_detach(pthread_t number);
-int __wrap_pthread_detach(pthread_t number)
+int nicxi_detach(pthread_t number, const char *call)
 {
-    if (!nicxi_is_ours())
-        return __real_pthread_detach(number);
     struct task *task = made_of(number);
     if (!task)
         return ESRCH;
+    if (nicxi_caller())
+        nicxi_call(READY, call, (const void *)(uintptr_t)task->begins);
     if (task->is_detached || task->is_joined)
         return EINVAL;
     task->is_detached = true;
     return 0;
 }
+
+TURNED(int, pthread_detach, (pthread_t number), (number), nicxi_detach(number, "pthread_detach"))
 
 pthread_t __real_pthread_self(void);
 pthread_t __wrap_pthread_self(void)
@@ -226,6 +228,7 @@ void nicxi_exit_thread(void *result, const char *call, const void *at)
     struct task *task = &nicxi_tasks[nicxi_number(self)];
     task->result = result;
     destroy_values(task);
+    nicxi_call(READY, call, (const void *)(uintptr_t)task->begins);
     nicxi_end_thread();
     abort();
 }

@@ -65,8 +65,7 @@ static void take_signal(const struct waiting *waiting)
             nicxi_tasks[k].may_wake = false;
 }
 
-static int wait_for_signal(pthread_cond_t *cond, pthread_mutex_t *mutex, bool is_timed, const char *call,
-                           const void *at)
+int nicxi_cond_wait(pthread_cond_t *cond, pthread_mutex_t *mutex, bool is_timed, const char *call, const void *at)
 {
     char name[MOST_NAMED], where[MOST_NAMED];
     struct thread *self = nicxi_caller();
@@ -76,6 +75,9 @@ static int wait_for_signal(pthread_cond_t *cond, pthread_mutex_t *mutex, bool is
     if (!nicxi_mutex_is_mine(self, mutex))
         nicxi_misuse("%s calls %s at %s with %s, which it doesn't hold", self->name, call, nicxi_line(at, where),
                      nicxi_name(mutex, "a mutex", name));
+    /* The mutex is held, but who signals need not take it: between the caller's last look and its wait a signal may
+       come, which wakes nobody. */
+    nicxi_call(READY, call, cond);
     struct task *task = task_of(self);
     task->condition = cond;
     task->may_wake = false;
@@ -97,15 +99,15 @@ static int wait_for_signal(pthread_cond_t *cond, pthread_mutex_t *mutex, bool is
 }
 
 TURNED(int, pthread_cond_wait, (pthread_cond_t * cond, pthread_mutex_t *mutex), (cond, mutex),
-       wait_for_signal(cond, mutex, false, "pthread_cond_wait", HERE))
+       nicxi_cond_wait(cond, mutex, false, "pthread_cond_wait", HERE))
 TURNED(int, pthread_cond_timedwait, (pthread_cond_t * cond, pthread_mutex_t *mutex, const struct timespec *until),
-       (cond, mutex, until), wait_for_signal(cond, mutex, true, "pthread_cond_timedwait", HERE))
+       (cond, mutex, until), nicxi_cond_wait(cond, mutex, true, "pthread_cond_timedwait", HERE))
 TURNED(int, pthread_cond_clockwait,
        (pthread_cond_t * cond, pthread_mutex_t *mutex, clockid_t clock, const struct timespec *until),
-       (cond, mutex, clock, until), wait_for_signal(cond, mutex, true, "pthread_cond_clockwait", HERE))
+       (cond, mutex, clock, until), nicxi_cond_wait(cond, mutex, true, "pthread_cond_clockwait", HERE))
 
 /* So many of those that wait are woken. */
-static int signal(pthread_cond_t *cond, bool is_all, const char *call)
+int nicxi_cond_signal(pthread_cond_t *cond, bool is_all, const char *call)
 {
     struct thread *self = nicxi_caller();
     unsigned waiting = 0;
@@ -125,8 +127,9 @@ static int signal(pthread_cond_t *cond, bool is_all, const char *call)
     return 0;
 }
 
-TURNED(int, pthread_cond_signal, (pthread_cond_t * cond), (cond), signal(cond, false, "pthread_cond_signal"))
-TURNED(int, pthread_cond_broadcast, (pthread_cond_t * cond), (cond), signal(cond, true, "pthread_cond_broadcast"))
+TURNED(int, pthread_cond_signal, (pthread_cond_t * cond), (cond), nicxi_cond_signal(cond, false, "pthread_cond_signal"))
+TURNED(int, pthread_cond_broadcast, (pthread_cond_t * cond), (cond),
+       nicxi_cond_signal(cond, true, "pthread_cond_broadcast"))
 
 int __real_pthread_cond_init(pthread_cond_t *cond, const pthread_condattr_t *how);
 int __wrap_pthread_cond_init(pthread_cond_t *cond, const pthread_condattr_t *how)
@@ -304,16 +307,13 @@ static bool is_done(void *once)
     return *(const volatile pthread_once_t *)once == DONE;
 }
 
-int __real_pthread_once(pthread_once_t *once, void (*function)(void));
-int __wrap_pthread_once(pthread_once_t *once, void (*function)(void))
+int nicxi_once(pthread_once_t *once, void (*function)(void), const char *call, const void *at)
 {
-    if (!nicxi_is_ours())
-        return __real_pthread_once(once, function);
     struct thread *self = nicxi_caller();
     if (self)
-        nicxi_call(READY, "pthread_once", once);
-    if (*once == AT_IT && may_wait(self, "pthread_once", HERE))
-        nicxi_block(self, is_done, once, "pthread_once", once, HERE);
+        nicxi_call(READY, call, once);
+    if (*once == AT_IT && may_wait(self, call, at))
+        nicxi_block(self, is_done, once, call, once, at);
     if (*once == NOT_YET) {
         *once = AT_IT;
         function();
@@ -324,3 +324,6 @@ int __wrap_pthread_once(pthread_once_t *once, void (*function)(void))
     nicxi_race_acquire(once);
     return 0;
 }
+
+TURNED(int, pthread_once, (pthread_once_t * once, void (*function)(void)), (once, function),
+       nicxi_once(once, function, "pthread_once", HERE))

@@ -1,0 +1,52 @@
+/* A thread that is left returns through frames of C too: so what follows a point asks whether it is left. */
+#include "left.h"
+
+#include "engine.h"
+
+bool nicxi_unwinds(bool it_does)
+{
+    struct thread *self = nicxi.self;
+    if (!self)
+        return false;
+    bool it_did = self->unwinds;
+    self->unwinds = it_does;
+    return it_did;
+}
+
+bool nicxi_is_left(void)
+{
+    return nicxi.phase == LEAVING;
+}
+
+void nicxi_unwound(void)
+{
+    struct thread *self = nicxi.self;
+    self->unwinds = false;
+    self->stack = BUSY;
+    nicxi.self = NULL;
+    nicxi_fiber_switch(&self->fiber, &nicxi.main);
+}
+
+/* Where that makes no end, the search tells whose stack it is. */
+static void unwind(int number)
+{
+    struct thread *thread = &nicxi.threads[number];
+    if (!thread->unwinds)
+        return;
+    nicxi.notes->leaves = (uint32_t)number + 1;
+    while (thread->unwinds)
+        nicxi_thread_resume(NULL, thread);
+    nicxi.notes->leaves = 0;
+    nicxi.self = NULL;
+}
+
+void nicxi_unwind_all(void)
+{
+    uint8_t phase = nicxi.phase;
+    nicxi.phase = LEAVING;
+    for (int k = 0; k < nicxi.tasks; k++)
+        unwind(k);
+    for (int k = NICX_TASKS; k < NICX_TASKS + nicxi.handlers; k++)
+        unwind(k);
+    nicxi.phase = phase;
+}

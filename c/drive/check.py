@@ -8,6 +8,7 @@ from __future__ import annotations
 
 import ast
 import json
+import os
 import re
 import subprocess
 import sys
@@ -223,8 +224,8 @@ def check_refusals(kit: Kit) -> str:
     broken = kit.folder / "broken.c"
     broken.write_text("int main(void) { return nothing; }\n")
     for words, wanted in REFUSALS.items():
-        given = words.format(source=HERE / "examples/small.c", broken=broken).split()
-        printed = nicdrive(kit.folder / "refused", list(given), 2)
+        given = [it.format(source=HERE / "examples/small.c", broken=broken) for it in words.split()]
+        printed = nicdrive(kit.folder / "refused", given, 2)
         if not re.search(wanted, printed):
             raise Wrong(f"nicdrive {words}: it isn't told that \"{wanted}\":\n{printed}")
     for fields, wanted in ADAPTERS.items():
@@ -266,9 +267,11 @@ def check_sanitized(kit: Kit, flags: list[str]) -> str:
     """The card's engine and a driver with the sanitizers' checks in them: all rows, and some bugs."""
     folder = kit.folder / "sanitized"
     folder.mkdir(exist_ok=True)
-    parts = [folder / f"out/libnic82599{part}.a" for part in ("_drive", "_explore")]
+    # (by its way from there: a name with a space would be refused)
+    out = os.path.relpath(folder / "out", C)
+    parts = [f"{out}/libnic82599{part}.a" for part in ("_drive", "_explore")]
     words = " ".join(flags)
-    ran(["make", "-s", "-C", C, f"OUT={folder}/out", f"EXPLORE_FLAGS={words}", f"DRIVE_FLAGS={words}", *parts])
+    ran(["make", "-s", "-C", C, f"OUT={out}", f"EXPLORE_FLAGS={words}", f"DRIVE_FLAGS={words}", *parts])
     own = replace(kit, folder=folder, flags=flags, engine=folder / "out")
     rows = own.card(own.build(HERE / "corpus/driver.c"), 0, "--runs", 5, "--every", 5)
     return f"sanitized, {sum(row['state'] == 'passed' for row in rows.values())} rows; {check_bugs(own, 2000, 12)}"

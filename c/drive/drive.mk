@@ -9,11 +9,12 @@ DRIVE_OBJECTS := $(patsubst $(HERE)/drive/%.c,$(OUT)/drive/%.o,$(DRIVE_SOURCES))
 # Without sibling calls: a schedule tells a step's place by the stack, which begins with the card's own functions.
 $(OUT)/drive/%.o: $(HERE)/drive/%.c $(DRIVE_HEADERS)
 	@mkdir -p $(@D)
-	$(CC) -std=c99 $(DRIVE_FLAGS) -fno-optimize-sibling-calls -Wall -Wextra -pedantic -fPIC -I$(HERE)/include -c -o $@ $<
+	$Q$(CC) -std=c99 $(DRIVE_FLAGS) -fno-optimize-sibling-calls -Wall -Wextra -pedantic -fPIC -I$(HERE)/include -c -o $@ $<
 
 $(OUT)/libnic82599_drive.a: $(DRIVE_OBJECTS)
-	rm -f $@
-	$(AR) rcs $@ $^
+	$(call SAY,$(@F))
+	$Qrm -f $@
+	$Q$(AR) rcs $@ $^
 
 # The same for drivers in Python, as one shared library: the stacks are threads there (python/fiber.c).
 PYTHON_SOURCES := $(wildcard $(HERE)/drive/python/*.c)
@@ -24,6 +25,7 @@ $(PYTHON_OBJECTS): $(PYTHON_HEADERS)
 
 $(OUT)/libnic82599_drive.so: $(DRIVE_OBJECTS) $(PYTHON_OBJECTS) $(EXPLORE_OBJECTS) $(OUT)/libnic82599.a \
     $(HERE)/drive/python/exports.map
-	$(CC) -shared -o $@ $(DRIVE_OBJECTS) $(PYTHON_OBJECTS) $(filter-out %/fiber.o,$(EXPLORE_OBJECTS)) \
+	$(call SAY,$(@F))
+	$Q$(CC) -shared -o $@ $(DRIVE_OBJECTS) $(PYTHON_OBJECTS) $(filter-out %/fiber.o,$(EXPLORE_OBJECTS)) \
 	    $(OUT)/libnic82599.a -Wl,--version-script=$(HERE)/drive/python/exports.map -Wl,-z,defs -Wl,-z,relro \
 	    -Wl,-z,now -lpthread

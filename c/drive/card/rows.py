@@ -4,13 +4,17 @@ from __future__ import annotations
 
 import re
 import signal
-import subprocess
 import xml.etree.ElementTree
 from concurrent.futures import ThreadPoolExecutor
 from dataclasses import asdict, dataclass, field
 from pathlib import Path
 from typing import Any, Callable
 
+from nic82599.tools.printable import printable
+
+from .processes import TooLong, end_all, ran
+
+LIST_SECONDS = 20
 PASSED, FAILED, NOT_APPLICABLE = "passed", "failed", "not applicable"
 
 
@@ -67,22 +71,24 @@ class Row:
 def listed(program: Path) -> list[Row]:
     """The scenarios that a driver's program tells of."""
     try:
-        made = subprocess.run([program, "--list"], capture_output=True, text=True, timeout=20, check=False)
+        made = ran([program, "--list"], LIST_SECONDS)
     except OSError as fault:
         raise Refused(f"{program}: it can't be run: {fault.strerror}") from fault
-    except subprocess.TimeoutExpired as fault:
+    except TooLong as fault:
         raise Refused(f"{program} --list makes no end: does its main call nicd_main?") from fault
-    if made.returncode:
-        raise Refused((made.stderr.strip() or f"{program} --list ends with status {made.returncode}").splitlines()[0])
-    lines = [line.split("\t") for line in made.stdout.splitlines()]
+    if made.status:
+        raise Refused((made.errors.strip() or f"{program} --list ends with status {made.status}").splitlines()[0])
+    lines = [line.split("\t") for line in made.printed.splitlines()]
     if not lines or any(len(line) != 6 for line in lines):
         raise Refused(f"{program} --list tells no scenarios: does its main call nicd_main?")
     return [Row(line[0], line[1], "" if line[2] == "-" else line[2], *line[3:]) for line in lines]
 
 
 def name_of(program: Path) -> str:
-    made = subprocess.run([program, "--name"], capture_output=True, text=True, timeout=20, check=False)
-    return made.stdout.strip() or program.name
+    try:
+        return ran([program, "--name"], LIST_SECONDS).printed.strip() or program.name
+    except TooLong as fault:
+        raise Refused(f"{program} --name makes no end: does its main call nicd_main?") from fault
 
 
 class Runner:
@@ -104,29 +110,27 @@ class Runner:
     def search(self, row: Row, more: list[object], seconds: float) -> bool:
         """One search of a row; whether it may go on."""
         try:
-            made = subprocess.run(
-                self.words(row, more), capture_output=True, text=True, errors="replace", timeout=seconds, check=False
-            )
-        except subprocess.TimeoutExpired:
+            made = ran(self.words(row, more), seconds)
+        except TooLong:
             fail(row, "hang: nothing came of it: a call that the card makes before the first schedule has no end")
             return False
         self.read_seen(row)
         self.read_junit(row)
-        row.notes += [found for found in re.findall(r": note: (.+)", made.stdout) if found not in row.notes]
-        if made.returncode == 1:
-            self.read_failure(row, made.stdout)
-        elif made.returncode == 4:
+        row.notes += [found for found in re.findall(r": note: (.+)", made.printed) if found not in row.notes]
+        if made.status == 1:
+            self.read_failure(row, made.printed)
+        elif made.status == 4:
             row.state, row.lack = NOT_APPLICABLE, row.lack or "something that it needs"
-        elif made.returncode < 0:
-            fail(row, f"crash: before the first schedule: {signal.strsignal(-made.returncode)}")
-        elif made.returncode == 5:
-            fail(row, made.stderr.strip().splitlines()[-1])
-        elif made.returncode:
-            fail(row, "refused: " + (made.stderr.strip() or f"status {made.returncode}").splitlines()[-1])
+        elif made.status < 0:
+            fail(row, f"crash: before the first schedule: {signal.strsignal(-made.status)}")
+        elif made.status == 5:
+            fail(row, made.errors.strip().splitlines()[-1])
+        elif made.status:
+            fail(row, "refused: " + (made.errors.strip() or f"status {made.status}").splitlines()[-1])
         self.hangs += row.cause.startswith("hang")
-        if found := re.search(r"these are all schedules(?: with at most (\d+) preemptions)?", made.stdout):
+        if found := re.search(r"these are all schedules(?: with at most (\d+) preemptions)?", made.printed):
             row.every = int(found[1]) if found[1] else 1000
-        return not made.returncode
+        return not made.status
 
     def make(self, row: Row) -> Row:
         if row.lack:
@@ -154,13 +158,13 @@ class Runner:
         row.distinct = row.distinct or told.get("distinct") or ""
         row.seconds += float(suite.get("time") or 0)
         if (failure := suite.find("testcase/failure")) is not None:
-            row.schedule = failure.text or ""
+            row.schedule = printable(failure.text or "")
 
     def read_failure(self, row: Row, printed: str) -> None:
         found = re.search(r": FAILED (.+)", printed)
         fail(row, found[1] if found else "it failed")
         if (told := self.folder / f"{row.name}.traceback").exists():  # of what a driver in Python raised
-            row.schedule = f"{told.read_text().rstrip()}\n\n{row.schedule}"
+            row.schedule = f"{printable(told.read_text()).rstrip()}\n\n{row.schedule}"
         row.schedule_file = f"{row.name}.schedule"
         row.page = page_of(self.folder / f"{row.name}.html")
         memory = " --memory weak" if self.budget.memory == "weak" else ""
@@ -205,5 +209,10 @@ def fail(row: Row, cause: str) -> None:
 def make_all(runner: Runner, rows: list[Row], jobs: int, tell: Callable[[Row], None]) -> None:
     """All rows, so many at a time."""
     with ThreadPoolExecutor(jobs) as pool:
-        for row in pool.map(runner.make, rows):
-            tell(row)
+        try:
+            for row in pool.map(runner.make, rows):
+                tell(row)
+        except BaseException:  # (ctrl-C too: the rows that run are in groups of their own)
+            pool.shutdown(wait=False, cancel_futures=True)
+            end_all()
+            raise

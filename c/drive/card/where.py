@@ -42,8 +42,8 @@ def nicview() -> list[str]:
 
 
 def programs() -> list[Path]:
-    """The programs, of which nicview needs one: in a clone what ./nicbench starts, proved or not."""
+    """The programs, of which nicview needs one: in a clone what ./nicbench starts, proved or plain."""
     root = clone()
     if not root:
         return [prefix() / "bin/nicbench"]
-    return [root / "crates/nicbench/out" / name for name in ("nicbench", "unproved/current")]
+    return [root / name for name in ("crates/nicbench/out/nicbench", "plain/out/program/nicbench")]

@@ -1,0 +1,158 @@
+"""Processes of a driver's program. None is left when it ends, and none of those that the driver starts."""
+
+from __future__ import annotations
+
+import contextlib
+import ctypes
+import os
+import selectors
+import signal
+import subprocess
+import sys
+import threading
+import time
+from collections import deque
+from collections.abc import Iterator, Sequence
+from dataclasses import dataclass
+from functools import cache
+from pathlib import Path
+
+from nic82599.tools.printable import printable
+
+# So many bytes are kept of what a program prints, the last ones.
+MOST_PRINTED, PIECE = 1 << 20, 1 << 16
+# So often it is looked whether it ended, in seconds.
+EACH = 0.05
+PR_SET_CHILD_SUBREAPER = 36
+
+
+class TooLong(Exception):
+    """It made no end in its time, and was ended."""
+
+
+@dataclass(frozen=True)
+class Ended:
+    """How a program ended: its status, below 0 that of a signal, and what it printed, of which nothing acts on a
+    terminal."""
+
+    status: int
+    printed: str
+    errors: str
+
+
+class Printed:
+    """The last bytes that came from a pipe."""
+
+    def __init__(self, pipe: int) -> None:
+        self.pipe, self.pieces, self.size = pipe, deque[bytes](), 0
+        os.set_blocking(pipe, False)
+
+    def read(self) -> bool:
+        """Takes in what is there; whether more may come."""
+        while True:
+            try:
+                piece = os.read(self.pipe, PIECE)
+            except BlockingIOError:
+                return True
+            if not piece:
+                return False
+            self.pieces.append(piece)
+            self.size += len(piece)
+            while self.size - len(self.pieces[0]) >= MOST_PRINTED:
+                self.size -= len(self.pieces.popleft())
+
+    def text(self) -> str:
+        return printable(b"".join(self.pieces)[-MOST_PRINTED:].decode(errors="replace"))
+
+
+# Those that run, each with a process group of its own.
+_running: set[int] = set()
+_lock = threading.Lock()
+
+
+@cache
+def _adopts_orphans() -> None:
+    """From now on a process that a driver starts and leaves becomes a child of this one, which ends it."""
+    if sys.platform == "linux":
+        ctypes.CDLL(None).prctl(PR_SET_CHILD_SUBREAPER, 1, 0, 0, 0)
+
+
+def _children() -> Iterator[int]:
+    """The children of this process, where the system tells them (/proc)."""
+    for file in Path("/proc").glob("[0-9]*/stat"):
+        with contextlib.suppress(OSError, ValueError, IndexError):
+            # (a name in brackets, which may have any characters, stands before the state and the parent)
+            if int(file.read_text(errors="replace").rpartition(")")[2].split()[1]) == os.getpid():
+                yield int(file.parent.name)
+
+
+def _end_group(process: int) -> None:
+    with contextlib.suppress(ProcessLookupError, PermissionError):
+        os.killpg(process, signal.SIGKILL)
+
+
+def _end_orphans() -> None:
+    """Ends what programs left: children in a group that is neither this process's nor one of those that run."""
+    with _lock, contextlib.suppress(ProcessLookupError, ChildProcessError, PermissionError):
+        for process in list(_children()):
+            if os.getpgid(process) not in {os.getpgrp(), *_running}:
+                os.kill(process, signal.SIGKILL)
+                os.waitpid(process, 0)
+
+
+def end_all() -> None:
+    """Ends those that run, as after a ctrl-C."""
+    with _lock:
+        for process in _running:
+            _end_group(process)
+
+
+def _started(words: Sequence[str | os.PathLike[str]]) -> subprocess.Popen[bytes]:
+    """A program in a group of its own. OSError."""
+    _adopts_orphans()
+    with _lock:
+        made = subprocess.Popen(
+            words, stdin=subprocess.DEVNULL, stdout=subprocess.PIPE, stderr=subprocess.PIPE, process_group=0
+        )
+        _running.add(made.pid)
+        return made
+
+
+def _awaited(made: subprocess.Popen[bytes], pipes: list[Printed], seconds: float) -> bool:
+    """Reads what a program prints until it ends; whether it does in its time. That others still have its pipes doesn't
+    matter."""
+    until = time.monotonic() + seconds
+    with selectors.DefaultSelector() as selector:
+        for it in pipes:
+            selector.register(it.pipe, selectors.EVENT_READ, it)
+        while made.poll() is None:
+            if time.monotonic() >= until:
+                return False
+            for key, _ in selector.select(EACH) if selector.get_map() else ():
+                if not key.data.read():
+                    selector.unregister(key.fd)
+            if not selector.get_map():
+                time.sleep(EACH)
+    return True
+
+
+def ran(words: Sequence[str | os.PathLike[str]], seconds: float) -> Ended:
+    """Runs a program, for so many seconds at most. TooLong, OSError."""
+    made = _started(words)
+    assert made.stdout and made.stderr
+    pipes = [Printed(made.stdout.fileno()), Printed(made.stderr.fileno())]
+    try:
+        is_over = _awaited(made, pipes, seconds)
+    finally:
+        _end_group(made.pid)
+        made.wait()
+        with _lock:
+            _running.discard(made.pid)
+        _end_orphans()
+        for it in pipes:
+            it.read()
+        made.stdout.close()
+        made.stderr.close()
+    if not is_over:
+        raise TooLong
+    return Ended(made.returncode, pipes[0].text(), pipes[1].text())

@@ -2,7 +2,9 @@
    write of the program that it is loaded into, by its number, and tells at the end what it saw.
 
    REFUSE_GROWTH, REFUSE_THREAD, FAIL_IO and SHORT_IO are numbers, counted from 1. Where REFUSE_WITHIN is set, growths
-   count only behind a line `call` and before the line that follows it, on standard output. At the end a line goes to
+   count only behind a line `call` and before the line that follows it, on standard output. The first REFUSE_SKIP
+   growths don't count: they are those of a language's own start, before the program's. Where REFUSE_OWN is set, growths
+   count only of a thread that wrote a line `call`: others are those of what runs the tests. At the end a line goes to
    the file descriptor REFUSE_TELL: how many growths, threads, reads and writes there were, whether one was refused, how
    many blocks of memory weren't given back, and which growth was the last before the first thread, which is the
    thread's own. */
@@ -22,9 +24,10 @@ extern void __libc_free(void *);
 
 static atomic_long growths, threads, transfers, refused, held;
 static long of_thread;
-static long refuse_growth, refuse_thread, fail_io, short_io;
-static int within, tell = -1, ready;
+static long refuse_growth, refuse_thread, fail_io, short_io, skipped;
+static int within, own, tell = -1, ready;
 static atomic_int counting;
+static __thread int is_caller;
 
 static long number(const char *name)
 {
@@ -38,7 +41,9 @@ __attribute__((constructor)) static void begin(void)
     refuse_thread = number("REFUSE_THREAD");
     fail_io = number("FAIL_IO");
     short_io = number("SHORT_IO");
+    skipped = number("REFUSE_SKIP");
     within = getenv("REFUSE_WITHIN") != NULL;
+    own = getenv("REFUSE_OWN") != NULL;
     tell = getenv("REFUSE_TELL") ? (int)number("REFUSE_TELL") : -1;
     counting = !within;
     ready = 1;
@@ -64,10 +69,15 @@ __attribute__((noreturn)) void _exit(int status)
     __builtin_unreachable();
 }
 
+static int is_others(void)
+{
+    return own && !is_caller;
+}
+
 /* Whether this growth is the one that is refused. */
 static int is_refused(void)
 {
-    if (!ready || !counting || ++growths != refuse_growth)
+    if (!ready || !counting || is_others() || skipped-- > 0 || ++growths != refuse_growth)
         return 0;
     refused++;
     errno = ENOMEM;
@@ -157,6 +167,7 @@ static void look(const char *bytes, size_t count)
             continue;
         }
         counting = length == 4 && memcmp(line, "call", 4) == 0;
+        is_caller |= counting;
         length = 0;
     }
 }

@@ -33,9 +33,9 @@ WORDS = {
     "FAULTS": ("nic_fault", "nic_fault_name"),
     "STEPS": ("nic_step", "nic_step_name"),
 }
-# What no call answers, and what the C code around the crate's calls answers.
+# What no call answers, and what is answered around the crate's calls: by C code, or by the plain edition's kit.
 UNANSWERED = {"TWICE", "MISALIGNED"}
-AROUND = {"BAD_MEMORY", "CLOSED"}
+AROUND = {"BAD_MEMORY", "BROKEN", "CLOSED"}
 # What the crate calls otherwise than the header.
 OTHERWISE = {"DESC_TYPE": "TYPE"}
 HEAD_PYTHON = '''\

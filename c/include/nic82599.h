@@ -72,6 +72,9 @@ enum nic_status {
     NIC_MORE = 38,         /* nic_settle: the array is full, there may be more to do; nic_next_step: a step was made */
     NIC_BAD_MEMORY = 39,   /* nic_lend_memory: no multiples of 2,048, or bytes that are lent to it already */
     NIC_CLOSED = 40,       /* the controller or the snapshot isn't open: nic_close ended it, or nothing opened it */
+    NIC_BROKEN = 41,       /* the library met a fault of its own, which standard error names, and this controller may be
+                              half changed: each further call answers the same. nic_unlend_memory still takes the
+                              caller's memory back, and nic_close ends it. A proved library has no such fault */
     /* an EEPROM image or text is invalid, by the first of these that holds; the former image stays */
     NIC_IMAGE = 64, /* base of the following */
     NIC_IMAGE_ODD_LENGTH = 65,
@@ -151,6 +154,10 @@ const char *nic_version(void);
 /* Whether the device in this library was proved: true if the prover accepted every function of it, false if it was
    compiled from the same sources without proofs. */
 bool nic_is_proved(void);
+
+/* Which edition of the library this is: "proved" as above; "plain", compiled by a Rust compiler from the same sources
+   without their proofs; or "unproved", compiled so by Rattle's compiler. */
+const char *nic_edition(void);
 
 /* --- recordings --- */
 
@@ -428,6 +435,7 @@ static inline const char *nic_status_name(uint8_t status)
     case NIC_MORE: return "more";
     case NIC_BAD_MEMORY: return "bad memory";
     case NIC_CLOSED: return "closed";
+    case NIC_BROKEN: return "broken";
     case NIC_IMAGE_ODD_LENGTH: return "image: odd length";
     case NIC_IMAGE_BAD_SIZE: return "image: bad size";
     case NIC_IMAGE_SECTION_OUTSIDE: return "image: section outside";

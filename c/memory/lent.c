@@ -19,10 +19,13 @@ uint8_t nicd_exchange(nic *n, uint32_t block, struct memory memory, struct memor
 /* Of the explorer, where it is linked (c/explore/engine/device.c): whether a search goes over this controller. */
 __attribute__((weak)) bool nicxi_refuses_memory(const nic *n);
 
-/* The memory of a lent block is another from now on; its former one. */
+/* The memory of a lent block is another from now on; its former one, or null where the library met a fault of its own,
+   now or where it should have told the memory that is handed in. */
 static uint8_t *exchange(nic *n, uint32_t block, uint8_t *bytes)
 {
     struct memory former = {NULL};
+    if (!bytes)
+        return NULL;
     nicd_exchange(n, block, (struct memory){bytes}, &former);
     return former.bytes;
 }
@@ -42,10 +45,14 @@ static bool blocks_of(uint64_t bus, size_t bytes, struct range *range)
     return true;
 }
 
-static void take_each(nic *n, struct range range)
+/* DONE, or BROKEN where the controller is. */
+static uint8_t take_each(nic *n, struct range range)
 {
+    uint8_t status = NIC_DONE;
     for (uint32_t block = range.first; block < range.end; block++)
-        nicd_take(n, block);
+        if (nicd_take(n, block) == NIC_BROKEN)
+            status = NIC_BROKEN;
+    return status;
 }
 
 /* All of them, or none. */
@@ -81,17 +88,23 @@ uint8_t nicd_lend_memory(nic *n, uint64_t bus, void *memory, size_t bytes)
         return NIC_OUT_OF_MEMORY;
     }
     nicd_table_add(it, range.first, range.end, memory);
-    for (uint32_t block = range.first; block < range.end; block++)
+    for (uint32_t block = range.first; block < range.end; block++) {
         it->blocks[block].own = exchange(n, block, it->blocks[block].host);
-    return NIC_DONE;
+        if (!it->blocks[block].own)
+            status = NIC_BROKEN;
+    }
+    return status;
 }
 
-/* Blocks have their own memory again, which the caller's was in the place of. */
+/* Blocks have their own memory again, which the caller's was in the place of. Where a fault of the library keeps one
+   in, the table keeps them too: so that memory is passed over where the controller is freed. */
 static void end_in_place(nic *n, struct nicd_table *it, struct range range)
 {
+    bool are_out = true;
     for (uint32_t block = range.first; block < range.end; block++)
-        exchange(n, block, it->blocks[block].own);
-    nicd_table_remove(it, range.first, range.end);
+        are_out = exchange(n, block, it->blocks[block].own) && are_out;
+    if (are_out)
+        nicd_table_remove(it, range.first, range.end);
 }
 
 uint8_t nicd_unlend_memory(nic *n, uint64_t bus, size_t bytes)
@@ -107,8 +120,7 @@ uint8_t nicd_unlend_memory(nic *n, uint64_t bus, size_t bytes)
             return NIC_NOT_LENT;
     if (bytes)
         end_in_place(n, it, range);
-    take_each(n, range);
-    return NIC_DONE;
+    return take_each(n, range);
 }
 
 uint8_t nicd_take_in_place(nic *n, uint32_t block)

@@ -564,10 +564,9 @@ COLD uint8_t settle(nic *n, uint16_t queues, nic_told *told, size_t length, size
 
 uint8_t nic_settle(nic *n, uint16_t queues, nic_told *told, size_t length, size_t *count)
 {
-    if (IS_CLOSED(n)) {
-        *count = 0;
+    *count = 0;
+    if (IS_CLOSED(n))
         return NIC_CLOSED;
-    }
     return IS_OFF ? nicd_settle(n, queues, told, length, count) : settle(n, queues, told, length, count);
 }
 
@@ -617,7 +616,7 @@ static uint8_t next_step(nic *n, nic_settling *where, nic_told *told)
     for (uint16_t idle = 0; idle < places; idle++) {
         uint16_t at = where->at < places ? where->at : 0;
         uint8_t status = step_at(n, where->queues, at, told);
-        if (status == NIC_OUT_OF_MEMORY)
+        if (status == NIC_OUT_OF_MEMORY || status == NIC_BROKEN)
             return status;
         if (status == NIC_NO_GROUP) {
             idle = (uint16_t)(idle + places - at - 1);
@@ -699,10 +698,9 @@ uint8_t nic_install_image(nic *n, const uint8_t *bytes, size_t length)
 
 uint8_t nic_install_text(nic *n, const uint8_t *text, size_t length, uint64_t *line)
 {
-    if (IS_CLOSED(n)) {
-        *line = 0;
+    *line = 0;
+    if (IS_CLOSED(n))
         return NIC_CLOSED;
-    }
     if (IS_OFF)
         return nicd_install_text(n, text, length, line);
     struct recording *it = nicd_enter(n);

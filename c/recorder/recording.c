@@ -214,7 +214,8 @@ void nicd_begin(const nic *n, uint8_t vfs, uint16_t fifo, uint32_t blocks)
         it->next = recordings;
         recordings = it;
         nicd_add(it, "#: nic vfs %u fifo %u blocks %lu\n", vfs, fifo, (unsigned long)blocks);
-        nicd_add(it, "# recorded by the library %s; nicbench run --vfs %u --fifo %u\n", nic_version(), vfs, fifo);
+        nicd_add(it, "# recorded by the %s library %s; nicbench run --vfs %u --fifo %u\n", nic_edition(), nic_version(),
+                 vfs, fifo);
         put_out(it);
     } else if (it) { /* it is told once, and not of each controller */
         free(it);

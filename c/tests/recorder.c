@@ -15,8 +15,20 @@ static const char *path_of(const char *name)
     return path;
 }
 
-/* Whether a file has just this text; a file that isn't there has none. */
-static bool holds(const char *name, const char *want)
+/* Whether a text is this one, in which "%s" stands for the library's edition. */
+static bool is_text(const char *text, const char *form)
+{
+    char want[4096];
+    const char *edition = strstr(form, "%s");
+    snprintf(want, sizeof want, "%.*s%s%s", edition ? (int)(edition - form) : 0, form, edition ? nic_edition() : "",
+             edition ? edition + 2 : form);
+    if (strcmp(text, want) != 0)
+        fprintf(stderr, "it has:\n%s\nand not:\n%s\n", text, want);
+    return strcmp(text, want) == 0;
+}
+
+/* The same of a file; one that isn't there has none. */
+static bool holds(const char *name, const char *form)
 {
     char text[4096];
     FILE *file = fopen(path_of(name), "r");
@@ -25,9 +37,7 @@ static bool holds(const char *name, const char *want)
     size_t length = fread(text, 1, sizeof text - 1, file);
     fclose(file);
     text[length] = 0;
-    if (strcmp(text, want) != 0)
-        fprintf(stderr, "%s has:\n%s\nand not:\n%s\n", name, text, want);
-    return strcmp(text, want) == 0;
+    return is_text(text, form);
 }
 
 /* A controller of so many blocks with a recording of its own; and its end. */
@@ -49,10 +59,10 @@ static bool is_there(const char *name)
 }
 
 #define HEAD                                                                                                           \
-    "#: nic vfs 0 fifo 4 blocks 2\n# recorded by the library " NIC82599_VERSION "; nicbench run --vfs 0 --fifo 4\n"
+    "#: nic vfs 0 fifo 4 blocks 2\n# recorded by the %s library " NIC82599_VERSION "; nicbench run --vfs 0 --fifo 4\n"
 
 #define LENT_HEAD                                                                                                      \
-    "#: nic vfs 0 fifo 4 blocks 8\n# recorded by the library " NIC82599_VERSION "; nicbench run --vfs 0 --fifo 4\n"
+    "#: nic vfs 0 fifo 4 blocks 8\n# recorded by the %s library " NIC82599_VERSION "; nicbench run --vfs 0 --fifo 4\n"
 
 /* Two controllers at once have a file each, one that is open already has none, and null ends all. */
 static void files(void)
@@ -172,7 +182,7 @@ static void lent_to_pipe(void)
     ssize_t length = read(ends[0], text, sizeof text - 1);
     CHECK(length > 0 && close(ends[0]) == 0);
     text[length] = 0;
-    CHECK(strcmp(text, HEAD "lend 0                       # done\nlend 1                       # done\n") == 0);
+    CHECK(is_text(text, HEAD "lend 0                       # done\nlend 1                       # done\n"));
 }
 
 /* Blocks that are lent in a row are one line, by whichever calls; the file has it after each of them. */

@@ -1,0 +1,67 @@
+/* What a fault of the library itself leaves, over a library of the plain edition in which one is planted
+   (dev/check_broken): the call answers BROKEN, and so does each call after it; another controller is as before; and the
+   caller's memory comes out again, also where the controller is only closed. Prints how many calls answered BROKEN. */
+#include "check.h"
+#include "nic82599.h"
+#include <stdlib.h>
+#include <string.h>
+
+static unsigned broken;
+
+/* A status that is told; after the first BROKEN none is another. */
+static void told(uint8_t status)
+{
+    CHECK(!broken || status == NIC_BROKEN);
+    broken += status == NIC_BROKEN;
+}
+
+static void all_calls(nic *n, uint8_t *own)
+{
+    static const uint8_t frame[60] = {2};
+    nic_kept kept = {0};
+    nic_told report;
+    nic_settling where = {2, 0};
+    uint8_t bytes[64];
+    uint32_t word;
+    uint64_t line;
+    size_t count = 1;
+    told(nic_lend_memory(n, 0x1000, own, 2 * NIC_BLOCK_BYTES));
+    told(nic_write32(n, NIC_RXCTRL, 1));
+    told(nic_read32(n, NIC_RXCTRL, &word));
+    told(nic_vf_peek32(n, 0, 8, &word));
+    told(nic_lend(n, 0));
+    told(nic_dma_write(n, 0x1000, frame, sizeof frame));
+    told(nic_dma_read(n, 0x1000, bytes, sizeof bytes));
+    told(nic_arrive(n, frame, sizeof frame, &report));
+    told(nic_rx_step(n, &report));
+    told(nic_settle(n, 2, &report, 1, &count));
+    CHECK(count <= 1);
+    told(nic_next_step(n, &where, &report));
+    told(nic_snapshot(n, &kept));
+    if (kept.kept)
+        told(nic_restore(n, &kept));
+    nic_drop_snapshot(&kept);
+    told(nic_install_text(n, (const uint8_t *)"size 64\n", 8, &line));
+    told(nic_collect(n, bytes, sizeof bytes, &report));
+    told(nic_take(n, 0));
+}
+
+int main(int count, char **words)
+{
+    nic n, other;
+    uint8_t *own = calloc(2, NIC_BLOCK_BYTES);
+    CHECK(own && count == 2);
+    CHECK(nic_open(&other, 1, 64, 16) == NIC_DONE && nic_open(&n, 1, 64, 16) == NIC_DONE);
+    all_calls(&n, own);
+    if (strcmp(words[1], "unlend") == 0) {
+        uint8_t status = nic_unlend_memory(&n, 0x1000, 2 * NIC_BLOCK_BYTES);
+        CHECK(broken ? status != NIC_DONE : status == NIC_DONE || status == NIC_BROKEN);
+    }
+    nic_close(&n);
+    free(own);
+    if (broken)
+        CHECK(nic_write32(&other, NIC_RXCTRL, 1) == NIC_DONE);
+    nic_close(&other);
+    printf("%u\n", broken);
+    return 0;
+}

@@ -18,6 +18,7 @@
 
 #define SESSION_MOST 300 /* messages of one client */
 #define HOST_MOST 60     /* of the host's, which brings its queues up when it comes */
+#define REST_TRIES 30000 /* of 10 ms at least, that the server has for closing files */
 #define FILES 8
 #define FILE_BYTES (64u * 4096)
 
@@ -358,36 +359,103 @@ static void turn(void)
         ask();
 }
 
-/* ---- the whole ---- */
+/* ---- the server's open files ---- */
 
-static unsigned int open_files(void)
+#define OPEN_MOST 1024
+#define KIND_BYTES 64
+
+/* What each of them is, in order: the path of a file, and of a socket or a pipe the kind alone. */
+struct open_files {
+    unsigned int count;
+    char kinds[OPEN_MOST][KIND_BYTES];
+};
+
+static int compare_kinds(const void *one, const void *other)
 {
-    char name[64];
-    unsigned int count = 0;
-    snprintf(name, sizeof name, "/proc/%ld/fd", (long)server_process());
-    DIR *folder = opendir(name);
-    CHECK(folder != NULL);
-    while (readdir(folder))
-        count++;
-    closedir(folder);
-    return count;
+    return strcmp(one, other);
 }
 
-/* With one client, a wire and a control socket that are as they should be. */
-static unsigned int files_at_rest(void)
+static bool are_same(const struct open_files *one, const struct open_files *other)
+{
+    unsigned int i = 0;
+    while (i < one->count && i < other->count && compare_kinds(one->kinds[i], other->kinds[i]) == 0)
+        i++;
+    return i == one->count && i == other->count;
+}
+
+static void add_kind(struct open_files *it, const char *path)
+{
+    char *kind = it->kinds[it->count];
+    ssize_t length = readlink(path, kind, KIND_BYTES - 1);
+    if (length < 0) /* closed since */
+        return;
+    kind[length] = 0;
+    if (kind[0] != '/' && strncmp(kind, "anon_inode:", 11) != 0)
+        kind[strcspn(kind, ":")] = 0;
+    it->count++;
+}
+
+static void read_open_files(struct open_files *it)
+{
+    char folder[64], path[sizeof folder + 256];
+    snprintf(folder, sizeof folder, "/proc/%ld/fd", (long)server_process());
+    DIR *entries = opendir(folder);
+    CHECK(entries != NULL);
+    it->count = 0;
+    for (const struct dirent *entry = readdir(entries); entry; entry = readdir(entries)) {
+        if (entry->d_name[0] == '.')
+            continue;
+        CHECK(it->count < OPEN_MOST);
+        snprintf(path, sizeof path, "%s/%s", folder, entry->d_name);
+        add_kind(it, path);
+    }
+    closedir(entries);
+    qsort(it->kinds, it->count, KIND_BYTES, compare_kinds);
+}
+
+static void print_open_files(const char *when, const struct open_files *it)
+{
+    fprintf(stderr, "%u open files of the server %s:", it->count, when);
+    for (unsigned int i = 0; i < it->count; i++)
+        fprintf(stderr, " %s", it->kinds[i]);
+    fputc('\n', stderr);
+}
+
+static void reopen(struct peer *it, const char *path)
+{
+    if (it->file >= 0)
+        close(it->file);
+    it->file = peer_stream(path);
+}
+
+/* One client, a wire and a control socket, each of them new: on what is sent by chance the server may hang up late. It
+   answers once it has accepted the three. */
+static void connect_anew(void)
 {
     struct peer *peer = &clients[0].peer;
-    unsigned int many;
-    wire.file = wire.file < 0 ? peer_stream(wire_path) : wire.file;
-    close(control.file);
-    control.file = peer_stream(control_path);
+    reopen(&wire, wire_path);
+    reopen(&control, control_path);
     CHECK(strstr(peer_request(control.file, "go"), "ok"));
     peer_open(peer, clients[0].path);
     CHECK(peer_version(peer) == 0);
-    many = open_files();
-    peer_close(peer);
-    return many;
 }
+
+/* The server closes files in threads of its own, so it is waited for; what it leaks stays open. */
+static void check_open_files(const struct open_files *first)
+{
+    static struct open_files now;
+    for (int i = 0; i < REST_TRIES; i++) {
+        read_open_files(&now);
+        if (are_same(&now, first))
+            return;
+        usleep(10000);
+    }
+    print_open_files("in the beginning", first);
+    print_open_files("in the end", &now);
+    CHECK(!"the server has the files open that it had in the beginning");
+}
+
+/* ---- the whole ---- */
 
 static void begin(const char *folder)
 {
@@ -407,30 +475,23 @@ static void begin(const char *folder)
         snprintf(clients[i].path, sizeof clients[i].path, "%s%s", path, endings[i]);
 }
 
-/* Files that are being closed may take a moment. */
-static void check_files(unsigned int first)
-{
-    bool is_same = false;
-    for (int i = 0; i < 6000 && !is_same; i++) {
-        is_same = files_at_rest() == first;
-        if (!is_same)
-            usleep(10000);
-    }
-    CHECK(is_same); /* (to look once more would open others) */
-}
-
 int main(int count, char **words)
 {
+    static struct open_files first;
     unsigned long most = count > 2 ? strtoul(words[2], NULL, 10) : 20000;
     chance_state = count > 1 ? strtoul(words[1], NULL, 10) + 1 : 1;
     begin(count > 3 ? words[3] : "/tmp");
-    unsigned int first = files_at_rest();
+    connect_anew();
+    read_open_files(&first);
+    peer_close(&clients[0].peer);
     while (sent < most)
         turn();
     for (unsigned int i = 0; i < CLIENTS; i++)
         if (clients[i].is_open)
             leave(&clients[i]);
-    check_files(first);
+    connect_anew();
+    check_open_files(&first);
+    peer_close(&clients[0].peer);
     server_stop();
     printf("fuzz: %lu messages of %lu clients\n", sent, came);
     return 0;

@@ -22,6 +22,8 @@
 #include "server.h"
 #include "tell.h"
 
+#define CONNECT_TRIES 30000 /* of 10 ms at least, since a busy machine may start the server late */
+
 static pid_t server;
 static char server_path[100];
 
@@ -71,7 +73,7 @@ int peer_stream(const char *path)
 {
     struct sockaddr_un name = {.sun_family = AF_UNIX};
     snprintf(name.sun_path, sizeof name.sun_path, "%s", path);
-    for (int i = 0; i < 500; i++) {
+    for (int i = 0; i < CONNECT_TRIES; i++) {
         int file = socket(AF_UNIX, SOCK_STREAM | SOCK_CLOEXEC, 0);
         if (connect(file, (const struct sockaddr *)&name, sizeof name) == 0)
             return file;

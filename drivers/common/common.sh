@@ -4,7 +4,7 @@
 # Debian's lists, cache and source lines are in a folder of these runs' own, so the system's apt stays as it is and root
 # isn't needed. NAME is what messages begin with, ROOT the repository, WORK the folder.
 
-WORK=${DRIVERS_WORK:-${XDG_CACHE_HOME:-$HOME/.cache}/zinggapul-drivers}
+WORK=${DRIVERS_WORK:-${XDG_CACHE_HOME:-${HOME:-/tmp}/.cache}/zinggapul-drivers}
 
 say() { echo "$NAME: $*" >&2; }
 # What a run needs isn't there.

@@ -23,8 +23,11 @@
 #define SECTXSTAT 0x08804u
 #define SECRXSTAT 0x08D04u
 #define SECURITY_OFF 2u
-#define MANY 100u /* answers that others get while one has work without end */
-#define ENDS_SECONDS 30
+#define MANY 100u     /* answers that others get while one has work without end */
+#define TRIES 300000u /* of a millisecond at least */
+#define FRAME_MS 300000
+#define ENDS_SECONDS 300
+#define EXPECTED_TIMES 3u
 
 static int ram_file, wire, control;
 static uint8_t *ram;
@@ -100,7 +103,7 @@ static void start_host(struct peer *it, uint32_t slots)
 /* Polls a register, as drivers do. */
 static void until(struct peer *it, uint32_t address, uint32_t word)
 {
-    for (int i = 0; i < 60000; i++) {
+    for (unsigned int i = 0; i < TRIES; i++) {
         if (peer_read(it, address) == word)
             return;
         usleep(1000);
@@ -120,14 +123,14 @@ static void one_length(struct peer *it, uint32_t length, bool fits)
     peer_write(it, NIC_TDT(0), 1);
     until(it, fits ? NIC_TDH(0) : NIC_TXDCTL(0), fits);
     if (fits && length <= WIRE_FRAME_MOST)
-        CHECK(peer_frame(wire, frame, sizeof frame, 60000) == length && memcmp(frame, ram + BUFFER, length) == 0);
+        CHECK(peer_frame(wire, frame, sizeof frame, FRAME_MS) == length && memcmp(frame, ram + BUFFER, length) == 0);
     else
         CHECK(peer_count(control, "too long ") == refused + fits);
     memset(ram + BUFFER, 7, 60);
     start_host(it, 8);
     put(0, data(60, NIC_TXD_EOP | NIC_TXD_RS));
     peer_write(it, NIC_TDT(0), 1);
-    CHECK(peer_frame(wire, frame, sizeof frame, 60000) == 60 && memcmp(frame, ram + BUFFER, 60) == 0);
+    CHECK(peer_frame(wire, frame, sizeof frame, FRAME_MS) == 60 && memcmp(frame, ram + BUFFER, 60) == 0);
 }
 
 /* A frame of this length comes in, in buffers of 16 KB. */
@@ -179,7 +182,7 @@ static void given_up(struct peer *it, uint64_t asks, bool faults)
     put(0, data(100, NIC_TXD_EOP | NIC_TXD_RS));
     start_host(it, 8);
     peer_write(it, NIC_TDT(0), 1);
-    CHECK(peer_frame(wire, frame, sizeof frame, 60000) == 100 && memcmp(frame, ram + BUFFER, 100) == 0);
+    CHECK(peer_frame(wire, frame, sizeof frame, FRAME_MS) == 100 && memcmp(frame, ram + BUFFER, 100) == 0);
 }
 
 /* What nobody does isn't done by half: the device says so, and no byte goes out. */
@@ -292,13 +295,22 @@ static void ends(void)
 
 /* ---- expected frames ---- */
 
-static void expected(struct peer *host)
+/* The host gets its answers while a million frames are made; false where they were made first, as may be where this
+   process gets the processor late. */
+static bool is_served_meanwhile(struct peer *host)
 {
     CHECK(strstr(peer_request(control, "expect 1000000 9014"), "ok"));
-    CHECK(strstr(peer_request(control, "came"), " of 1000000 are made yet\n"));
     for (unsigned int i = 0; i < MANY; i++)
         peer_read(host, NIC_STATUS);
-    CHECK(strstr(peer_request(control, "came"), " of 1000000 are made yet\n"));
+    return strstr(peer_request(control, "came"), " of 1000000 are made yet\n");
+}
+
+static void expected(struct peer *host)
+{
+    unsigned int times = 0;
+    while (times < EXPECTED_TIMES && !is_served_meanwhile(host))
+        times++;
+    CHECK(times < EXPECTED_TIMES);
     CHECK(strstr(peer_request(control, "expect 10 60"), "ok"));
     while (strstr(peer_request(control, "came"), "are made yet"))
         ;

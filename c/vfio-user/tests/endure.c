@@ -18,6 +18,7 @@
 #include <unistd.h>
 
 #include "../../tests/check.h"
+#include "budget.h"
 #include "nic82599.h"
 #include "peer/peer.h"
 #include "peer/program.h"
@@ -26,6 +27,9 @@
 #define BUFFERS 0x40000000u
 #define SLOTS_MOST 32768u
 #define MANY 5000u
+#define SAID_AT_ONCE 32768u /* bytes: some lines of each kind */
+#define SAID_A_SECOND 2000u
+#define WAIT_MS 300000
 
 static const char *program, *socket_word, *path, *other_path, *not_tried = "";
 
@@ -211,7 +215,7 @@ static int send_lingering(struct peer *it, pid_t server)
         not_tried = "; not tried, since there is no network: files that don't close";
         return -1;
     }
-    CHECK(kill(server, SIGSTOP) == 0);
+    program_stop(server);
     CHECK(peer_try(it, VFU_DEVICE_GET_INFO, VFU_NO_REPLY, bytes, sizeof bytes, &file, 1, 0));
     close(file);
     CHECK(kill(server, SIGCONT) == 0);
@@ -233,7 +237,7 @@ static void second_client_with_a_file(void)
 {
     struct peer peer, second;
     pid_t server = begin(&peer, NULL, NULL);
-    CHECK(kill(server, SIGSTOP) == 0);
+    program_stop(server);
     peer_open(&second, path);
     int other = send_lingering(&second, server);
     peer_close(&second);
@@ -250,7 +254,7 @@ static void file_that_nobody_took(void)
     static const uint8_t bytes[8000];
     pid_t server = begin(&peer, NULL, NULL);
     come(&hostile, other_path);
-    CHECK(kill(server, SIGSTOP) == 0);
+    program_stop(server);
     for (unsigned int i = 0; i < 6; i++) /* of which the server takes 32 KB at a time; a size of 4 is none */
         CHECK(peer_try(&hostile, VFU_DEVICE_GET_INFO, VFU_NO_REPLY, bytes, sizeof bytes, NULL, 0, 4));
     int other = send_lingering(&hostile, server);
@@ -333,7 +337,7 @@ static void no_file_left(void)
     CHECK(peer_config(&peer, 0, 4) == 0x10F78086 && program_rests(server));
     CHECK(prlimit(server, RLIMIT_NOFILE, &before, NULL) == 0);
     answer = (struct pollfd){next.file, POLLIN, 0};
-    CHECK(poll(&answer, 1, 60000) == 1); /* it is turned away */
+    CHECK(poll(&answer, 1, WAIT_MS) == 1); /* it is turned away */
     peer_close(&next);
     end(&peer, server);
 }
@@ -389,6 +393,7 @@ static void unread_errors(void)
     static char said[1u << 20];
     int ends[2], file = memory(SLOTS_MOST * 16, &ring);
     const char *words[] = {socket_word, "--functions=1", NULL};
+    uint64_t began = budget_time();
     CHECK(pipe(ends) == 0);
     pid_t server = program_start(words, NULL, ends[1]);
     close(ends[1]);
@@ -407,7 +412,8 @@ static void unread_errors(void)
     size_t length = 0;
     for (ssize_t got = 1; got > 0; length += got > 0 ? (size_t)got : 0)
         got = read(ends[0], said + length, sizeof said - 1 - length);
-    CHECK(length < 32768 && strstr(said, "a fault in sending") && strstr(said, "were left out"));
+    CHECK(length < SAID_AT_ONCE + SAID_A_SECOND * ((budget_time() - began) / 1000000 + 1));
+    CHECK(strstr(said, "a fault in sending") && strstr(said, "were left out"));
     close(ends[0]);
     munmap(ring, SLOTS_MOST * 16);
     close(file);
@@ -456,17 +462,25 @@ static void limited_file(void)
 
 /* ---- signals ---- */
 
-/* A client whose messages never end, in a process of its own. */
+/* A client whose messages never end, in a process of its own, which has begun. */
 static pid_t flood(const char *to)
 {
     struct peer peer;
     struct vfu_access access = {NIC_STATUS, 0, 4};
+    char begun = 0;
+    int ends[2];
+    CHECK(pipe(ends) == 0);
     pid_t client = fork();
     CHECK(client >= 0);
-    if (client)
+    if (client) {
+        close(ends[1]);
+        CHECK(read(ends[0], &begun, 1) == 1);
+        close(ends[0]);
         return client;
+    }
     prctl(PR_SET_PDEATHSIG, SIGKILL);
     come(&peer, to);
+    CHECK(write(ends[1], &begun, 1) == 1);
     while (peer_try(&peer, VFU_REGION_READ, VFU_NO_REPLY, &access, sizeof access, NULL, 0, 0)) {
     }
     _exit(0);
@@ -509,7 +523,7 @@ static void killed(void)
     pid_t server = begin(&peer, NULL, NULL);
     kill(server, SIGKILL);
     CHECK(program_status(server) == -1);
-    for (int i = 0; i < 60000 && (access(path, F_OK) == 0 || access(other_path, F_OK) == 0); i++)
+    for (int i = 0; i < WAIT_MS && (access(path, F_OK) == 0 || access(other_path, F_OK) == 0); i++)
         usleep(1000);
     CHECK(access(path, F_OK) != 0 && access(other_path, F_OK) != 0);
     peer_close(&peer);

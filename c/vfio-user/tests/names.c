@@ -22,6 +22,7 @@ static const struct way {
             {"--wire=listen:", SOCK_STREAM},
             {"--wire=dgram:", SOCK_DGRAM}};
 
+#define WAIT_MS 300000
 #define WAYS (sizeof ways / sizeof *ways)
 
 static const char *path;
@@ -67,7 +68,7 @@ static void is_refused(const struct way *way, const char *why)
 
 static void wait_for_name(void)
 {
-    for (int i = 0; i < 60000 && access(path, F_OK) != 0; i++)
+    for (int i = 0; i < WAIT_MS && access(path, F_OK) != 0; i++)
         usleep(1000);
     CHECK(access(path, F_OK) == 0);
 }
@@ -100,7 +101,7 @@ static void other_sockets(const struct way *way, bool is_long)
         close(file);
         CHECK(chmod(path, 0640) == 0);
         pid_t server = start(way, -1);
-        for (int k = 0; k < 60000 && (lstat(path, &about) != 0 || (about.st_mode & 0777) != 0600); k++)
+        for (int k = 0; k < WAIT_MS && (lstat(path, &about) != 0 || (about.st_mode & 0777) != 0600); k++)
             usleep(1000);
         CHECK((about.st_mode & 0777) == 0600);
         CHECK(program_end(server) == 0 && access(path, F_OK) != 0);

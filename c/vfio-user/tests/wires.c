@@ -14,6 +14,8 @@
 #include "respond.h"
 #include "wire.h"
 
+#define DATAGRAMS 2000u /* more than any queue takes, and less than the wire keeps */
+
 static struct wire wire;
 static char first_path[200], second_path[200], file_path[200];
 
@@ -21,7 +23,7 @@ static void serve(bool has_data)
 {
     struct pollfd polls[WIRE_POLLS];
     wire_polls(&wire, polls, true);
-    CHECK(poll(polls, WIRE_POLLS, has_data ? 3000 : 0) >= 0);
+    CHECK(poll(polls, WIRE_POLLS, has_data ? 300000 : 0) >= 0);
     wire_serve(&wire, polls);
 }
 
@@ -185,18 +187,19 @@ static void datagrams(void)
     const struct wire_options options = {.kind = WIRE_DGRAM, .path = first_path, .peer = second_path};
     struct sockaddr_un name = name_of(second_path), own = name_of(first_path);
     static uint8_t frame[70000], got[20000];
+    unsigned int count = 0;
     CHECK(wire_open(&wire, &options));
     wire_send(&wire, frame, 60);
     CHECK(wire.counts.lost_nobody == 1);
     int peer = socket(AF_UNIX, SOCK_DGRAM, 0);
     unlink(second_path);
     CHECK(bind(peer, (const struct sockaddr *)&name, sizeof name) == 0);
-    for (unsigned int i = 0; i < 100; i++) { /* more than a queue of datagrams takes */
-        make_frame(frame, 1514, i);
+    for (; count < 100 || (count < DATAGRAMS && wire_patience(&wire) != 1); count++) { /* until its queue is full */
+        make_frame(frame, 1514, count);
         wire_send(&wire, frame, 1514);
     }
     CHECK(wire_patience(&wire) == 1);
-    for (unsigned int i = 0; i < 100; i++) {
+    for (unsigned int i = 0; i < count; i++) {
         serve(false);
         make_frame(frame, 1514, i);
         CHECK(recv(peer, got, sizeof got, 0) == 1514 && memcmp(got, frame, 1514) == 0);

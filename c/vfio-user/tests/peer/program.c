@@ -13,8 +13,8 @@
 
 #include "../../../tests/check.h"
 
-#define MINUTE_MS 60000
-#define RESTS 20 /* times in a row that it sleeps */
+#define MINUTES_MS 600000 /* at least: a look takes a millisecond, and a busy machine makes it longer */
+#define RESTS 20          /* times in a row that it sleeps */
 #define PATHS 32
 #define PATH_BYTES 200
 
@@ -64,7 +64,7 @@ pid_t program_start(const char *const *words, void (*before)(void), int errors)
 int program_status(pid_t process)
 {
     int status = 0;
-    for (int i = 0; i < MINUTE_MS; i++) {
+    for (int i = 0; i < MINUTES_MS; i++) {
         if (waitpid(process, &status, WNOHANG) == process)
             return WIFEXITED(status) ? WEXITSTATUS(status) : -1;
         usleep(1000);
@@ -94,10 +94,18 @@ static char state_of(pid_t process)
     return end && end[1] ? end[2] : 0;
 }
 
+void program_stop(pid_t process)
+{
+    CHECK(kill(process, SIGSTOP) == 0);
+    for (int i = 0; i < MINUTES_MS && state_of(process) != 'T'; i++)
+        usleep(1000);
+    CHECK(state_of(process) == 'T');
+}
+
 bool program_rests(pid_t process)
 {
     unsigned int rests = 0;
-    for (int i = 0; i < MINUTE_MS && rests < RESTS; i++) {
+    for (int i = 0; i < MINUTES_MS && rests < RESTS; i++) {
         rests = state_of(process) == 'S' ? rests + 1 : 0;
         usleep(1000);
     }

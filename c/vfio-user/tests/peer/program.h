@@ -12,11 +12,13 @@ const char *program_path(const char *text, const char *name);
 /* Starts it with these words, the last of them null. `before`, where it isn't null, is called in the new process. Its
    standard error is this file, or (-1) goes nowhere. */
 pid_t program_start(const char *const *words, void (*before)(void), int errors);
-/* Waits for its end, a minute at most: its status, or -1 where it was ended by a signal. */
+/* Waits for its end, for minutes at most: its status, or -1 where it was ended by a signal. */
 int program_status(pid_t process);
 /* Ends it by SIGTERM: the same. */
 int program_end(pid_t process);
-/* Whether it sleeps, and doesn't only for a moment: looked at for a minute at most. */
+/* Stops it by SIGSTOP, and waits until it stands still; SIGCONT has it go on. */
+void program_stop(pid_t process);
+/* Whether it sleeps, and doesn't only for a moment: looked at for minutes at most. */
 bool program_rests(pid_t process);
 /* A number of /proc/PID/status, in this base; -1: it has no such line. */
 long long program_number(pid_t process, const char *name, int base);

@@ -15,6 +15,10 @@ from pathlib import Path
 
 HERE = Path(__file__).resolve().parent
 C = HERE.parent
+# So many seconds, by the clock, only what hangs takes, on a busy machine too.
+HANGS = 3600
+# A crash may be reported late, and a schedule's process may get the processor late: neither is a hang.
+NO_HANG = ["--hang", 600]
 STRICT = ["-std=c99", "-Wall", "-Wextra", "-pedantic", "-Werror"]
 STRATEGIES = ("random", "priorities", "exhaustive")
 
@@ -354,8 +358,7 @@ def check_faults(kit: Kit) -> str:
         junit = out / "result.xml"
         words = [program, mode, "--quiet", "--jobs", 2, "--out", out, "--junit", junit]
         words += ["--no-shrink"] if mode in ("hang", "endless", "ticks") else []
-        # (on a busy machine a crash is reported late)
-        words += ["--hang", 2 if mode == "hang" else 60]
+        words += ["--hang", 2] if mode == "hang" else NO_HANG
         told(ran(words, 1), f"FAILED {wanted}", mode)
         failure = xml.etree.ElementTree.parse(junit).find("testcase/failure")
         if failure is None or not (failure.text or "").strip().startswith("# "):
@@ -437,8 +440,8 @@ def check_choices(kit: Kit) -> str:
     """Values and timers by each strategy: what is found, how it is shrunk, and that its schedule fails again."""
     program, out = kit.build(HERE / "tests/choices.c"), kit.out("chosen")
     for mode, (status, wanted) in CHOICES.items():
-        # (each schedule of a shrinking would hang for so long; and a busy machine is no hang)
-        limit = ["--hang", 1, "--no-shrink"] if mode == "hang" else ["--hang", 60]
+        # (each schedule of a shrinking would hang for so long)
+        limit = ["--hang", 1, "--no-shrink"] if mode == "hang" else NO_HANG
         for strategy in STRATEGIES:
             words = [program, mode, "--quiet", "--jobs", 2, *limit, "--out", out, "--strategy", strategy]
             words += ["--runs", 2000]
@@ -463,7 +466,7 @@ def check_choices(kit: Kit) -> str:
 def check_weak(kit: Kit) -> str:
     """Litmus tests; a schedule of weak memory says so, and --memory changes it for a scenario."""
     out = kit.out("weakly")
-    said = ran([kit.build(HERE / "tests/weak.c")], timeout=300).strip()
+    said = ran([kit.build(HERE / "tests/weak.c")], timeout=HANGS).strip()
     program = kit.build(HERE / "corpus/missing_wmb.c")
     words = [program, "--quiet", "--jobs", 2, "--out", out]
     ran([*words, "--memory", "strong"])
@@ -582,7 +585,7 @@ def check_refusals(kit: Kit) -> str:
 
 def check_orders(kit: Kit, states: int) -> str:
     """Both orders of each row's steps, from states by chance."""
-    return ran([kit.build(HERE / "tests/orders.c"), states, 1], timeout=900).strip().splitlines()[-1]
+    return ran([kit.build(HERE / "tests/orders.c"), states, 1], timeout=HANGS).strip().splitlines()[-1]
 
 
 # Of the driver: a host's or a function's, its tasks apart by what the scenario says, or by what they are told to touch.
@@ -592,7 +595,7 @@ SLEEPING = ("", "vf", "apart", "vf apart", "told", "vf told", "vf weak")
 def check_sleeping(kit: Kit, scenarios: int) -> str:
     """With sleep sets the exhaustive search comes to the same ends as without."""
     program = kit.build(HERE / "tests/sleeping.c")
-    said = {mode: ran([program, scenarios, 1, *mode.split()], timeout=900).strip() for mode in SLEEPING}
+    said = {mode: ran([program, scenarios, 1, *mode.split()], timeout=HANGS).strip() for mode in SLEEPING}
     return "; ".join(f"{mode or 'host'}: {line}" for mode, line in said.items())
 
 
@@ -655,7 +658,7 @@ def check_form(kit: Kit) -> str:
     """Each call of threads that is turned does what it should in every schedule tried, and each fault is told."""
     source, out = HERE / "tests/pthreads.c", kit.out("form")
     program, modes = kit.build_form(source), modes_of(source)
-    words = ["--quiet", "--jobs", 2, "--out", out]
+    words = ["--quiet", "--jobs", 2, *NO_HANG, "--out", out]
     for mode in modes:
         if mode in FORM_FAULTS:
             told(ran([program, mode, *words, "--no-shrink"], 1), f"FAILED {FORM_FAULTS[mode]}", mode)
@@ -800,7 +803,7 @@ def check_threads(kit: Kit, searches: int) -> str:
             more = ", not under the thread sanitizer, which isn't here"
     for it in kits:
         threaded = replace(it, flags=[*it.flags, "-pthread"])
-        said = ran([threaded.build(HERE / "tests/threads.c"), it.folder, searches], timeout=600).splitlines()[-1]
+        said = ran([threaded.build(HERE / "tests/threads.c"), it.folder, searches], timeout=HANGS).splitlines()[-1]
         if said != f"{searches} searches beside another thread's devices":
             raise Wrong(f"threads: {said}")
     return said + more

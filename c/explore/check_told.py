@@ -10,7 +10,7 @@ import shutil
 from pathlib import Path
 from typing import Any
 
-from explore.check import HERE, Kit, Wrong, ran, told
+from explore.check import HERE, NO_HANG, Kit, Wrong, ran, told
 
 SOURCE = HERE / "tests/told.c"
 FOUND = r"found by .*, (\d+) points and (\d+) switches; shrunk by \d+ tries to (\d+) and (\d+)"
@@ -171,11 +171,12 @@ def check_page(kit: Kit, program: Path) -> str:
             raise Wrong(f"{name}: its schedule goes wrong elsewhere than its page")
     faulty = kit.build(HERE / "tests/faulty.c")
     for mode in ("crash", "end"):  # (amid a step; words that look like a tag)
-        ran([faulty, mode, "--quiet", "--jobs", 1, "--out", out], 1)
+        ran([faulty, mode, "--quiet", "--jobs", 1, *NO_HANG, "--out", out], 1)
         data = page_of(out / "faulty.html")
         if data["outcome"] != mode or not data["steps"]:
             raise Wrong(f"faulty {mode}: its page has no steps, or another end")
-    said = ran([faulty, "crash", "--quiet", "--jobs", 1, "--strategy", "priorities", "--out", out], 1)
+    words = [faulty, "crash", "--quiet", "--jobs", 1, *NO_HANG, "--strategy", "priorities"]
+    said = ran([*words, "--out", out], 1)
     told(said, "found by random before run 0,", "a crash before the first run")
     found_by(kit, program, "round")
     if page_of(out / "told.html")["cycle"] != len(page_of(out / "told.html")["steps"]) - 4:

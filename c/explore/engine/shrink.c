@@ -107,7 +107,7 @@ static void take_over(struct shrinking *it, uint32_t points, uint32_t switches)
 
 bool nicxi_shrinking_is_over(const struct shrinking *it)
 {
-    return it->tries >= MOST_TRIES || nicxi_now() > it->until;
+    return it->tries >= MOST_TRIES || nicxi_is_over(&it->limit);
 }
 
 /* Where it fails in a better way it is the best one from then on, as it ran. */
@@ -333,8 +333,12 @@ uint32_t nicxi_shrink(const struct options *options, struct failure *failure)
 {
     size_t size = ((size_t)nicxi.most_points + 1) * sizeof *failure->schedule;
     struct failure best = *failure;
-    struct shrinking it = {
-        options, &best, nicxi_posts(1), failure->omitted, malloc(size), 0, 0, nicxi_now() + MOST_SECONDS};
+    struct shrinking it = {.options = options,
+                           .best = &best,
+                           .post = nicxi_posts(1),
+                           .omitted = failure->omitted,
+                           .list = malloc(size),
+                           .limit = nicxi_limit(MOST_SECONDS)};
     best.schedule = malloc(size);
     if (it.post && it.list && best.schedule) {
         memcpy(best.schedule, failure->schedule, failure->result.points * sizeof *best.schedule);

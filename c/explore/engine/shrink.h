@@ -2,6 +2,7 @@
 #ifndef NICX_SHRINK_H
 #define NICX_SHRINK_H
 
+#include "limit.h"
 #include "search.h"
 
 struct shrinking {
@@ -12,7 +13,7 @@ struct shrinking {
     uint16_t *list;         /* and in this order */
     uint32_t length;
     uint32_t tries;
-    double until;
+    struct limit limit;
 };
 
 bool nicxi_shrinking_is_over(const struct shrinking *it);

@@ -4,6 +4,7 @@
 #include <stdio.h>
 #include <string.h>
 
+#include "limit.h"
 #include "shrink.h"
 #include "strategy.h"
 
@@ -17,7 +18,7 @@ struct going {
     const struct beginning *beginning;
     struct by_chance chance;
     uint32_t first;
-    double until;
+    double left; /* seconds */
     bool is_unfit;
 };
 
@@ -41,8 +42,9 @@ static void go_on(struct post *post, void *argument)
 {
     struct going *going = argument;
     nicxi_be_quiet();
+    const struct limit limit = nicxi_limit(going->left);
     nicxi.omitted = *going->beginning->omitted;
-    for (uint32_t k = going->first; k < going->beginning->tries && nicxi_now() < going->until; k++) {
+    for (uint32_t k = going->first; k < going->beginning->tries && !nicxi_is_over(&limit); k++) {
         nicx_chooser chooser = {choose, going};
         post->run = k;
         nicxi_by_chance(&going->chance, 0, k);
@@ -61,8 +63,9 @@ bool nicxi_can_be_fine(const struct options *options, struct post *post, const s
     static struct going going;
     memset(&going, 0, sizeof going);
     going.beginning = beginning;
-    going.until = nicxi_now() + MOST_SECONDS;
-    for (*tried = 0; going.first < beginning->tries && nicxi_now() < going.until;) {
+    const struct limit limit = nicxi_limit(MOST_SECONDS);
+    for (*tried = 0; going.first < beginning->tries && !nicxi_is_over(&limit);) {
+        going.left = nicxi_left(&limit);
         post->run = going.first;
         bool is_told = nicxi_do(post, options->hang, go_on, &going);
         *tried = (uint32_t)post->run + 1;
@@ -81,7 +84,7 @@ struct turning {
     const struct options *options;
     const struct failure *failure;
     struct post *post;
-    double until;
+    struct limit limit;
     uint32_t tried; /* behind the beginning that was looked at last */
 };
 
@@ -98,7 +101,7 @@ static uint32_t first_lost(struct turning *it)
     if (!can_be_fine(it, 0, MANY))
         return 0;
     while (high - low > 1) {
-        if (nicxi_now() > it->until)
+        if (nicxi_is_over(&it->limit))
             return UNKNOWN;
         uint32_t middle = low + (high - low) / 2;
         if (can_be_fine(it, middle, FEW))
@@ -110,7 +113,7 @@ static uint32_t first_lost(struct turning *it)
     while (high < it->failure->result.points && can_be_fine(it, high, MANY)) {
         high++;
         it->tried = 0;
-        if (nicxi_now() > it->until)
+        if (nicxi_is_over(&it->limit))
             return UNKNOWN;
     }
     return high;
@@ -118,7 +121,7 @@ static uint32_t first_lost(struct turning *it)
 
 void nicxi_find_turn(const struct options *options, const struct failure *failure, struct turn *turn)
 {
-    struct turning it = {options, failure, nicxi_posts(1), nicxi_now() + 2 * MOST_SECONDS, 0};
+    struct turning it = {options, failure, nicxi_posts(1), nicxi_limit(2 * MOST_SECONDS), 0};
     memset(turn, 0, sizeof *turn);
     if (!it.post || failure->is_stale || failure->result.outcome == NICX_HANG) {
         if (it.post)

@@ -2,10 +2,12 @@
 
 from __future__ import annotations
 
+import contextlib
 import os
 import sys
 import threading
 import time
+from collections.abc import Iterator
 
 from nic82599.descriptors import is_sent, rx_descriptor, tx_descriptor
 from nic82599.drive import Can, Driver, Filter, Mutex, Rss, Setup
@@ -324,19 +326,33 @@ class ReadsTooMuch(Both):
         return super().receive(queue)
 
 
-def left_behind() -> None:
-    """A process that would stay, which tells its number to the test."""
+def left_behind(begun: int) -> None:
+    """A process that would stay, which tells its number to the test, and then a pipe that it did."""
     with open(os.environ["PROCESSES"], "a") as file:
         file.write(f"{os.getpid()}\n")
+    os.write(begun, b"1")
     time.sleep(1000)
+
+
+@contextlib.contextmanager
+def until_begun() -> Iterator[int]:
+    """What is in it ends once one that is left behind has told of itself."""
+    ends = os.pipe()
+    try:
+        yield ends[1]
+        os.read(ends[0], 1)
+    finally:
+        for end in ends:
+            os.close(end)
 
 
 class Forks(Both):
     """Its child sleeps, with the card's pipes."""
 
     def receive(self, queue: int) -> bytes | tuple[bytes, int] | None:
-        if os.fork() == 0:
-            left_behind()
+        with until_begun() as begun:
+            if os.fork() == 0:
+                left_behind(begun)
         return super().receive(queue)
 
 
@@ -352,11 +368,12 @@ class LeavesADaemon(Both):
     """Nobody's child, in a session of its own."""
 
     def open(self, setup: Setup) -> bool:
-        if os.fork() == 0:
-            os.setsid()
+        with until_begun() as begun:
             if os.fork() == 0:
-                left_behind()
-            os._exit(0)
+                os.setsid()
+                if os.fork() == 0:
+                    left_behind(begun)
+                os._exit(0)
         return super().open(setup)
 
 

@@ -82,7 +82,7 @@ def ran(driver: type[Driver], *words: str) -> tuple[int, str]:
         return status, file.read().decode()
 
 
-def row(driver: type[Driver], name: str, runs: int, folder: str, hang: int = 20) -> tuple[int, str]:
+def row(driver: type[Driver], name: str, runs: int, folder: str, hang: int = 600) -> tuple[int, str]:
     words = ["--row", name, "--quiet", "--jobs", "1", "--runs", str(runs), "--hang", str(hang), "--no-shrink"]
     return ran(driver, *words, "--out", folder)
 
@@ -107,7 +107,7 @@ class Cards(unittest.TestCase):
         for name, (failed, words) in WRONG.items():
             driver = getattr(drivers, name)
             with self.subTest(name), tempfile.TemporaryDirectory() as folder:
-                status, told = row(driver, failed, 300, folder, 2 if words.startswith("hang") else 20)
+                status, told = row(driver, failed, 300, folder, 2 if words.startswith("hang") else 600)
                 self.assertEqual(status, 2 if name == "RaisesInInit" else 1, told)
                 self.assertRegex(told, words)
                 if status == 1:
@@ -221,7 +221,8 @@ class Command(unittest.TestCase):
                 how = {**os.environ, "PYTHONPATH": str(HERE.parent), "PROCESSES": str(told)}
                 rows = ["--rows", "receive-one", "--runs", "10", "--every", "10", "--no-pages", "-o", folder]
                 words = [sys.executable, "-P", "-m", "nic82599.drive", f"{HERE / 'card_drivers.py'}:{name}", *rows]
-                made = subprocess.run(words, env=how, capture_output=True, text=True, timeout=300, check=False)
+                words += ["--hang", "600"]  # (they wait until what they start has begun)
+                made = subprocess.run(words, env=how, capture_output=True, text=True, timeout=3600, check=False)
                 self.assertIn(f"{drivers.Both.name}: 1 passed, 0 failed", made.stdout, made.stderr)
                 processes = [int(it) for it in told.read_text().split()]
                 self.assertEqual(len(processes) > 0, name != "ForksAndGoesOn")

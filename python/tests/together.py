@@ -199,7 +199,7 @@ def fork():
         for _ in range(40):
             child = os.fork()
             if child == 0:
-                faulthandler.dump_traceback_later(60, exit=True)
+                faulthandler.dump_traceback_later(1800, exit=True)
                 nic.memory.lend(0, bytearray(2048))
                 nic.take(0)
                 nic.close()
@@ -215,7 +215,7 @@ class Together(unittest.TestCase):
     def runs(self, program: str) -> None:
         paths = {**os.environ, "PYTHONPATH": str(Path(__file__).resolve().parents[1])}
         words = [sys.executable, "-W", "ignore::DeprecationWarning", "-c", HEAD + program]
-        made = subprocess.run(words, env=paths, capture_output=True, text=True, timeout=300, check=False)
+        made = subprocess.run(words, env=paths, capture_output=True, text=True, timeout=3600, check=False)
         self.assertEqual((made.returncode, made.stderr), (0, ""))
 
     def test_collect(self) -> None:

@@ -14,7 +14,7 @@ from nic82599.tools.printable import printable
 
 from .processes import TooLong, end_all, ran
 
-LIST_SECONDS = 20
+LIST_SECONDS = 120
 PASSED, FAILED, NOT_APPLICABLE = "passed", "failed", "not applicable"
 
 

@@ -501,7 +501,7 @@ int main(int count, char **words)
 {
     uint8_t *bytes = malloc(OWN * BLOCK + 1);
     CHECK(bytes);
-    alarm(300);
+    alarm(3600); /* only what hangs takes so long */
     if (count == 3) {
         recorded(bytes + 1, strtoull(words[2], NULL, 10));
         free(bytes);

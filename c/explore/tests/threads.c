@@ -64,10 +64,10 @@ static void *make_devices(void *made)
             nic_close(n);
         }
         open_and_use(n, count++);
+        __atomic_store_n((unsigned *)made, count, __ATOMIC_RELEASE);
     }
     for (unsigned k = 0; k < KEPT && k < count; k++)
         nic_close(&kept[k]);
-    *(unsigned *)made = count;
     return NULL;
 }
 
@@ -75,14 +75,13 @@ static void search_beside(char *out, unsigned rounds)
 {
     char *words[] = {"threads", "--quiet", "--no-shrink", "--jobs", "2", "--runs", "20", "--out", out, NULL};
     pthread_t other;
-    unsigned made = 0, found = 0;
+    unsigned made = 0;
     expect(!pthread_create(&other, NULL, make_devices, &made), "no thread");
-    for (unsigned k = 0; k < rounds; k++)
-        found += search(9, words) == 1;
+    /* (a busy machine may let the other thread begin late) */
+    for (unsigned k = 0; k < rounds || __atomic_load_n(&made, __ATOMIC_ACQUIRE) <= KEPT; k++)
+        expect(search(9, words) == 1, "a search found nothing");
     __atomic_store_n(&is_over, true, __ATOMIC_RELEASE);
     pthread_join(other, NULL);
-    expect(found == rounds, "a search found nothing");
-    expect(made > KEPT, "no devices were made beside it");
 }
 
 /* --- what goes from one thread to another --- */

@@ -7,6 +7,7 @@ use crate::{exports, faults, ghosts, known, paths, rust, uses};
 use std::collections::BTreeSet;
 use std::fs;
 use std::path::{Path, PathBuf};
+use std::thread;
 
 /// A crate and the libraries that it stands on.
 struct Layer {
@@ -20,11 +21,8 @@ type File = (PathBuf, String);
 /// Writes the edition of a repository to a folder. Gives the number of its files.
 pub fn write(root: &Path, out: &Path) -> Result<usize, Fault> {
     let layers = layers(root)?;
-    let mut files = Vec::new();
     let by_hand = copied(&root.join("plain/instead"), Path::new("src"))?;
-    for layer in &layers {
-        files.extend(files_of_crate(root, layer, &by_hand)?);
-    }
+    let mut files = files_of_crates(root, &layers, &by_hand)?;
     files.extend(copied(&root.join("plain/kit"), Path::new("src/kit"))?);
     let head = read(&root.join("plain/head.rs"))?;
     files.push((PathBuf::from("src/lib.rs"), format!("{head}\n{}", modules(&layers, "pub "))));
@@ -131,6 +129,19 @@ required-features = [\"bench\"]
 opt-level = 2
 overflow-checks = true
 ";
+
+/// The files of all crates, lowest first. A thread writes each crate; of several faults it is that of the lowest one.
+fn files_of_crates(root: &Path, layers: &[Layer], by_hand: &[File]) -> Result<Vec<File>, Fault> {
+    let made: Vec<Result<Vec<File>, Fault>> = thread::scope(|scope| {
+        let running: Vec<_> = layers.iter().map(|it| scope.spawn(move || files_of_crate(root, it, by_hand))).collect();
+        running.into_iter().map(|it| it.join().expect("a thread ends without a panic")).collect()
+    });
+    let mut files = Vec::new();
+    for it in made {
+        files.extend(it?);
+    }
+    Ok(files)
+}
 
 /// The files of a crate: erased, or written by hand in place of that.
 fn files_of_crate(root: &Path, layer: &Layer, by_hand: &[File]) -> Result<Vec<File>, Fault> {

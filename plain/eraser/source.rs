@@ -90,9 +90,11 @@ impl Source {
     /// All tokens that are this word.
     pub fn words(&self, word: &str) -> Vec<usize> {
         let mut found = Vec::new();
+        // (a slice is indexed without a call, even where nothing is optimized)
+        let tokens = self.tokens.as_slice();
         let mut at = 0;
-        while at < self.tokens.len() {
-            if self.is_word(at, word) {
+        while at < tokens.len() {
+            if matches!(tokens[at].kind, Kind::Word) && tokens[at].text == word {
                 found.push(at);
             }
             at += 1;

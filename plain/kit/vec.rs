@@ -141,8 +141,12 @@ impl<T> Vec<T> {
 }
 
 impl<T: Copy> Vec<T> {
-    /// A copy of a slice.
+    /// A copy of a slice. (A copy of a device copies hundreds that have no element.)
+    #[inline(always)]
     pub fn from_slice(alloc: Global, from: &[T]) -> Result<Self, AllocError> {
+        if from.is_empty() {
+            return Ok(Vec::new(alloc));
+        }
         let mut made = Vec::with_capacity(alloc, from.len())?;
         made.0.extend_from_slice(from);
         Ok(made)

@@ -69,6 +69,7 @@ NONE_PASSES = ("RaisesInOpen", "RaisesInInit", "OpenAnswersNone")
 def ran(driver: type[Driver], *words: str) -> tuple[int, str]:
     """The status of a driver's program, and what it prints."""
     with tempfile.TemporaryFile() as file:
+        sys.stdout.flush()  # (the child has what is buffered here, too, and would write it to the file)
         process = os.fork()
         if not process:
             os.dup2(file.fileno(), 1)

@@ -3,7 +3,6 @@
 use std::fmt;
 
 use crate::memory::BLOCK_BYTES;
-use crate::status;
 
 /// Why a call was refused. Nothing changed by it, except where a call's page says so.
 ///
@@ -119,49 +118,6 @@ pub enum TextFault {
     DoesNotFit,
     /// A pointer is below 0x40, or its section isn't inside.
     PointerOutside,
-}
-
-impl Error {
-    /// The refusal of a status that isn't one of the device's replies.
-    pub(crate) fn of(status: u8) -> Error {
-        match status {
-            status::NO_QUEUE => Error::NoQueue,
-            status::NO_GROUP => Error::NoGroup,
-            status::OUT_OF_MEMORY => Error::OutOfMemory,
-            status::NO_ROOM => Error::TooLong,
-            status::TOO_MANY_VFS => Error::TooManyVfs,
-            status::BAD_FIFO => Error::BadFifo,
-            status::BAD_BLOCKS => Error::BadBlocks,
-            status::NO_BLOCK => Error::NoBlock,
-            status::BAD_MEMORY => Error::BadMemory,
-            status::IMAGE_ODD_LENGTH => Error::Image(ImageFault::OddLength),
-            status::IMAGE_BAD_SIZE => Error::Image(ImageFault::BadSize),
-            status::IMAGE_SECTION_OUTSIDE => Error::Image(ImageFault::SectionOutside),
-            status::IMAGE_BAD_CHECKSUM => Error::Image(ImageFault::BadChecksum),
-            status::IMAGE_NOT_TRIPLES => Error::Image(ImageFault::NotTriples),
-            other => unreachable!("the library answers the status {other}, which its header doesn't have"),
-        }
-    }
-
-    /// The same of an EEPROM image's text, with the line or the index that the call tells.
-    pub(crate) fn of_text(status: u8, at: u64) -> Error {
-        Error::Text(match status {
-            status::TEXT_SYNTAX => TextFault::Syntax(at),
-            status::TEXT_TWO_VALUES => TextFault::TwoValues(at),
-            status::TEXT_RESERVED => TextFault::Reserved(at),
-            status::TEXT_DOES_NOT_FIT => TextFault::DoesNotFit,
-            status::TEXT_POINTER_OUTSIDE => TextFault::PointerOutside,
-            _ => return Error::of(status),
-        })
-    }
-
-    /// Whether a call did what it was asked.
-    pub(crate) fn unless_done(status: u8) -> Result<(), Error> {
-        match status {
-            status::DONE => Ok(()),
-            refused => Err(Error::of(refused)),
-        }
-    }
 }
 
 impl fmt::Debug for Error {

@@ -2,9 +2,6 @@
 
 use std::fmt;
 
-use crate::ffi::Told;
-use crate::status;
-
 /// A side of a queue.
 #[derive(Clone, Copy, Debug, PartialEq, Eq, Hash)]
 pub enum Side {
@@ -177,71 +174,6 @@ impl Event {
     /// ```
     pub const fn is_loss(&self) -> bool {
         matches!(self, Event::Dropped(_) | Event::Fault { .. })
-    }
-
-    /// What an event of `nic_settle` tells.
-    pub(crate) fn of_settle(told: &Told) -> Event {
-        match told.step {
-            status::RX_ENABLE if told.status == status::DONE => Event::Switched { side: Side::Rx, queue: told.of },
-            status::TX_ENABLE if told.status == status::DONE => Event::Switched { side: Side::Tx, queue: told.of },
-            status::EEPROM => Event::EepromAnswered,
-            status::RECEIVE => Event::of_step(Side::Rx, told),
-            _ => Event::of_step(Side::Tx, told),
-        }
-    }
-
-    /// What a step tells that wasn't idle or refused; a fault is of this side.
-    pub(crate) fn of_step(side: Side, told: &Told) -> Event {
-        let (queue, slot) = (told.queue, told.slot);
-        let back = if told.back == 1 { Some(told.at) } else { None };
-        match told.status {
-            status::DROPPED => Event::Dropped(Why::of(told.why)),
-            status::WROTE => {
-                let (descriptor, at, length) = (told.desc, told.at, told.len);
-                Event::Wrote { queue, slot, end: told.end == 1, descriptor, at, length }
-            }
-            status::ADVANCED => Event::Advanced { queue, slot, back },
-            status::SENT => Event::Sent { queue, length: told.len, back },
-            status::FAULT => Event::Fault { side, queue, why: Fault::of(told) },
-            status::MESSAGE => {
-                Event::Message { function: told.group.checked_sub(1).map(|v| v as u8), vector: told.vector }
-            }
-            other => unreachable!("the library tells the status {other} of a step"),
-        }
-    }
-}
-
-impl Why {
-    pub(crate) fn of(code: u8) -> Why {
-        match code {
-            status::WHY_LINK_DOWN => Why::LinkDown,
-            status::WHY_OFF => Why::Off,
-            status::WHY_SHORT => Why::Short,
-            status::WHY_LONG => Why::Long,
-            status::WHY_FILTER => Why::Filter,
-            status::WHY_NO_POOL => Why::NoPool,
-            status::WHY_POOL_OFF => Why::PoolOff,
-            status::WHY_FULL => Why::Full,
-            status::WHY_QUEUE_OFF => Why::QueueOff,
-            status::WHY_NO_SLOT => Why::NoSlot,
-            other => unreachable!("the library tells {other} of why a frame is dropped"),
-        }
-    }
-}
-
-impl Fault {
-    fn of(told: &Told) -> Fault {
-        match told.why {
-            status::FAULT_OUTSIDE => Fault::Outside,
-            status::FAULT_NOT_LENT => Fault::NotLent(told.bus),
-            status::FAULT_TYPE => Fault::Type,
-            status::FAULT_NO_BUFFER_SIZE => Fault::NoBufferSize,
-            status::FAULT_OFFLOAD => Fault::Offload,
-            status::FAULT_LEGACY => Fault::Legacy,
-            status::FAULT_TOO_LONG => Fault::TooLong,
-            status::FAULT_UNKNOWN_TYPE => Fault::UnknownType,
-            other => unreachable!("the library tells {other} of what a fault is"),
-        }
     }
 }
 

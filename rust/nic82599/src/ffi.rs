@@ -323,12 +323,12 @@ impl Handle {
 
     pub(crate) fn dma_read(&self, bus: u64, bytes: &mut [u8]) -> u8 {
         // SAFETY: the controller is open; the buffer has as many bytes as its length.
-        unsafe { nic_dma_read(self.n().raw, bus, bytes.as_mut_ptr(), bytes.len()) }
+        unbroken(unsafe { nic_dma_read(self.n().raw, bus, bytes.as_mut_ptr(), bytes.len()) })
     }
 
     pub(crate) fn dma_write(&self, bus: u64, bytes: &[u8]) -> u8 {
         // SAFETY: the controller is open; the buffer has as many bytes as its length.
-        unsafe { nic_dma_write(self.n().raw, bus, bytes.as_ptr(), bytes.len()) }
+        unbroken(unsafe { nic_dma_write(self.n().raw, bus, bytes.as_ptr(), bytes.len()) })
     }
 
     pub(crate) fn arrive(&self, frame: &[u8]) -> (u8, Told) {

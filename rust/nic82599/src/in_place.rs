@@ -7,7 +7,9 @@ use std::ops::Deref;
 use std::ptr::NonNull;
 
 use crate::error::Error;
+use crate::memory::Memory;
 use crate::nic::Nic;
+use crate::status;
 
 /// A controller that works in memory of the program's own, from [`Nic::in_place`]. All else is as with a [`Nic`], which
 /// it stands for.
@@ -87,5 +89,41 @@ impl Drop for InPlace<'_> {
 impl fmt::Debug for InPlace<'_> {
     fn fmt(&self, f: &mut fmt::Formatter<'_>) -> fmt::Result {
         f.debug_tuple("InPlace").field(&self.nic).finish()
+    }
+}
+
+impl Memory<'_> {
+    /// Lends memory of the program's own, in place: bus address `bus + i` is the byte at `memory + i`, for each i below
+    /// `length`. [`InPlace::lend_memory`](crate::InPlace::lend_memory) is the same without `unsafe`.
+    ///
+    /// # Safety
+    ///
+    /// The memory has `length` bytes that may be read and written from there on. It stays until it is taken back, by
+    /// [`Memory::unlend`], [`Nic::take`] or the controller's end, or by [`Nic::restore`] of a snapshot in which its
+    /// block isn't lent. Until then no reference of Rust's to it is alive during a call on the controller but one to
+    /// cells, and nothing else stores into it during a call: no other thread, no signal handler, no other process. It
+    /// isn't lent by another address that it is mapped at.
+    ///
+    /// # Errors
+    ///
+    /// [`Error::BadMemory`] where `bus` or `length` is no multiple of 2,048, or one of these bytes is lent to this
+    /// controller already; [`Error::NoBlock`]; [`Error::OutOfMemory`]. Then none of it is lent.
+    #[allow(unsafe_code)]
+    pub unsafe fn lend(&self, bus: u64, memory: NonNull<u8>, length: usize) -> Result<(), Error> {
+        // SAFETY: what the caller has promised.
+        Error::unless_done(unsafe { self.nic.handle().calls().lend_memory(bus, memory.as_ptr(), length) })
+    }
+
+    /// Takes back memory that was lent in place, also a part of what was lent at once. Its bytes stay.
+    ///
+    /// # Errors
+    ///
+    /// [`Error::BadMemory`] where `bus` or `length` is no multiple of 2,048; [`Error::NotLent`] with `bus` where not
+    /// all of it is lent in place, and then none is taken back.
+    pub fn unlend(&self, bus: u64, length: usize) -> Result<(), Error> {
+        match self.nic.handle().calls().unlend_memory(bus, length) {
+            status::NOT_LENT => Err(Error::NotLent(bus)),
+            other => Error::unless_done(other),
+        }
     }
 }

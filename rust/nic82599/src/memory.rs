@@ -1,13 +1,11 @@
 //! Packet memory.
 
 use std::ops::{Bound, Range, RangeBounds};
-use std::ptr::NonNull;
 
 use crate::desc::Descriptor;
 use crate::error::Error;
-use crate::ffi::Handle;
+use crate::handle::Handle;
 use crate::nic::Nic;
-use crate::status;
 
 /// How many bytes a block has.
 pub(crate) const BLOCK_BYTES: u64 = 2048;
@@ -15,7 +13,7 @@ pub(crate) const BLOCK_BYTES: u64 = 2048;
 /// Packet memory by bus address, from [`Nic::memory`]: what the device reads and writes.
 ///
 /// Bus address a is byte a % 2048 of block a / 2048, so b blocks have the addresses below 2048 * b. Only lent blocks
-/// can be read and written, by the device and here. [`Nic::in_place`] has the device work in the driver's own memory.
+/// can be read and written, by the device and here.
 ///
 /// Ranges may have any form: `0x800..0x83C`, `..0x80`, `0x800..=0x83B`; one without an end goes to the end of the
 /// memory.
@@ -34,7 +32,7 @@ pub(crate) const BLOCK_BYTES: u64 = 2048;
 /// ```
 #[derive(Clone, Copy, Debug)]
 pub struct Memory<'a> {
-    nic: &'a Nic,
+    pub(crate) nic: &'a Nic,
 }
 
 impl<'a> Memory<'a> {
@@ -146,37 +144,6 @@ impl<'a> Memory<'a> {
         self.write(slot_of(ring, slot), &descriptor.to_bytes())
     }
 
-    /// Lends memory of the program's own, in place: bus address `bus + i` is the byte at `memory + i`, for each i below
-    /// `length`. [`InPlace::lend_memory`](crate::InPlace::lend_memory) is the same without `unsafe`.
-    ///
-    /// # Safety
-    ///
-    /// The memory has `length` bytes that may be read and written from there on. It stays until it is taken back, by
-    /// [`Memory::unlend`], [`Nic::take`] or the controller's end, or by [`Nic::restore`] of a snapshot in which its
-    /// block isn't lent. Until then no reference of Rust's to it is alive during a call on the controller but one to
-    /// cells, and nothing else stores into it during a call: no other thread, no signal handler, no other process. It
-    /// isn't lent by another address that it is mapped at.
-    ///
-    /// # Errors
-    ///
-    /// [`Error::BadMemory`] where `bus` or `length` is no multiple of 2,048, or one of these bytes is lent to this
-    /// controller already; [`Error::NoBlock`]; [`Error::OutOfMemory`]. Then none of it is lent.
-    #[allow(unsafe_code)]
-    pub unsafe fn lend(&self, bus: u64, memory: NonNull<u8>, length: usize) -> Result<(), Error> {
-        // SAFETY: what the caller has promised.
-        Error::unless_done(unsafe { self.nic.handle().lend_memory(bus, memory.as_ptr(), length) })
-    }
-
-    /// Takes back memory that was lent in place, also a part of what was lent at once. Its bytes stay.
-    ///
-    /// # Errors
-    ///
-    /// [`Error::BadMemory`] where `bus` or `length` is no multiple of 2,048; [`Error::NotLent`] with `bus` where not
-    /// all of it is lent in place, and then none is taken back.
-    pub fn unlend(&self, bus: u64, length: usize) -> Result<(), Error> {
-        unless_lent(self.nic.handle().unlend_memory(bus, length), || bus)
-    }
-
     /// Where a range begins and how many bytes it has. One that goes beyond the memory isn't lent, and is refused
     /// before there is a buffer for it.
     fn place(&self, range: impl RangeBounds<u64>) -> Result<(u64, usize), Error> {
@@ -204,10 +171,11 @@ impl<'a> Memory<'a> {
 }
 
 /// Whether an access of memory was made; else it is refused for the address that a closure tells.
-pub(crate) fn unless_lent(status: u8, bus: impl FnOnce() -> u64) -> Result<(), Error> {
-    match status {
-        status::NOT_LENT => Err(Error::NotLent(bus())),
-        other => Error::unless_done(other),
+pub(crate) fn unless_lent(is_done: bool, bus: impl FnOnce() -> u64) -> Result<(), Error> {
+    if is_done {
+        Ok(())
+    } else {
+        Err(Error::NotLent(bus()))
     }
 }
 
@@ -215,7 +183,7 @@ pub(crate) fn unless_lent(status: u8, bus: impl FnOnce() -> u64) -> Result<(), E
 pub(crate) fn first_not_lent(handle: &Handle, bus: u64, length: u64) -> u64 {
     let (mut at, end) = (bus, bus.saturating_add(length));
     while at < end {
-        if handle.dma_read(at, &mut [0]) == status::NOT_LENT {
+        if !handle.dma_read(at, &mut [0]) {
             return at;
         }
         at = (at / BLOCK_BYTES + 1) * BLOCK_BYTES; // (a block that is lent ends below 2^27)

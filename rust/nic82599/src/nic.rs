@@ -1,18 +1,15 @@
 //! A controller, and its virtual functions.
 
 use std::cell::Cell;
-use std::ffi::CString;
 use std::fmt;
 
 use crate::error::{Absent, Error};
 use crate::event::{Event, Side, Why};
-use crate::ffi::{Handle, Kept};
-use crate::in_place::InPlace;
+use crate::handle::{Handle, Kept};
 use crate::memory::{unless_lent, Memory};
 use crate::register::{Register, VfRegister};
 use crate::regs;
 use crate::settle::{Settled, Steps};
-use crate::status;
 
 /// The sizes of a controller: by default it has no virtual functions, 64 frames may wait, and there are 256 blocks.
 ///
@@ -100,13 +97,9 @@ impl Nic {
     /// [`Error::BadBlocks`], [`Error::TooManyVfs`], [`Error::BadFifo`] (the first of these that holds),
     /// [`Error::OutOfMemory`].
     pub fn open(sizes: Sizes) -> Result<Nic, Error> {
-        match Handle::open(sizes.vfs, sizes.fifo, sizes.blocks) {
-            Ok(handle) => Ok(Nic { handle, sizes: Cell::new(sizes) }),
-            Err(status) => Err(Error::of(status)),
-        }
+        Ok(Nic::of(Handle::open(sizes)?, sizes))
     }
 
-    #[cfg(feature = "explore")]
     pub(crate) fn of(handle: Handle, sizes: Sizes) -> Nic {
         Nic { handle, sizes: Cell::new(sizes) }
     }
@@ -141,10 +134,7 @@ impl Nic {
     /// # Ok::<(), nic82599::Error>(())
     /// ```
     pub fn snapshot(&self) -> Result<Snapshot, Error> {
-        match self.handle.snapshot() {
-            Ok(kept) => Ok(Snapshot { kept, sizes: self.sizes() }),
-            Err(status) => Err(Error::of(status)),
-        }
+        Ok(Snapshot { kept: self.handle.snapshot()?, sizes: self.sizes() })
     }
 
     /// Makes the controller what a snapshot holds, which may be one of another controller: its sizes become those of
@@ -154,7 +144,7 @@ impl Nic {
     ///
     /// [`Error::OutOfMemory`], and the controller is as it was.
     pub fn restore(&self, kept: &Snapshot) -> Result<(), Error> {
-        Error::unless_done(self.handle.restore(&kept.kept))?;
+        self.handle.restore(&kept.kept)?;
         self.sizes.set(kept.sizes);
         Ok(())
     }
@@ -163,7 +153,7 @@ impl Nic {
 
     /// Reads a register, with all effects of the access.
     pub fn read(&self, register: Register) -> u32 {
-        self.handle.read32(register.address()).1
+        word_of(self.handle.read32(register.address()))
     }
 
     /// Writes a register, with all effects of the access.
@@ -178,7 +168,7 @@ impl Nic {
 
     /// What a read would give, without its effects: no counter and no cause is cleared.
     pub fn peek(&self, register: Register) -> u32 {
-        self.handle.peek32(register.address()).1
+        self.handle.peek32(register.address()).unwrap_or(0)
     }
 
     /// Reads by address. [`Nic::see32`] gives the word whether a register is there or not.
@@ -196,7 +186,7 @@ impl Nic {
     /// # Ok::<(), nic82599::Error>(())
     /// ```
     pub fn read32(&self, address: u32) -> Result<u32, Error> {
-        word_or_stray(self.handle.read32(address), address, true, || Absent::Register)
+        word_or_stray(self.handle.read32(address), address, || Absent::Register)
     }
 
     /// Writes by address.
@@ -214,12 +204,12 @@ impl Nic {
     ///
     /// [`Error::Stray`]: no register is there.
     pub fn peek32(&self, address: u32) -> Result<u32, Error> {
-        word_or_stray(self.handle.peek32(address), address, false, || Absent::Register)
+        word_or_absent(self.handle.peek32(address), address, || Absent::Register)
     }
 
     /// Reads by address: the word that a driver sees, also where no register is.
     pub fn see32(&self, address: u32) -> u32 {
-        self.handle.read32(address).1
+        word_of(self.handle.read32(address))
     }
 
     /// A virtual function. Where there is none all its registers are stray, and read as 0xFFFFFFFF.
@@ -234,18 +224,13 @@ impl Nic {
         Memory::new(self)
     }
 
-    /// The controller, to which memory of the program's own may be lent from now on.
-    pub fn in_place<'a>(self) -> InPlace<'a> {
-        InPlace::new(self)
-    }
-
     /// Lends a block to the device. Its bytes are 0.
     ///
     /// # Errors
     ///
     /// [`Error::NoBlock`], [`Error::OutOfMemory`].
     pub fn lend(&self, block: u32) -> Result<(), Error> {
-        Error::unless_done(self.handle.lend(block))
+        self.handle.lend(block)
     }
 
     /// Lends all blocks that aren't lent.
@@ -254,7 +239,7 @@ impl Nic {
     ///
     /// [`Error::OutOfMemory`], and the blocks below the one that failed are lent.
     pub fn lend_all(&self) -> Result<(), Error> {
-        Error::unless_done(self.handle.lend_all())
+        self.handle.lend_all()
     }
 
     /// Takes a block back, and its bytes are gone, but those of memory in place.
@@ -282,11 +267,7 @@ impl Nic {
     /// # Ok::<(), nic82599::Error>(())
     /// ```
     pub fn arrive(&self, frame: &[u8]) -> Result<Arrival, Error> {
-        match self.handle.arrive(frame) {
-            (status::DONE, _) => Ok(Arrival::Waits),
-            (status::DROPPED, told) => Ok(Arrival::Dropped(Why::of(told.why))),
-            (status, _) => Err(Error::of(status)),
-        }
+        self.handle.arrive(frame)
     }
 
     /// The length of the frame that [`Nic::collect`] would give; 0 where there is none.
@@ -304,12 +285,7 @@ impl Nic {
     /// The same into a vector, in place of what is in there: the frame's queue. Where there is no frame, the vector is
     /// empty.
     pub fn collect_into(&self, data: &mut Vec<u8>) -> Option<u16> {
-        data.clear();
-        data.resize(self.next_out(), 0);
-        match self.handle.collect(data) {
-            (status::FRAME, told) => Some(told.queue),
-            _ => None,
-        }
+        self.handle.collect(data)
     }
 
     /// Takes the frames that went out, one after the other.
@@ -319,17 +295,14 @@ impl Nic {
 
     /// The link goes up or down; false where it is so already. It is up at first.
     pub fn link(&self, up: bool) -> bool {
-        self.handle.link(up) == status::DONE
+        self.handle.link(up)
     }
 
     // --- the steps of the device ---
 
     /// Writes one buffer's worth of the frame that waits longest; `None` where there is nothing to do.
     pub fn rx_step(&self) -> Option<Event> {
-        match self.handle.rx_step() {
-            (status::IDLE, _) => None,
-            (_, told) => Some(Event::of_step(Side::Rx, &told)),
-        }
+        self.handle.rx_step()
     }
 
     /// Fetches one descriptor of a transmit queue; `None` where there is nothing to do.
@@ -338,11 +311,7 @@ impl Nic {
     ///
     /// [`Error::NoQueue`], [`Error::OutOfMemory`].
     pub fn tx_step(&self, queue: u16) -> Result<Option<Event>, Error> {
-        match self.handle.tx_step(queue) {
-            (status::IDLE, _) => Ok(None),
-            (status::ADVANCED..=status::FAULT, told) => Ok(Some(Event::of_step(Side::Tx, &told))),
-            (status, _) => Err(Error::of(status)),
-        }
+        self.handle.tx_step(queue)
     }
 
     /// Enables or disables a side of a queue, as RXDCTL or TXDCTL bit 25 asks; false where there is nothing to do.
@@ -351,31 +320,18 @@ impl Nic {
     ///
     /// [`Error::NoQueue`].
     pub fn queue_step(&self, side: Side, queue: u16) -> Result<bool, Error> {
-        match self.handle.queue_step(side == Side::Tx, queue).0 {
-            status::DONE => Ok(true),
-            status::IDLE => Ok(false),
-            status => Err(Error::of(status)),
-        }
+        self.handle.queue_step(side, queue)
     }
 
     /// The EEPROM answers EERD; false where there is nothing to do.
     pub fn eeprom_step(&self) -> bool {
-        self.handle.eeprom_step().0 == status::DONE
+        self.handle.eeprom_step()
     }
 
     /// Sends the next message of the physical function; `None` where there is nothing to do. Those of a virtual
     /// function are sent by [`Function::int_step`].
     pub fn int_step(&self) -> Option<Event> {
-        self.message(0).unwrap_or(None)
-    }
-
-    /// Sends the next message of a group, 0 the physical function, v + 1 function v.
-    pub(crate) fn message(&self, group: u8) -> Result<Option<Event>, Error> {
-        match self.handle.int_step(group) {
-            (status::IDLE, _) => Ok(None),
-            (status::MESSAGE, told) => Ok(Some(Event::of_step(Side::Rx, &told))),
-            (status, _) => Err(Error::of(status)),
-        }
+        self.handle.int_step(0).unwrap_or(None)
     }
 
     /// Makes steps until none has anything to do, round by round: for each queue below `queues` its receive enable,
@@ -416,39 +372,6 @@ impl Nic {
         Steps::of(self, queues)
     }
 
-    // --- why nothing happens ---
-
-    /// What is in the way of what waits, a reason on each line: of each frame that waits, each queue that isn't at
-    /// rest, each cause that has no message. Empty where nothing waits. Nothing changes; lent memory is copied for the
-    /// time of the call. A test that failed tells it: `assert_eq!(nic.read(RDH.at(3)), 1, "{}", nic.why())`.
-    ///
-    /// ```
-    /// use nic82599::{regs, Nic, Sizes};
-    ///
-    /// let nic = Nic::open(Sizes::default())?;
-    /// nic.write(regs::EICS, 1 << 5);
-    /// let masked = "int pf: EICR 0x00000020 (RTxQ[5]), EIMS 0x00000000: no cause has its mask 1";
-    /// assert_eq!(nic.why().lines().next(), Some(masked));
-    /// # Ok::<(), nic82599::Error>(())
-    /// ```
-    pub fn why(&self) -> String {
-        let mut room = vec![0; 4096];
-        let length = self.handle.why(&mut room);
-        if length >= room.len() {
-            room.resize(length + 1, 0);
-            self.handle.why(&mut room);
-        }
-        room.truncate(length);
-        let text = String::from_utf8_lossy(&room);
-        text.trim_end().to_owned()
-    }
-
-    /// A comment in the recording of this controller, in front of what comes next, if it is recorded
-    /// ([`record`](crate::record)). It has at most 200 bytes; one that isn't printable ASCII is written as `?`.
-    pub fn note(&self, text: &str) {
-        self.handle.note(&CString::new(text.replace('\0', "?")).unwrap_or_default());
-    }
-
     // --- the EEPROM ---
 
     /// Installs an EEPROM image, as `nicbench eeprom` makes it.
@@ -457,7 +380,7 @@ impl Nic {
     ///
     /// [`Error::Image`], [`Error::OutOfMemory`].
     pub fn install_image(&self, image: &[u8]) -> Result<(), Error> {
-        Error::unless_done(self.handle.install_image(image))
+        self.handle.install_image(image)
     }
 
     /// Installs the EEPROM image of a text, as docs/script.md describes it.
@@ -477,10 +400,7 @@ impl Nic {
     /// # Ok::<(), nic82599::Error>(())
     /// ```
     pub fn install_text(&self, text: &str) -> Result<(), Error> {
-        match self.handle.install_text(text.as_bytes()) {
-            (status::DONE, _) => Ok(()),
-            (status, line) => Err(Error::of_text(status, line)),
-        }
+        self.handle.install_text(text)
     }
 }
 
@@ -529,7 +449,7 @@ impl Function<'_> {
     /// or no such queue.
     pub fn read(&self, register: VfRegister) -> Result<u32, Error> {
         let offset = register.offset();
-        word_or_stray(self.nic.handle.vf_read32(self.number, offset), offset, true, || self.why_absent(true))
+        word_or_stray(self.nic.handle.vf_read32(self.number, offset), offset, || self.why_absent(true))
     }
 
     /// Writes a register, with all effects of the access.
@@ -549,7 +469,7 @@ impl Function<'_> {
     /// [`Error::Stray`], as by [`Function::read`].
     pub fn peek(&self, register: VfRegister) -> Result<u32, Error> {
         let offset = register.offset();
-        word_or_stray(self.nic.handle.vf_peek32(self.number, offset), offset, false, || self.why_absent(true))
+        word_or_absent(self.nic.handle.vf_peek32(self.number, offset), offset, || self.why_absent(true))
     }
 
     /// Reads by offset.
@@ -558,7 +478,7 @@ impl Function<'_> {
     ///
     /// [`Error::Stray`] with what a driver sees.
     pub fn read32(&self, offset: u32) -> Result<u32, Error> {
-        word_or_stray(self.nic.handle.vf_read32(self.number, offset), offset, true, || self.why_absent(false))
+        word_or_stray(self.nic.handle.vf_read32(self.number, offset), offset, || self.why_absent(false))
     }
 
     /// Writes by offset.
@@ -576,12 +496,12 @@ impl Function<'_> {
     ///
     /// [`Error::Stray`].
     pub fn peek32(&self, offset: u32) -> Result<u32, Error> {
-        word_or_stray(self.nic.handle.vf_peek32(self.number, offset), offset, false, || self.why_absent(false))
+        word_or_absent(self.nic.handle.vf_peek32(self.number, offset), offset, || self.why_absent(false))
     }
 
     /// Reads by offset: the word that a driver sees, also where no register is.
     pub fn see32(&self, offset: u32) -> u32 {
-        self.nic.handle.vf_read32(self.number, offset).1
+        word_of(self.nic.handle.vf_read32(self.number, offset))
     }
 
     /// Sends the function's next message; `None` where there is nothing to do.
@@ -591,7 +511,7 @@ impl Function<'_> {
     /// [`Error::NoGroup`]: there is no such function, or no pool for it.
     pub fn int_step(&self) -> Result<Option<Event>, Error> {
         match self.number.checked_add(1) {
-            Some(group) => self.nic.message(group),
+            Some(group) => self.nic.handle.int_step(group),
             None => Err(Error::NoGroup),
         }
     }
@@ -615,21 +535,23 @@ pub(crate) fn why_absent(number: u8, vfs: u8, gcr_ext: u32, is_some: bool) -> Ab
     }
 }
 
-fn word_or_stray(
-    (status, word): (u8, u32),
-    at: u32,
-    is_read: bool,
-    why: impl FnOnce() -> Absent,
-) -> Result<u32, Error> {
-    match status {
-        status::DONE => Ok(word),
-        _ => Err(Error::Stray { at, word: if is_read { Some(word) } else { None }, why: why() }),
-    }
+/// What a driver sees by a read.
+fn word_of(told: Result<u32, u32>) -> u32 {
+    told.unwrap_or_else(|stray| stray)
 }
 
-pub(crate) fn done_or_stray(status: u8, at: u32, why: impl FnOnce() -> Absent) -> Result<(), Error> {
-    match status {
-        status::DONE => Ok(()),
-        _ => Err(Error::Stray { at, word: None, why: why() }),
+fn word_or_stray(told: Result<u32, u32>, at: u32, why: impl FnOnce() -> Absent) -> Result<u32, Error> {
+    told.map_err(|word| Error::Stray { at, word: Some(word), why: why() })
+}
+
+fn word_or_absent(told: Option<u32>, at: u32, why: impl FnOnce() -> Absent) -> Result<u32, Error> {
+    told.ok_or_else(|| Error::Stray { at, word: None, why: why() })
+}
+
+pub(crate) fn done_or_stray(is_done: bool, at: u32, why: impl FnOnce() -> Absent) -> Result<(), Error> {
+    if is_done {
+        Ok(())
+    } else {
+        Err(Error::Stray { at, word: None, why: why() })
     }
 }

@@ -5,14 +5,11 @@ use std::vec::IntoIter;
 
 use crate::error::Error;
 use crate::event::Event;
-use crate::ffi::{Settling, Told};
+use crate::handle::Place;
 use crate::nic::Nic;
-use crate::status;
 
 /// How many queues there are.
 const QUEUES: u16 = 128;
-/// How many events one call of the library has room for.
-const ROOM: usize = 256;
 
 /// What happened in [`Nic::settle`], in order.
 #[derive(Clone, Debug)]
@@ -22,17 +19,7 @@ pub struct Settled {
 
 impl Settled {
     pub(crate) fn of(nic: &Nic, queues: u16) -> Result<Settled, Error> {
-        let mut events = Vec::new();
-        let mut room = [Told::default(); ROOM];
-        loop {
-            let (status, count) = nic.handle().settle(queues, &mut room);
-            events.extend(room[..count].iter().map(Event::of_settle));
-            match status {
-                status::DONE => return Ok(Settled { events: events.into_iter() }),
-                status::MORE => {}
-                refused => return Err(Error::of(refused)),
-            }
-        }
+        Ok(Settled { events: nic.handle().settle(queues)?.into_iter() })
     }
 
     /// The events that the iterator didn't give yet.
@@ -85,7 +72,7 @@ impl FusedIterator for Settled {}
 #[must_use = "no step is made that isn't asked for"]
 pub struct Steps<'a> {
     nic: &'a Nic,
-    place: Settling,
+    place: Place,
     is_over: bool,
 }
 
@@ -94,7 +81,7 @@ impl<'a> Steps<'a> {
         if queues > QUEUES {
             return Err(Error::NoQueue);
         }
-        Ok(Steps { nic, place: Settling { queues, at: 0 }, is_over: false })
+        Ok(Steps { nic, place: Place::new(queues), is_over: false })
     }
 }
 
@@ -105,13 +92,9 @@ impl Iterator for Steps<'_> {
         if self.is_over {
             return None;
         }
-        let (status, told) = self.nic.handle().next_step(&mut self.place);
-        self.is_over = status != status::MORE;
-        match status {
-            status::MORE => Some(Ok(Event::of_settle(&told))),
-            status::DONE => None,
-            refused => Some(Err(Error::of(refused))),
-        }
+        let told = self.nic.handle().next_step(&mut self.place).transpose();
+        self.is_over = !matches!(told, Some(Ok(_)));
+        told
     }
 }
 

@@ -465,7 +465,7 @@ impl Bus {
     ///
     /// As by [`Nic::take`], which is a failure unless the scenario allows it.
     pub fn take(&self, block: u32) -> Result<(), Error> {
-        unless_lent(raw::take(block), || Memory::block(block).start)
+        unless_lent(raw::take(block) == status::DONE, || Memory::block(block).start)
     }
 
     /// A point and nothing else: between two accesses of the driver's own memory.
@@ -579,7 +579,7 @@ impl Device for Bus {
     }
 
     fn write32(&self, address: u32, word: u32) -> Result<(), Error> {
-        done_or_stray(raw::write32(address, word), address, || Absent::Register)
+        done_or_stray(self.write32(address, word), address, || Absent::Register)
     }
 
     fn vf_read(&self, number: u8, register: VfRegister) -> u32 {
@@ -588,19 +588,19 @@ impl Device for Bus {
 
     fn vf_write(&self, number: u8, register: VfRegister, word: u32) -> Result<(), Error> {
         let offset = register.offset();
-        done_or_stray(raw::vf_write32(number, offset, word), offset, || {
+        done_or_stray(raw::vf_write32(number, offset, word) == status::DONE, offset, || {
             raw::looked(|nic| why_absent(number, nic.sizes().vfs, nic.peek(GCR_EXT), true))
         })
     }
 
     fn read_into(&self, bus: u64, bytes: &mut [u8]) -> Result<(), Error> {
         let length = bytes.len() as u64;
-        unless_lent(raw::dma_read(bus, bytes), || raw::looked(|nic| first_not_lent(nic.handle(), bus, length)))
+        unless_lent(self.read_into(bus, bytes), || raw::looked(|nic| first_not_lent(nic.handle(), bus, length)))
     }
 
     fn write_bytes(&self, bus: u64, bytes: &[u8]) -> Result<(), Error> {
         let length = bytes.len() as u64;
-        unless_lent(raw::dma_write(bus, bytes), || raw::looked(|nic| first_not_lent(nic.handle(), bus, length)))
+        unless_lent(self.write_bytes(bus, bytes), || raw::looked(|nic| first_not_lent(nic.handle(), bus, length)))
     }
 }
 

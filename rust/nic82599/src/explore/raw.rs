@@ -20,7 +20,8 @@ use std::rc::Rc;
 use std::sync::{Mutex, PoisonError};
 use std::thread;
 
-use crate::ffi::{Handle, RawNic};
+use crate::ffi::{self, RawNic};
+use crate::handle::Handle;
 use crate::nic::{Nic, Sizes};
 use crate::status;
 
@@ -370,10 +371,11 @@ pub(super) fn looked<T>(action: impl FnOnce(&Nic) -> T) -> T {
     // SAFETY: the explorer's controller is open while it calls a function of the scenario, and while tasks run. A copy
     // of the struct is the same controller, and this one isn't dropped; it is only looked at, so the struct itself
     // isn't changed.
-    let device = ManuallyDrop::new(unsafe { Handle::another(nicx_device()) });
+    let device = ManuallyDrop::new(unsafe { ffi::Handle::another(nicx_device()) });
     // SAFETY: `run` has the scenario by reference as long as the search runs.
     let sizes = running(|it| unsafe { &*it.driven }.sizes());
-    action(&ManuallyDrop::new(Nic::of(ManuallyDrop::into_inner(device), sizes)))
+    let device = Handle::of(ManuallyDrop::into_inner(device));
+    action(&ManuallyDrop::new(Nic::of(device, sizes)))
 }
 
 extern "C" fn go(argument: *mut c_void) {

@@ -3,6 +3,7 @@
 
 pub mod addresses;
 pub mod differential;
+pub mod hostile;
 
 /// Numbers by chance: those of c/tests/check.h (xorshift64*).
 pub struct Chance(u64);

@@ -1,0 +1,116 @@
+//! What the numbers that calls of the C library answer are in the crate's types.
+
+use crate::error::{Error, ImageFault, TextFault};
+use crate::event::{Event, Fault, Side, Why};
+use crate::ffi::Told;
+use crate::status;
+
+impl Error {
+    /// The refusal of a status that isn't one of the device's replies.
+    pub(crate) fn of(status: u8) -> Error {
+        match status {
+            status::NO_QUEUE => Error::NoQueue,
+            status::NO_GROUP => Error::NoGroup,
+            status::OUT_OF_MEMORY => Error::OutOfMemory,
+            status::NO_ROOM => Error::TooLong,
+            status::TOO_MANY_VFS => Error::TooManyVfs,
+            status::BAD_FIFO => Error::BadFifo,
+            status::BAD_BLOCKS => Error::BadBlocks,
+            status::NO_BLOCK => Error::NoBlock,
+            status::BAD_MEMORY => Error::BadMemory,
+            status::IMAGE_ODD_LENGTH => Error::Image(ImageFault::OddLength),
+            status::IMAGE_BAD_SIZE => Error::Image(ImageFault::BadSize),
+            status::IMAGE_SECTION_OUTSIDE => Error::Image(ImageFault::SectionOutside),
+            status::IMAGE_BAD_CHECKSUM => Error::Image(ImageFault::BadChecksum),
+            status::IMAGE_NOT_TRIPLES => Error::Image(ImageFault::NotTriples),
+            other => unreachable!("the library answers the status {other}, which its header doesn't have"),
+        }
+    }
+
+    /// The same of an EEPROM image's text, with the line or the index that the call tells.
+    pub(crate) fn of_text(status: u8, at: u64) -> Error {
+        Error::Text(match status {
+            status::TEXT_SYNTAX => TextFault::Syntax(at),
+            status::TEXT_TWO_VALUES => TextFault::TwoValues(at),
+            status::TEXT_RESERVED => TextFault::Reserved(at),
+            status::TEXT_DOES_NOT_FIT => TextFault::DoesNotFit,
+            status::TEXT_POINTER_OUTSIDE => TextFault::PointerOutside,
+            _ => return Error::of(status),
+        })
+    }
+
+    /// Whether a call did what it was asked.
+    pub(crate) fn unless_done(status: u8) -> Result<(), Error> {
+        match status {
+            status::DONE => Ok(()),
+            refused => Err(Error::of(refused)),
+        }
+    }
+}
+
+impl Event {
+    /// What an event of `nic_settle` tells.
+    pub(crate) fn of_settle(told: &Told) -> Event {
+        match told.step {
+            status::RX_ENABLE if told.status == status::DONE => Event::Switched { side: Side::Rx, queue: told.of },
+            status::TX_ENABLE if told.status == status::DONE => Event::Switched { side: Side::Tx, queue: told.of },
+            status::EEPROM => Event::EepromAnswered,
+            status::RECEIVE => Event::of_step(Side::Rx, told),
+            _ => Event::of_step(Side::Tx, told),
+        }
+    }
+
+    /// What a step tells that wasn't idle or refused; a fault is of this side.
+    pub(crate) fn of_step(side: Side, told: &Told) -> Event {
+        let (queue, slot) = (told.queue, told.slot);
+        let back = if told.back == 1 { Some(told.at) } else { None };
+        match told.status {
+            status::DROPPED => Event::Dropped(Why::of(told.why)),
+            status::WROTE => {
+                let (descriptor, at, length) = (told.desc, told.at, told.len);
+                Event::Wrote { queue, slot, end: told.end == 1, descriptor, at, length }
+            }
+            status::ADVANCED => Event::Advanced { queue, slot, back },
+            status::SENT => Event::Sent { queue, length: told.len, back },
+            status::FAULT => Event::Fault { side, queue, why: Fault::of(told) },
+            status::MESSAGE => {
+                Event::Message { function: told.group.checked_sub(1).map(|v| v as u8), vector: told.vector }
+            }
+            other => unreachable!("the library tells the status {other} of a step"),
+        }
+    }
+}
+
+impl Why {
+    pub(crate) fn of(code: u8) -> Why {
+        match code {
+            status::WHY_LINK_DOWN => Why::LinkDown,
+            status::WHY_OFF => Why::Off,
+            status::WHY_SHORT => Why::Short,
+            status::WHY_LONG => Why::Long,
+            status::WHY_FILTER => Why::Filter,
+            status::WHY_NO_POOL => Why::NoPool,
+            status::WHY_POOL_OFF => Why::PoolOff,
+            status::WHY_FULL => Why::Full,
+            status::WHY_QUEUE_OFF => Why::QueueOff,
+            status::WHY_NO_SLOT => Why::NoSlot,
+            other => unreachable!("the library tells {other} of why a frame is dropped"),
+        }
+    }
+}
+
+impl Fault {
+    fn of(told: &Told) -> Fault {
+        match told.why {
+            status::FAULT_OUTSIDE => Fault::Outside,
+            status::FAULT_NOT_LENT => Fault::NotLent(told.bus),
+            status::FAULT_TYPE => Fault::Type,
+            status::FAULT_NO_BUFFER_SIZE => Fault::NoBufferSize,
+            status::FAULT_OFFLOAD => Fault::Offload,
+            status::FAULT_LEGACY => Fault::Legacy,
+            status::FAULT_TOO_LONG => Fault::TooLong,
+            status::FAULT_UNKNOWN_TYPE => Fault::UnknownType,
+            other => unreachable!("the library tells {other} of what a fault is"),
+        }
+    }
+}

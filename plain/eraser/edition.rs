@@ -1,9 +1,9 @@
 //! The edition: which crates there are, and the files that are written of them.
 
-use crate::fault::Fault;
-use crate::layout::laid_out;
-use crate::source::Source;
-use crate::{exports, faults, ghosts, known, paths, rust, uses};
+use super::fault::Fault;
+use super::layout::laid_out;
+use super::source::Source;
+use super::{exports, faults, ghosts, known, macros, paths, rust, uses};
 use std::collections::BTreeSet;
 use std::fs;
 use std::path::{Path, PathBuf};
@@ -21,16 +21,55 @@ type File = (PathBuf, String);
 /// Writes the edition of a repository to a folder. Gives the number of its files.
 pub fn write(root: &Path, out: &Path) -> Result<usize, Fault> {
     let layers = layers(root)?;
-    let by_hand = copied(&root.join("plain/instead"), Path::new("src"))?;
-    let mut files = files_of_crates(root, &layers, &by_hand)?;
-    files.extend(copied(&root.join("plain/kit"), Path::new("src/kit"))?);
+    let mut files = modules_of(root, &layers)?;
     let head = read(&root.join("plain/head.rs"))?;
     files.push((PathBuf::from("src/lib.rs"), format!("{head}\n{}", modules(&layers, "pub "))));
     files.push((PathBuf::from("src/alone.rs"), alone(&head, &layers)));
     files.push((PathBuf::from("src/main.rs"), read(&root.join("plain/main.rs"))?));
     files.push((PathBuf::from("Cargo.toml"), CARGO.replace("VERSION", read(&root.join("VERSION"))?.trim())));
     files.push((PathBuf::from("rustfmt.toml"), "style_edition = \"2024\"\n".to_string()));
-    for (path, text) in &files {
+    put(&files, out)
+}
+
+/// The crate that is the controller: with all that it stands on, it is what a crate in Rust is made of.
+const CONTROLLER: &str = "card";
+
+/// Writes the modules of the controller to a folder, and `modules.rs`, which declares them in the root of a crate: they
+/// call each other by `crate::`. Gives the number of the files.
+pub fn write_controller(root: &Path, out: &Path) -> Result<usize, Fault> {
+    let mut layers = layers(root)?;
+    let inside = below(&layers, CONTROLLER);
+    layers.retain(|it| inside.contains(&it.name));
+    let mut files = modules_of(root, &layers)?;
+    let names: BTreeSet<&str> = layers.iter().map(|it| it.name.as_str()).collect();
+    let mut text: String = names.iter().map(|it| format!("{QUIET}mod {it};\n")).collect();
+    for (path, source) in &mut files {
+        *path = path.strip_prefix("src").map(PathBuf::from).unwrap_or_default();
+        if path.starts_with("kit") {
+            let (written, macros) = macros::kept_inside(path, source)?;
+            *source = written;
+            text += &macros::imports(path, &macros).replace("pub(crate)", &format!("{QUIET}pub(crate)"));
+        }
+    }
+    let text = format!("extern crate alloc;\n\n{QUIET}#[macro_use]\nmod kit;\n{text}");
+    files.push((PathBuf::from("modules.rs"), text));
+    put(&files, out)
+}
+
+/// What stands before a module in another's crate: lints ask for another form of what is proved as it stands.
+const QUIET: &str = "#[allow(warnings, clippy::all)]\n";
+
+/// The files of these crates and of the kit.
+fn modules_of(root: &Path, layers: &[Layer]) -> Result<Vec<File>, Fault> {
+    let by_hand = copied(&root.join("plain/instead"), Path::new("src"))?;
+    let mut files = files_of_crates(root, layers, &by_hand)?;
+    files.extend(copied(&root.join("plain/kit"), Path::new("src/kit"))?);
+    Ok(files)
+}
+
+/// Writes files below a folder. Gives their number.
+fn put(files: &[File], out: &Path) -> Result<usize, Fault> {
+    for (path, text) in files {
         let to = out.join(path);
         if let Some(folder) = to.parent() {
             fs::create_dir_all(folder).map_err(|error| Fault::of(folder, error))?;

@@ -1,8 +1,8 @@
 //! The calls for C.
 
-use crate::fault::Fault;
-use crate::layout::{split, width, WIDTH};
-use crate::source::Source;
+use super::fault::Fault;
+use super::layout::{split, width, WIDTH};
+use super::source::Source;
 
 /// `#[unsafe(no_mangle)] pub extern "C" fn`: the function is Rust's, and a call for C stands around it, in a module at
 /// the end of the file. A slice is a pointer and a length there, and an allocator is no parameter. No panic leaves it.

@@ -1,9 +1,9 @@
 //! `#[derive(Error)]` of thiserror: the impls that it makes, written out.
 
-use crate::fault::Fault;
-use crate::ghosts::without_derive;
-use crate::layout::{width, WIDTH};
-use crate::source::Source;
+use super::fault::Fault;
+use super::ghosts::without_derive;
+use super::layout::{width, WIDTH};
+use super::source::Source;
 
 /// Writes out what `Error` in a derive makes: the messages, and a conversion for each `#[from]`.
 pub fn rewrite(source: &mut Source) -> Result<(), Fault> {

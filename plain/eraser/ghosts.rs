@@ -1,9 +1,9 @@
 //! What is erased: clauses, ghost items, what a proof reads. None of it has an effect when the program runs.
 
-use crate::fault::Fault;
-use crate::known;
-use crate::source::Source;
-use crate::token::Kind;
+use super::fault::Fault;
+use super::known;
+use super::source::Source;
+use super::token::Kind;
 
 /// Erases all of a source that only a proof reads.
 pub fn erase(source: &mut Source) -> Result<(), Fault> {

@@ -1,8 +1,8 @@
 //! What is known of the sources. All else is refused.
 
-use crate::fault::Fault;
-use crate::source::Source;
-use crate::token::Kind;
+use super::fault::Fault;
+use super::source::Source;
+use super::token::Kind;
 
 /// Types whose `drop` only frees what their fields own, as Rust does without it.
 pub const FREED_BY_ITS_FIELDS: &[&str] = &["Card"];

@@ -1,29 +1,18 @@
 //! Writes the plain edition: Rust without contracts, of the crates' sources.
 //!
-//!     eraser ROOT OUT          the edition of the repository ROOT, as one crate in the folder OUT
-//!     eraser --case FILE       what is written of one source, on standard output
+//!     eraser ROOT OUT                the edition of the repository ROOT, as one crate in the folder OUT
+//!     eraser --controller ROOT OUT   the modules of the controller, which a crate in Rust alone is made of
+//!     eraser --case FILE             what is written of one source, on standard output
 //!
 //! What a proof reads is erased (`ghosts`). What Rust writes otherwise is rewritten, each form by a function of its own
 //! (`rust`, `faults`, `exports`, `paths`). Nothing is guessed: a form that isn't known (`known`) is refused
 //! with its file and line. Status 1: there is such a form, or a file can't be read or written. Status 2: other words.
 
-// (what clippy proposes came later than rustc 1.63)
-#![allow(clippy::unnecessary_map_or)]
+#[path = "mod.rs"]
+mod eraser;
 
-mod edition;
-mod exports;
-mod fault;
-mod faults;
-mod ghosts;
-mod known;
-mod layout;
-mod paths;
-mod rust;
-mod source;
-mod token;
-mod uses;
-
-use fault::Fault;
+use eraser::edition;
+use eraser::fault::Fault;
 use std::path::Path;
 use std::process::ExitCode;
 
@@ -32,9 +21,10 @@ fn main() -> ExitCode {
     let words: Vec<&str> = words.iter().map(String::as_str).collect();
     let done = match words.as_slice() {
         ["--case", file] => case(Path::new(file)),
+        ["--controller", root, out] => edition::write_controller(Path::new(root), Path::new(out)).map(|_| ()),
         [root, out] => edition::write(Path::new(root), Path::new(out)).map(|_| ()),
         _ => {
-            eprintln!("eraser: it takes ROOT OUT, or --case FILE");
+            eprintln!("eraser: it takes ROOT OUT, --controller ROOT OUT, or --case FILE");
             return ExitCode::from(2);
         }
     };

@@ -1,9 +1,9 @@
 //! Paths: all crates are modules of one, and the kit stands for Rattle's own libraries.
 
-use crate::fault::Fault;
-use crate::known;
-use crate::source::Source;
-use crate::token::{tokens, Kind, Token};
+use super::fault::Fault;
+use super::known;
+use super::source::Source;
+use super::token::{tokens, Kind, Token};
 use std::collections::BTreeMap;
 
 /// Rewrites the paths of a source of a crate that has these libraries.

@@ -1,9 +1,9 @@
 //! What Rust writes otherwise, and what its compiler knows since 1.63 or not yet.
 
-use crate::fault::Fault;
-use crate::layout::indented;
-use crate::source::Source;
-use crate::token::{is_in_word, Kind};
+use super::fault::Fault;
+use super::layout::indented;
+use super::source::Source;
+use super::token::{is_in_word, Kind};
 
 /// Rewrites all of these forms.
 pub fn rewrite(source: &mut Source) -> Result<(), Fault> {

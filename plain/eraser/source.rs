@@ -1,7 +1,7 @@
 //! A source as tokens that can be erased and replaced.
 
-use crate::fault::Fault;
-use crate::token::{tokens, Kind, Token};
+use super::fault::Fault;
+use super::token::{tokens, Kind, Token};
 
 /// A file of a crate.
 pub struct Source {

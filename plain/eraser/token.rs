@@ -1,6 +1,6 @@
 //! The tokens of a source: what Rust's own lexer sees, with the space and the comments between them.
 
-use crate::fault::Fault;
+use super::fault::Fault;
 
 /// What a token is.
 #[derive(Clone, Copy, Debug, PartialEq, Eq)]

@@ -1,6 +1,6 @@
 //! The imports of a file, in rustfmt's order.
 
-use crate::layout::{filled, split, width, WIDTH};
+use super::layout::{filled, split, width, WIDTH};
 use std::cmp::Ordering;
 
 /// An import: `use path;`.

@@ -109,7 +109,7 @@ fn embraced_end(lines: &[String], at: usize) -> Option<usize> {
     }
     let end = (at + 2..lines.len()).find(|it| indent(&lines[*it]) <= inner)?;
     let is_closed = lines[end].trim() == "}," && lines.get(end + 1)?.starts_with(&format!("{})", " ".repeat(outer)));
-    is_closed.then(|| end)
+    is_closed.then_some(end)
 }
 
 /// Whether a line is an arm of a match with an expression.

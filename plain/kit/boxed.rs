@@ -24,6 +24,16 @@ impl<T> Box<T> {
     pub fn into_inner(it: Self) -> T {
         *it.0
     }
+
+    /// The same place, from Rust's box.
+    pub(crate) fn of_std(place: Boxed<T>) -> Self {
+        Box(place, PhantomData)
+    }
+
+    /// The same place, as Rust's box.
+    pub(crate) fn into_std(self) -> Boxed<T> {
+        self.0
+    }
 }
 
 impl<T, A> Deref for Box<T, A> {

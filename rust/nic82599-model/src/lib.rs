@@ -1,0 +1,112 @@
+//! A model of the Intel 82599 10 GbE controller in Rust alone, to run driver code on: the card's registers, rings and
+//! interrupts in the driver's process, without a card, a guest or a kernel, and without a library of C.
+//!
+//! [`Nic::open`] makes a controller as after power-up. Registers go by their names in [`regs`] or by address, packet
+//! memory by bus address ([`Nic::memory`]). Frames come in by [`Nic::arrive`] and out by [`Nic::collect`]. Nothing
+//! happens by itself: the device acts in steps, each of them a call, so a race is an order of calls. [`Nic::settle`]
+//! makes all that have something to do.
+//!
+//! A TCP frame arrives; its hash picks queue 3, the device writes it to the ring, and an interrupt reports it:
+//!
+//! ```
+//! use nic82599::desc::Descriptor;
+//! use nic82599::regs::{self, *};
+//! use nic82599::{Arrival, Nic, Sizes};
+//!
+//! let mut frame = [0; 60];
+//! frame[..14].copy_from_slice(&[2, 0, 0, 0, 0, 1, 2, 0, 0, 0, 0, 2, 8, 0]); // Ethernet: IPv4
+//! frame[14..24].copy_from_slice(&[0x45, 0, 0, 40, 0, 0, 0, 0, 64, 6]); // IPv4: TCP
+//!
+//! let nic = Nic::open(Sizes { blocks: 2, ..Sizes::default() })?;
+//! nic.lend_all()?;
+//! nic.write(RXCTRL, rxctrl::RXEN);
+//! nic.write(FCTRL, fctrl::UPE); // accept all unicast frames
+//! nic.write(MRQC, mrqc::MRQE.is(1) | mrqc::TCPIPV4);
+//! nic.write(RETA.at(0), reta::ENTRY_0.is(3)); // under a key of zeros the hash is 0
+//! nic.write(RDLEN.at(3), 128); // eight descriptors from bus address 0 on
+//! nic.write(SRRCTL.at(3), srrctl::DESCTYPE.is(1) | srrctl::BSIZEPACKET.is(2));
+//! nic.write(RXDCTL.at(3), rxdctl::ENABLE);
+//! nic.write(GPIE, gpie::MULTIPLE_MSIX); // MSI-X mode, which the card needs here
+//! nic.write(IVAR.at(1), ivar::INT_ALLOC_2.is(5) | ivar::INT_ALLOC_VAL_2); // its cause: bit 5
+//! nic.write(EIMS, 1 << 5);
+//! nic.settle(4)?; // the device enables the queue
+//! nic.memory().put_descriptor(0, 0, Descriptor::receive(0x800))?; // slot 0: its buffer is block 1
+//! nic.write(RDT.at(3), 1); // slot 0 is the device's
+//!
+//! assert_eq!(nic.arrive(&frame)?, Arrival::Waits);
+//! let told: Vec<String> = nic.settle(4)?.map(|event| format!("{}: {event}", event.step())).collect();
+//! assert_eq!(told, ["rx: wrote queue 3 slot 0 end", "int pf: message pf vector 5"]);
+//! let written = nic.memory().descriptor(0, 0)?.received().expect("the device is done with it");
+//! assert_eq!((written.end, written.length, nic.read(RDH.at(3))), (true, 60, 1));
+//! # Ok::<(), nic82599::Error>(())
+//! ```
+//!
+//! The package is `nic82599-model`, and its name in a program `nic82599`, as that of the crate over the C library:
+//! a driver written for one compiles for the other. That one also says why nothing happens, records, lends memory in
+//! place, searches for races and makes report cards; this one hands memory over by value ([`Nic::exchange`]).
+//!
+//! The controller's sources are proved. This is Rust written from them without their proofs, so no proof covers what
+//! rustc makes of it; tests do. A refused call gives an [`Error`] and changes nothing. No argument ends the program but
+//! an index of [`Registers::at`] and of [`VfRegisters::at`], which say so. docs/CARD.md of the project says where the
+//! model differs from the card.
+
+#![deny(missing_docs, unsafe_code, unsafe_op_in_unsafe_fn)]
+#![warn(rust_2018_idioms, missing_debug_implementations, unreachable_pub)]
+
+// The controller: what the build script has written.
+include!(concat!(env!("OUT_DIR"), "/modules.rs"));
+
+mod answers;
+mod by_value;
+#[path = "../../nic82599/src/desc/mod.rs"]
+pub mod desc;
+#[path = "../../nic82599/src/device.rs"]
+mod device;
+#[path = "../../nic82599/src/error.rs"]
+mod error;
+#[path = "../../nic82599/src/event.rs"]
+mod event;
+mod handle;
+#[path = "../../nic82599/src/hash.rs"]
+mod hash;
+#[path = "../../nic82599/src/memory.rs"]
+mod memory;
+#[path = "../../nic82599/src/nic.rs"]
+mod nic;
+#[path = "../../nic82599/src/pcap.rs"]
+pub mod pcap;
+#[path = "../../nic82599/src/register.rs"]
+mod register;
+#[path = "../../nic82599/src/regs.rs"]
+pub mod regs;
+mod rounds;
+#[path = "../../nic82599/src/settle.rs"]
+mod settle;
+
+pub use by_value::{Block, Refused};
+pub use device::Device;
+pub use error::{Absent, Error, ImageFault, TextFault};
+pub use event::{Event, Fault, Side, Step, Why};
+pub use hash::rss_hash;
+pub use memory::Memory;
+pub use nic::{Arrival, Frame, Function, Nic, Sizes, Snapshot};
+pub use register::{Field, HalfField, Register, Registers, VfRegister, VfRegisters};
+pub use settle::{Settled, Steps};
+
+/// The version of this crate.
+pub const VERSION: &str = env!("CARGO_PKG_VERSION");
+
+/// Whether the device was proved: never in this crate.
+pub fn is_proved() -> bool {
+    false
+}
+
+/// Which edition of the device this is: always `plain`, compiled by a Rust compiler from the proved sources without
+/// their proofs.
+///
+/// ```
+/// assert_eq!(nic82599::edition(), "plain");
+/// ```
+pub fn edition() -> &'static str {
+    "plain"
+}

@@ -53,7 +53,7 @@
 #![deny(missing_docs, unsafe_code, unsafe_op_in_unsafe_fn)]
 #![warn(rust_2018_idioms, missing_debug_implementations, unreachable_pub)]
 
-// The controller: what the build script has written.
+// The controller, written from the proved sources.
 include!(concat!(env!("OUT_DIR"), "/modules.rs"));
 
 mod answers;

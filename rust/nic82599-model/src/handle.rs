@@ -233,3 +233,18 @@ impl Handle {
         Ok(())
     }
 }
+
+#[cfg(test)]
+mod tests {
+    use std::panic::{catch_unwind, AssertUnwindSafe};
+
+    use super::*;
+
+    #[test]
+    fn after_a_panic_no_call_is_made() {
+        let handle = Handle::open(Sizes::default()).unwrap();
+        assert_eq!(handle.with(|card| card.next_out()), 0);
+        assert!(catch_unwind(AssertUnwindSafe(|| handle.with(|_| panic!("a fault")))).is_err());
+        assert!(catch_unwind(AssertUnwindSafe(|| handle.next_out())).is_err());
+    }
+}

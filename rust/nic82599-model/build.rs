@@ -2,6 +2,7 @@
 //! edition is compiled into this script. A packed crate has what it writes, and no script.
 
 use std::env;
+use std::fs;
 use std::path::{Path, PathBuf};
 
 // (it can do more than is asked of it here)
@@ -11,12 +12,15 @@ mod eraser;
 
 /// Where the repository is, from the crate's folder.
 const ROOT: &str = "../..";
-/// What is read of it.
-const READ: [&str; 5] = ["crates.txt", "crates", "plain/eraser", "plain/instead", "plain/kit"];
+/// What is read of it, besides the sources of its crates.
+const READ: [&str; 4] = ["crates.txt", "plain/eraser", "plain/instead", "plain/kit"];
 
 fn main() {
     for name in READ {
         println!("cargo:rerun-if-changed={ROOT}/{name}");
+    }
+    for folder in fs::read_dir(format!("{ROOT}/crates")).into_iter().flatten().flatten() {
+        println!("cargo:rerun-if-changed={}", folder.path().join("src").display());
     }
     let out = PathBuf::from(env::var_os("OUT_DIR").unwrap_or_default());
     if let Err(fault) = eraser::edition::write_controller(Path::new(ROOT), &out) {

@@ -30,6 +30,27 @@ static uint8_t *exchange(nic *n, uint32_t block, uint8_t *bytes)
     return former.bytes;
 }
 
+/* A block has the caller's memory, and the table its own. Where an exchange out of it broke before it did anything, the
+   caller's memory is still in, and comes back: then the table still has the block's own. */
+static bool put_in(nic *n, struct nicd_table *it, uint32_t number)
+{
+    struct nicd_block *block = &it->blocks[number];
+    uint8_t *former = exchange(n, number, block->host);
+    if (former && former != block->host)
+        block->own = former;
+    return former;
+}
+
+/* A block has its own memory again, and the table no longer does. Where of an exchange that broke only the answer was
+   lost, the block's own is in already, and comes back. */
+static bool take_out(nic *n, struct nicd_table *it, uint32_t number)
+{
+    bool is_out = exchange(n, number, it->blocks[number].own);
+    if (is_out)
+        it->blocks[number].own = NULL;
+    return is_out;
+}
+
 static bool is_whole(uint64_t bus, size_t bytes)
 {
     return bus % NICD_BLOCK == 0 && bytes % NICD_BLOCK == 0;
@@ -88,11 +109,9 @@ uint8_t nicd_lend_memory(nic *n, uint64_t bus, void *memory, size_t bytes)
         return NIC_OUT_OF_MEMORY;
     }
     nicd_table_add(it, range.first, range.end, memory);
-    for (uint32_t block = range.first; block < range.end; block++) {
-        it->blocks[block].own = exchange(n, block, it->blocks[block].host);
-        if (!it->blocks[block].own)
+    for (uint32_t block = range.first; block < range.end; block++)
+        if (!put_in(n, it, block))
             status = NIC_BROKEN;
-    }
     return status;
 }
 
@@ -102,7 +121,7 @@ static void end_in_place(nic *n, struct nicd_table *it, struct range range)
 {
     bool are_out = true;
     for (uint32_t block = range.first; block < range.end; block++)
-        are_out = exchange(n, block, it->blocks[block].own) && are_out;
+        are_out = take_out(n, it, block) && are_out;
     if (are_out)
         nicd_table_remove(it, range.first, range.end);
 }
@@ -136,7 +155,7 @@ void nicd_free_in_place(nic n)
     struct nicd_table *it = nicd_table_of(&n);
     if (it) {
         for (uint32_t place = 0; place < it->count; place++)
-            exchange(&n, it->by_address[place], it->blocks[it->by_address[place]].own);
+            take_out(&n, it, it->by_address[place]);
         nicd_table_close(it);
     }
     nicd_free(n);
@@ -148,11 +167,11 @@ void nicd_free_in_place(nic n)
    doesn't lend it, the memory is given back. A refused restore has left the bytes in the caller's memory. */
 static void back_in_place(nic *n, struct nicd_table *it, uint32_t number, bool is_restored)
 {
-    struct nicd_block *block = &it->blocks[number];
-    if (is_restored && nicd_dma_read(n, (uint64_t)number * NICD_BLOCK, block->host, NICD_BLOCK) != NIC_DONE)
+    uint8_t *host = it->blocks[number].host;
+    if (is_restored && nicd_dma_read(n, (uint64_t)number * NICD_BLOCK, host, NICD_BLOCK) != NIC_DONE)
         nicd_table_remove(it, number, number + 1);
     else
-        block->own = exchange(n, number, block->host);
+        put_in(n, it, number);
 }
 
 /* A restored controller may have other memory of its own, and fewer blocks; so the caller's is out of it meanwhile. */
@@ -162,7 +181,7 @@ uint8_t nicd_restore_in_place(nic *n, const nic_kept *kept)
     uint32_t blocks = it && it->count ? it->room : 0;
     for (uint32_t block = 0; block < blocks; block++)
         if (nicd_table_has(it, block))
-            exchange(n, block, it->blocks[block].own);
+            take_out(n, it, block);
     uint8_t status = nicd_restore(n, kept);
     while (blocks--)
         if (nicd_table_has(it, blocks))

@@ -5,6 +5,7 @@
 //! may be half changed. It can still be freed, and give the caller's memory back. Standard error says where the panic
 //! was.
 
+use super::raw::keeping;
 pub use super::raw::{slice, slice_mut};
 use core::sync::atomic::{AtomicUsize, Ordering};
 use std::panic::{catch_unwind, AssertUnwindSafe};
@@ -81,15 +82,22 @@ pub fn guarded<H: Held, R: Answer>(handle: &mut H, call: impl FnOnce(&mut H) -> 
         return R::BROKEN;
     }
     caught(address, handle, |handle| {
-        planted();
+        planted("a call");
         call(handle)
     })
 }
 
-/// A call with a handle that is made even where that is broken, since the caller's memory must come out of it.
+/// A call that exchanges memory, and is made even where the handle is broken, since the caller's memory must come out
+/// of it. Two parties hold a piece of memory while it is exchanged, and a panic would free it for one of them: so here
+/// a panic frees nothing. C, which knows both pieces, finds out by its next exchange which of them the handle has.
 #[inline]
-pub fn also_broken<H: Held, R: Answer>(handle: &mut H, call: impl FnOnce(&mut H) -> R) -> R {
-    caught(handle.address(), handle, call)
+pub fn exchanging<H: Held, R: Answer>(handle: &mut H, call: impl FnOnce(&mut H) -> R) -> R {
+    caught(handle.address(), handle, |handle| {
+        keeping(|| {
+            planted("an exchange");
+            call(handle)
+        })
+    })
 }
 
 #[inline]
@@ -102,15 +110,16 @@ fn caught<H, R: Answer>(address: usize, handle: &mut H, call: impl FnOnce(&mut H
     })
 }
 
-/// Where this edition is compiled with `--cfg planted` (dev/check_broken), the call of the number NIC82599_PLANTED
-/// panics.
+/// Where this edition is compiled with `--cfg planted` (dev/check_broken), the place of the number NIC82599_PLANTED
+/// panics: there is one in each call, and two in an exchange, before it and after it.
 #[inline]
-fn planted() {
+pub fn planted(_place: &str) {
+    #[allow(unexpected_cfgs)]
     #[cfg(planted)]
     {
-        static CALLS: AtomicUsize = AtomicUsize::new(1);
+        static PLACES: AtomicUsize = AtomicUsize::new(1);
         let number = std::env::var("NIC82599_PLANTED").ok().and_then(|it| it.parse().ok());
-        assert!(number != Some(CALLS.fetch_add(1, Ordering::SeqCst)), "planted");
+        assert!(number != Some(PLACES.fetch_add(1, Ordering::SeqCst)), "planted in {_place}");
     }
 }
 
@@ -154,7 +163,7 @@ mod tests {
         assert_eq!(guarded(&mut one, |_| panics()), BROKEN);
         assert_eq!(guarded(&mut one, |_| 7u8), BROKEN);
         assert_eq!(guarded(&mut one, |_| 7usize), 0);
-        assert_eq!(also_broken(&mut one, |_| 7u8), 7);
+        assert_eq!(exchanging(&mut one, |_| 7u8), 7);
         assert_eq!(guarded(&mut other, |_| 7u8), 7);
         assert_eq!(alone(panics), BROKEN);
         ending(one, |_| ());

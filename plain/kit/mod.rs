@@ -16,7 +16,7 @@ pub mod arrayvec;
 pub mod bitflags;
 pub mod boxed;
 pub mod byteorder;
-#[cfg(feature = "c")]
+#[cfg(any(feature = "c", test))]
 pub mod c;
 pub mod clap;
 pub mod collections;

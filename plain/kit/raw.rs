@@ -1,10 +1,14 @@
 //! All `unsafe` code of the kit, each use with its reason. What is exported here is safe to call, but for the slices of
 //! C's pointers and the handles of boxes, whose callers promise what C's header asks.
 
+#[cfg(any(feature = "c", test))]
+mod keeping;
 mod ring;
 mod shared;
 mod threads;
 
+#[cfg(any(feature = "c", test))]
+pub(super) use keeping::keeping;
 pub(super) use ring::Ring;
 pub(super) use shared::Shared;
 pub(super) use threads::beside;
@@ -138,6 +142,9 @@ mod heap {
 
         #[inline]
         unsafe fn dealloc(&self, piece: *mut u8, _: Layout) {
+            if super::keeping::keeps() {
+                return;
+            }
             // SAFETY: the caller gives a piece of `alloc` or `realloc` back.
             unsafe { rattle_dealloc(piece) }
         }
@@ -154,7 +161,7 @@ mod heap {
 ///
 /// # Safety
 /// There are `length` elements at the pointer as long as the slice is used, and nothing writes to them meanwhile.
-#[cfg(feature = "c")]
+#[cfg(any(feature = "c", test))]
 #[inline]
 pub unsafe fn slice<'a, T>(at: *const T, length: usize) -> &'a [T] {
     if length == 0 {
@@ -168,7 +175,7 @@ pub unsafe fn slice<'a, T>(at: *const T, length: usize) -> &'a [T] {
 ///
 /// # Safety
 /// As of `slice`, and nothing else reads or writes them meanwhile.
-#[cfg(feature = "c")]
+#[cfg(any(feature = "c", test))]
 #[inline]
 pub unsafe fn slice_mut<'a, T>(at: *mut T, length: usize) -> &'a mut [T] {
     if length == 0 {

@@ -34,7 +34,10 @@ impl BlockHandleOut {
 /// and `former` is the memory that was handed in. What `former` had before is leaked. It is made for a handle that is
 /// broken too: so the caller's memory comes out of it.
 pub fn nic_exchange(nic: &mut Handle, block: u32, memory: BlockHandle, former: &mut BlockHandleOut) -> u8 {
-    match nic.lend().exchange(block, memory.bytes) {
+    let exchanged = nic.lend().exchange(block, memory.bytes);
+    #[cfg(feature = "c")]
+    crate::kit::c::planted("an exchange");
+    match exchanged {
         Ok(bytes) => {
             *former = BlockHandleOut::of(bytes);
             DONE
@@ -62,6 +65,6 @@ mod for_c {
         memory: BlockHandle,
         former: &mut BlockHandleOut,
     ) -> u8 {
-        c::also_broken(nic, |nic| super::nic_exchange(nic, block, memory, former))
+        c::exchanging(nic, |nic| super::nic_exchange(nic, block, memory, former))
     }
 }

@@ -21,6 +21,8 @@ pub mod c;
 pub mod clap;
 pub mod collections;
 pub mod convert;
+#[cfg(all(test, not(feature = "c")))]
+mod edges;
 pub mod hex;
 pub mod host;
 pub mod io;

@@ -3,12 +3,16 @@
 
 #[cfg(any(feature = "c", test))]
 mod keeping;
+#[cfg(all(test, not(feature = "c")))]
+mod refusing;
 mod ring;
 mod shared;
 mod threads;
 
 #[cfg(any(feature = "c", test))]
 pub(super) use keeping::keeping;
+#[cfg(all(test, not(feature = "c")))]
+pub(super) use refusing::{counted, granted};
 pub(super) use ring::Ring;
 pub(super) use shared::Shared;
 pub(super) use threads::beside;

@@ -10,6 +10,7 @@ use std::sync::{Mutex, PoisonError};
 
 struct Ring<T> {
     places: Vec<Mutex<Option<T>>>,
+    // Both count modulo twice the number of places, so they never overflow, and a full ring isn't an empty one.
     pushed: AtomicUsize,
     popped: AtomicUsize,
 }
@@ -21,9 +22,19 @@ impl<T> Ring<T> {
         core::mem::replace(&mut place.lock().unwrap_or_else(PoisonError::into_inner), value)
     }
 
+    /// The count after another one.
+    fn after(&self, count: usize) -> usize {
+        (count + 1) % (2 * self.places.len())
+    }
+
     /// How many items are there.
     fn held(&self) -> usize {
-        self.pushed.load(Ordering::Acquire).wrapping_sub(self.popped.load(Ordering::Acquire))
+        let (pushed, popped) = (self.pushed.load(Ordering::Acquire), self.popped.load(Ordering::Acquire));
+        if pushed >= popped {
+            pushed - popped
+        } else {
+            pushed + 2 * self.places.len() - popped
+        }
     }
 }
 
@@ -81,7 +92,7 @@ impl<T> Producer<T> {
         let count = self.0.pushed.load(Ordering::Relaxed);
         let former = self.0.exchange(count, Some(value));
         debug_assert!(former.is_none());
-        self.0.pushed.store(count.wrapping_add(1), Ordering::Release);
+        self.0.pushed.store(self.0.after(count), Ordering::Release);
     }
 }
 
@@ -93,7 +104,7 @@ impl<T> Consumer<T> {
             return Err(PopError::Empty);
         }
         let item = self.0.exchange(count, None);
-        self.0.popped.store(count.wrapping_add(1), Ordering::Release);
+        self.0.popped.store(self.0.after(count), Ordering::Release);
         item.ok_or(PopError::Empty)
     }
 

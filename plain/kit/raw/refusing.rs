@@ -1,0 +1,66 @@
+//! A heap for tests, which refuses a thread its requests for memory from some request on.
+
+use core::alloc::{GlobalAlloc, Layout};
+use core::cell::Cell;
+use std::alloc::System;
+
+thread_local! {
+    /// How many more requests are granted, and how many were made.
+    static GRANTS: Cell<u64> = const { Cell::new(u64::MAX) };
+    static ASKED: Cell<u64> = const { Cell::new(0) };
+}
+
+fn is_granted() -> bool {
+    ASKED.with(|it| it.set(it.get() + 1));
+    GRANTS.with(|it| {
+        let left = it.get();
+        it.set(left.saturating_sub(u64::from(left != u64::MAX)));
+        left != 0
+    })
+}
+
+struct Refusing;
+
+#[global_allocator]
+static HEAP: Refusing = Refusing;
+
+// SAFETY: each call is the system's own, or answers that there is no memory.
+unsafe impl GlobalAlloc for Refusing {
+    unsafe fn alloc(&self, layout: Layout) -> *mut u8 {
+        // SAFETY: as the caller promises.
+        if is_granted() {
+            unsafe { System.alloc(layout) }
+        } else {
+            core::ptr::null_mut()
+        }
+    }
+
+    unsafe fn dealloc(&self, piece: *mut u8, layout: Layout) {
+        // SAFETY: as the caller promises.
+        unsafe { System.dealloc(piece, layout) }
+    }
+
+    unsafe fn realloc(&self, piece: *mut u8, layout: Layout, size: usize) -> *mut u8 {
+        // SAFETY: as the caller promises.
+        if is_granted() {
+            unsafe { System.realloc(piece, layout, size) }
+        } else {
+            core::ptr::null_mut()
+        }
+    }
+}
+
+/// What a call returns of which only the first requests for memory are granted.
+pub(in crate::kit) fn granted<R>(requests: u64, call: impl FnOnce() -> R) -> R {
+    GRANTS.with(|it| it.set(requests));
+    let result = call();
+    GRANTS.with(|it| it.set(u64::MAX));
+    result
+}
+
+/// What a call returns, and how many requests for memory it makes.
+pub(in crate::kit) fn counted<R>(call: impl FnOnce() -> R) -> (R, u64) {
+    let before = ASKED.with(Cell::get);
+    let result = call();
+    (result, ASKED.with(Cell::get) - before)
+}

@@ -86,6 +86,9 @@ fn call(name: &str, parameters: &[String], gives: &str) -> String {
 
 /// The line of the call under its guard, or lines where it is too long for one.
 fn body(guard: &str, before: &str, closure: &str, name: &str, passed: &[String]) -> String {
+    if closure == format!("|{}|", passed.join(", ")) {
+        return format!("        c::{guard}({before}super::{name})\n");
+    }
     let front = format!("        c::{guard}({before}{closure} ");
     let line = format!("{front}super::{name}({}))\n", passed.join(", "));
     if width(line.trim_end()) <= WIDTH {

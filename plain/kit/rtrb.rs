@@ -66,6 +66,7 @@ impl<T> fmt::Debug for PushError<T> {
 }
 
 impl RingBuffer {
+    #[allow(clippy::new_ret_no_self)]
     pub fn new<T>(alloc: Global, count: usize) -> Result<(Producer<T>, Consumer<T>), AllocError> {
         let mut places = Vec::with_capacity(alloc, count)?;
         for _ in 0..count {

@@ -22,13 +22,15 @@ import argparse
 import sys
 from pathlib import Path
 
+import nic82599
+
 from . import draw
 from . import page
 from . import perfetto
 from .as_script import script
 from .printable import printable
 from .recording import is_recording, read, refuse_sizes, run_of
-from .script import Fault, read_bytes
+from .script import Bench, Fault, read_bytes
 from .tool import MOST_STEPS, Parser, called, ended, limit, number, sizes
 
 
@@ -74,6 +76,14 @@ def as_script(asked: argparse.Namespace) -> int:
     return 1 if ended else 0
 
 
+def foot(is_recorded: bool) -> str:
+    """What answered, at the foot of a page: the library of a recording, or else the program, with its edition."""
+    if is_recorded:
+        return f"Answers of libnic82599 {nic82599.library_version()}, {nic82599.edition()} edition"
+    edition = Bench.edition()
+    return "Answers of nicbench" + (f", {edition} edition" if edition else "")
+
+
 def main() -> int:
     asked = words()
     if asked.script_of:
@@ -90,7 +100,7 @@ def main() -> int:
             raise Fault(f"there is no step {asked.svg}: the run has {len(run.steps)} steps, counted from 0")
         write(asked.o, draw.picture(run, asked.svg))
     else:
-        write(asked.o, page.page(page.Data(run).whole()))
+        write(asked.o, page.page(page.Data(run).whole(), foot(run.is_recorded)))
     return 0 if run.last.startswith("ok") else 1
 
 

@@ -198,10 +198,11 @@ class Data:
         }
 
 
-def page(data: dict[str, Any]) -> str:
-    """The page with these data."""
+def page(data: dict[str, Any], foot: str = "") -> str:
+    """The page with these data, and a line at its foot."""
     text = json.dumps(data, separators=(",", ":")).replace("<", "\\u003c")
     title = data["name"].replace("&", "&amp;").replace("<", "&lt;")
     template = (HERE / "nicview.html").read_text()
     code = "".join((HERE / name).read_text() for name in ("nicview_rings.js", "nicview.js"))
-    return template.replace("{{TITLE}}", title).replace("{{CODE}}", code).replace("{{DATA}}", text)
+    template = template.replace("{{TITLE}}", title).replace("{{FOOT}}", foot)
+    return template.replace("{{CODE}}", code).replace("{{DATA}}", text)

@@ -3,6 +3,7 @@
 from __future__ import annotations
 
 import contextlib
+import os
 import re
 import subprocess
 import sys
@@ -125,6 +126,7 @@ class Bench:
     """The program `nicbench`, with the sizes of its device, and how many instructions a script has at most."""
 
     is_made = False
+    says_plain = False  # (the starter of a clone says so where it starts the plain edition)
     most = 4_096
 
     def __init__(self, vfs: int | None = None, fifo: int | None = None) -> None:
@@ -149,8 +151,14 @@ class Bench:
         program = "nicbench"
         try:
             program = places.program()
+            # (what it then says of its edition is heard, and not shown)
+            environment = {name: value for name, value in os.environ.items() if name != "NICBENCH_QUIET"}
             ran = subprocess.Popen(
-                [program, *words], stdin=subprocess.PIPE, stdout=subprocess.PIPE, stderr=subprocess.PIPE
+                [program, *words],
+                stdin=subprocess.PIPE,
+                stdout=subprocess.PIPE,
+                stderr=subprocess.PIPE,
+                env=environment,
             )
         except places.Missing as missing:
             raise Fault(str(missing), True) from None
@@ -166,6 +174,14 @@ class Bench:
             last = reason[-1] if reason else "it printed nothing"
             raise Fault(f"{program} {' '.join(words)} ended with status {ran.returncode}: {last}", True)
         return ran.returncode, out
+
+    @staticmethod
+    def edition() -> str:
+        """Which edition of the program has answered, "plain" or "proved"; "" of an installed one, which doesn't say."""
+        if Bench.says_plain:
+            return "plain"
+        root = places.clone()
+        return "proved" if root and Path(places.program()) == root / "nicbench" else ""
 
     def debug(self, script: str, commands: list[str]) -> list[str]:
         """The lines that the debugger prints for these commands, without the first of a session."""
@@ -197,7 +213,9 @@ def _hear(stream: object) -> str:
         text = line.decode(errors="replace")
         if "compil" in text:
             print(text, end="", file=sys.stderr, flush=True)
-        if "so this is the plain edition" not in text:
+        if "so this is the plain edition" in text:
+            Bench.says_plain = True
+        else:
             said.append(text)
     return "".join(said)
 

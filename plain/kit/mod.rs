@@ -21,7 +21,7 @@ pub mod c;
 pub mod clap;
 pub mod collections;
 pub mod convert;
-#[cfg(all(test, not(feature = "c")))]
+#[cfg(all(test, unix, not(feature = "c")))]
 mod edges;
 pub mod hex;
 pub mod host;

@@ -1,0 +1,28 @@
+#!/usr/bin/env node
+// The program nicbench by the WebAssembly module, as a command: words, standard input, output and status are those of
+// the program. NIC82599_WASM names another module than the one that plain/wasm/make leaves.
+
+import { existsSync, readFileSync, writeSync } from "node:fs";
+import { compile } from "./nicbench.mjs";
+
+const module = process.env.NIC82599_WASM ?? new URL("../out/wasm/nicbench.wasm", import.meta.url);
+const MISSING = 2;
+// What reads nothing: the others wait for the end of the input, as the program does.
+const ALONE = new Set(["threads", "help"]);
+
+function writeAll(bytes) {
+    for (let at = 0; at < bytes.length; ) {
+        at += writeSync(1, bytes, at);
+    }
+}
+
+if (!existsSync(module)) {
+    console.error(`nicbench: there is no module ${module}: plain/wasm/make makes it, or NIC82599_WASM names another`);
+    process.exit(MISSING);
+}
+const words = process.argv.slice(2);
+const bench = await compile(readFileSync(module));
+const input = words.length === 0 || ALONE.has(words[0]) ? "" : readFileSync(0);
+const { status, bytes } = await bench.run(words, input);
+writeAll(bytes);
+process.exitCode = status;

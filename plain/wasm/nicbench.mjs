@@ -1,0 +1,106 @@
+// The program nicbench, in a page, in a worker or in Node: words and input in, output and status out.
+//
+//     import { compile } from "./nicbench.mjs";
+//     const bench = await compile(fetch("nicbench.wasm"));
+//     const { status, text } = await bench.run(["run"], "w CTRL 0x04000000\nr STATUS\n");
+
+const WORDS = 0;
+const INPUT = 1;
+const PRINTED = 2;
+const FAULT = 3;
+
+const encoder = new TextEncoder();
+const decoder = new TextDecoder();
+
+// The program met a fault in itself, of which the message names the place.
+export class Fault extends Error {
+    name = "Fault";
+}
+
+function bytesOf(given) {
+    return typeof given === "string" ? encoder.encode(given) : given;
+}
+
+// The words, each ended by a byte 0, as a program's command line has them. None has such a byte in it.
+function lineOf(words) {
+    const parts = words.map(bytesOf);
+    const line = new Uint8Array(parts.reduce((sum, part) => sum + part.length + 1, 0));
+    let at = 0;
+    for (const part of parts) {
+        if (part.includes(0)) {
+            throw new TypeError("a word has a byte 0 in it, which no command line can have");
+        }
+        line.set(part, at);
+        at += part.length + 1;
+    }
+    return line;
+}
+
+// The calls of a fresh instance (module.rs says what they are), each with its fault.
+export class Calls {
+    #calls;
+
+    constructor(instance) {
+        this.#calls = instance.exports;
+    }
+
+    #bytes(at, length) {
+        return new Uint8Array(this.#calls.memory.buffer, at >>> 0, length >>> 0);
+    }
+
+    #caught(call) {
+        try {
+            return call();
+        } catch (error) {
+            // (a stack that overflows leaves no text)
+            const text = decoder.decode(this.read(FAULT)) || error.message;
+            throw new Fault(`nicbench met a fault in itself, not in its input: ${text}`, { cause: error });
+        }
+    }
+
+    write(number, bytes) {
+        const at = this.#caught(() => this.#calls.room(number, bytes.length));
+        if (at === 0) {
+            throw new RangeError(`there is no memory for ${bytes.length} bytes`);
+        }
+        this.#bytes(at, bytes.length).set(bytes);
+    }
+
+    read(number) {
+        return this.#bytes(this.#calls.address(number), this.#calls.length(number)).slice();
+    }
+
+    run() {
+        return this.#caught(() => this.#calls.run());
+    }
+}
+
+class Bench {
+    #module;
+
+    constructor(module) {
+        this.#module = module;
+    }
+
+    // Runs `nicbench WORDS..` on an input, a text or bytes. The result has the status with which the program ends, and
+    // what it prints: as `bytes`, and as `text`. The page stands still until the program ends: a worker of its own lets
+    // it answer meanwhile. Each run begins with fresh memory, so none sees another.
+    async run(words, input = "") {
+        const calls = new Calls(await WebAssembly.instantiate(this.#module));
+        calls.write(WORDS, lineOf(["nicbench", ...words]));
+        calls.write(INPUT, bytesOf(input));
+        const status = calls.run();
+        const bytes = calls.read(PRINTED);
+        return { status, bytes, text: decoder.decode(bytes) };
+    }
+}
+
+// Compiles the module: of its bytes, or of a response that has them, or of a promise of either.
+export async function compile(given) {
+    const found = await given;
+    if (found.ok === false) {
+        throw new Error(`the module couldn't be loaded: status ${found.status} of ${found.url}`);
+    }
+    const bytes = typeof found.arrayBuffer === "function" ? await found.arrayBuffer() : found;
+    return new Bench(await WebAssembly.compile(bytes));
+}

@@ -16,9 +16,7 @@ from pathlib import Path
 
 from generated import ROOT
 
-MACHINE = os.uname().machine
-ARCHITECTURE = {"x86_64": "amd64", "aarch64": "arm64"}.get(MACHINE, MACHINE)
-LIBDIR = f"lib/{MACHINE}-linux-gnu"
+ARCHITECTURES = {"x86_64": "amd64", "aarch64": "arm64"}
 DOC = "usr/share/doc/nic82599"
 # Debian has the licence's text elsewhere, and its own file that says so.
 LEFT_OUT = (f"{DOC}/LICENSE",)
@@ -27,10 +25,35 @@ Told = Callable[..., str]
 
 
 @dataclass(frozen=True)
-class Package:
-    """What its files are made of: the version, the time of the commit, the soname's number, the C library's least
-    version, and further packages with libraries that the binaries ask for."""
+class Machine:
+    """A machine that a release is for, by the name that its kernel has for it."""
 
+    name: str = os.uname().machine
+
+    @property
+    def is_here(self) -> bool:
+        return self.name == os.uname().machine
+
+    @property
+    def architecture(self) -> str:
+        """Debian's name."""
+        return ARCHITECTURES.get(self.name, self.name)
+
+    @property
+    def libdir(self) -> str:
+        return f"lib/{self.name}-linux-gnu"
+
+    def tool(self, name: str) -> str:
+        """A tool that compiles for the machine: on another one Debian's cross compiler has it."""
+        return name if self.is_here else f"{self.name}-linux-gnu-{name}"
+
+
+@dataclass(frozen=True)
+class Package:
+    """What its files are made of: the machine, the version, the time of the commit, the soname's number, the C
+    library's least version, and further packages with libraries that the binaries ask for."""
+
+    machine: Machine
     version: str
     epoch: int
     soname: str
@@ -77,7 +100,7 @@ def build_id(file: Path) -> str:
 def control(name: str, tree: Path, package: Package, **more: str) -> None:
     """The file control of a tree, and the sums of its files."""
     files = sorted(it for it in tree.rglob("*") if it.is_file() and not it.is_symlink())
-    words = {"VERSION": package.version, "ARCHITECTURE": ARCHITECTURE, "LIBC": package.libc, **more}
+    words = {"VERSION": package.version, "ARCHITECTURE": package.machine.architecture, "LIBC": package.libc, **more}
     words["MORE"] = "".join(f", {it}" for it in package.libraries)
     words["SIZE"] = str(sum(it.stat().st_size for it in files) // 1024)
     text = text_of(name)
@@ -96,7 +119,7 @@ def build(tree: Path, out: Path, package: Package, told: Told) -> None:
         os.utime(path, (package.epoch, package.epoch), follow_symlinks=False)
     name = re.search(r"Package: (\S+)", (tree / "DEBIAN/control").read_text())
     assert name
-    file = out / f"{name[1]}_{package.version}_{ARCHITECTURE}.deb"
+    file = out / f"{name[1]}_{package.version}_{package.machine.architecture}.deb"
     told("dpkg-deb", "--root-owner-group", "-Zgzip", "-z9", "--build", tree, file)
 
 

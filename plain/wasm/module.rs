@@ -3,9 +3,9 @@
 //!
 //! Each text is a number: 0 the words, each ended by a byte 0; 1 what the program reads; 2 what it printed; 3 the fault
 //! that ended it. The host asks for `room` for the first two, writes them at the address that it is given, calls `run`,
-//! and reads the others at `address`, which are `length` bytes. Where `run` doesn't return, the program met a fault that
-//! the proofs rule out: then only the last text may be read. Each run has a fresh instance, so nothing is left of
-//! another one.
+//! and reads the others at `address`, which are `length` bytes. Where a call doesn't return, the program met a fault
+//! that the proofs rule out: then the last text says which, and nothing else may be asked. Each run has a fresh
+//! instance, so nothing is left of another one.
 
 #![deny(unsafe_code)]
 

@@ -24,6 +24,10 @@
 #ifndef NIC82599_DRIVE_H
 #define NIC82599_DRIVE_H
 
+#ifdef _WIN32
+#error "the report card isn't there on Windows: it stands on the explorer"
+#endif
+
 #include "nic82599_explore.h"
 
 #ifdef __cplusplus

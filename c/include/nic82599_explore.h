@@ -15,6 +15,10 @@
 #ifndef NIC82599_EXPLORE_H
 #define NIC82599_EXPLORE_H
 
+#ifdef _WIN32
+#error "the explorer isn't there on Windows: its engine gives each driver a stack of its own, as on Linux"
+#endif
+
 #include "nic82599.h"
 
 #ifdef __cplusplus

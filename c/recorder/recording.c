@@ -34,6 +34,13 @@ struct recording {
     bool is_again;           /* `text` stands in place of the file's last line, which has LENT bytes */
 };
 
+/* A program that this one starts doesn't have the file; and its bytes are those that are written. */
+#ifdef _WIN32
+enum { AS_WRITTEN = O_NOINHERIT | O_BINARY };
+#else
+enum { AS_WRITTEN = O_CLOEXEC };
+#endif
+
 int nicd_is_recording;
 
 /* All that follows is held by `all`. */
@@ -87,7 +94,7 @@ static int open_file(unsigned number)
 {
     char name[4096];
     name_of(number, name, sizeof name);
-    int file = open(name, O_WRONLY | O_CREAT | O_TRUNC | O_CLOEXEC, 0666);
+    int file = open(name, O_WRONLY | O_CREAT | O_TRUNC | AS_WRITTEN, 0666);
     if (file < 0)
         say(name, strerror(errno));
     return file;
@@ -140,6 +147,7 @@ static void finish_all(void)
     note();
 }
 
+#ifndef _WIN32
 /* A fork waits for other threads' calls, so that what they change is whole in the child. */
 static void before_fork(void)
 {
@@ -166,13 +174,23 @@ static void in_child(void)
     let_go();
 }
 
+static void prepare(void)
+{
+    pthread_atfork(before_fork, in_parent, in_child);
+}
+#else
+static void prepare(void)
+{
+}
+#endif
+
 /* --- which controllers --- */
 
 static void take_path(const char *given)
 {
     static bool is_prepared;
     if (!is_prepared)
-        pthread_atfork(before_fork, in_parent, in_child);
+        prepare();
     is_prepared = is_told = true;
     free(path);
     path = given && *given ? malloc(strlen(given) + 1) : NULL;

@@ -41,7 +41,7 @@ from functools import cache, partial
 from typing import TYPE_CHECKING, NamedTuple, NoReturn, SupportsIndex, cast, overload
 
 from . import places, statuses
-from .buffers import bytes_of, shown_number
+from .buffers import bytes_of, shown_number, text_bytes
 from .keeping import Lent, end_once, held
 from .pcap import NoCapture, read_pcap, write_pcap
 from .registers import FIELDS, OFFSETS, REGISTERS
@@ -410,7 +410,10 @@ def record(path: str | os.PathLike[str] | None) -> bool:
     >>> record(None)
     True
     """
-    return bool(_library().nic_record(None if path is None else os.fsencode(path)))
+    name = None if path is None else os.fsencode(path)
+    if name and b"\0" in name:
+        raise ValueError(f"a path has no zero byte: {path!r}")
+    return bool(_library().nic_record(name))
 
 
 def _refused(status: int, text: str) -> NicError:
@@ -938,7 +941,7 @@ class Nic(_Registers, _OneOwner):
 
     def note(self, text: str) -> None:
         """A comment in the recording of this controller, in front of what comes next; `tools/nicview` shows it."""
-        self._call("nic_note", text.encode())
+        self._call("nic_note", text_bytes(text).replace(b"\0", b"?"))
 
     # --- steps ---
 
@@ -1043,7 +1046,7 @@ class Nic(_Registers, _OneOwner):
 
     def install_text(self, text: str) -> None:
         """Installs the EEPROM image of a text. TextRefused, OutOfMemory."""
-        given, line = text.encode(), ctypes.c_uint64()
+        given, line = text_bytes(text), ctypes.c_uint64()
         status = self._call("nic_install_text", given, len(given), ctypes.byref(line))
         if status in _TEXT:
             raise TextRefused(_TEXT[status], line.value)

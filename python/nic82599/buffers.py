@@ -21,6 +21,15 @@ def shown_number(number: int) -> str:
     return str(number) if number.bit_length() <= 128 else f"of {number.bit_length():,} bits"
 
 
+def text_bytes(text: str) -> bytes:
+    """The UTF-8 of a text. TypeError for what is none.
+
+    >>> text_bytes("size 128")
+    b'size 128'
+    """
+    return str.encode(text)
+
+
 def bytes_of(data: HasBytes) -> bytes:
     """The bytes of `bytes`, an array of items of any size, a packet that makes itself bytes, or numbers up to 255.
     TypeError for one number, of which `bytes` would make so many zeros.
@@ -37,4 +46,4 @@ def bytes_of(data: HasBytes) -> bytes:
         if hasattr(data, "__index__"):
             shown = shown_number(operator.index(data))  # type: ignore[arg-type]
             raise TypeError(f"{type(data).__name__} {shown} is a number, and bytes are wanted") from None
-    return bytes(data)
+    return memoryview(bytes(data)).tobytes()  # (what its `__bytes__` gives may have a length of its own)

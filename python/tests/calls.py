@@ -55,6 +55,13 @@ class Life(unittest.TestCase):
             Nic(63, 4096, 65_536).lend(0, 65_535)
         gc.collect()
 
+    def test_a_path_with_a_zero(self) -> None:
+        """It isn't cut off there."""
+        with tempfile.TemporaryDirectory() as folder:
+            with self.assertRaisesRegex(ValueError, "zero byte"):
+                nic82599.record(f"{folder}/cut\0off")
+            self.assertEqual(list(Path(folder).iterdir()), [])
+
     def test_missing_library(self) -> None:
         with self.assertRaisesRegex(nic82599.LibraryMissing, "no library of the controller"):
             Nic(library="/nowhere/libnic82599.so")
@@ -531,6 +538,34 @@ class MemoryOfPackets(unittest.TestCase):
             with self.assertRaisesRegex(ValueError, "this has 128"):
                 nic82599.descriptors.received(array.array("Q", bytes(128)))
             self.assertEqual(nic82599.descriptors.head(array.array("I", [3])), 3)
+
+    def test_lengths_that_lie(self) -> None:
+        """Bytes are as many as they are, and not as many as they say."""
+
+        class Long(bytes):
+            def __len__(self) -> int:
+                return 1500
+
+        class Packet:
+            def __bytes__(self) -> bytes:
+                return Long(b"abc")
+
+        class Text(str):
+            def encode(self, *_how: str) -> bytes:
+                return Long(b"size 128")
+
+        with Nic(blocks=1) as nic:
+            nic.lend()
+            nic.memory[0:2048] = b"\1" * 2048
+            for given in (Packet(), Long(b"abc")):
+                nic.memory.write(0, given)
+                self.assertEqual(nic.memory[0:2048], b"abc" + b"\1" * 2045)
+                with self.assertRaisesRegex(ValueError, "a key of 3 bytes"):
+                    nic82599.rss_hash(given, b"")
+            nic.install_text(Text("size 128\n"))
+            for call in (nic.install_text, nic.note):
+                with self.assertRaises(TypeError):
+                    call(b"size 128\n")  # type: ignore[arg-type]
 
     def test_lent_or_not(self) -> None:
         with Nic(blocks=2) as nic:

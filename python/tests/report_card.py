@@ -3,20 +3,23 @@ names what is wrong, and what no driver may do is a failed row beside which othe
 
 from __future__ import annotations
 
+import array
 import ctypes
 import os
 import re
+import struct
 import subprocess
 import sys
 import tempfile
 import unittest
 from pathlib import Path
+from unittest import mock
 from xml.etree import ElementTree
 
 import card_drivers as drivers
 from nic82599 import places
 from nic82599.drive import Driver
-from nic82599.drive.calls import OPTIONAL, Refused
+from nic82599.drive.calls import CARD, OPTIONAL, Refused
 from nic82599.drive.row import checked, driver_of, load, program
 
 HERE = Path(__file__).resolve().parent
@@ -172,6 +175,24 @@ class Refusals(unittest.TestCase):
             status, told = ran(type("Wrong", (drivers.Both,), {field: value}), "--list")
             self.assertEqual(status, 2)
             self.assertRegex(told, "card: the driver can't be taken: its name|its queues|its slots|its frame|no thread")
+
+    def test_lengths_are_bytes(self) -> None:
+        """Of whatever items the driver's bytes are, and whatever they say of themselves."""
+
+        class Long(bytes):
+            def __len__(self) -> int:
+                return 1500
+
+        calls: list[tuple[object, ...]] = []
+        driver = Driver()
+        with mock.patch.object(CARD, "call", lambda *words: calls.append(words) or 0):
+            driver.dma_write(0, array.array("Q", [1, 2]))  # type: ignore[arg-type]
+            driver.dma_write(0, Long(b"abc"))
+            driver.deliver(1, memoryview(bytes(120)).cast("I"))  # type: ignore[arg-type]
+        words = struct.pack("<QQ", 1, 2)
+        self.assertEqual(
+            calls, [("dma_write", 0, words, 16), ("dma_write", 0, b"abc", 3), ("deliver", 1, bytes(120), 120)]
+        )
 
     def test_a_call_without_a_card(self) -> None:
         with self.assertRaisesRegex(RuntimeError, "read32 is called by a driver on its card"):

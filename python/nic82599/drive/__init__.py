@@ -27,6 +27,7 @@ from contextlib import contextmanager
 from typing import TYPE_CHECKING, NoReturn
 
 from .. import address_of, offset_of
+from ..buffers import bytes_of
 from ..dma import Dma
 from ..statuses import DONE
 from .calls import ANY_WORD, CARD, Failed, Lock
@@ -182,7 +183,8 @@ class Driver(Dma):
 
     def dma_write(self, bus: int, data: bytes) -> bool:
         """Whether all of it is lent, and so written; else that is a failure."""
-        return CARD.call("dma_write", bus, bytes(data), len(data)) == DONE
+        given = bytes_of(data)
+        return CARD.call("dma_write", bus, given, len(given)) == DONE
 
     # --- waiting ---
 
@@ -248,7 +250,8 @@ class Driver(Dma):
 
     def deliver(self, queue: int, frame: bytes) -> None:
         """Hands a frame up that came in a queue, from a thread of the driver's own, where there is no `receive`."""
-        CARD.call("deliver", queue, bytes(frame), len(frame))
+        given = bytes_of(frame)
+        CARD.call("deliver", queue, given, len(given))
 
     def fail(self, words: str) -> NoReturn:
         """The schedule fails here, with these words."""

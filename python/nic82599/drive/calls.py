@@ -20,6 +20,7 @@ from types import FrameType, TracebackType
 from typing import TYPE_CHECKING, Any
 
 from .. import dma, places
+from ..buffers import text_bytes
 from ..tools.printable import printable
 from .values import MAILBOX_WORDS, MOST_FRAME, Filter, Rss, Setup
 
@@ -65,7 +66,7 @@ class Lock(ctypes.Structure):
 
     @staticmethod
     def of(name: str) -> Lock:
-        return Lock(name.encode(), 0)
+        return Lock(text_bytes(name), 0)
 
 
 _CALLS: dict[str, list[Any]] = {

@@ -19,6 +19,7 @@ from dataclasses import dataclass, field, replace
 from pathlib import Path
 
 from .. import BadMemory, Nic, NotLent, address_of, offset_of
+from ..buffers import bytes_of
 from ..dma import Dma
 from .coverage import Coverage
 from .engine import POLLS, Choose, Result, Run, Thread, place_of_call
@@ -317,6 +318,7 @@ class Scenario(Dma):
 
     def dma_write(self, bus: int, data: bytes) -> bool:
         """Whether all of it is lent, and so written."""
+        data = bytes_of(data)
         run, is_lent, note = self._point(), True, ""
         try:
             note = self._store(run, bus, data)

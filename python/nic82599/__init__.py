@@ -626,9 +626,6 @@ class Memory:
 
     def __init__(self, nic: Nic) -> None:
         self._nic = nic
-        self._lent = Lent(nic._is_closed)
-        # The explorer's refusal.
-        self._before_lending: Callable[[], None] | None = None
 
     def lend(self, bus: int, buffer: WriteableBuffer) -> None:
         """Lends the bytes of a buffer that can be written (a bytearray, an mmap, an array), in place: the device reads
@@ -638,8 +635,8 @@ class Memory:
         be written, or that ctypes.resize can move; then none of it is lent. (numpy's `resize` with refcheck=False moves
         an array that is lent: don't call it.) If a signal's handler raises during the call, the buffer is lent and
         kept, or neither."""
-        if self._before_lending:
-            self._before_lending()
+        if self._nic._before_lending:
+            self._nic._before_lending()
         at, buffer = _whole(bus, 64, "bus address"), held(buffer)
         words = at, ctypes.addressof(buffer), len(buffer)
         self._noted("nic_lend_memory", words, self._blocks(at, len(buffer)), buffer)
@@ -657,7 +654,7 @@ class Memory:
     def _noted(self, name: str, words: tuple[int, ...], blocks: range, buffer: object = None) -> None:
         """A call that lends blocks in a buffer, or takes them back, or is refused."""
         nic = self._nic
-        nic._answer(name, words, self._lent.noted(nic._bound(name, *words), blocks, buffer))
+        nic._answer(name, words, nic._lent.noted(nic._bound(name, *words), blocks, buffer))
 
     @staticmethod
     def _blocks(bus: int, length: int) -> range:
@@ -730,6 +727,8 @@ class Snapshot(_OneOwner):
     _copied_by = "restore it as often as you like"
 
     def __init__(self, nic: Nic) -> None:
+        if "_kept" in vars(self):
+            self.drop()
         self._kept = _Kept()
         self._library = nic._library
         self.vfs, self.fifo, self.blocks = nic.vfs, nic.fifo, nic.blocks
@@ -769,8 +768,15 @@ class Nic(_Registers, _OneOwner):
     def __init__(
         self, vfs: int = 0, fifo: int = 64, blocks: int = 256, *, library: str | os.PathLike[str] | None = None
     ) -> None:
+        is_again = "_lent" in vars(self)
+        if is_again:
+            self.close()
         self._library = _library(library)
         self._handle = _Handle()
+        if not is_again:
+            self._lent = Lent(self._is_closed)
+        # The explorer's refusal.
+        self._before_lending: Callable[[], None] | None = None
         sizes = (
             (vfs, 8, TooManyVfs, "virtual functions"), (fifo, 16, BadFifo, "frames"), (blocks, 32, BadBlocks, "blocks")
         )  # fmt: skip
@@ -789,7 +795,7 @@ class Nic(_Registers, _OneOwner):
         if _watcher and not self._is_closed():
             _watcher(self)
         end_once(self._library.nic_free, self._handle)
-        self.memory._lent.take_in()
+        self._lent.take_in()
 
     def __enter__(self) -> Nic:
         return self
@@ -798,7 +804,7 @@ class Nic(_Registers, _OneOwner):
         self.close()
 
     def __del__(self) -> None:
-        if hasattr(self, "memory") and not self._is_closed():
+        if hasattr(self, "_lent") and not self._is_closed():
             self.close()
 
     def __repr__(self) -> str:

@@ -47,20 +47,36 @@ def end_once(end: Callable[[ctypes.Structure], None], handle: ctypes.Structure) 
 # --- buffers ---
 
 
+# What all objects of ctypes are, and from Python 3.12 on what stands for the memory of an object whose class has a
+# `__buffer__` in Python.
+_CData = ctypes.c_ubyte.__mro__[2]
+_WRAPPER = "_buffer_wrapper"
+
+
+def _of_ctypes(owner: object, name: str) -> Any:
+    """What ctypes says of its object, whatever the object's class says."""
+    return vars(_CData)[name].__get__(owner) if issubclass(type(owner), _CData) else None
+
+
+def _is_of_numpy(owner: object) -> bool:
+    return any(one.__module__.partition(".")[0] == "numpy" for one in type(owner).__mro__)
+
+
 def _below(owner: object) -> object | None:
     """What has the memory of an object that is a view of another one; None where it has its own."""
     if isinstance(owner, memoryview):
         return owner.obj
-    name = "base" if type(owner).__module__ == "numpy" else "_b_base_"
-    return getattr(owner, name, None)
+    return getattr(owner, "base", None) if _is_of_numpy(owner) else _of_ctypes(owner, "_b_base_")
 
 
 def _refuse_movable(buffer: object) -> None:
-    """TypeError of memory that ctypes.resize moves while it is lent."""
+    """TypeError of memory that can move while it is lent."""
     owner = buffer
     while (below := _below(owner)) is not None:
         owner = below
-    if getattr(owner, "_b_needsfree_", False):
+    if type(owner).__name__ == _WRAPPER:
+        raise TypeError("whose memory a `__buffer__` in Python gives can't be seen: lend what it gives, as a bytearray")
+    if _of_ctypes(owner, "_b_needsfree_"):
         raise TypeError(
             f"ctypes.resize can move the memory of {type(owner).__name__} while it is lent: lend a bytearray, "
             f"or an object of ctypes that `from_buffer` makes over one"
@@ -69,9 +85,9 @@ def _refuse_movable(buffer: object) -> None:
 
 def held(buffer: WriteableBuffer) -> ctypes.Array[ctypes.c_ubyte]:
     """The bytes of a buffer that can be written; while this is kept they stay where they are. TypeError."""
-    with memoryview(buffer) as view:
-        _refuse_movable(view)
-        return (ctypes.c_ubyte * view.nbytes).from_buffer(buffer)
+    view = memoryview(buffer)  # (it is asked for its memory once: a second time it might give another)
+    _refuse_movable(view)
+    return (ctypes.c_ubyte * view.nbytes).from_buffer(view)
 
 
 # --- what is lent in place ---

@@ -458,6 +458,64 @@ class MemoryOfPackets(unittest.TestCase):
             nic.memory[0:3] = b"own"
             self.assertEqual(bytes(fixed[:3]), b"own")
 
+    def test_memory_that_hides_that_it_moves(self) -> None:
+        """A class of ctypes may say of itself what it likes, and a `__buffer__` in Python give what it likes."""
+
+        class Denies(ctypes.c_ubyte * 2048):  # type: ignore[misc]
+            _b_needsfree_ = 0
+
+        class Gives:
+            def __init__(self, *given: object) -> None:
+                self.given = list(given)
+
+            def __buffer__(self, _flags: int) -> memoryview:
+                return memoryview(self.given.pop(0) if len(self.given) > 1 else self.given[0])  # type: ignore[arg-type]
+
+        movable = (ctypes.c_ubyte * 2048)()
+        with Nic(blocks=4) as nic:
+            for buffer in (Denies(), Gives(movable), Gives(bytearray(2048), movable)):
+                with self.subTest(type(buffer).__name__), self.assertRaises(TypeError):
+                    nic.memory.lend(0, buffer)
+            self.assertNotIn(0, nic.memory)
+
+    def test_kept_by_the_controller(self) -> None:
+        """What is lent stays kept, whichever `Memory` it was lent by and whatever becomes of that."""
+
+        def again(nic: Nic, own: bytearray) -> None:
+            memory = nic.memory
+            nic.__init__(blocks=4)  # type: ignore[misc]
+            memory.lend(0, own)
+
+        def deleted(nic: Nic, own: bytearray) -> None:
+            nic.memory.lend(0, own)
+            del nic.memory
+
+        for lend in (lambda nic, own: Memory(nic).lend(0, own), again, deleted):
+            own, nic = bytearray(4096), Nic(blocks=4)
+            lend(nic, own)
+            gc.collect()
+            self.assertRaises(BufferError, own.clear)
+            nic.close()
+            own.clear()
+
+    def test_made_anew(self) -> None:
+        """A second `__init__` ends the controller that was there, and lets go of what it had."""
+        own = bytearray(2048)
+        nic = Nic(blocks=4)
+        nic.memory.lend(0, own)
+        kept, former = nic.snapshot(), nic._handle
+        nic.__init__(blocks=2)  # type: ignore[misc]
+        own.clear()
+        self.assertEqual((former.device, nic.blocks, 0 in nic.memory), (None, 2, False))
+        self.assertRaises(nic82599.LibraryMissing, nic.__init__, library="/nowhere")  # type: ignore[misc]
+        self.assertRaises(nic82599.Closed, nic.settle)
+        nic.__init__(blocks=2)  # type: ignore[misc]
+        former = kept._kept
+        kept.__init__(nic)  # type: ignore[misc]
+        self.assertIsNone(former.kept)
+        kept.drop()
+        nic.close()
+
     def test_long_reads(self) -> None:
         """Of more than a controller has: refused before there is memory for it."""
         with Nic(blocks=2) as nic, Nic(blocks=4) as larger:

@@ -234,7 +234,7 @@ def check(nic: Nic, buffer: bytearray) -> None:
             raise AssertionError("a buffer is lent and not kept")
         nic.memory.unlend(0, BYTES)
     else:
-        nic.memory._lent.take_in()
+        nic._lent.take_in()
     if is_kept(buffer):
         raise AssertionError("a buffer that isn't lent is kept")
 

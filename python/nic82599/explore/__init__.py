@@ -619,7 +619,7 @@ class Search:
         if not 1 <= scenario.queues <= 128:
             raise ValueError("a scenario's queues are 1 to 128")
         scenario._nic = Nic(scenario.vfs, scenario.fifo, scenario.blocks)
-        scenario._nic.memory._before_lending = scenario._refuse_memory
+        scenario._nic._before_lending = scenario._refuse_memory
         scenario.bring_up()
         self.kept = scenario._nic.snapshot()
         self.memory = WeakMemory(scenario._nic, scenario.blocks) if scenario._is_weak else None

@@ -13,9 +13,10 @@ from unittest import mock
 import nic82599
 from ends import started
 from nic82599.pcap import ENHANCED, INTERFACE, SECTION, SIMPLE, NoCapture, frames_of
-from nic82599.tools import recording
-from nic82599.tools.forms import TOO_LARGE, number_of
-from nic82599.tools.script import Fault
+from nic82599.tools import page, recording, refusals, regs
+from nic82599.tools.forms import TOO_LARGE, explained, near_words, number_of
+from nic82599.tools.nic2pcap import NoFrame, frames_in
+from nic82599.tools.script import Fault, Refused
 
 DIGITS = "9" * 5000
 HEAD = "#: nic vfs 0 fifo 64 blocks 256\n"
@@ -121,6 +122,45 @@ class Files(unittest.TestCase):
         for limit in (1, 4096):
             with mock.patch.object(recording, "MOST_HELD", 1 << 18), self.assertRaisesRegex(Fault, "TooMuch"):
                 recording.of_recording(str(path), limit)
+
+    def test_refusals_have_bounds(self) -> None:
+        """Of a long script fewer are told, and of a long word its beginning is compared and shown."""
+
+        class Refusing:
+            asked = 0
+
+            def call(self, _words: list[str], text: bytes) -> None:
+                self.asked += 1
+                raise Refused("UnknownName", text.decode().split("\n").index("w NOSUCH 1") + 1)
+
+        self.assertEqual([refusals.most_of("w" * size) for size in (1, 1 << 19, 1 << 20, 1 << 23)], [100, 100, 64, 8])
+        for looked, told in ((1 << 26, 100), (1 << 15, 14)):
+            bench, text = Refusing(), "w NOSUCH 1\n" * 200
+            with mock.patch.object(refusals, "LOOKED", looked):
+                found = list(refusals.refusals(bench, text, Refused("UnknownName", 1)))  # type: ignore[arg-type]
+            self.assertEqual((len(found), bench.asked), (told, told - 1))
+        place = explained("w " + "RDT" * 100_000 + " 1", Refused("UnknownName", 1))
+        self.assertLess(len(place.text), 400)
+        with mock.patch("difflib.get_close_matches", return_value=[]) as compared:
+            regs.near("A" * 100_000, ["B" * 100_000, "RDT"])
+            near_words("A" * 100_000)
+        self.assertLessEqual(max(len(call.args[0]) for call in compared.mock_calls), regs.MOST_COMPARED)
+        self.assertEqual(compared.mock_calls[0].args[1], ["RDT"])
+
+    def test_frames_of_a_run(self) -> None:
+        """What `nicbench run` prints of a frame has two digits a byte."""
+        self.assertEqual(list(frames_in(["7 frame queue 3 0aff"])), [(7, 3, b"\x0a\xff")])
+        for line in ("7 frame queue 3 0af", "7 frame queue 3 0A", "7 frame queue 3 0a 0b"):
+            with self.assertRaises(NoFrame):
+                list(frames_in([line]))
+
+    def test_a_name_that_is_a_mark(self) -> None:
+        """A file's name is a page's title as it is, whatever stands there for the page's parts."""
+        for name in ("{{CODE}}", "{{DATA}}", "{{TITLE}}", "a</title><b>"):
+            made = page.page({"name": name})
+            shown = name.replace("<", "&lt;")
+            self.assertIn(f"<title>{shown}: a run on the bench</title>", made)
+            self.assertEqual(made.count('"use strict"'), page.page({"name": ""}).count('"use strict"'))
 
     def test_captures(self) -> None:
         """A block's frame lies in it, a section has a byte order, and what isn't there is cut off."""

@@ -11,7 +11,7 @@ from collections.abc import Callable
 from dataclasses import dataclass
 
 from .printable import shortened
-from .regs import ROWS, near
+from .regs import MOST_COMPARED, ROWS, near
 from .script import Refused
 
 FORMS = {
@@ -52,6 +52,8 @@ MOST = {
     "WORD": 3,
 }
 MOST_DIGITS, TOO_LARGE = 20, 1 << 128
+# So many letters are said of what is wrong.
+MOST_TOLD = 300
 NUMBER = re.compile(r"0x[0-9a-fA-F]+|[0-9]+")
 NAME = re.compile(r"[A-Za-z_][A-Za-z0-9_]*")
 TARGET = re.compile(r"([A-Za-z_][A-Za-z0-9_]*)(?:\[([^\]]*)\])?")
@@ -108,7 +110,7 @@ class Looker:
 
     def _at(self, word: int, text: str, close: list[str] | None = None) -> Place:
         column, shown = self.words[word] if word < len(self.words) else (len(self.line.split("#")[0].rstrip()), " ")
-        return Place(self.refused.line, column, len(shown), text, close or [])
+        return Place(self.refused.line, column, len(shown), shortened(text, MOST_TOLD), close or [])
 
     def _kinds(self) -> list[str]:
         """The kinds of the words behind the operation."""
@@ -171,7 +173,7 @@ class Looker:
         data: dict[str, int] = {}
         labels: dict[str, int] = {}
         for number, line in enumerate(self.lines, 1):
-            words = [word for _, word in words_of(line)]
+            words = [word for _, word in words_of(line)] if "data" in line or ":" in line else []
             if len(words) == 3 and words[0] == "data":
                 data.setdefault(words[1], number)
             elif len(words) == 1 and words[0].endswith(":"):
@@ -248,6 +250,7 @@ def near_words(word: str) -> list[str]:
     """Operations like a word."""
     from difflib import get_close_matches
 
+    word = word[:MOST_COMPARED]
     others = {
         "write": "w",
         "read": "r",

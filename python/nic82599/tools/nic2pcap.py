@@ -31,7 +31,7 @@ from .tool import MOST_STEPS, add_version, called, ended, number, sizes
 from .trace import Trace
 
 # A time in microseconds has no more digits, and a queue neither.
-FRAME = re.compile(r"([0-9]{1,15}) frame queue ([0-9]{1,5}) ((?:[0-9a-f]{2})*)")
+FRAME = re.compile(r"([0-9]{1,15}) frame queue ([0-9]{1,5}) ([0-9a-f]*)")
 
 
 class NoFrame(Exception):
@@ -44,7 +44,7 @@ def frames_in(lines: Iterable[str]) -> Iterator[tuple[int, int, bytes]]:
         line = line.rstrip("\r\n")
         if re.match(r"\d+ frame ", line):
             found = FRAME.fullmatch(line)
-            if not found:
+            if not found or len(found[3]) % 2:
                 raise NoFrame(f"standard input:{number}: no line of a frame: {shortened(line)}")
             yield int(found[1]), int(found[2]), bytes.fromhex(found[3])
 

@@ -18,10 +18,10 @@ from collections import Counter
 from collections.abc import Callable
 
 from .advice import Advice
-from .forms import Place, explained
+from .forms import MOST_TOLD, Place, explained
 from .printable import shortened
 from .recording import is_recording, of_recording, read, refuse_sizes
-from .refusals import MOST, refusals
+from .refusals import most_of, refusals
 from .run import Run, of_trace
 from .script import Bench, Refused, Script, of_text, read_bytes, text_of
 from .tool import Parser, called, ended, limit, limit_of_script, sizes
@@ -44,7 +44,7 @@ def refusal(path: str, text: str, refused: Refused, place: Place) -> None:
     """Prints a refusal, with the line and its word."""
     where = f"{path}:{place.line}:{place.column + 1}" if place.line else path
     close = f"; near: {', '.join(place.near)}" if place.near else ""
-    print(f"{where}: refused {refused.name}: {shortened(place.text, 300)}{shortened(close, 300)}")
+    print(f"{where}: refused {refused.name}: {place.text}{shortened(close, MOST_TOLD)}")
     if place.line:
         line = text.split("\n")[place.line - 1].rstrip("\r").replace("\t", " ")
         begin = max(0, min(place.column - 60, len(line) - 100))
@@ -92,8 +92,8 @@ def of_script(asked: argparse.Namespace, raw: bytes) -> int:
         found = [(refused, explained(shown, refused)) for refused, shown in refusals(bench, text, first)]
         for refused, place in sorted(found, key=lambda one: one[1].line or len(text)):
             refusal(asked.script, text, refused, place)
-        if len(found) == MOST:
-            print(f"{asked.script}: further lines may be refused; {MOST} are told")
+        if len(found) == most_of(text):
+            print(f"{asked.script}: further lines may be refused; {len(found)} are told")
         return 2
     return lint(asked.script, script, (lambda: of_trace(trace_of(bench, script, text, most))) if asked.trace else None)
 

@@ -3,6 +3,7 @@
 from __future__ import annotations
 
 import json
+import re
 from pathlib import Path
 from typing import Any
 
@@ -204,5 +205,5 @@ def page(data: dict[str, Any], foot: str = "") -> str:
     title = data["name"].replace("&", "&amp;").replace("<", "&lt;")
     template = (HERE / "nicview.html").read_text()
     code = "".join((HERE / name).read_text() for name in ("nicview_rings.js", "nicview.js"))
-    template = template.replace("{{TITLE}}", title).replace("{{FOOT}}", foot)
-    return template.replace("{{CODE}}", code).replace("{{DATA}}", text)
+    parts = {"{{TITLE}}": title, "{{FOOT}}": foot, "{{CODE}}": code, "{{DATA}}": text}
+    return re.sub("|".join(map(re.escape, parts)), lambda mark: parts[mark[0]], template)

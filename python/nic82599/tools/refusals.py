@@ -11,21 +11,26 @@ from collections.abc import Iterator
 from .forms import NAME, explained
 from .script import Bench, Refused
 
-# So many are told at most, and so many instructions a script has.
-MOST, INSTRUCTIONS = 100, 4_096
+# So many are told at most, and so many letters of scripts looked at for that; and so many instructions a script has.
+MOST, LOOKED, INSTRUCTIONS = 100, 1 << 26, 4_096
 ZEROS = "00" * 16
+
+
+def most_of(text: str) -> int:
+    """How many are told of a script: the bench is asked for each of them, so fewer of one above half a megabyte."""
+    return max(1, min(MOST, LOOKED // max(1, len(text))))
 
 
 def refusals(bench: Bench, text: str, first: Refused) -> Iterator[tuple[Refused, str]]:
     """Each refusal with the text that was refused so, whose lines are those of this one. Lines are told in the order in
     which the bench finds them; without a line it is the last."""
-    refused, lines, told = first, text.split("\n"), 0
+    refused, lines, told, most = first, text.split("\n"), 0, most_of(text)
     while True:
         shown = "\n".join(lines)
         yield refused, shown
         told += 1
         number = refused.line or explained(shown, refused).line
-        if not number or told == MOST:
+        if not number or told == most:
             return
         if _is_too_many(lines, number, refused):
             lines = _behind(lines, number)
@@ -61,7 +66,7 @@ def _behind(lines: list[str], number: int) -> list[str]:
 def _mended(lines: list[str], number: int) -> str:
     """What stands for a line that was refused: the name that it alone gives, else nothing."""
     words = _words(lines[number - 1])
-    others = [_words(line) for k, line in enumerate(lines) if k != number - 1]
+    others = (_words(line) for k, line in enumerate(lines) if k != number - 1)
     if words[:1] == ["data"] and len(words) > 1 and NAME.fullmatch(words[1]) and len(words[1]) <= 32:
         is_other = any(line[:2] == words[:2] for line in others)
         return "" if is_other else f"data {words[1]} {ZEROS}"

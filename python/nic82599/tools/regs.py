@@ -3,11 +3,14 @@
 from __future__ import annotations
 
 from dataclasses import dataclass
+from itertools import islice
 
 from .fields import FIELDS, OPEN
 from .tables import FUNCTION, POOL_SIZES, TABLE, Row
 
 ENABLE = 1 << 25
+# So many letters of a word are compared with names, and with so many names.
+MOST_COMPARED, MOST_NAMES = 64, 2_000
 
 
 @dataclass(frozen=True)
@@ -122,7 +125,8 @@ def near(word: str, names: list[str], count: int = 4) -> list[str]:
     """Names like a word: those that differ in few letters, or that begin with it or hold it."""
     from difflib import get_close_matches
 
-    upper = word.upper()
+    upper = word[:MOST_COMPARED].upper()
+    names = list(islice((name for name in names if len(name) <= MOST_COMPARED), MOST_NAMES))
     close = get_close_matches(upper, names, count, 0.6)
     more = [name for name in names if len(upper) > 2 and (upper in name or name in upper and len(name) > 2)]
     return list(dict.fromkeys(close + more))[:count]

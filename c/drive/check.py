@@ -20,7 +20,7 @@ from typing import Any
 HERE = Path(__file__).resolve().parent
 C = HERE.parent
 sys.path.insert(0, str(C))
-from explore.check import STRICT, Wrong, ran  # noqa: E402
+from explore.check import STRICT, Wrong, ran, told  # noqa: E402
 
 
 @dataclass(frozen=True)
@@ -263,7 +263,24 @@ def check_files(kit: Kit) -> str:
         if wanted not in said:
             raise Wrong(f"--compare doesn't tell \"{wanted}\":\n{said}")
     nicdrive(kit.folder, ["--compare", before, before], 0)
+    check_foreign_cards(kit, before)
     return "text, JUnit, page, and two cards compared"
+
+
+def check_foreign_cards(kit: Kit, card: Path) -> None:
+    """Nothing of a card that is compared acts on the terminal, and what is no card is refused in one line."""
+    bad, data = kit.folder / "bad.json", json.loads((card / "card.json").read_text())
+    bad.write_text(json.dumps(data | {"driver": "\x1b]0;title\x07"}))
+    said = nicdrive(kit.folder, ["--compare", bad, card], 0)
+    if "\x1b" in said or "before: \\x1b]0;title\\x07: " not in said:
+        raise Wrong(f"--compare prints what acts on the terminal:\n{said!r}")
+    for text, wanted in {
+        "[" * 200_000: "it is no card: it is nested too deep\n$",
+        json.dumps(data | {"rows": [data["rows"][0] | {"name": [1]}]}): "it is no card: name of a row is no str\n$",
+        json.dumps(data | {"budget": []}): "it is no card: .* must be a mapping, not list\n$",
+    }.items():
+        bad.write_text(text)
+        told(nicdrive(kit.folder, ["--compare", bad, card], 2), f"^nicdrive: .*{wanted}", text[:40])
 
 
 def check_sanitized(kit: Kit, flags: list[str]) -> str:

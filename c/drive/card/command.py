@@ -27,7 +27,7 @@ import tempfile
 import time
 from pathlib import Path
 
-from nic82599.tools.tool import add_version
+from nic82599.tools.tool import add_version, printable_output
 
 from . import page, report, where
 from .build import build
@@ -170,7 +170,11 @@ def make(given: argparse.Namespace) -> int:
 
 
 def command() -> int:
-    given = words()
+    with printable_output():
+        return _command(words())
+
+
+def _command(given: argparse.Namespace) -> int:
     try:
         if given.compare:
             told, is_worse = report.compare(report.read(given.compare[0]), report.read(given.compare[1]))

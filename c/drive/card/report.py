@@ -4,10 +4,11 @@ from __future__ import annotations
 
 import json
 import xml.etree.ElementTree as ElementTree
-from dataclasses import dataclass
+from dataclasses import dataclass, fields
 from pathlib import Path
 from typing import Any
 
+from nic82599.tools.printable import shortened
 from nic82599.tools.regs import function_register, register_at
 from nic82599.tools.tables import TABLE
 
@@ -81,11 +82,22 @@ def read(path: Path) -> Card:
     path = path / "card.json" if path.is_dir() else path
     try:
         data: dict[str, Any] = json.loads(path.read_text())
-        rows = [Row(**row) for row in data["rows"]]
+        rows = [checked(Row(**row)) for row in data["rows"]]
         spent = float(data["seconds"]), float(data.get("processor", 0))
         return Card(str(data["driver"]), rows, Budget(**data["budget"]), *spent)
-    except (OSError, ValueError, KeyError, TypeError) as fault:
-        raise Refused(f"{path}: it is no card: {fault}") from fault
+    except RecursionError:
+        raise Refused(f"{path}: it is no card: it is nested too deep") from None
+    except (OSError, ValueError, KeyError, TypeError, AttributeError) as fault:
+        raise Refused(f"{path}: it is no card: {shortened(str(fault), 160)}") from fault
+
+
+def checked(row: Row) -> Row:
+    """A row whose parts are what they should be. TypeError."""
+    for part in fields(Row):
+        kind = str(part.type).partition("[")[0]
+        if type(getattr(row, part.name)).__name__ not in ((kind, "int") if kind == "float" else (kind,)):
+            raise TypeError(f"{part.name} of a row is no {kind}")
+    return row
 
 
 def extent(row: Row) -> str:

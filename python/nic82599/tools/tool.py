@@ -87,12 +87,12 @@ def ended(main: Callable[[], int], name: str, unwritten: int = 2) -> int:
     written."""
     if sys.stdout is None:  # (it is closed)
         sys.stdout = open(os.devnull, "w")  # noqa: SIM115
-    with _printable_output():
+    with printable_output():
         return _ended(main, name, unwritten)
 
 
 @contextlib.contextmanager
-def _printable_output() -> Iterator[None]:
+def printable_output() -> Iterator[None]:
     """What is printed may come from a file: nothing of it acts on a terminal."""
     former = sys.stdout, sys.stderr
     sys.stdout, sys.stderr = (cast("IO[str]", Printable(it) if it else it) for it in former)

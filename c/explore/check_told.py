@@ -75,6 +75,8 @@ def check_cycle(kit: Kit, program: Path) -> str:
         "scenario told\nwithout frame 2\n": ':2: the scenario has no "frame 2"',
         "scenario told\nwithout frame 18446744073709551617\n": ":2: the scenario has no",
         "scenario told\nwithout task nobody\n": ':2: the scenario has no "task nobody"',
+        "scenario told\nwithout task \x7f\n": ':2: the scenario has no "task \\?"',
+        "scenario told\ntask \x9b31m\n": ':2: the scenario has no "task \\?\\?31m"',
         "scenario told\nwithout rx\n": ':2: the scenario has no "rx"',
         "scenario told\nwithout task other\ntask other\n": ':3: "task other" can\'t act here',
         "scenario told\ntask one\ncycle\nrx\n": ':4: "rx" can\'t act here',

@@ -574,6 +574,7 @@ class Files(unittest.TestCase):
                 "task poll\n": ":1: the first line is",
                 "scenario other\n": ":1: it is a schedule of scenario other, and this is race",
                 "scenario race\n\ntask nobody\n": ':3: "task nobody" can\'t act here',
+                "scenario race\ntask \x1b[31m\u202e\n": '"task \\x1b[31m\\u202e" can\'t act here',
                 "scenario race\nrx\n": ':2: "rx" can\'t act here',
                 "scenario race\narrive\n": ':2: "the end" can\'t act here',
             }.items():

@@ -229,6 +229,7 @@ static const char *take_line(struct schedule_file *file, char *line, bool is_las
         trim(comment);
     }
     trim(line);
+    nicxi_plain(line, line, MOST_LINE); /* a refusal has these words */
     if (!*line)
         return NULL;
     if (*has_scenario)

@@ -21,6 +21,7 @@ from pathlib import Path
 from .. import BadMemory, Nic, NotLent, address_of, offset_of
 from ..buffers import bytes_of
 from ..dma import Dma
+from ..tools.printable import printable
 from .coverage import Coverage
 from .engine import POLLS, Choose, Result, Run, Thread, place_of_call
 from .jobs import Found, Over, searched
@@ -48,6 +49,9 @@ STRATEGIES = ("random", "priorities", "mixed", "exhaustive")
 
 class BadSchedule(ValueError):
     """A schedule's file can't be taken: where, and why."""
+
+    def __init__(self, words: str) -> None:
+        super().__init__(printable(words))
 
 
 class BadWord(ValueError):

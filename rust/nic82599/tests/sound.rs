@@ -6,6 +6,8 @@ use std::cell::{Cell, RefCell};
 use std::panic::{self, AssertUnwindSafe};
 use std::path::PathBuf;
 use std::sync::atomic::{AtomicBool, AtomicU32, AtomicU64, Ordering};
+use std::sync::mpsc;
+use std::time::Duration;
 use std::{env, fs, mem, process, thread};
 
 use nic82599::explore::{search, Begin, Bus, Lock, Look, Outcome, Scenario};
@@ -489,4 +491,31 @@ fn no_search_begins_in_one_or_amid_a_panic() {
     }));
     assert!(panicked.is_err());
     assert_eq!(outcome.get(), Some(Outcome::Refused));
+}
+
+/// A captured value is dropped where the next schedule begins, and the last one at the end of the search.
+#[test]
+fn no_search_begins_where_a_captured_value_is_dropped() {
+    struct Searches;
+    impl Drop for Searches {
+        fn drop(&mut self) {
+            assert_eq!(search(TRIED, &["--quiet"]), Outcome::Refused);
+        }
+    }
+    let (done, end) = mpsc::channel();
+    thread::spawn(move || {
+        passes(Tried {
+            name: "drops",
+            begin: |begin| {
+                let searches = Searches;
+                begin.task("captures", move |bus, _| {
+                    let _searches = &searches;
+                    bus.point();
+                });
+            },
+            ..TRIED
+        });
+        done.send(()).unwrap();
+    });
+    assert!(end.recv_timeout(Duration::from_secs(600)).is_ok(), "it waits for itself, or failed");
 }

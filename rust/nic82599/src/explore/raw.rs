@@ -451,8 +451,11 @@ pub(crate) fn within(driven: &dyn Driven, is_quiet: bool, action: impl FnOnce() 
     let status = action();
     // SAFETY: no schedule is at work. (A scenario that was refused is open still, and closing twice does nothing.)
     unsafe { nicx_close() };
+    // A search that a drop begins is refused as long as this one counts as running: else it would wait for `ONE`.
+    let last = mem::take(&mut *running.threads.borrow_mut());
+    let dropped = caught(|| drop(last));
     RUNNING.with(|it| it.set(ptr::null()));
-    match caught(|| drop(running)) {
+    match dropped {
         Err(words) if status == 0 => {
             eprintln!("what a closure of a task captured panics as it is dropped: {words}");
             REFUSED

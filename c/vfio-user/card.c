@@ -149,13 +149,34 @@ static void sent(uint16_t queue, const uint8_t *frame, size_t length)
         one_out(the_card, frame, length);
 }
 
+/* Both sockets of a virtual function see its registers, but each client has vectors of its own. A message is for the
+   client that has set its vector up, and for the function's own guest where both have, whoever accessed a register
+   last. */
 static void on_message(unsigned int number, unsigned int vector)
 {
-    if (the_card->active[number])
-        function_message(the_card->active[number], vector);
+    enum function_ready most = FUNCTION_ABSENT;
+    struct function *to = NULL;
+    for (unsigned int i = 0; i < CARD_SOCKETS && the_card->sockets[number][i]; i++) {
+        struct function *function = the_card->sockets[number][i];
+        enum function_ready ready = function_ready(function, vector);
+        to = ready > most ? function : to;
+        most = ready > most ? ready : most;
+    }
+    if (to)
+        function_message(to, vector);
 }
 
 /* ---- what functions ask ---- */
+
+void card_add(struct card *it, struct function *function)
+{
+    struct function **sockets = it->sockets[function->number];
+    unsigned int count = 0;
+    while (count < CARD_SOCKETS && sockets[count])
+        count++;
+    if (count < CARD_SOCKETS)
+        sockets[count] = function;
+}
 
 /* An access at which the device is to be held: what it would do by itself isn't done any more. */
 static void watch(struct card *it, const struct function *function, bool is_write, uint32_t offset, uint32_t word)

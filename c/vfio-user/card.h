@@ -16,6 +16,7 @@
 #include "watch.h"
 
 #define CARD_FUNCTIONS_MOST 7 /* virtual ones: a slot behind a root port has eight functions */
+#define CARD_SOCKETS 2        /* of a virtual function */
 #define CARD_FIFO 4096
 
 struct card_options {
@@ -53,7 +54,8 @@ struct card {
     struct dma writer;  /* while a register is written: the client that does */
     bool is_busy;       /* work is left only since the budget of this turn is spent */
     struct watch watch; /* accesses at which it is held */
-    /* by number: which of its sockets accessed it last, so it gets its interrupts */
+    /* by number: its sockets, its own guest's before the host's shadow; and which of them accessed it last */
+    struct function *sockets[1 + CARD_FUNCTIONS_MOST][CARD_SOCKETS];
     struct function *active[1 + CARD_FUNCTIONS_MOST];
     card_sink *sink;
     void *sink_to;
@@ -65,6 +67,9 @@ struct card {
 bool card_open(struct card *it, const struct card_options *options);
 void card_close(struct card *it);
 void card_send_to(struct card *it, card_sink *sink, void *to);
+
+/* A function's socket, which it has from now on. */
+void card_add(struct card *it, struct function *function);
 
 /* What functions ask. */
 uint32_t card_read(struct card *it, struct function *function, uint32_t offset);

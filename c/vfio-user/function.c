@@ -186,6 +186,15 @@ static bool may_serve(void *function)
 
 static const struct session_calls calls = {region_bytes, access_region, reset, remapped, may_serve};
 
+enum function_ready function_ready(const struct function *it, unsigned int vector)
+{
+    if (!session_is_open(&it->session))
+        return FUNCTION_ABSENT;
+    if (!pci_msix_is_on(&it->config))
+        return FUNCTION_DEAF;
+    return vectors_has(&it->session.vectors, vector) ? FUNCTION_TAKES : FUNCTION_WAITS;
+}
+
 void function_message(struct function *it, unsigned int vector)
 {
     if (pci_msix_is_on(&it->config))
@@ -202,6 +211,7 @@ void function_begin(struct function *it)
     make_config(it);
     session_begin(&it->session, &calls, it, vectors_of(it), it->socket);
     it->session.name = it->path;
+    card_add(it->card, it);
 }
 
 const char *function_listen(struct function *it)

@@ -56,7 +56,16 @@ bool function_is_busy(const struct function *it);
 void function_accept(struct function *it);
 /* Serves its client, whose socket is ready for the events (of poll). */
 void function_serve(struct function *it, short events);
-/* A message of the device for this function. */
+/* How ready its client is for messages. */
+enum function_ready {
+    FUNCTION_ABSENT, /* there is none */
+    FUNCTION_DEAF,   /* its MSI-X is off: they are lost */
+    FUNCTION_WAITS,  /* messages of this vector wait until it is set up */
+    FUNCTION_TAKES
+};
+
+enum function_ready function_ready(const struct function *it, unsigned int vector);
+/* A message of the device for its client. */
 void function_message(struct function *it, unsigned int vector);
 /* Ends its client and its socket. */
 void function_end(struct function *it);

@@ -32,6 +32,11 @@ bool vectors_set(struct vectors *it, unsigned int vector, int file)
     return true;
 }
 
+bool vectors_has(const struct vectors *it, unsigned int vector)
+{
+    return vector < it->count && it->files[vector] >= 0;
+}
+
 static bool send_one(struct vectors *it, unsigned int vector)
 {
     if (it->files[vector] < 0 || !notifier_send(it->files[vector]))

@@ -1,0 +1,185 @@
+/* Interrupts go to the client that set their vectors up, whoever accessed a register last: a virtual function has two
+   sockets, its guest's and the shadow that the host's guest has of it. */
+#define _GNU_SOURCE
+#include <stdlib.h>
+#include <string.h>
+#include <sys/eventfd.h>
+#include <unistd.h>
+
+#include "../../tests/check.h"
+#include "nic82599.h"
+#include "peer/peer.h"
+
+#define MSIX_CONTROL 0x72u
+#define MSIX_ON 0x8000u
+#define VECTORS 3u
+#define PENDING 0x2000u /* in the table's BAR */
+#define TABLE_BAR 3u
+/* of a function's registers */
+#define VFSTATUS 0x008u
+#define VTEICR 0x100u
+#define VTEICS 0x104u
+#define VTEIMS 0x108u
+
+/* A client of a function, with an eventfd for each vector that it may set up. */
+struct guest {
+    struct peer peer;
+    int events[VECTORS];
+};
+
+static struct guest own, shadow;
+static struct peer host;
+static char paths[2][120];
+
+static void come(struct guest *it, const char *path)
+{
+    peer_open(&it->peer, path);
+    CHECK(peer_version(&it->peer) == 0);
+    peer_set_config(&it->peer, MSIX_CONTROL, 2, MSIX_ON);
+    for (unsigned int i = 0; i < VECTORS; i++) {
+        it->events[i] = eventfd(0, EFD_CLOEXEC | EFD_NONBLOCK);
+        CHECK(it->events[i] >= 0);
+    }
+}
+
+static void leave(struct guest *it)
+{
+    peer_close(&it->peer);
+    for (unsigned int i = 0; i < VECTORS; i++)
+        close(it->events[i]);
+}
+
+static void set_up(struct guest *it, uint32_t vector)
+{
+    CHECK(peer_vectors(&it->peer, vector, 1, &it->events[vector], 1) == 0);
+}
+
+static void take_away(struct guest *it, uint32_t vector)
+{
+    CHECK(peer_vectors(&it->peer, vector, 1, NULL, 0) == 0);
+}
+
+/* Makes a message of a vector due, by a client's registers. It is sent in the turn of the first reply, before the
+   second one. */
+static void raise(struct guest *by, uint32_t vector)
+{
+    peer_write(&by->peer, VTEIMS, 1u << vector);
+    peer_write(&by->peer, VTEICS, 1u << vector);
+    peer_read(&by->peer, VFSTATUS);
+    peer_read(&by->peer, VTEICR);
+}
+
+/* How often a client was told of a vector since it was asked last. */
+static uint64_t told(const struct guest *it, uint32_t vector)
+{
+    uint64_t count = 0;
+    return read(it->events[vector], &count, sizeof count) == (ssize_t)sizeof count ? count : 0;
+}
+
+static uint64_t pending(struct guest *it)
+{
+    struct vfu_access access = {PENDING, TABLE_BAR, 8};
+    struct {
+        struct vfu_access access;
+        uint64_t bits;
+    } reply;
+    CHECK(peer_ask(&it->peer, VFU_REGION_READ, &access, sizeof access, NULL, 0, &reply, sizeof reply) == 0);
+    return reply.bits;
+}
+
+/* Each vector is its client's, and the other is told nothing, whoever writes registers. */
+static void each_has_its_own(void)
+{
+    set_up(&own, 0);
+    set_up(&shadow, 1);
+    for (unsigned int i = 0; i < 8; i++) {
+        struct guest *by = i & 1 ? &own : &shadow;
+        uint32_t vector = i >> 1 & 1;
+        raise(by, vector);
+        CHECK(told(&own, vector) == (vector == 0) && told(&shadow, vector) == (vector == 1));
+    }
+    CHECK(pending(&own) == 0 && pending(&shadow) == 0);
+}
+
+/* Where both have set it up it is the function's own guest's, until that one takes its eventfd away. */
+static void both_have_it(void)
+{
+    set_up(&shadow, 0);
+    raise(&shadow, 0);
+    CHECK(told(&own, 0) == 1 && told(&shadow, 0) == 0);
+    take_away(&own, 0);
+    raise(&own, 0);
+    CHECK(told(&own, 0) == 0 && told(&shadow, 0) == 1 && pending(&own) == 0);
+    take_away(&shadow, 0);
+}
+
+/* Nobody has set it up: it waits with one of them, and the other is never told. */
+static void nobody_has_it(void)
+{
+    raise(&shadow, 2);
+    CHECK(pending(&own) == 4 && pending(&shadow) == 0);
+    set_up(&shadow, 2);
+    CHECK(told(&shadow, 2) == 0);
+    set_up(&own, 2);
+    CHECK(told(&own, 2) == 1 && told(&shadow, 2) == 0 && pending(&own) == 0);
+}
+
+/* Who goes, or turns its messages off, leaves them to the other. */
+static void one_goes(void)
+{
+    peer_set_config(&own.peer, MSIX_CONTROL, 2, 0);
+    raise(&own, 2);
+    CHECK(told(&own, 2) == 0 && told(&shadow, 2) == 1);
+    peer_set_config(&own.peer, MSIX_CONTROL, 2, MSIX_ON);
+    raise(&shadow, 2);
+    CHECK(told(&own, 2) == 1 && told(&shadow, 2) == 0);
+    leave(&own);
+    come(&own, paths[0]); /* the last one has gone by now */
+    raise(&own, 2);
+    CHECK(told(&own, 2) == 0 && told(&shadow, 2) == 1);
+}
+
+/* The host's are the host's. */
+static void host_is_apart(void)
+{
+    int event = eventfd(0, EFD_CLOEXEC | EFD_NONBLOCK);
+    uint64_t count = 0;
+    peer_set_config(&host, MSIX_CONTROL, 2, MSIX_ON);
+    CHECK(peer_vectors(&host, 2, 1, &event, 1) == 0);
+    set_up(&own, 2);
+    raise(&own, 2);
+    CHECK(told(&own, 2) == 1 && told(&shadow, 2) == 0 && read(event, &count, sizeof count) < 0);
+    peer_write(&host, NIC_IVAR_MISC, 0x8200);
+    peer_write(&host, NIC_EIMS, NIC_EIMS_LSC);
+    peer_write(&host, NIC_EICS, NIC_EICS_LSC);
+    peer_read(&host, NIC_STATUS);
+    peer_read(&host, NIC_STATUS);
+    CHECK(read(event, &count, sizeof count) == (ssize_t)sizeof count && count == 1);
+    CHECK(told(&own, 2) == 0 && told(&shadow, 2) == 0);
+    close(event);
+}
+
+int main(void)
+{
+    static const char *const words[] = {"--functions=1", "--quiet", NULL};
+    const char *path = server_start(words);
+    snprintf(paths[0], sizeof paths[0], "%s.vf0", path);
+    snprintf(paths[1], sizeof paths[1], "%s.shadow0", path);
+    peer_open(&host, path);
+    CHECK(peer_version(&host) == 0);
+    peer_write(&host, NIC_GCR_EXT, 3); /* functions are there from now on */
+    peer_read(&host, NIC_STATUS);
+    come(&own, paths[0]);
+    come(&shadow, paths[1]);
+    each_has_its_own();
+    both_have_it();
+    nobody_has_it();
+    one_goes();
+    host_is_apart();
+    leave(&own);
+    leave(&shadow);
+    peer_close(&host);
+    server_stop();
+    printf("interrupts: passed\n");
+    return 0;
+}

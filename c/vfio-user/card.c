@@ -40,10 +40,12 @@ static void refused(void *of, const char *what, unsigned int number, uint16_t qu
         tell_accesses(it);
 }
 
-static void fault(const char *where, const nic_told *told)
+static void fault(bool is_transmit, const nic_told *told)
 {
-    log_line(LOG_FAULT, "card: a fault in %s, queue %u slot %u: %s, bus address 0x%" PRIx64, where, told->queue,
-             told->slot, nic_fault_name(told->why), told->bus);
+    if (!is_transmit)
+        arrivals_fault(&the_card->arrivals);
+    log_line(LOG_FAULT, "card: a fault in %s, queue %u slot %u: %s, bus address 0x%" PRIx64,
+             is_transmit ? "sending" : "receiving", told->queue, told->slot, nic_fault_name(told->why), told->bus);
 }
 
 /* ---- what the bus calls: the hooks, and memory.h ---- */
@@ -71,8 +73,6 @@ static uint32_t to_driver(unsigned int function, uint32_t address, uint32_t word
     return rings_to_driver(the_card->rings, address, word);
 }
 
-static uint64_t waiting(const struct card *it);
-
 static void one_out(void *to, const uint8_t *frame, size_t length)
 {
     struct card *it = to;
@@ -95,8 +95,9 @@ static bool stepping(bool is_transmit, uint16_t queue)
     struct card *it = the_card;
     if (is_transmit)
         return send_rest(it, queue) && !budget_is_spent(&it->budget) && rings_step(it->rings, true, queue);
+    arrivals_written(&it->arrivals, queue);
     rings_step(it->rings, false, queue);
-    return waiting(it) != 0 && !budget_is_spent(&it->budget);
+    return it->arrivals.waiting != 0 && !budget_is_spent(&it->budget);
 }
 
 static void on_reset(uint16_t queue)
@@ -191,8 +192,8 @@ static void reset(struct card *it, uint32_t word)
     it->stepper.reset.word = 0;
     it->stepper.has_changed = true;
     budget_spend(&it->budget, BUDGET_RESET);
-    it->let_in = bus_counts()->frames_in + bus_counts()->drops;
     bus_write(BUS_PHYSICAL, NIC_CTRL, word);
+    arrivals_begin(&it->arrivals);
 }
 
 static uint64_t now(void)
@@ -245,6 +246,7 @@ static void write_as(struct card *it, struct dma client, unsigned int number, ui
     it->writer = client;
     bus_write(number, offset, word);
     it->writer = (struct dma){0};
+    arrivals_check(&it->arrivals);
 }
 
 void card_write(struct card *it, struct function *function, uint32_t offset, uint32_t word)
@@ -271,6 +273,7 @@ void card_reset_function(struct card *it, struct function *function)
     it->budget.payer = function->socket;
     budget_spend(&it->budget, BUDGET_RESET);
     rings_stop_all(it->rings, dma_of(function));
+    arrivals_check(&it->arrivals);
     if (function->number == BUS_PHYSICAL) {
         it->active[BUS_PHYSICAL] = function;
         reset(it, RESETS);
@@ -282,6 +285,7 @@ void card_reset_function(struct card *it, struct function *function)
 void card_client_goes(struct card *it, const struct function *function)
 {
     rings_stop_all(it->rings, dma_of(function));
+    arrivals_check(&it->arrivals);
     if (it->active[function->number] == function)
         it->active[function->number] = NULL;
 }
@@ -309,21 +313,14 @@ bool card_arrive(struct card *it, const uint8_t *frame, size_t length)
     it->budget.payer = BUDGET_WIRE;
     budget_spend(&it->budget, BUDGET_STEP + length);
     it->stepper.has_changed = true;
-    it->let_in += is_in;
+    if (is_in)
+        arrivals_let_in(&it->arrivals);
     return is_in;
-}
-
-/* What is let in and neither received nor dropped: at least as much as waits, since a queue that goes off in the middle
-   of a frame drops its rest without a word. */
-static uint64_t waiting(const struct card *it)
-{
-    uint64_t done = bus_counts()->frames_in + bus_counts()->drops;
-    return it->let_in > done ? it->let_in - done : 0;
 }
 
 bool card_has_room(const struct card *it)
 {
-    return waiting(it) < CARD_FIFO / 2;
+    return it->arrivals.waiting < CARD_FIFO / 2;
 }
 
 bool card_takes_frame(const struct card *it)
@@ -334,7 +331,9 @@ bool card_takes_frame(const struct card *it)
 static unsigned int receive(struct card *it)
 {
     rings_prepare_receive(it->rings);
-    return waiting(it) ? bus_receive() : 0;
+    unsigned int made = it->arrivals.waiting ? bus_receive() : 0;
+    arrivals_count(&it->arrivals);
+    return made;
 }
 
 unsigned int card_receive(struct card *it)
@@ -429,7 +428,14 @@ static void receive_due(struct card *it)
     it->budget.payer = BUDGET_WIRE;
     if (!budget_is_spent(&it->budget))
         receive(it);
-    it->is_busy |= waiting(it) != 0 && budget_is_spent(&it->budget);
+    it->is_busy |= it->arrivals.waiting != 0 && budget_is_spent(&it->budget);
+}
+
+bool card_enable(struct card *it, bool is_transmit, uint16_t queue)
+{
+    bool is_done = bus_enable(is_transmit, queue);
+    arrivals_check(&it->arrivals);
+    return is_done;
 }
 
 /* Queues go on and off as they were asked to, some of them now: true where something is left. */
@@ -443,7 +449,7 @@ static bool enable_asked(struct card *it)
                 continue;
             stepper->is_asked[side][queue] = !stepper_toss(stepper);
             if (!stepper->is_asked[side][queue])
-                bus_enable(side, queue);
+                card_enable(it, side, queue);
             left |= stepper->is_asked[side][queue];
         }
     stepper->any_asked = left;
@@ -467,10 +473,10 @@ static bool pump_late(struct card *it)
     if (reads_eeprom() && stepper_toss(stepper))
         bus_eeprom();
     left |= transmit_due(it) || reads_eeprom();
-    if (waiting(it) && stepper_toss(stepper))
+    if (it->arrivals.waiting && stepper_toss(stepper))
         receive_due(it);
     else
-        left |= waiting(it) != 0;
+        left |= it->arrivals.waiting != 0;
     if (any_cause(it) && stepper_toss(stepper))
         card_messages(it);
     else
@@ -537,7 +543,7 @@ void card_go(struct card *it)
     for (uint16_t queue = 0; queue < BUS_QUEUES; queue++)
         for (int side = 0; side < 2; side++)
             if (it->stepper.is_asked[side][queue])
-                bus_enable(side, queue);
+                card_enable(it, side, queue);
     bus_eeprom();
 }
 
@@ -560,8 +566,8 @@ void card_tell_due(const struct card *it, FILE *to)
         if (it->stepper.is_due[queue] && bus_peek(NIC_TDH(queue)) != bus_peek(NIC_TDT(queue)))
             fprintf(to, "tx %u: head %" PRIu32 ", tail %" PRIu32 "\n", queue, bus_peek(NIC_TDH(queue)),
                     bus_peek(NIC_TDT(queue)));
-    if (waiting(it))
-        fprintf(to, "rx: at most %" PRIu64 " frames\n", waiting(it));
+    if (it->arrivals.waiting)
+        fprintf(to, "rx: at most %" PRIu64 " frames\n", it->arrivals.waiting);
     if (any_cause(it))
         fprintf(to, "int: EICR %08" PRIx32 ", EIMS %08" PRIx32 "\n", bus_peek(NIC_EICR), bus_peek(NIC_EIMS));
     if (reads_eeprom())
@@ -586,6 +592,7 @@ bool card_open(struct card *it, const struct card_options *options)
                               .trace = options->trace};
     *it = (struct card){.options = *options};
     stepper_begin(&it->stepper);
+    arrivals_begin(&it->arrivals);
     if (options->has_seed)
         stepper_seed(&it->stepper, options->seed);
     memcpy(bus.mac, options->mac, sizeof bus.mac);

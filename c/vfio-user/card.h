@@ -6,6 +6,7 @@
 #include <stdbool.h>
 #include <stdint.h>
 
+#include "arrivals.h"
 #include "budget.h"
 #include "bus.h"
 #include "dma.h"
@@ -59,7 +60,7 @@ struct card {
     struct function *active[1 + CARD_FUNCTIONS_MOST];
     card_sink *sink;
     void *sink_to;
-    uint64_t let_in;      /* frames */
+    struct arrivals arrivals;
     uint64_t lost_writes; /* of registers, while the card was being reset */
 };
 
@@ -97,6 +98,8 @@ bool card_is_busy(const struct card *it);
 unsigned int card_receive(struct card *it);
 unsigned int card_messages(struct card *it);
 void card_transmit(struct card *it, uint16_t queue);
+/* A side of a queue goes on or off as it was asked to: false where nothing was asked. */
+bool card_enable(struct card *it, bool is_transmit, uint16_t queue);
 /* Whether the last of these ended since the budget did, and more is left for another request. */
 bool card_has_left_some(const struct card *it);
 

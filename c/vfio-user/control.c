@@ -205,7 +205,7 @@ static const char *queue_step(struct request *it)
     bool is_transmit = strncmp(it->rest, "tx ", 3) == 0;
     if ((!is_transmit && strncmp(it->rest, "rx ", 3) != 0) || !one_queue(it->rest + 3, &queue))
         return "qstep rx QUEUE, or qstep tx QUEUE";
-    fprintf(it->to, "%s\n", bus_enable(is_transmit, (uint16_t)queue) ? "done" : "idle");
+    fprintf(it->to, "%s\n", card_enable(&it->server->card, is_transmit, (uint16_t)queue) ? "done" : "idle");
     it->server->card.stepper.has_changed = true;
     return NULL;
 }

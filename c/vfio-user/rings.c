@@ -45,6 +45,7 @@ struct ring {
     uint32_t place, blocks;  /* of the ring in the device's memory; 0: none */
     uint32_t slots;
     bool is_legacy;  /* receive: the driver wants legacy descriptors */
+    bool has_drop;   /* receive: SRRCTL's DROP_EN is the server's, not the driver's */
     bool is_touched; /* receive: the next slot may have to be given */
     bool is_given;   /* the device has `slot` */
     uint32_t slot;
@@ -274,14 +275,17 @@ static void claim(struct rings *it, enum side side, uint16_t queue, struct dma c
     if (dma_is(ring->base.of, client))
         return;
     give_up_place(it, ring);
-    *ring = (struct ring){
-        .base = {client, 0}, .head = ring->head, .is_legacy = ring->is_legacy, .sizes_of = ring->sizes_of};
+    *ring = (struct ring){.base = {client, 0},
+                          .head = ring->head,
+                          .is_legacy = ring->is_legacy,
+                          .has_drop = ring->has_drop,
+                          .sizes_of = ring->sizes_of};
     if (side == TRANSMIT && !has_head) {
         ring->head = (struct dma_address){{0}, 0};
         nic_write32(it->options.device, NIC_TDWBAL(queue), 0);
     }
     if (has_foreign_sizes) {
-        ring->is_legacy = false;
+        ring->is_legacy = ring->has_drop = false;
         nic_write32(it->options.device, NIC_SRRCTL(queue), NIC_SRRCTL_BSIZEPACKET_IS(LEGACY_BUFFER_KB));
     }
     forget_offload(it, side, queue);
@@ -302,12 +306,40 @@ static bool check_owner(struct rings *it, enum side side, uint16_t queue, struct
 
 /* ---- registers, again ---- */
 
+/* A virtual function's frames are dropped where its guest has no room for them, since in front of the queues they would
+   hold everybody's. The card's host sees to that by QDE, which the device hasn't. */
+static uint32_t add_drop(struct ring *ring, struct dma client, uint32_t control)
+{
+    ring->has_drop = dma_function(client) && !(control & NIC_SRRCTL_DROP_EN);
+    return ring->has_drop ? control | NIC_SRRCTL_DROP_EN : control;
+}
+
+/* A queue whose SRRCTL was never written has the card's: legacy descriptors, 2 KB. */
+static uint32_t add_legacy(struct ring *ring, uint32_t control)
+{
+    ring->is_legacy = true;
+    if (nic_field(control, NIC_SRRCTL_BSIZEPACKET) == 0)
+        control |= NIC_SRRCTL_BSIZEPACKET_IS(LEGACY_BUFFER_KB);
+    return legacy_receive(control);
+}
+
+static void start_receiving(struct rings *it, uint16_t queue, struct dma client)
+{
+    struct ring *ring = &it->rings[RECEIVE][queue];
+    uint32_t before = peek(it, NIC_SRRCTL(queue)), control = before;
+    if (it->options.has_legacy && legacy_is_receive(control))
+        control = add_legacy(ring, control);
+    if (!ring->has_drop)
+        control = add_drop(ring, client, control);
+    if (control != before)
+        nic_write32(it->options.device, NIC_SRRCTL(queue), control);
+}
+
 /* What was read ahead, and an offload of a frame that never ended, isn't what the queue begins with when it is on
-   again. A queue whose SRRCTL was never written has the card's: legacy descriptors, 2 KB. */
+   again. */
 static void enable(struct rings *it, enum side side, uint16_t queue, struct dma client, uint32_t word)
 {
     struct ring *ring = &it->rings[side][queue];
-    uint32_t control = peek(it, NIC_SRRCTL(queue));
     if (word & NIC_RXDCTL_ENABLE)
         note_ring(it, side, queue);
     if (!is_on(it, side, queue)) {
@@ -321,12 +353,8 @@ static void enable(struct rings *it, enum side side, uint16_t queue, struct dma 
     if (side == TRANSMIT)
         return;
     touch(it, ring);
-    if (!it->options.has_legacy || !(word & NIC_RXDCTL_ENABLE) || !legacy_is_receive(control))
-        return;
-    ring->is_legacy = true;
-    if (nic_field(control, NIC_SRRCTL_BSIZEPACKET) == 0)
-        control |= NIC_SRRCTL_BSIZEPACKET_IS(LEGACY_BUFFER_KB);
-    nic_write32(it->options.device, NIC_SRRCTL(queue), legacy_receive(control));
+    if (word & NIC_RXDCTL_ENABLE)
+        start_receiving(it, queue, client);
 }
 
 /* How large a ring's buffers are is its client's to say: a frame would run on in that client's memory. */
@@ -336,7 +364,7 @@ static uint32_t set_control(struct rings *it, uint16_t queue, struct dma client,
     check_owner(it, RECEIVE, queue, client, "a size of buffers for another client's ring, which stops. The ring");
     ring->sizes_of = client;
     ring->is_legacy = it->options.has_legacy && legacy_is_receive(word);
-    return ring->is_legacy ? legacy_receive(word) : word;
+    return add_drop(ring, client, ring->is_legacy ? legacy_receive(word) : word);
 }
 
 /* A base or a length while the queue is off; the device's base follows the length. */
@@ -399,7 +427,8 @@ uint32_t rings_to_driver(const struct rings *it, uint32_t address, uint32_t word
     case HIGH: return (uint32_t)(ring->base.at >> 32);
     case HEAD_LOW: return (uint32_t)ring->head.at;
     case HEAD_HIGH: return (uint32_t)(ring->head.at >> 32);
-    case CONTROL: return ring->is_legacy ? word & ~NIC_SRRCTL_DESCTYPE : word;
+    case CONTROL:
+        return word & ~((ring->is_legacy ? NIC_SRRCTL_DESCTYPE : 0) | (ring->has_drop ? NIC_SRRCTL_DROP_EN : 0));
     default: return word;
     }
 }

@@ -11,7 +11,7 @@ static void drop(struct snapshot *it)
     nic_drop_snapshot(&it->device);
     rings_free(it->rings);
     offload_free(it->offload);
-    *it = (struct snapshot){.waiting = 0};
+    *it = (struct snapshot){.rings = NULL};
 }
 
 static struct snapshot *find(struct snapshots *it, const char *name)
@@ -25,11 +25,10 @@ static struct snapshot *find(struct snapshots *it, const char *name)
 /* All of it, or (false) nothing. */
 static bool take(struct snapshot *it, const struct card *card)
 {
-    uint64_t done = bus_counts()->frames_in + bus_counts()->drops;
     it->rings = rings_copy(card->rings);
     it->offload = card->offload ? offload_copy(card->offload) : NULL;
     it->stepper = card->stepper;
-    it->waiting = card->let_in > done ? card->let_in - done : 0;
+    it->arrivals = card->arrivals;
     if (it->rings && (it->offload || !card->offload) && nic_snapshot(bus_device(), &it->device) == NIC_DONE)
         return true;
     drop(it);
@@ -38,7 +37,7 @@ static bool take(struct snapshot *it, const struct card *card)
 
 const char *snapshots_take(struct snapshots *it, const struct card *card, const char *name)
 {
-    struct snapshot made = {.waiting = 0};
+    struct snapshot made = {.rings = NULL};
     struct snapshot *place = find(it, name);
     if (!*name || strlen(name) >= sizeof made.name || name[strspn(name, LETTERS)])
         return "snapshot NAME: 1 to 31 letters, digits, and of _ . -";
@@ -64,7 +63,7 @@ static void restore_stepper(struct card *card, const struct snapshot *from)
     card->stepper.has_seed = now.has_seed;
     card->stepper.state = now.state;
     card->stepper.has_changed = true;
-    card->let_in = bus_counts()->frames_in + bus_counts()->drops + from->waiting;
+    arrivals_restore(&card->arrivals, &from->arrivals);
 }
 
 const char *snapshots_restore(struct snapshots *it, struct card *card, const char *name)

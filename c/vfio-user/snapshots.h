@@ -14,7 +14,7 @@ struct snapshot {
     struct rings *rings;
     struct offload *offload; /* null: the card has none */
     struct stepper stepper;
-    uint64_t waiting; /* frames in front of the queues */
+    struct arrivals arrivals;
 };
 
 struct snapshots {

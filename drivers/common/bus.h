@@ -54,8 +54,8 @@ struct bus_hooks {
     uint32_t (*to_driver)(unsigned int function, uint32_t address, uint32_t word);
     bool (*stepping)(bool is_transmit, uint16_t queue);
     void (*reset)(uint16_t queue);
-    /* a fault of the device, in place of the line that says so on standard error; `where`: "sending" or "receiving" */
-    void (*fault)(const char *where, const nic_told *told);
+    /* a fault of the device, in place of the line that says so on standard error */
+    void (*fault)(bool is_transmit, const nic_told *told);
 };
 
 struct bus_options {

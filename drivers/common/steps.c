@@ -13,15 +13,15 @@
 #define counts bus_inside.counts
 #define hooks bus_inside.options.hooks
 
-static void fault(const char *where, const nic_told *told)
+static void fault(bool is_transmit, const nic_told *told)
 {
     counts.faults++;
     counts.fault_whys[told->why % WHYS]++;
     if (hooks.fault)
-        hooks.fault(where, told);
+        hooks.fault(is_transmit, told);
     else
-        fprintf(stderr, "bus: a fault in %s, queue %u slot %u: %s, bus address 0x%" PRIx64 "\n", where, told->queue,
-                told->slot, nic_fault_name(told->why), told->bus);
+        fprintf(stderr, "bus: a fault in %s, queue %u slot %u: %s, bus address 0x%" PRIx64 "\n",
+                is_transmit ? "sending" : "receiving", told->queue, told->slot, nic_fault_name(told->why), told->bus);
 }
 
 static void collect(uint16_t queue)
@@ -48,7 +48,7 @@ void steps_transmit(uint16_t queue)
             return;
         uint8_t status = nic_tx_step(bus_device(), queue, &told);
         if (status == NIC_FAULT)
-            fault("sending", &told);
+            fault(true, &told);
         if (status == NIC_OUT_OF_MEMORY)
             problem("queue %u can't send: memory is short", queue);
         if (status != NIC_ADVANCED && status != NIC_SENT)
@@ -92,7 +92,7 @@ unsigned int bus_receive(void)
             counts.drops++;
             counts.drop_whys[told.why % WHYS]++;
             break;
-        case NIC_FAULT: fault("receiving", &told); break;
+        case NIC_FAULT: fault(false, &told); break;
         default: return written;
         }
     }

@@ -305,6 +305,12 @@ bool card_may_serve(struct card *it, const struct function *function)
     return !budget_is_spent(&it->budget);
 }
 
+bool card_may_go_on(struct card *it, const struct function *function)
+{
+    it->budget.payer = function->socket;
+    return !budget_is_spent(&it->budget);
+}
+
 /* ---- steps ---- */
 
 bool card_arrive(struct card *it, const uint8_t *frame, size_t length)

@@ -81,6 +81,8 @@ void card_remapped(struct card *it, const struct function *function);
 void card_client_goes(struct card *it, const struct function *function);
 /* A message of its client was served: false where its budget of this turn is spent. */
 bool card_may_serve(struct card *it, const struct function *function);
+/* Part of one was served: the same. */
+bool card_may_go_on(struct card *it, const struct function *function);
 
 /* A frame arrives: true where it was let in. */
 bool card_arrive(struct card *it, const uint8_t *frame, size_t length);

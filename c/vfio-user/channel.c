@@ -19,7 +19,7 @@ void channel_begin(struct channel *it, int file, unsigned int owner)
 void channel_end(struct channel *it)
 {
     if (it->file >= 0)
-        closer_close_socket(it->file, it->owner);
+        closer_close_foreign(it->file, it->owner);
     for (unsigned int i = 0; i < it->file_count; i++)
         closer_close(it->files[i].file, it->owner);
     buffer_clear(&it->out);

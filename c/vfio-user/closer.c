@@ -9,8 +9,6 @@
 #include <sys/socket.h>
 #include <unistd.h>
 
-#include "notifier.h"
-
 #define FILES_AT_ONCE 253 /* the kernel's limit: fewer would have it close the rest at once */
 
 struct waiting {
@@ -125,13 +123,11 @@ void closer_close(int file, unsigned int owner)
 {
     if (closer_is_memory(file))
         give(&own, file, owner % CLOSER_OWNERS);
-    else if (notifier_takes(file))
-        close(file);
     else
-        closer_close_socket(file, owner);
+        closer_close_foreign(file, owner);
 }
 
-void closer_close_socket(int file, unsigned int owner)
+void closer_close_foreign(int file, unsigned int owner)
 {
     give(&foreign[owner % CLOSER_OWNERS], file, owner % CLOSER_OWNERS);
 }

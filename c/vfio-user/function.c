@@ -184,7 +184,13 @@ static bool may_serve(void *function)
     return card_may_serve(it->card, it);
 }
 
-static const struct session_calls calls = {region_bytes, access_region, reset, remapped, may_serve};
+static bool may_go_on(void *function)
+{
+    struct function *it = function;
+    return card_may_go_on(it->card, it);
+}
+
+static const struct session_calls calls = {region_bytes, access_region, reset, remapped, may_serve, may_go_on};
 
 enum function_ready function_ready(const struct function *it, unsigned int vector)
 {
@@ -238,7 +244,7 @@ void function_accept(struct function *it)
         return;
     if (session_is_open(&it->session)) {
         log_line(LOG_CLIENT, "%s: a second client is turned away", it->path);
-        closer_close_socket(file, it->socket);
+        closer_close_foreign(file, it->socket);
         return;
     }
     session_open(&it->session, file);

@@ -17,7 +17,10 @@ struct work {
     struct session *session;
     struct message *message;
     unsigned int reply;
+    uint64_t began; /* by budget_time: when its turn did */
 };
+
+#define GOES_ON (-1) /* instead of an error: the rest of the message has its turn later */
 
 /* ---- what is checked of all ---- */
 
@@ -41,7 +44,7 @@ static int take_file(struct message *message, unsigned int index)
     return file;
 }
 
-/* ---- each command: 0, or a number of errno.h ---- */
+/* ---- each command: 0, a number of errno.h, or GOES_ON ---- */
 
 static int version(struct work *it)
 {
@@ -239,19 +242,30 @@ static int region_write(struct work *it)
     return 0;
 }
 
+/* Whether others have their turn before what is left of a message. */
+static bool may_not_go_on(const struct work *it)
+{
+    return budget_is_late(it->began) || !it->session->calls->may_go_on(it->session->function);
+}
+
 static int write_multiple(struct work *it)
 {
     struct vfu_writes *asked = body(it);
     struct vfu_write *each = (struct vfu_write *)((uint8_t *)asked + sizeof *asked);
-    uint64_t done = 0;
-    it->session->counts.multiple++;
+    uint64_t *done = &it->session->done;
+    it->session->counts.multiple += *done == 0;
     if (asked->count > (it->message->length - sizeof *asked) / sizeof *each)
         return EINVAL;
-    for (; done < asked->count; done++) {
-        const struct vfu_access one = {each[done].offset, each[done].region, each[done].count};
+    while (*done < asked->count) {
+        const struct vfu_write *next = &each[(*done)++];
+        const struct vfu_access one = {next->offset, next->region, next->count};
+        uint8_t bytes[sizeof next->data];
+        memcpy(bytes, next->data, sizeof bytes);
         it->session->counts.writes++;
-        if (one.count > sizeof each->data || !access_region(it->session, &one, each[done].data, true))
+        if (one.count > sizeof bytes || !access_region(it->session, &one, bytes, true))
             return EINVAL;
+        if (*done < asked->count && may_not_go_on(it))
+            return GOES_ON;
     }
     it->reply = sizeof *asked;
     return 0;
@@ -309,17 +323,32 @@ static enum channel_state reply(struct work *it, int error)
     return channel_send(&it->session->channel, bytes, message->head.size);
 }
 
-static enum channel_state serve_one(struct session *it, struct message *message)
+/* Serves the message that the session has, or what is left of it. */
+static enum channel_state serve_one(struct session *it, uint64_t began)
 {
-    struct work work = {.session = it, .message = message};
-    it->counts.messages++;
-    if ((message->head.flags & VFU_TYPE) != 0) {
-        message_drop_files(message);
+    struct work work = {.session = it, .message = &it->message, .began = began};
+    it->counts.messages += !it->is_amid;
+    it->is_amid = false;
+    if ((it->message.head.flags & VFU_TYPE) != 0) {
+        message_drop_files(&it->message);
         return CHANNEL_WRONG;
     }
     int error = answer(&work);
-    message_drop_files(message);
+    it->is_amid = error == GOES_ON;
+    if (it->is_amid)
+        return CHANNEL_OPEN;
+    it->done = 0;
+    message_drop_files(&it->message);
     return reply(&work, error);
+}
+
+/* A message that its client has no reply to any more. */
+static void drop_message(struct session *it)
+{
+    if (it->is_amid)
+        message_drop_files(&it->message);
+    it->is_amid = false;
+    it->done = 0;
 }
 
 /* ---- a client ---- */
@@ -329,10 +358,11 @@ void session_begin(struct session *it, const struct session_calls *calls, void *
 {
     channel_begin(&it->channel, -1, owner);
     memory_map_begin(&it->map, owner);
-    vectors_begin(&it->vectors, vectors);
+    vectors_begin(&it->vectors, vectors, owner);
     it->calls = calls;
     it->function = function;
-    it->has_version = it->is_told_of_memory = it->is_stalled = it->is_paused = false;
+    it->has_version = it->is_told_of_memory = it->is_stalled = it->is_paused = it->is_amid = false;
+    it->done = 0;
     it->counts = (struct session_counts){0};
 }
 
@@ -365,6 +395,7 @@ bool session_is_paused(const struct session *it)
 void session_close(struct session *it)
 {
     it->is_paused = false;
+    drop_message(it);
     channel_end(&it->channel);
     memory_map_clear(&it->map);
     vectors_clear(&it->vectors);
@@ -393,7 +424,6 @@ static bool end_unless_open(struct session *it, enum channel_state state)
 /* What a client sent before it went is served too, but for what waits then. */
 bool session_serve(struct session *it)
 {
-    struct message message;
     uint64_t began = budget_time();
     enum channel_state state = channel_receive(&it->channel);
     it->is_stalled = it->is_paused = false;
@@ -402,15 +432,15 @@ bool session_serve(struct session *it)
         if (it->is_stalled)
             break;
         enum channel_state now = CHANNEL_OPEN;
-        if (!channel_next(&it->channel, &message, &now)) {
+        if (!it->is_amid && !channel_next(&it->channel, &it->message, &now)) {
             state = now == CHANNEL_OPEN ? state : now;
             break;
         }
-        now = serve_one(it, &message);
+        now = serve_one(it, began);
         state = now == CHANNEL_OPEN ? state : now;
         if (now != CHANNEL_OPEN)
             break;
-        it->is_paused = !it->calls->may_serve(it->function) || budget_is_late(began);
+        it->is_paused = it->is_amid || !it->calls->may_serve(it->function) || budget_is_late(began);
         if (it->is_paused)
             return true;
     }

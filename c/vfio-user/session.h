@@ -20,6 +20,8 @@ struct session_calls {
     void (*remapped)(void *function);
     /* a message was served; false: others have their turn before the next one */
     bool (*may_serve)(void *function);
+    /* part of a message was served; false: others have their turn before the rest */
+    bool (*may_go_on)(void *function);
 };
 
 struct session_counts {
@@ -36,6 +38,9 @@ struct session {
     bool has_version, is_told_of_memory;
     bool is_stalled; /* messages that came wait for what is sent to go, or for what is given back */
     bool is_paused;  /* messages that came wait for the next turn */
+    bool is_amid;    /* so does the rest of this one: */
+    struct message message;
+    uint64_t done; /* writes of it */
     struct session_counts counts;
 };
 

@@ -1,13 +1,12 @@
 #define _GNU_SOURCE
 #include "vectors.h"
 
-#include <unistd.h>
-
+#include "closer.h"
 #include "notifier.h"
 
-void vectors_begin(struct vectors *it, unsigned int count)
+void vectors_begin(struct vectors *it, unsigned int count, unsigned int owner)
 {
-    *it = (struct vectors){.count = count < VECTORS_MOST ? count : VECTORS_MOST};
+    *it = (struct vectors){.count = count < VECTORS_MOST ? count : VECTORS_MOST, .owner = owner};
     for (unsigned int i = 0; i < VECTORS_MOST; i++)
         it->files[i] = -1;
 }
@@ -16,7 +15,7 @@ void vectors_clear(struct vectors *it)
 {
     for (unsigned int i = 0; i < VECTORS_MOST; i++) {
         if (it->files[i] >= 0)
-            close(it->files[i]);
+            closer_close(it->files[i], it->owner);
         it->files[i] = -1;
     }
     it->pending = 0;
@@ -27,7 +26,7 @@ bool vectors_set(struct vectors *it, unsigned int vector, int file)
     if (vector >= it->count || (file >= 0 && !notifier_takes(file)))
         return false;
     if (it->files[vector] >= 0)
-        close(it->files[vector]);
+        closer_close(it->files[vector], it->owner);
     it->files[vector] = file;
     return true;
 }

@@ -8,13 +8,13 @@
 #define VECTORS_MOST 64
 
 struct vectors {
-    unsigned int count;
-    int files[VECTORS_MOST]; /* -1: none */
-    uint64_t pending;        /* bit v: a message of vector v waits */
+    unsigned int count, owner; /* for closer.h */
+    int files[VECTORS_MOST];   /* -1: none */
+    uint64_t pending;          /* bit v: a message of vector v waits */
     uint64_t sent[VECTORS_MOST];
 };
 
-void vectors_begin(struct vectors *it, unsigned int count);
+void vectors_begin(struct vectors *it, unsigned int count, unsigned int owner);
 /* Closes all files; messages that wait are forgotten. */
 void vectors_clear(struct vectors *it);
 /* Gives a vector a file, which is the vectors' from now on, or (-1) takes it away. False, and the file is still the

@@ -19,6 +19,7 @@
 #define AGAIN_MS 300
 #define CAPTURE_END_MS 1000 /* that what is kept of a capture has to go at the end */
 #define SOCKET_BYTES (4 << 20)
+#define PASSED_OVER_MOST 8u /* datagrams that are none, before others have their turn */
 
 static const uint8_t responder[6] = {0x02, 0x00, 0x00, 0x00, 0x00, 0x01};
 
@@ -27,7 +28,7 @@ static const uint8_t responder[6] = {0x02, 0x00, 0x00, 0x00, 0x00, 0x01};
 static void hang_up(struct wire *it)
 {
     if (it->file >= 0)
-        closer_close_socket(it->file, CLOSER_WIRE);
+        closer_close_foreign(it->file, CLOSER_WIRE);
     it->file = -1;
     buffer_clear(&it->in);
     buffer_clear(&it->out);
@@ -219,7 +220,7 @@ static size_t from_stream(struct wire *it)
 
 static size_t from_datagram(struct wire *it)
 {
-    while (!closer_is_full(CLOSER_WIRE)) {
+    for (unsigned int i = 0; i < PASSED_OVER_MOST && !closer_is_full(CLOSER_WIRE); i++) {
         ssize_t got = closer_receive(it->file, it->frame, sizeof it->frame, MSG_DONTWAIT | MSG_TRUNC, CLOSER_WIRE);
         if (got <= 0)
             return 0;

@@ -1,0 +1,122 @@
+/* A client that holds what the closing of its eventfd waits for: its epoll watches the eventfd, and a thread of it has
+   the kernel write that epoll's events to a page that nobody gives. Another client is answered all the same, and so is
+   the next one of its socket. Over the program itself: holding PROGRAM FOLDER */
+#define _GNU_SOURCE
+#include <errno.h>
+#include <fcntl.h>
+#include <linux/userfaultfd.h>
+#include <poll.h>
+#include <pthread.h>
+#include <signal.h>
+#include <string.h>
+#include <sys/epoll.h>
+#include <sys/eventfd.h>
+#include <sys/ioctl.h>
+#include <sys/mman.h>
+#include <sys/prctl.h>
+#include <sys/syscall.h>
+#include <sys/wait.h>
+#include <unistd.h>
+
+#include "../../tests/check.h"
+#include "peer/peer.h"
+#include "peer/program.h"
+
+#define PAGE 4096u
+#define NOT_TRIED 77 /* of the client's process */
+
+static const char *path, *other_path;
+
+/* A page whose first access waits until this process ends, the kernel's too; null: this process may not have one. */
+static void *page_that_nobody_gives(void)
+{
+    int file = (int)syscall(SYS_userfaultfd, O_CLOEXEC);
+    struct uffdio_api api = {.api = UFFD_API};
+    void *page = mmap(NULL, PAGE, PROT_READ | PROT_WRITE, MAP_PRIVATE | MAP_ANONYMOUS, -1, 0);
+    struct uffdio_register its = {.range = {(uintptr_t)page, PAGE}, .mode = UFFDIO_REGISTER_MODE_MISSING};
+    CHECK(page != MAP_FAILED);
+    return file >= 0 && ioctl(file, UFFDIO_API, &api) == 0 && ioctl(file, UFFDIO_REGISTER, &its) == 0 ? page : NULL;
+}
+
+struct holder {
+    int epoll;
+    void *page;
+};
+
+static void *hold(void *holder)
+{
+    const struct holder *it = holder;
+    epoll_wait(it->epoll, it->page, 1, -1);
+    return NULL;
+}
+
+/* Gives its eventfd as a vector, holds it, and keeps nothing else of it; then it says so. */
+static void give_and_hold(int said)
+{
+    static struct holder holder;
+    struct epoll_event event = {.events = EPOLLIN};
+    struct peer peer;
+    pthread_t thread;
+    int file = eventfd(1, EFD_CLOEXEC);
+    prctl(PR_SET_PDEATHSIG, SIGKILL);
+    holder = (struct holder){epoll_create1(EPOLL_CLOEXEC), page_that_nobody_gives()};
+    if (!holder.page)
+        _exit(NOT_TRIED);
+    peer_open(&peer, path);
+    CHECK(peer_version(&peer) == 0 && peer_vectors(&peer, 0, 1, &file, 1) == 0);
+    CHECK(epoll_ctl(holder.epoll, EPOLL_CTL_ADD, file, &event) == 0);
+    CHECK(pthread_create(&thread, NULL, hold, &holder) == 0);
+    usleep(100000); /* for the thread to be there; where it isn't yet nothing is held, and nothing fails */
+    close(file);
+    peer_close(&peer);
+    CHECK(write(said, "x", 1) == 1);
+    pause();
+}
+
+/* A client is answered while the other holds; a minute is for slow machines. */
+static void is_answered(const char *name, uint32_t identity)
+{
+    struct vfu_access access = {0, VFU_CONFIG_REGION, 4};
+    struct {
+        struct vfu_access access;
+        uint32_t word;
+    } reply;
+    struct peer peer;
+    peer_open(&peer, name);
+    CHECK(peer_version(&peer) == 0);
+    uint16_t id = peer_send(&peer, VFU_REGION_READ, 0, &access, sizeof access, NULL, 0);
+    struct pollfd answer = {peer.file, POLLIN, 0};
+    CHECK(poll(&answer, 1, 60000) == 1);
+    CHECK(peer_reply(&peer, id, &reply, sizeof reply) == 0 && reply.word == identity);
+    peer_close(&peer);
+}
+
+int main(int count, char **words)
+{
+    CHECK(count == 3);
+    char byte;
+    int ends[2], status = 0;
+    signal(SIGPIPE, SIG_IGN);
+    program_is(words[1], words[2]);
+    path = program_path("", "card");
+    other_path = program_path("", "card.vf0");
+    const char *server_words[] = {program_path("--socket-path=", "card"), "--functions=1", "--quiet", NULL};
+    pid_t server = program_start(server_words, NULL, -1);
+    CHECK(pipe(ends) == 0);
+    pid_t client = fork();
+    CHECK(client >= 0);
+    if (client == 0)
+        give_and_hold(ends[1]);
+    close(ends[1]);
+    bool is_held = read(ends[0], &byte, 1) == 1;
+    if (is_held) {
+        is_answered(other_path, 0x10ED8086);
+        is_answered(path, 0x10F78086);
+    }
+    kill(client, SIGKILL);
+    CHECK(waitpid(client, &status, 0) == client);
+    CHECK(is_held || (WIFEXITED(status) && WEXITSTATUS(status) == NOT_TRIED));
+    CHECK(program_end(server) == 0);
+    printf("holding: passed%s\n", is_held ? "" : "; not tried, since this process may not use userfaultfd");
+    return 0;
+}

@@ -1,0 +1,177 @@
+/* What one client or the wire's other end asks for in one turn is bounded: the rest has its turn later, in its order.
+   */
+#define _GNU_SOURCE
+#include <signal.h>
+#include <string.h>
+#include <sys/socket.h>
+#include <sys/un.h>
+#include <unistd.h>
+
+#include "../../tests/check.h"
+#include "peer/peer.h"
+#include "session.h"
+#include "wire.h"
+
+#define WRITES 340u /* in one message */
+#define A_TURN 16u
+#define SENDERS 16u
+#define PASSED_OVER 8u
+
+/* ---- a message of many writes ---- */
+
+static struct session session;
+static uint64_t accesses, turn;
+
+static uint64_t region_bytes(void *function, uint32_t region)
+{
+    (void)function;
+    return region == 0 ? 0x10000 : 0;
+}
+
+/* Each comes once and in its order. */
+static bool access_region(void *function, uint32_t region, uint64_t offset, uint8_t *bytes, uint32_t length, bool write)
+{
+    uint32_t word;
+    (void)function;
+    memcpy(&word, bytes, sizeof word);
+    CHECK(region == 0 && length == 4);
+    if (write)
+        CHECK(offset == 4 * accesses && word == (uint32_t)~offset);
+    accesses += write;
+    turn++;
+    return true;
+}
+
+static bool always(void *function)
+{
+    (void)function;
+    return true;
+}
+
+static bool for_a_while(void *function)
+{
+    (void)function;
+    return turn < A_TURN;
+}
+
+static const struct session_calls calls = {
+    .region_bytes = region_bytes, .access = access_region, .may_serve = always, .may_go_on = for_a_while};
+
+static struct peer begin(void)
+{
+    const struct vfu_version version = {0, 0};
+    int ends[2];
+    CHECK(socketpair(AF_UNIX, SOCK_STREAM, 0, ends) == 0);
+    session_begin(&session, &calls, NULL, 1, 0);
+    session_open(&session, ends[0]);
+    struct peer peer = {ends[1], 0};
+    peer_send(&peer, VFU_VERSION, VFU_NO_REPLY, &version, sizeof version, NULL, 0);
+    CHECK(session_serve(&session));
+    accesses = turn = 0;
+    return peer;
+}
+
+/* Sends the writes, of which the last is wrong where that is wanted; the message's number. */
+static uint16_t send_writes(struct peer *peer, bool is_wrong)
+{
+    static struct {
+        struct vfu_writes head;
+        struct vfu_write each[WRITES];
+    } body;
+    body.head.count = WRITES;
+    for (uint32_t i = 0; i < WRITES; i++) {
+        uint32_t word = ~(4 * i);
+        body.each[i] = (struct vfu_write){.offset = 4 * i, .region = 0, .count = 4};
+        memcpy(body.each[i].data, &word, sizeof word);
+    }
+    if (is_wrong)
+        body.each[WRITES - 1].count = 9;
+    return peer_send(peer, VFU_REGION_WRITE_MULTI, 0, &body, sizeof body, NULL, 0);
+}
+
+static bool has_reply(const struct peer *peer)
+{
+    char byte;
+    return recv(peer->file, &byte, 1, MSG_PEEK | MSG_DONTWAIT) == 1;
+}
+
+/* So many accesses a turn at most, and the reply after the last of them, before that of the next message. */
+static void many_writes(bool is_wrong)
+{
+    struct peer peer = begin();
+    const struct vfu_access status = {0, 0, 4};
+    uint8_t room[64];
+    uint16_t writes = send_writes(&peer, is_wrong);
+    uint16_t read = peer_send(&peer, VFU_REGION_READ, 0, &status, sizeof status, NULL, 0);
+    unsigned int turns = 0;
+    do {
+        CHECK(!has_reply(&peer));
+        turn = 0;
+        CHECK(session_serve(&session) && turn <= A_TURN + 1);
+        turns++;
+    } while (session_is_paused(&session));
+    CHECK(accesses == WRITES - is_wrong && turns >= WRITES / A_TURN);
+    CHECK((peer_reply(&peer, writes, room, sizeof room) != 0) == is_wrong);
+    CHECK(peer_reply(&peer, read, room, sizeof room) == 0);
+    CHECK(session.counts.multiple == 1 && session.counts.messages == 3 && session.counts.writes == WRITES);
+    session_close(&session);
+    session_end(&session);
+    close(peer.file);
+}
+
+/* Its client goes in the middle, and the next one begins with its own. */
+static void one_goes(void)
+{
+    struct peer peer = begin();
+    send_writes(&peer, false);
+    CHECK(session_serve(&session) && session_is_paused(&session));
+    session_close(&session);
+    close(peer.file);
+    peer = begin();
+    CHECK(session_serve(&session) && !session_is_paused(&session) && accesses == 0);
+    session_close(&session);
+    session_end(&session);
+    close(peer.file);
+}
+
+/* ---- datagrams that are no frames ---- */
+
+static void long_datagrams(const char *folder)
+{
+    static struct wire wire;
+    static uint8_t bytes[WIRE_FRAME_MOST + 1];
+    char own[100];
+    snprintf(own, sizeof own, "%s/own", folder);
+    const struct wire_options options = {.kind = WIRE_DGRAM, .path = own, .peer = "/nowhere"};
+    struct sockaddr_un name = {.sun_family = AF_UNIX};
+    strcpy(name.sun_path, own);
+    CHECK(wire_open(&wire, &options));
+    int senders[SENDERS];
+    uint64_t sent = 0;
+    for (unsigned int i = 0; i < SENDERS; i++) {
+        senders[i] = socket(AF_UNIX, SOCK_DGRAM | SOCK_CLOEXEC, 0);
+        CHECK(connect(senders[i], (const struct sockaddr *)&name, sizeof name) == 0);
+        sent += send(senders[i], bytes, sizeof bytes, MSG_DONTWAIT) == (ssize_t)sizeof bytes;
+    }
+    while (wire.counts.too_long < sent) {
+        uint64_t before = wire.counts.too_long;
+        CHECK(wire_next(&wire, false) == 0 && wire.counts.too_long > before);
+        CHECK(wire.counts.too_long <= before + PASSED_OVER);
+    }
+    CHECK(send(senders[0], bytes, 77, MSG_DONTWAIT) == 77 && wire_next(&wire, false) == 77);
+    for (unsigned int i = 0; i < SENDERS; i++)
+        close(senders[i]);
+    wire_close(&wire);
+}
+
+int main(int count, char **words)
+{
+    CHECK(count == 2);
+    signal(SIGPIPE, SIG_IGN);
+    many_writes(false);
+    many_writes(true);
+    one_goes();
+    long_datagrams(words[1]);
+    printf("turns: passed\n");
+    return 0;
+}

@@ -21,31 +21,33 @@ static void keep_access(struct card *it, const struct function *function, bool i
     it->accesses[it->access_count++ % CARD_ACCESSES] = (struct card_access){function, offset, word, is_write};
 }
 
-static void tell_accesses(const struct card *it)
+static void tell_accesses(const struct card *it, unsigned int client)
 {
     uint64_t first = it->access_count > CARD_ACCESSES ? it->access_count - CARD_ACCESSES : 0;
     for (uint64_t i = first; i < it->access_count; i++) {
         const struct card_access *access = &it->accesses[i % CARD_ACCESSES];
-        log_line(LOG_CHECK, "  access %" PRIu64 ": function %u %c %05" PRIx32 " %08" PRIx32, i + 1,
-                 access->function->number, access->is_write ? 'w' : 'r', access->offset, access->word);
+        log_client(client, LOG_CHECK, "  access %" PRIu64 ": function %u %c %05" PRIx32 " %08" PRIx32, i + 1,
+                   access->function->number, access->is_write ? 'w' : 'r', access->offset, access->word);
     }
 }
 
-static void refused(void *of, const char *what, unsigned int number, uint16_t queue, uint64_t address, size_t length)
+static void refused(void *of, const char *what, struct dma by, uint16_t queue, struct dma_address where, size_t length)
 {
     const struct card *it = of;
-    log_line(it->options.has_check ? LOG_CHECK : LOG_ACCESS,
-             "card: function %u, queue %u: %s, 0x%" PRIx64 ", %zu bytes", number, queue, what, address, length);
+    log_client(dma_socket(by), it->options.has_check ? LOG_CHECK : LOG_ACCESS,
+               "card: function %u, queue %u: %s, 0x%" PRIx64 ", %zu bytes", dma_function(where.of), queue, what,
+               where.at, length);
     if (it->options.has_check)
-        tell_accesses(it);
+        tell_accesses(it, dma_socket(by));
 }
 
 static void fault(bool is_transmit, const nic_told *told)
 {
     if (!is_transmit)
         arrivals_fault(&the_card->arrivals);
-    log_line(LOG_FAULT, "card: a fault in %s, queue %u slot %u: %s, bus address 0x%" PRIx64,
-             is_transmit ? "sending" : "receiving", told->queue, told->slot, nic_fault_name(told->why), told->bus);
+    log_client(dma_socket(rings_owner(the_card->rings, is_transmit, told->queue)), LOG_FAULT,
+               "card: a fault in %s, queue %u slot %u: %s, bus address 0x%" PRIx64,
+               is_transmit ? "sending" : "receiving", told->queue, told->slot, nic_fault_name(told->why), told->bus);
 }
 
 /* ---- what the bus calls: the hooks, and memory.h ---- */
@@ -235,9 +237,13 @@ uint32_t card_read(struct card *it, struct function *function, uint32_t offset)
 /* What is written while the card is being reset has no effect. */
 static void lose(struct card *it, const struct function *function, uint32_t offset)
 {
-    if (it->lost_writes++ == 0)
-        refused(it, "a write of a register while the card is being reset, the first of them. The register",
-                function->number, 0, offset, sizeof(uint32_t));
+    const struct dma_address where = {dma_of(function), offset};
+    uint32_t its = 1u << function->socket;
+    it->lost_writes++;
+    if (!(it->told_lost & its))
+        refused(it, "a write of a register while the card is being reset, the first of them. The register", where.of, 0,
+                where, sizeof(uint32_t));
+    it->told_lost |= its;
 }
 
 /* Writes a register for a client, whose the rings are that this sets up. */

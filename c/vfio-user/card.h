@@ -62,6 +62,7 @@ struct card {
     void *sink_to;
     struct arrivals arrivals;
     uint64_t lost_writes; /* of registers, while the card was being reset */
+    uint32_t told_lost;   /* by clients' sockets: the first of them was told */
 };
 
 /* Opens the card: false where memory is short. */

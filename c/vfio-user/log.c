@@ -15,21 +15,26 @@
 #define LAST_WORDS_MS 1000
 #define THOUSAND UINT64_C(1000)
 
-/* A kind's account: it is given LOG_A_SECOND lines each second, up to its limit, and pays one for each line. In
-   thousandths of a line. */
-static struct account {
+/* Of a kind: how its lines are called, and how many are printed one after the other. */
+static const struct {
     const char *name;
-    uint64_t limit, has, at; /* milliseconds */
-    uint64_t left_out;
-} accounts[LOG_KINDS] = {
-    [LOG_SERVER] = {.name = "the server", .limit = LOG_AT_ONCE},
-    [LOG_CLIENT] = {.name = "clients", .limit = LOG_AT_ONCE},
-    [LOG_MESSAGE] = {.name = "refused messages", .limit = LOG_AT_ONCE},
-    [LOG_ACCESS] = {.name = "refused accesses", .limit = LOG_AT_ONCE},
-    [LOG_FAULT] = {.name = "faults", .limit = LOG_AT_ONCE},
-    [LOG_CHECK] = {.name = "accesses outside the guest's memory", .limit = LOG_CHECKS_AT_ONCE},
-    [LOG_WIRE] = {.name = "the wire", .limit = LOG_AT_ONCE},
+    uint64_t limit;
+} kinds[LOG_KINDS] = {
+    [LOG_SERVER] = {"the server", LOG_AT_ONCE},
+    [LOG_CLIENT] = {"clients", LOG_AT_ONCE},
+    [LOG_MESSAGE] = {"refused messages", LOG_AT_ONCE},
+    [LOG_ACCESS] = {"refused accesses", LOG_AT_ONCE},
+    [LOG_FAULT] = {"faults", LOG_AT_ONCE},
+    [LOG_CHECK] = {"accesses outside the guest's memory", LOG_CHECKS_AT_ONCE},
+    [LOG_WIRE] = {"the wire", LOG_AT_ONCE},
 };
+
+/* The account of a kind and client: it is given LOG_A_SECOND lines each second, up to the kind's limit, and pays one
+   for each line. In thousandths of a line. */
+static struct account {
+    uint64_t has, at; /* milliseconds */
+    uint64_t left_out;
+} accounts[LOG_KINDS][LOG_CLIENTS];
 
 static struct output output = {.file = -1};
 static bool is_open;
@@ -48,21 +53,30 @@ void log_open(void)
     output_begin(&output, STDERR_FILENO);
     if (output.file > STDERR_FILENO)
         dup2(output.file, STDERR_FILENO); /* what others print there doesn't wait either */
-    for (unsigned int kind = 0; kind < LOG_KINDS; kind++) {
-        accounts[kind].has = accounts[kind].limit * THOUSAND;
-        accounts[kind].at = began;
-    }
+    for (unsigned int kind = 0; kind < LOG_KINDS; kind++)
+        for (unsigned int client = 0; client < LOG_CLIENTS; client++)
+            accounts[kind][client] = (struct account){.has = kinds[kind].limit * THOUSAND, .at = began};
 }
 
 /* ---- accounts ---- */
 
-static void pay_in(struct account *it)
+static void pay_in(struct account *it, uint64_t limit)
 {
     uint64_t time = now();
     it->has += (time - it->at) * LOG_A_SECOND;
     it->at = time;
-    if (it->has > it->limit * THOUSAND)
-        it->has = it->limit * THOUSAND;
+    if (it->has > limit * THOUSAND)
+        it->has = limit * THOUSAND;
+}
+
+/* Whether a line of this kind and client may be printed, which it then pays. */
+static bool pay(enum log_kind kind, struct account *it)
+{
+    pay_in(it, kinds[kind].limit);
+    if (it->has < THOUSAND)
+        return false;
+    it->has -= THOUSAND;
+    return true;
 }
 
 static void say(const char *format, ...) __attribute__((format(printf, 1, 2)));
@@ -77,10 +91,10 @@ static void say(const char *format, ...)
     output_put(&output, line, (size_t)length);
 }
 
-static void say_what_was_left_out(struct account *it)
+static void say_what_was_left_out(enum log_kind kind, struct account *it)
 {
     if (it->left_out)
-        say("%" PRIu64 " more lines about %s were left out\n", it->left_out, it->name);
+        say("%" PRIu64 " more lines about %s were left out\n", it->left_out, kinds[kind].name);
     it->left_out = 0;
 }
 
@@ -96,54 +110,77 @@ static void put(char *line, size_t length)
     output_put(&output, line, length + 1);
 }
 
-void log_line(enum log_kind kind, const char *format, ...)
+static void put_line(enum log_kind kind, unsigned int client, const char *format, va_list rest)
+    __attribute__((format(printf, 3, 0)));
+
+static void put_line(enum log_kind kind, unsigned int client, const char *format, va_list rest)
 {
-    struct account *account = &accounts[kind];
     char line[LINE_MOST + 1];
-    va_list rest;
     if (!is_open)
         log_open();
-    pay_in(account);
-    if (account->has < THOUSAND) {
+    struct account *account = &accounts[kind][client % LOG_CLIENTS];
+    if (!pay(kind, account)) {
         account->left_out++;
         return;
     }
-    account->has -= THOUSAND;
-    say_what_was_left_out(account);
-    va_start(rest, format);
+    say_what_was_left_out(kind, account);
     int length = vsnprintf(line, LINE_MOST, format, rest);
-    va_end(rest);
     if (length > 0)
         put(line, length < LINE_MOST ? (size_t)length : LINE_MOST - 1);
 }
 
+void log_line(enum log_kind kind, const char *format, ...)
+{
+    va_list rest;
+    va_start(rest, format);
+    put_line(kind, LOG_NOBODY, format, rest);
+    va_end(rest);
+}
+
+void log_client(unsigned int client, enum log_kind kind, const char *format, ...)
+{
+    va_list rest;
+    va_start(rest, format);
+    put_line(kind, client, format, rest);
+    va_end(rest);
+}
+
+/* Calls it for each account whose lines were left out; how many there are. */
+static unsigned int each_left_out(void (*call)(enum log_kind kind, struct account *account))
+{
+    unsigned int count = 0;
+    for (unsigned int kind = 0; kind < LOG_KINDS; kind++)
+        for (unsigned int client = 0; client < LOG_CLIENTS; client++) {
+            struct account *account = &accounts[kind][client];
+            if (!account->left_out)
+                continue;
+            count++;
+            if (call)
+                call(kind, account);
+        }
+    return count;
+}
+
 bool log_is_waiting(void)
 {
-    bool left_out = buffer_waiting(&output.kept) != 0;
-    for (unsigned int kind = 0; kind < LOG_KINDS; kind++)
-        left_out |= accounts[kind].left_out != 0;
-    return left_out;
+    return buffer_waiting(&output.kept) != 0 || each_left_out(NULL) != 0;
+}
+
+static void say_if_paid(enum log_kind kind, struct account *account)
+{
+    if (pay(kind, account))
+        say_what_was_left_out(kind, account);
 }
 
 void log_tick(void)
 {
     output_flush(&output);
-    for (unsigned int kind = 0; kind < LOG_KINDS; kind++) {
-        struct account *account = &accounts[kind];
-        if (!account->left_out)
-            continue;
-        pay_in(account);
-        if (account->has < THOUSAND)
-            continue;
-        account->has -= THOUSAND;
-        say_what_was_left_out(account);
-    }
+    each_left_out(say_if_paid);
 }
 
 void log_close(void)
 {
-    for (unsigned int kind = 0; kind < LOG_KINDS; kind++)
-        say_what_was_left_out(&accounts[kind]);
+    each_left_out(say_what_was_left_out);
     if (output.lost)
         say("%" PRIu64 " lines were lost, since nobody read standard error\n", output.lost);
     output_end(&output, LAST_WORDS_MS);

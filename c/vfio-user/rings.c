@@ -58,6 +58,7 @@ struct ring {
 struct rings {
     struct rings_options options;
     struct rings_counts counts;
+    uint32_t told_off, told_zeros; /* by clients' sockets, what is told once */
     struct part_of parts[WORDS];
     struct ring rings[2][RINGS_QUEUES];
     uint16_t owner[RINGS_BLOCKS]; /* of blocks that rings have: 1 + 128 * side + queue */
@@ -93,23 +94,28 @@ static struct dma_address slot_at(const struct ring *ring, uint32_t slot)
     return (struct dma_address){ring->base.of, ring->base.at + (uint64_t)NIC_DESC_BYTES * slot};
 }
 
+/* What a client's own ring needs, and isn't there. */
 static void refuse(struct rings *it, const char *what, struct dma_address where, uint16_t queue, size_t length)
 {
     it->counts.refused++;
-    it->options.refused(it->options.of, what, dma_function(where.of), queue, where.at, length);
+    it->options.refused(it->options.of, what, where.of, queue, where, length);
 }
 
-/* A refusal of the whole ring. */
-static void refuse_ring(struct rings *it, const char *what, const struct ring *ring, uint16_t queue)
+/* What a client does to a ring, whosever that is. */
+static void refuse_ring(struct rings *it, const char *what, struct dma by, const struct ring *ring, uint16_t queue)
 {
-    refuse(it, what, ring->base, queue, ring->slots * NIC_DESC_BYTES);
+    it->counts.refused++;
+    it->options.refused(it->options.of, what, by, queue, ring->base, ring->slots * NIC_DESC_BYTES);
 }
 
-/* A driver's mistake that isn't an access; it is told once. */
-static void remark(struct rings *it, const char *what, const struct ring *ring, uint16_t queue)
+/* A driver's mistake that isn't an access; it is told once of each client's. */
+static void remark(struct rings *it, uint32_t *told, const char *what, struct dma by, const struct ring *ring,
+                   uint16_t queue)
 {
-    it->options.refused(it->options.of, what, dma_function(ring->base.of), queue, ring->base.at,
-                        ring->slots * NIC_DESC_BYTES);
+    uint32_t its = 1u << dma_socket(by);
+    if (!(*told & its))
+        it->options.refused(it->options.of, what, by, queue, ring->base, ring->slots * NIC_DESC_BYTES);
+    *told |= its;
 }
 
 /* ---- places of rings ---- */
@@ -298,7 +304,7 @@ static bool check_owner(struct rings *it, enum side side, uint16_t queue, struct
     const struct ring *ring = &it->rings[side][queue];
     if (dma_is(ring->base.of, client) || (is_nobody(ring->base.of) && ring->slots == 0))
         return true;
-    refuse_ring(it, what, ring, queue);
+    refuse_ring(it, what, client, ring, queue);
     if (!is_nobody(ring->base.of))
         stop(it, side, queue);
     return false;
@@ -525,12 +531,13 @@ void rings_tail(struct rings *it, struct dma client, bool is_transmit, uint16_t 
         return;
     if (tail >= ring->slots) {
         it->counts.tails_outside++;
-        refuse_ring(it, "a tail outside its ring: the ring's end", ring, queue);
+        refuse_ring(it, "a tail outside its ring: the ring's end", client, ring, queue);
         return;
     }
-    if (!is_on(it, is_transmit, queue) && tail != peek(it, is_transmit ? NIC_TDH(queue) : NIC_RDH(queue)) &&
-        it->counts.tails_off++ == 0)
-        remark(it, "a tail in a ring that is off, the first of them", ring, queue);
+    if (!is_on(it, is_transmit, queue) && tail != peek(it, is_transmit ? NIC_TDH(queue) : NIC_RDH(queue))) {
+        it->counts.tails_off++;
+        remark(it, &it->told_off, "a tail in a ring that is off, the first of them", client, ring, queue);
+    }
     budget_spend(it->options.budget, BUDGET_STEP);
     read_ahead(it, ring, ring->next_ahead < ring->slots ? ring->next_ahead : tail, tail, fetches);
     ring->next_ahead = tail;
@@ -572,8 +579,11 @@ static bool take_slot(struct rings *it, struct ring *ring, uint16_t queue, uint3
         refuse(it, "a descriptor", slot_at(ring, slot), queue, NIC_DESC_BYTES);
         return false;
     }
-    if (!descriptor->first && !descriptor->second && it->counts.zeros++ == 0)
-        remark(it, "a descriptor of zeros; is the guest's memory shared (share=on)? The ring", ring, queue);
+    if (!descriptor->first && !descriptor->second) {
+        it->counts.zeros++;
+        remark(it, &it->told_zeros, "a descriptor of zeros; is the guest's memory shared (share=on)? The ring",
+               ring->base.of, ring, queue);
+    }
     return true;
 }
 
@@ -810,10 +820,13 @@ void rings_become(struct rings *it, struct rings *copy)
 {
     const struct rings_options options = it->options;
     struct rings_counts counts = it->counts;
+    uint32_t told_off = it->told_off, told_zeros = it->told_zeros;
     counts.blocks = copy->counts.blocks;
     *it = *copy;
     it->options = options;
     it->counts = counts;
+    it->told_off = told_off;
+    it->told_zeros = told_zeros;
     free(copy);
 }
 

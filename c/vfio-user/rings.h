@@ -28,8 +28,9 @@
 #define RING_BYTES_MOST 0x80000u /* 32,768 descriptors: what the card takes */
 #define RINGS_AHEAD 64u          /* descriptors of a ring that are read ahead */
 
-/* An access that goes nowhere, or a driver's mistake: told by whoever has the rings. `what` is a noun. */
-typedef void rings_refused(void *of, const char *what, unsigned int function, uint16_t queue, uint64_t address,
+/* An access that goes nowhere, or a driver's mistake: told by whoever has the rings. `what` is a noun, `by` whose
+   driver did it, and `where` an address of the ring's client. */
+typedef void rings_refused(void *of, const char *what, struct dma by, uint16_t queue, struct dma_address where,
                            size_t length);
 
 struct rings_options {

@@ -68,27 +68,31 @@ static void tell_of_memory(struct session *it, const struct vfu_dma_map *asked)
     if (it->is_told_of_memory)
         return;
     it->is_told_of_memory = true;
-    log_line(LOG_MESSAGE,
-             "%s: memory at 0x%" PRIx64 ", 0x%" PRIx64 " bytes, isn't shared, so the card can't reach it. If it is the "
-             "guest's RAM, start QEMU with -object memory-backend-memfd,id=ram,size=SIZE,share=on "
-             "-machine memory-backend=ram",
-             it->name, asked->address, asked->size);
+    log_client(it->channel.owner, LOG_MESSAGE,
+               "%s: memory at 0x%" PRIx64 ", 0x%" PRIx64
+               " bytes, isn't shared, so the card can't reach it. If it is the "
+               "guest's RAM, start QEMU with -object memory-backend-memfd,id=ram,size=SIZE,share=on "
+               "-machine memory-backend=ram",
+               it->name, asked->address, asked->size);
 }
 
 /* Memory with a file that isn't mapped, though the client may ask for it. */
 static void tell_of_file(const struct session *it, const struct vfu_dma_map *asked, int error)
 {
     if (error == EPERM)
-        log_line(LOG_MESSAGE,
-                 "%s: memory at 0x%" PRIx64 " is refused: it is of a file system that could make the server wait. Use "
-                 "memory-backend-memfd, or tmpfs or hugetlbfs; --trust-files takes any file",
-                 it->name, asked->address);
+        log_client(it->channel.owner, LOG_MESSAGE,
+                   "%s: memory at 0x%" PRIx64
+                   " is refused: it is of a file system that could make the server wait. Use "
+                   "memory-backend-memfd, or tmpfs or hugetlbfs; --trust-files takes any file",
+                   it->name, asked->address);
     else if (error == ENOSPC)
-        log_line(LOG_MESSAGE, "%s: memory at 0x%" PRIx64 " is refused: a client may have %u ranges at once", it->name,
-                 asked->address, memory_map_limits()->ranges);
+        log_client(it->channel.owner, LOG_MESSAGE,
+                   "%s: memory at 0x%" PRIx64 " is refused: a client may have %u ranges at once", it->name,
+                   asked->address, memory_map_limits()->ranges);
     else if (error == EMFILE)
-        log_line(LOG_MESSAGE, "%s: memory at 0x%" PRIx64 " is refused: a client may have %u files of memory at once",
-                 it->name, asked->address, memory_map_limits()->files);
+        log_client(it->channel.owner, LOG_MESSAGE,
+                   "%s: memory at 0x%" PRIx64 " is refused: a client may have %u files of memory at once", it->name,
+                   asked->address, memory_map_limits()->files);
 }
 
 static int dma_map(struct work *it)
@@ -416,7 +420,8 @@ static bool end_unless_open(struct session *it, enum channel_state state)
     if (state == CHANNEL_OPEN)
         return true;
     if (state == CHANNEL_WRONG)
-        log_line(LOG_MESSAGE, "%s: what the client sends isn't the protocol, so it is let go", it->name);
+        log_client(it->channel.owner, LOG_MESSAGE, "%s: what the client sends isn't the protocol, so it is let go",
+                   it->name);
     session_close(it);
     return false;
 }

@@ -8,6 +8,7 @@
 #include <unistd.h>
 
 #include "../../tests/check.h"
+#include "log.h"
 #include "peer/peer.h"
 #include "session.h"
 #include "wire.h"
@@ -164,6 +165,35 @@ static void long_datagrams(const char *folder)
     wire_close(&wire);
 }
 
+/* ---- lines ---- */
+
+static bool says(const char *said, const char *line)
+{
+    return strstr(said, line) != NULL;
+}
+
+/* One client's lines of a kind take none of another client's, nor of another kind. */
+static void lines(void)
+{
+    static char said[1u << 16];
+    int ends[2], errors = dup(STDERR_FILENO);
+    CHECK(pipe(ends) == 0 && dup2(ends[1], STDERR_FILENO) == STDERR_FILENO);
+    close(ends[1]);
+    log_open();
+    for (unsigned int i = 0; i < 1000; i++)
+        log_client(3, LOG_ACCESS, "access %u of 3", i);
+    log_client(4, LOG_ACCESS, "access of 4");
+    log_client(3, LOG_FAULT, "fault of 3");
+    log_line(LOG_ACCESS, "access of nobody");
+    log_close();
+    CHECK(dup2(errors, STDERR_FILENO) == STDERR_FILENO && close(errors) == 0);
+    CHECK(read(ends[0], said, sizeof said - 1) > 0);
+    CHECK(says(said, "access 0 of 3\n") && says(said, "access 19 of 3\n") && !says(said, "access 500 of 3\n"));
+    CHECK(says(said, "access of 4\n") && says(said, "fault of 3\n") && says(said, "access of nobody\n"));
+    CHECK(says(said, " more lines about refused accesses were left out\n"));
+    close(ends[0]);
+}
+
 int main(int count, char **words)
 {
     CHECK(count == 2);
@@ -172,6 +202,7 @@ int main(int count, char **words)
     many_writes(true);
     one_goes();
     long_datagrams(words[1]);
+    lines();
     printf("turns: passed\n");
     return 0;
 }

@@ -138,6 +138,16 @@ static const struct rule serving[] = {
 static const struct rule calling[] = {
     {SYS_socket, ONE_OF, 0, 1, {AF_UNIX}},
     CALL(connect),
+    CALL(read),
+    CALL(sendmsg),
+    CALL(close),
+#ifdef SYS_poll
+    CALL(poll),
+#endif
+    CALL(ppoll),
+    CALL(exit_group),
+    CALL(rt_sigreturn),
+    CALL(restart_syscall),
 };
 
 static const struct rule looking[] = {
@@ -212,21 +222,25 @@ static void put_rules(struct program *it, const struct rule *rules, size_t count
         put_rule(it, &rules[i]);
 }
 
-static void make(struct program *it, enum confine_as what)
+static void put_server(struct program *it)
 {
     const struct rule own_signals = {SYS_tgkill, ONE_OF, 0, 1, {(uint32_t)getpid()}};
+    put_rules(it, serving, sizeof serving / sizeof *serving);
+    put_rules(it, looking, notifier_reads_names() ? sizeof looking / sizeof *looking : 0);
+    put_rule(it, &own_signals);
+}
+
+static void make(struct program *it, enum confine_as what)
+{
     it->count = 0;
     put(it, (struct sock_filter)WORD(offsetof(struct seccomp_data, arch)));
     put_jump(it, BPF_JEQ, PROCESSOR, 1, 0);
     put(it, (struct sock_filter)ANSWER(SECCOMP_RET_KILL_PROCESS));
     put(it, (struct sock_filter)WORD(offsetof(struct seccomp_data, nr)));
-    if (what == CONFINE_JANITOR) {
-        put_rules(it, tidying, sizeof tidying / sizeof *tidying);
-    } else {
-        put_rules(it, serving, sizeof serving / sizeof *serving);
-        put_rules(it, calling, what == CONFINE_CALLER ? sizeof calling / sizeof *calling : 0);
-        put_rules(it, looking, notifier_reads_names() ? sizeof looking / sizeof *looking : 0);
-        put_rule(it, &own_signals);
+    switch (what) {
+    case CONFINE_SERVER: put_server(it); break;
+    case CONFINE_CALLER: put_rules(it, calling, sizeof calling / sizeof *calling); break;
+    case CONFINE_JANITOR: put_rules(it, tidying, sizeof tidying / sizeof *tidying); break;
     }
     put(it, (struct sock_filter)ANSWER(SECCOMP_RET_ERRNO | EPERM));
 }

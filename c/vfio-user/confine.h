@@ -7,7 +7,7 @@
 /* What the process does from then on. */
 enum confine_as {
     CONFINE_SERVER, /* serves what is open, and accepts */
-    CONFINE_CALLER, /* connects UNIX sockets too */
+    CONFINE_CALLER, /* connects UNIX sockets */
     CONFINE_JANITOR /* takes names of sockets away */
 };
 

@@ -90,16 +90,15 @@ static bool get_ready(const struct options *options)
 /* From here on the process opens no file. */
 static bool settle(const struct options *options)
 {
-    enum confine_as what = options->wire.kind == WIRE_STREAM ? CONFINE_CALLER : CONFINE_SERVER;
     janitor_seal();
     if (!options->is_unconfined)
-        confine_files(what);
+        confine_files(CONFINE_SERVER);
     if (!closer_start()) {
         log_line(LOG_SERVER, "no thread can be started: %s", strerror(errno));
         return false;
     }
     if (!options->is_unconfined)
-        confine_calls(what);
+        confine_calls(CONFINE_SERVER);
     return true;
 }
 

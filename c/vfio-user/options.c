@@ -50,9 +50,9 @@ static const char help[] =
     "\n"
     "Once it serves, the process has no capabilities, and opens, makes and removes no file. It may still read, write\n"
     "and close what is open, accept clients at its sockets and take files from them, map memory that isn't "
-    "executable,\n"
-    "and, with --wire=stream, connect UNIX sockets. A second process, which can do nothing else, removes the sockets\n"
-    "at the end. docs/guests.md says what that needs of the kernel.\n";
+    "executable.\n"
+    "A second process, which can do nothing else, removes the sockets at the end; with --wire=stream or dgram a third\n"
+    "one connects there. docs/guests.md says what that needs of the kernel.\n";
 
 /* What is behind NAME= in a word; null: the word is another. */
 static const char *value_of(const char *word, const char *name)
@@ -248,6 +248,7 @@ enum options_status options_read(struct options *it, int count, char **words)
         if (!is_known && !read_file_word(it, words[i]) && !read_plain_word(it, words[i]))
             return wrong("what is ", words[i]);
     }
+    it->wire.is_confined = !it->is_unconfined;
     it->card.is_recorded = it->record || getenv("NIC82599_RECORD");
     return check(it);
 }

@@ -97,12 +97,12 @@ bool server_open(struct server *it)
 {
     if (!share_resources(&it->options))
         return false;
+    if (!wire_open(&it->wire, &it->options.wire)) /* its process begins while this one is small */
+        return false;
     if (!card_open(&it->card, &it->options.card)) {
         log_line(LOG_SERVER, "memory is short");
         return false;
     }
-    if (!wire_open(&it->wire, &it->options.wire))
-        return false;
     const char *error = control_open(&it->control, it->options.control);
     if (error) {
         log_line(LOG_SERVER, "no socket %s: %s", it->options.control, error);

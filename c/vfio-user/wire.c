@@ -16,7 +16,6 @@
 #define LENGTH_BYTES 4u
 #define FRAME_LEAST 60u
 #define STREAM_ROOM (64u << 10)
-#define AGAIN_MS 300
 #define CAPTURE_END_MS 1000 /* that what is kept of a capture has to go at the end */
 #define SOCKET_BYTES (4 << 20)
 #define PASSED_OVER_MOST 8u /* datagrams that are none, before others have their turn */
@@ -38,9 +37,22 @@ static const char *open_datagrams(struct wire *it)
 {
     int bytes = SOCKET_BYTES;
     const char *error = local_bind(&it->file, SOCK_DGRAM, it->options.path);
-    if (!error)
-        setsockopt(it->file, SOL_SOCKET, SO_SNDBUF, &bytes, sizeof bytes);
-    return error;
+    if (error)
+        return error;
+    setsockopt(it->file, SOL_SOCKET, SO_SNDBUF, &bytes, sizeof bytes);
+    if (!connector_start_datagrams(&it->connector, it->file, it->options.peer, it->options.is_confined))
+        return strerror(errno);
+    connector_wait(&it->connector);
+    return NULL;
+}
+
+static const char *open_stream(struct wire *it)
+{
+    if (!connector_start_stream(&it->connector, it->options.path, it->options.is_confined))
+        return strerror(errno);
+    connector_ask(&it->connector);
+    it->file = connector_wait(&it->connector);
+    return NULL;
 }
 
 /* ---- the other end ---- */
@@ -76,16 +88,13 @@ static void flush_stream(struct wire *it)
 }
 
 /* A datagram goes whole, or not at all: while the other end's queue is full they wait here, and where nobody is, they
-   are lost. */
+   are lost. The connector has named the other end, since a name may lead anywhere. */
 static void flush_datagrams(struct wire *it)
 {
-    struct sockaddr_un peer;
-    local_name(&peer, it->options.peer);
     while (buffer_waiting(&it->out)) {
         const uint8_t *front = buffer_front(&it->out);
         size_t length = get_length(front);
-        ssize_t went = sendto(it->file, front + LENGTH_BYTES, length, MSG_NOSIGNAL | MSG_DONTWAIT,
-                              (const struct sockaddr *)&peer, sizeof peer);
+        ssize_t went = send(it->file, front + LENGTH_BYTES, length, MSG_NOSIGNAL | MSG_DONTWAIT);
         if (went < 0 && errno == EINTR)
             continue;
         if (went < 0 && (errno == EAGAIN || errno == EWOULDBLOCK || errno == ENOBUFS))
@@ -277,23 +286,39 @@ void wire_polls(const struct wire *it, struct pollfd *polls, bool takes)
     polls[0] = (struct pollfd){.fd = events ? it->file : -1, .events = events};
     polls[1] =
         (struct pollfd){.fd = local_rests() || closer_is_full(CLOSER_WIRE) ? -1 : it->listener, .events = POLLIN};
+    if (it->options.kind == WIRE_STREAM)
+        polls[1].fd = connector_file(&it->connector);
     /* whether a datagram goes depends on the other end's queue, of which poll says nothing */
     if (it->options.kind == WIRE_DGRAM)
         polls[0].events &= ~POLLOUT;
 }
 
+/* Takes the stream that was asked for, or asks for one. */
+static void call(struct wire *it, bool is_answered)
+{
+    if (is_answered)
+        it->file = connector_take(&it->connector);
+    if (it->file < 0 && !closer_is_full(CLOSER_WIRE))
+        connector_ask(&it->connector);
+}
+
+static void accept_one(struct wire *it)
+{
+    int file = local_accept(it->listener);
+    if (file < 0)
+        return;
+    hang_up(it);
+    it->file = file;
+}
+
 void wire_serve(struct wire *it, const struct pollfd *polls)
 {
-    if (polls[1].revents) {
-        int file = local_accept(it->listener);
-        if (file >= 0) {
-            hang_up(it);
-            it->file = file;
-        }
+    if (it->options.kind == WIRE_STREAM) {
+        call(it, polls[1].revents != 0);
+    } else if (polls[1].revents) {
+        accept_one(it);
         return;
     }
-    if (it->file < 0 && it->options.kind == WIRE_STREAM && !closer_is_full(CLOSER_WIRE))
-        it->file = local_connect(it->options.path);
     flush(it);
     if (it->file >= 0 && it->options.kind != WIRE_DGRAM && polls[0].revents & (POLLIN | POLLHUP | POLLERR))
         read_stream(it);
@@ -310,7 +335,7 @@ int wire_patience(const struct wire *it)
 {
     if ((it->options.kind == WIRE_DGRAM && buffer_waiting(&it->out)) || closer_is_full(CLOSER_WIRE))
         return 1;
-    return it->options.kind == WIRE_STREAM && it->file < 0 ? AGAIN_MS : -1;
+    return it->options.kind == WIRE_STREAM && it->file < 0 ? connector_patience(&it->connector) : -1;
 }
 
 /* ---- the whole ---- */
@@ -328,8 +353,7 @@ static const char *open_socket(struct wire *it)
         return open_datagrams(it);
     if (options->kind == WIRE_LISTEN)
         return local_listen(&it->listener, options->path, 1);
-    it->file = local_connect(options->path);
-    return NULL;
+    return open_stream(it);
 }
 
 static bool open_capture(struct wire *it, const char *name)
@@ -360,6 +384,7 @@ static bool open_played(struct wire *it, const char *name)
 bool wire_open(struct wire *it, const struct wire_options *options)
 {
     *it = (struct wire){.options = *options, .file = -1, .listener = -1, .capture = {.file = -1}};
+    connector_begin(&it->connector);
     const char *error = open_socket(it);
     if (error) {
         log_line(LOG_SERVER, "no wire at %s: %s", options->path, error);
@@ -373,6 +398,7 @@ void wire_close(struct wire *it)
 {
     bool has_name = it->listener >= 0 || (it->options.kind == WIRE_DGRAM && it->file >= 0);
     hang_up(it);
+    connector_end(&it->connector);
     buffer_clear(&it->local);
     if (it->listener >= 0)
         close(it->listener);

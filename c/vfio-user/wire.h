@@ -12,6 +12,7 @@
 
 #include "buffer.h"
 #include "capture.h"
+#include "connector.h"
 
 #define WIRE_FRAME_MOST 65536u  /* bytes: longer ones no card sends or takes */
 #define WIRE_LENGTH_MOST 69632u /* QEMU sends none longer: what claims to be isn't its format */
@@ -27,6 +28,7 @@ struct wire_options {
     bool has_hairpin;        /* what goes out comes back in, as a switch between functions would do */
     const char *capture;     /* what passes is written there; null: nowhere */
     const char *play;        /* frames of this file go to the card; null: none */
+    bool is_confined;        /* the process that connects gives its rights up */
 };
 
 struct wire_counts {
@@ -38,7 +40,8 @@ struct wire_counts {
 struct wire {
     struct wire_options options;
     struct wire_counts counts;
-    int file, listener;  /* -1: none */
+    int file, listener; /* -1: none */
+    struct connector connector;
     struct buffer out;   /* for the other end: stream: bytes; dgram: frames behind their lengths */
     struct buffer in;    /* of a stream */
     struct buffer local; /* replies and hairpins, behind their lengths */

@@ -1,13 +1,14 @@
-/* A client that holds what the closing of its eventfd waits for: its epoll watches the eventfd, and a thread of it has
-   the kernel write that epoll's events to a page that nobody gives. Another client is answered all the same, and so is
-   the next one of its socket. Over the program itself: holding PROGRAM FOLDER */
+/* What waits for others in the kernel, and is held there: the closing of a client's eventfd, and the connection of the
+   wire. Guests are answered all the same. Over the program itself: holding PROGRAM FOLDER */
 #define _GNU_SOURCE
+#include <dirent.h>
 #include <errno.h>
 #include <fcntl.h>
 #include <linux/userfaultfd.h>
 #include <poll.h>
 #include <pthread.h>
 #include <signal.h>
+#include <stdlib.h>
 #include <string.h>
 #include <sys/epoll.h>
 #include <sys/eventfd.h>
@@ -25,7 +26,9 @@
 #define PAGE 4096u
 #define NOT_TRIED 77 /* of the client's process */
 
-static const char *path, *other_path;
+static const char *path, *other_path, *not_tried = "";
+
+/* ---- an eventfd whose closing waits ---- */
 
 /* A page whose first access waits until this process ends, the kernel's too; null: this process may not have one. */
 static void *page_that_nobody_gives(void)
@@ -50,7 +53,9 @@ static void *hold(void *holder)
     return NULL;
 }
 
-/* Gives its eventfd as a vector, holds it, and keeps nothing else of it; then it says so. */
+/* A client's epoll watches its eventfd, and a thread of it has the kernel write that epoll's events to a page that
+   nobody gives: meanwhile the last closing of the eventfd waits. It gives it as a vector, keeps nothing else of it, and
+   says so. */
 static void give_and_hold(int said)
 {
     static struct holder holder;
@@ -91,17 +96,17 @@ static void is_answered(const char *name, uint32_t identity)
     peer_close(&peer);
 }
 
-int main(int count, char **words)
+static pid_t start(const char *more)
 {
-    CHECK(count == 3);
+    const char *words[] = {program_path("--socket-path=", "card"), "--functions=1", "--quiet", more, NULL};
+    return program_start(words, NULL, -1);
+}
+
+static void eventfd_that_does_not_close(void)
+{
     char byte;
     int ends[2], status = 0;
-    signal(SIGPIPE, SIG_IGN);
-    program_is(words[1], words[2]);
-    path = program_path("", "card");
-    other_path = program_path("", "card.vf0");
-    const char *server_words[] = {program_path("--socket-path=", "card"), "--functions=1", "--quiet", NULL};
-    pid_t server = program_start(server_words, NULL, -1);
+    pid_t server = start(NULL);
     CHECK(pipe(ends) == 0);
     pid_t client = fork();
     CHECK(client >= 0);
@@ -109,14 +114,78 @@ int main(int count, char **words)
         give_and_hold(ends[1]);
     close(ends[1]);
     bool is_held = read(ends[0], &byte, 1) == 1;
+    close(ends[0]);
     if (is_held) {
         is_answered(other_path, 0x10ED8086);
         is_answered(path, 0x10F78086);
+    } else {
+        not_tried = "; not tried, since this process may not use userfaultfd: an eventfd that doesn't close";
     }
     kill(client, SIGKILL);
     CHECK(waitpid(client, &status, 0) == client);
     CHECK(is_held || (WIFEXITED(status) && WEXITSTATUS(status) == NOT_TRIED));
     CHECK(program_end(server) == 0);
-    printf("holding: passed%s\n", is_held ? "" : "; not tried, since this process may not use userfaultfd");
+}
+
+/* ---- the wire's connection ---- */
+
+/* The process that began this one; 0: it has none any more. */
+static pid_t parent_of(const char *process)
+{
+    char name[300], line[512];
+    long parent = 0;
+    snprintf(name, sizeof name, "/proc/%s/stat", process);
+    FILE *file = fopen(name, "re");
+    if (!file)
+        return 0;
+    const char *end = fgets(line, sizeof line, file) ? strrchr(line, ')') : NULL;
+    if (!end || sscanf(end + 1, " %*c %ld", &parent) != 1)
+        parent = 0;
+    fclose(file);
+    return (pid_t)parent;
+}
+
+/* Sends a signal to a process's own processes; how many there are. */
+static unsigned int signal_children(pid_t process, int number)
+{
+    const struct dirent *entry;
+    unsigned int count = 0;
+    DIR *all = opendir("/proc");
+    CHECK(all);
+    while ((entry = readdir(all)))
+        if (*entry->d_name >= '1' && *entry->d_name <= '9' && parent_of(entry->d_name) == process)
+            count += kill((pid_t)atol(entry->d_name), number) == 0;
+    closedir(all);
+    return count;
+}
+
+/* The processes that the server has for its wire and its names stand still, as where a name leads into a file system
+   that doesn't answer. */
+static void connection_that_waits(const char *wire)
+{
+    pid_t server = start(program_path(wire, "other"));
+    is_answered(path, 0x10F78086);
+    CHECK(signal_children(server, SIGSTOP) == 2);
+    for (unsigned int i = 0; i < 3; i++) {
+        is_answered(path, 0x10F78086);
+        is_answered(other_path, 0x10ED8086);
+    }
+    CHECK(program_rests(server));
+    CHECK(signal_children(server, SIGCONT) == 2);
+    CHECK(program_end(server) == 0);
+    CHECK(signal_children(server, 0) == 0);
+}
+
+int main(int count, char **words)
+{
+    CHECK(count == 3);
+    signal(SIGPIPE, SIG_IGN);
+    program_is(words[1], words[2]);
+    path = program_path("", "card");
+    other_path = program_path("", "card.vf0");
+    eventfd_that_does_not_close();
+    connection_that_waits("--wire=stream:");
+    connection_that_waits(program_path("--wire=dgram:", "own,"));
+    printf("holding: passed%s\n", not_tried);
     return 0;
 }

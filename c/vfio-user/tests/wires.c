@@ -121,6 +121,17 @@ static void bad_lengths(int peer)
     CHECK(wire_next(&wire, false) == 0 && wire.file < 0);
 }
 
+/* Serves until the other end is there. */
+static void serve_until_connected(void)
+{
+    while (wire.file < 0) {
+        struct pollfd polls[WIRE_POLLS];
+        wire_polls(&wire, polls, true);
+        CHECK(poll(polls, WIRE_POLLS, wire_patience(&wire)) >= 0);
+        wire_serve(&wire, polls);
+    }
+}
+
 static void streams(void)
 {
     const struct wire_options listens = {.kind = WIRE_LISTEN, .path = first_path};
@@ -138,18 +149,23 @@ static void streams(void)
     close(peer);
     wire_close(&wire);
     /* the other way round, where nobody listens at first */
-    CHECK(wire_open(&wire, &connects) && wire.file < 0 && wire_patience(&wire) > 0);
+    CHECK(wire_open(&wire, &connects) && wire.file < 0 && wire_patience(&wire) >= 0);
     int listener = socket(AF_UNIX, SOCK_STREAM, 0);
     name = name_of(second_path);
     unlink(second_path);
     CHECK(bind(listener, (const struct sockaddr *)&name, sizeof name) == 0 && listen(listener, 1) == 0);
-    serve(false);
+    serve_until_connected();
     peer = accept(listener, NULL, NULL);
     CHECK(peer >= 0 && wire.file >= 0 && wire_patience(&wire) == -1);
     passes_a_stream(peer);
     close(peer);
     serve(true);
-    CHECK(wire_next(&wire, false) == 0 && wire.file < 0); /* it has gone */
+    CHECK(wire_next(&wire, false) == 0 && wire.file < 0); /* it has gone, and the next one comes */
+    serve_until_connected();
+    peer = accept(listener, NULL, NULL);
+    CHECK(peer >= 0);
+    passes_a_stream(peer);
+    close(peer);
     close(listener);
     wire_close(&wire);
 }
@@ -182,6 +198,15 @@ static void a_full_end(void)
 
 /* ---- datagrams ---- */
 
+/* Waits until the wire has found who has the other end's name. */
+static void wait_for_other(void)
+{
+    struct sockaddr_un name;
+    socklen_t length = sizeof name;
+    while (getpeername(wire.file, (struct sockaddr *)&name, &length) != 0)
+        usleep(1000);
+}
+
 static void datagrams(void)
 {
     const struct wire_options options = {.kind = WIRE_DGRAM, .path = first_path, .peer = second_path};
@@ -194,6 +219,7 @@ static void datagrams(void)
     int peer = socket(AF_UNIX, SOCK_DGRAM, 0);
     unlink(second_path);
     CHECK(bind(peer, (const struct sockaddr *)&name, sizeof name) == 0);
+    wait_for_other();
     for (; count < 100 || (count < DATAGRAMS && wire_patience(&wire) != 1); count++) { /* until its queue is full */
         make_frame(frame, 1514, count);
         wire_send(&wire, frame, 1514);

@@ -29,7 +29,7 @@ struct memory_file {
     unsigned int ranges;
 };
 
-static struct memory_limits the_limits = {VFU_MAPS_MOST, MEMORY_FILES_MOST, false};
+static struct memory_limits the_limits = {VFU_MAPS_MOST, MEMORY_FILES_MOST, UINT64_MAX, false};
 static struct memory_map *maps[MAPS_MOST]; /* all that have ranges, for the handler of SIGBUS */
 
 void memory_map_limit(const struct memory_limits *limits)
@@ -145,6 +145,8 @@ static int map_file(struct memory_map *it, struct memory_range *range, int file,
     if (fstat(file, &about) != 0 || !S_ISREG(about.st_mode) || range->size > (uint64_t)about.st_size ||
         offset > (uint64_t)about.st_size - range->size)
         return EINVAL;
+    if (it->bytes > the_limits.bytes || range->size > the_limits.bytes - it->bytes)
+        return EFBIG;
     int error = use_file(it, file, &about, &range->file);
     if (error)
         return error;
@@ -156,6 +158,7 @@ static int map_file(struct memory_map *it, struct memory_range *range, int file,
         return error;
     }
     range->at = at;
+    it->bytes += range->mapped;
     return 0;
 }
 
@@ -203,8 +206,11 @@ int memory_map_add(struct memory_map *it, const struct memory_range *asked, int 
 /* A range that is taken back; there is room for it, since it had a place before. */
 static void retire(struct memory_map *it, const struct memory_range *range)
 {
-    if (range->at)
-        it->retired[it->retired_count++] = *range;
+    if (!range->at)
+        return;
+    it->retired[it->retired_count++] = *range;
+    it->bytes -= range->mapped;
+    it->retired_bytes += range->mapped;
 }
 
 int memory_map_remove(struct memory_map *it, uint64_t address, uint64_t size)
@@ -248,13 +254,14 @@ static uint64_t shorten(struct memory_range *range, uint64_t most)
     return bytes;
 }
 
-bool memory_map_give_back(struct memory_map *it)
+static bool give_back(struct memory_map *it, uint64_t most)
 {
-    uint64_t left = PIECE;
+    uint64_t left = most;
     for (unsigned int i = 0; i < RANGES_A_PIECE && it->retired_count && left; i++) {
         struct memory_range *range = &it->retired[it->retired_count - 1];
         uint64_t bytes = shorten(range, left);
         left -= bytes < left ? bytes : left;
+        it->retired_bytes -= bytes;
         if (range->mapped)
             break;
         leave_file(it, range->file);
@@ -263,15 +270,20 @@ bool memory_map_give_back(struct memory_map *it)
     return it->retired_count != 0;
 }
 
+bool memory_map_give_back(struct memory_map *it)
+{
+    return give_back(it, PIECE);
+}
+
 bool memory_map_is_busy(const struct memory_map *it)
 {
-    return it->retired_count > MEMORY_RETIRED_MOST;
+    return it->retired_count > MEMORY_RETIRED_MOST || it->retired_bytes > the_limits.bytes;
 }
 
 void memory_map_end(struct memory_map *it)
 {
     memory_map_clear(it);
-    while (memory_map_give_back(it)) {
+    while (give_back(it, UINT64_MAX)) {
     }
     for (unsigned int i = 0; i < MAPS_MOST; i++)
         if (maps[i] == it)

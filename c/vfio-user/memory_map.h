@@ -29,12 +29,14 @@ struct memory_map {
     unsigned int retired_count, retired_room;
     struct memory_file *files[MEMORY_FILES_MOST];
     unsigned int file_count;
-    unsigned int owner; /* whose files they are: see closer.h */
+    uint64_t bytes, retired_bytes; /* that are mapped, of ranges and of those that wait */
+    unsigned int owner;            /* whose files they are: see closer.h */
 };
 
 /* What clients may have, each of them. */
 struct memory_limits {
     unsigned int ranges, files;
+    uint64_t bytes;    /* mapped at once; a file of so many costs its client nothing, but this process addresses */
     bool trusts_files; /* any file on a disk is mapped; else only memory of the kernel's own: memfd, tmpfs, hugetlbfs */
 };
 
@@ -45,8 +47,8 @@ void memory_map_begin(struct memory_map *it, unsigned int owner);
 
 /* Adds a range: 0, or a number of errno.h: EINVAL for addresses, sizes and offsets that are no multiples of a page,
    overflow, or lie after the file's end, and for a writable range without a file (file -1); EPERM for a file that isn't
-   the kernel's own memory; EMFILE and ENOSPC for more files or ranges than a client may have; EEXIST where it overlaps
-   another; what mmap says. The file stays the caller's. */
+   the kernel's own memory; EMFILE, ENOSPC and EFBIG for more files, ranges or bytes than a client may have; EEXIST
+   where it overlaps another; what mmap says. The file stays the caller's. */
 int memory_map_add(struct memory_map *it, const struct memory_range *range, int file, uint64_t offset);
 /* Takes back all ranges inside the given one: 0, or EINVAL where one lies across its border. */
 int memory_map_remove(struct memory_map *it, uint64_t address, uint64_t size);

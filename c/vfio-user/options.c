@@ -8,7 +8,8 @@
 
 #define NAME "nic82599-vfio-user"
 #define PHYSICAL_DEVICE 0x10F7u
-#define RESPONDER 0x0A000001u /* 10.0.0.1 */
+#define RESPONDER 0x0A000001u  /* 10.0.0.1 */
+#define MEMORY_MOST (1u << 20) /* GiB */
 
 static const char help[] =
     "Usage: " NAME " --socket-path=PATH [OPTION]..\n"
@@ -42,6 +43,7 @@ static const char help[] =
     "  --trace=FILE           write each access of a register there\n"
     "  --record=FILE          write what the device is asked as a script, for nicview\n"
     "  --quiet                don't print counts at the end\n"
+    "  --client-memory=GIB    how much memory each client may map (as much as the machine has, with swap)\n"
     "  --trust-files          map any file as a guest's memory: a file system that doesn't answer holds all guests\n"
     "  --unconfined           keep all rights after the start, for debuggers\n"
     "  --ask=PATH             ask the server whose control socket that is: each word is a request, or each line of\n"
@@ -159,6 +161,9 @@ static bool read_number_word(struct options *it, const char *word, bool *is_know
         it->card.has_seed = true;
         return number_of(value, 0, UINT64_MAX, &number) && (it->card.seed = number, true);
     }
+    if ((value = value_of(word, "--client-memory")))
+        return number_of(value, 10, MEMORY_MOST, &number) && number &&
+               (it->client_memory = (uint64_t)number << 30, true);
     if ((value = value_of(word, "--mac")))
         return mac_of(value, it->card.mac);
     if ((value = value_of(word, "--wire")))

@@ -17,6 +17,7 @@ struct options {
     struct card_options card;
     struct wire_options wire;
     const char *strays, *trace, *record, *control; /* files, or null */
+    uint64_t client_memory;                        /* bytes that each client may map; 0: as many as the machine has */
     bool is_quiet;
     bool trusts_files;            /* clients' memory may be any file */
     bool is_unconfined;           /* the process keeps its rights */

@@ -1,10 +1,11 @@
-#define _POSIX_C_SOURCE 200809L
+#define _GNU_SOURCE
 #include "resources.h"
 
 #include <inttypes.h>
 #include <stdint.h>
 #include <stdio.h>
 #include <sys/resource.h>
+#include <sys/sysinfo.h>
 
 #include "channel.h"
 #include "closer.h"
@@ -17,6 +18,7 @@
 #define FILES_MOST 65536u  /* that are asked for */
 #define OWN_MAPPINGS 2048u /* the program's */
 #define MAPPINGS_USUAL 65530u
+#define ADDRESSES (UINT64_C(1) << 46) /* bytes for clients' memory, half of what a process has */
 
 /* How many files this process may have: as many as it is allowed. */
 static uint64_t all_files(void)
@@ -58,7 +60,19 @@ static unsigned int ranges_of(unsigned int clients)
     return between(each > MEMORY_RETIRED_MOST ? each - MEMORY_RETIRED_MOST : 0, MEMORY_RETIRED_MOST, VFU_MAPS_MOST);
 }
 
-bool resources_share(unsigned int clients, unsigned int vectors, bool trusts_files)
+/* A client's memory, by what was asked for. What it took back counts as much again, until the kernel has it. */
+static uint64_t bytes_of(unsigned int clients, uint64_t asked)
+{
+    struct sysinfo machine;
+    uint64_t most = ADDRESSES / (2 * clients), has = most;
+    if (asked)
+        has = asked;
+    else if (sysinfo(&machine) == 0)
+        has = ((uint64_t)machine.totalram + machine.totalswap) * machine.mem_unit;
+    return has < most ? has : most;
+}
+
+bool resources_share(unsigned int clients, unsigned int vectors, uint64_t bytes, bool trusts_files)
 {
     uint64_t all = all_files();
     uint64_t least = OWN_FILES + vectors + (2 + MEMORY_LEAST) * clients;
@@ -75,6 +89,7 @@ bool resources_share(unsigned int clients, unsigned int vectors, bool trusts_fil
     uint64_t left = all > least + passing ? (all - least - passing) / clients : 0;
     memory_map_limit(&(struct memory_limits){.ranges = ranges_of(clients),
                                              .files = between(left, MEMORY_LEAST, MEMORY_FILES_MOST),
+                                             .bytes = bytes_of(clients, bytes),
                                              .trusts_files = trusts_files});
     return true;
 }

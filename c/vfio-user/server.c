@@ -90,7 +90,8 @@ static bool open_functions(struct server *it)
 static bool share_resources(const struct options *options)
 {
     unsigned int clients = 1 + 2 * options->card.functions;
-    return resources_share(clients, VECTORS_MOST + (clients - 1) * FUNCTION_VIRTUAL_VECTORS, options->trusts_files);
+    return resources_share(clients, VECTORS_MOST + (clients - 1) * FUNCTION_VIRTUAL_VECTORS, options->client_memory,
+                           options->trusts_files);
 }
 
 bool server_open(struct server *it)

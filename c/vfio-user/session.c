@@ -89,6 +89,11 @@ static void tell_of_file(const struct session *it, const struct vfu_dma_map *ask
         log_client(it->channel.owner, LOG_MESSAGE,
                    "%s: memory at 0x%" PRIx64 " is refused: a client may have %u ranges at once", it->name,
                    asked->address, memory_map_limits()->ranges);
+    else if (error == EFBIG)
+        log_client(it->channel.owner, LOG_MESSAGE,
+                   "%s: memory at 0x%" PRIx64 " is refused: a client may have %" PRIu64
+                   " MiB at once; --client-memory=GIB allows more",
+                   it->name, asked->address, memory_map_limits()->bytes >> 20);
     else if (error == EMFILE)
         log_client(it->channel.owner, LOG_MESSAGE,
                    "%s: memory at 0x%" PRIx64 " is refused: a client may have %u files of memory at once", it->name,

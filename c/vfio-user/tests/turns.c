@@ -1,8 +1,10 @@
 /* What one client or the wire's other end asks for in one turn is bounded: the rest has its turn later, in its order.
    */
 #define _GNU_SOURCE
+#include <errno.h>
 #include <signal.h>
 #include <string.h>
+#include <sys/mman.h>
 #include <sys/socket.h>
 #include <sys/un.h>
 #include <unistd.h>
@@ -165,6 +167,37 @@ static void long_datagrams(const char *folder)
     wire_close(&wire);
 }
 
+/* ---- memory ---- */
+
+#define GIBIBYTE (UINT64_C(1) << 30)
+
+/* Of one file, which costs nothing, each client has as many bytes as it may at once, and no more. */
+static void bytes_of_memory(void)
+{
+    static const char *const words[] = {"--functions=1", "--client-memory=1", "--quiet", NULL};
+    const char *path = server_start(words);
+    char other_path[120];
+    struct peer peer, other;
+    int file = memfd_create("memory", MFD_CLOEXEC);
+    snprintf(other_path, sizeof other_path, "%s.vf0", path);
+    peer_open(&peer, path);
+    peer_open(&other, other_path);
+    CHECK(file >= 0 && ftruncate(file, (off_t)(4 * GIBIBYTE)) == 0);
+    CHECK(peer_version(&peer) == 0 && peer_version(&other) == 0);
+    CHECK(peer_map(&peer, 0, 2 * GIBIBYTE, 0, 3, file) == EFBIG);
+    CHECK(peer_map(&peer, 0, GIBIBYTE, 0, 3, file) == 0 && peer_map(&other, 0, GIBIBYTE, 0, 3, file) == 0);
+    CHECK(peer_map(&peer, GIBIBYTE, 4096, 0, 3, file) == EFBIG);
+    for (unsigned int i = 0; i < 10; i++) { /* also while what was taken back waits */
+        CHECK(peer_unmap(&peer, 0, GIBIBYTE) == 0);
+        CHECK(peer_map(&peer, 0, GIBIBYTE, GIBIBYTE, 3, file) == 0);
+    }
+    CHECK(peer_map(&peer, GIBIBYTE, 4096, 0, 3, file) == EFBIG);
+    close(file);
+    peer_close(&peer);
+    peer_close(&other);
+    server_stop();
+}
+
 /* ---- lines ---- */
 
 static bool says(const char *said, const char *line)
@@ -202,6 +235,7 @@ int main(int count, char **words)
     many_writes(true);
     one_goes();
     long_datagrams(words[1]);
+    bytes_of_memory();
     lines();
     printf("turns: passed\n");
     return 0;

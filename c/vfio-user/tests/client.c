@@ -119,6 +119,14 @@ static void bad_accesses(struct peer *it)
     CHECK(reply[16] == 0xFF && reply[17] == 0xFF);
 }
 
+/* It is no end of its own: the server closes what it was sent later, and would not see till then that its client goes. */
+static void map_socket(struct peer *it)
+{
+    int other = socket(AF_UNIX, SOCK_STREAM | SOCK_CLOEXEC, 0);
+    CHECK(other >= 0 && peer_map(it, RAM, RAM_BYTES, 0, 3, other) == EPERM);
+    close(other);
+}
+
 static void map_memory(struct peer *it)
 {
     CHECK(peer_map(it, RAM, RAM_BYTES, 0, 3, -1) == EINVAL); /* writable, and no file */
@@ -128,7 +136,7 @@ static void map_memory(struct peer *it)
     CHECK(peer_map(it, RAM + 4, PAGE, 0, 3, ram_file) == EINVAL);
     CHECK(peer_map(it, RAM, 100, 0, 3, ram_file) == EINVAL);
     CHECK(peer_map(it, UINT64_MAX - PAGE + 1, 2 * PAGE, 0, 3, ram_file) == EINVAL);
-    CHECK(peer_map(it, RAM, RAM_BYTES, 0, 3, it->file) == EPERM); /* a socket */
+    map_socket(it);
     CHECK(peer_map(it, RAM, RAM_BYTES, 0, 3, ram_file) == 0);
     CHECK(peer_map(it, RAM, PAGE, 0, 3, ram_file) == EEXIST);
     CHECK(peer_map(it, RAM + RAM_BYTES - PAGE, 2 * PAGE, 0, 3, ram_file) == EEXIST);

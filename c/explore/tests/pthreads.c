@@ -365,6 +365,33 @@ static void c11(void)
 
 /* --- what goes back before each schedule --- */
 
+static bool is_filled(const unsigned char *bytes, size_t length, unsigned char with)
+{
+    size_t k = 0;
+    while (k < length && bytes[k] == with)
+        k++;
+    return k == length;
+}
+
+/* Aligned memory keeps its bytes as it moves, and is no larger than it was once it is freed. */
+static void keep_aligned(void)
+{
+    enum { SIZE = 700 };
+    unsigned char *bytes = aligned_alloc(64, 704), *others[10];
+    nicx_check(bytes && (uintptr_t)bytes % 64 == 0, "it isn't aligned");
+    memset(bytes, 7, SIZE);
+    bytes = realloc(bytes, 5000);
+    nicx_check(bytes && is_filled(bytes, SIZE, 7), "it lost bytes as it moved");
+    for (unsigned char k = 0; k < 10; k++) {
+        others[k] = malloc((size_t)1 << k);
+        nicx_check(others[k] != NULL, "there is no memory");
+        memset(others[k], k, (size_t)1 << k);
+    }
+    for (unsigned char k = 0; k < 10; k++)
+        nicx_check(is_filled(others[k], (size_t)1 << k, k), "two pieces have bytes in common");
+    free(bytes);
+}
+
 static void *spoil(void *unused)
 {
     number++;
@@ -372,6 +399,7 @@ static void *spoil(void *unused)
     free(malloc(100));
     void *left = NULL;
     nicx_check(posix_memalign(&left, 4096, 100) == 0 && (uintptr_t)left % 4096 == 0, "it isn't aligned");
+    keep_aligned();
     nicx_check((text = realloc(text, 5000)) && !strcmp(text, "spoilt"), "it isn't what it was");
     return unused;
 }

@@ -209,21 +209,22 @@ char *__wrap_strdup(const char *text)
     return copied ? strcpy(copied, text) : NULL;
 }
 
-/* All of it lies at multiples of 16; for more than that as much more is taken, and what is told lies in it, behind a
-   head of its own. It isn't given back before the schedule ends. */
+/* All of it lies at multiples of 16. For more than that as much more is taken, and in it lies a piece of the class of
+   `size`, after a head of its own. Once freed it is one of that class; what is around it is lost until the schedule
+   ends. */
 static void *aligned(size_t alignment, size_t size)
 {
     if (size > PIECE_ROOM || alignment > PIECE_ROOM)
         return NULL;
-    char *taken = __wrap_malloc(alignment <= HEAD ? size : size + 2 * alignment);
-    if (!taken || alignment <= HEAD)
-        return taken;
-    char *told = (char *)(((uintptr_t)taken + alignment) & ~(uintptr_t)(alignment - 1));
-    unsigned k = SMALLEST;
-    while (((size_t)2 << k) - HEAD <= size + alignment && ((size_t)2 << k) <= size + HEAD + alignment)
-        k++;
-    memcpy(told - HEAD, &k, sizeof k);
-    return told;
+    if (alignment <= HEAD)
+        return __wrap_malloc(size);
+    unsigned k = piece_class(size);
+    char *taken = __wrap_malloc(((size_t)1 << k) + alignment);
+    if (!taken)
+        return NULL;
+    char *inside = (char *)(((uintptr_t)taken + alignment) & ~(uintptr_t)(alignment - 1));
+    memcpy(inside - HEAD, &k, sizeof k);
+    return inside;
 }
 
 int __real_posix_memalign(void **taken, size_t alignment, size_t size);

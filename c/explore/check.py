@@ -293,6 +293,7 @@ REFUSALS = {
     "nowhere": "a handler is on a task that there isn't",
     "stack": "its stack is below 16,384 bytes",
     "memory_kind": "its memory isn't of enum nicx_memory",
+    "two_memories": "its memory is NICX_WEAK and NICX_TSO: choose one",
     "vfs": "there is no such device: ",
     "points": "its points are above 1,000,000",
     "no_end": "it has no bring_up, begin or end",
@@ -318,7 +319,7 @@ WORDS = {
     "--nonsense 1": "--nonsense: there is no such option",
     "words": "words: there is no such option",
     "--memory": "--memory: it wants a word behind it",
-    "--memory week": "--memory: it is weak or strong",
+    "--memory week": "--memory: it is weak, tso or strong",
     "--seed 18446744073709551616": "is no number of 0 to",
     "--preemptions 1001": '"1001" is no number of 0 to 1000',
     "--shard": "--shard: it wants a word behind it",
@@ -764,6 +765,35 @@ def check_points(kit: Kit) -> str:
     return f"{len(POINTS) + 1} drivers that break just before a call's effect"
 
 
+STOPPED = "end: the queue stays stopped, though a descriptor is free"
+UNSEEN_ATOMICS = "with weak memory the search has to see the driver's atomics and fences: compile it with -fsanitize"
+
+
+def check_own_memory(kit: Kit) -> str:
+    """Stores to the driver's own memory may be late: litmus tests, and a queue that is stopped for ever, which is
+    found where a full barrier is missing, by its shrunk schedule too, and isn't with the barrier."""
+    out, source = kit.out("own"), HERE / "tests/stop_wake.c"
+    said = ran([kit.build_form(HERE / "tests/litmus.c", of_memory=True)], timeout=300).strip()
+    wrong, right = (kit.build_form(source, *defines, of_memory=True) for defines in ([], ["FIXED"]))
+    schedule = out / "stop_wake.schedule"
+    for mode in ("flags", "release", "lent"):
+        words = [mode, "--quiet", "--jobs", 2, "--out", out]
+        every = ["--strategy", "exhaustive", "--preemptions", "any"]
+        ran([wrong, *words, *every, "--memory", "strong"])
+        for memory in ("tso", "weak"):
+            told(ran([wrong, *words, "--memory", memory], 1), f"FAILED {STOPPED}", f"{mode}, {memory}")
+            if f"memory {memory}" not in schedule.read_text().splitlines():
+                raise Wrong(f"{schedule} doesn't name its memory")
+            told(ran([wrong, mode, "--replay", schedule], 1), "is_stopped, 1 bytes, on its way", f"{mode}, {memory}")
+            told(ran([right, mode, "--replay", schedule, "--lenient"]), ": fine", f"{mode}, {memory}, fixed")
+            ran([right, *words, "--memory", memory, "--runs", 1000])
+    told(ran([right, "flags", *words[1:], *every, "--memory", "tso"]), "these are all schedules", "tso, fixed")
+    blind = kit.build_form(source)
+    for memory in ("tso", "weak"):
+        told(ran([blind, "flags", "--memory", memory], 2), UNSEEN_ATOMICS, f"{memory}, unseen")
+    return said
+
+
 def check_program(kit: Kit, runs: int) -> str:
     """A whole program is searched as it stands: its bug is found by its end, and as a race; and its twin passes."""
     source, out = HERE / "examples/forwarder.c", kit.out("program")
@@ -832,7 +862,8 @@ AMOUNTS = {
 
 def check_forms(kit: Kit, runs: int) -> list[str]:
     """A driver's own threads and memory: their archive has no sanitizers' checks in it."""
-    return [check_form(kit), check_points(kit), check_cpp(kit), check_races(kit), check_program(kit, runs)]
+    checks = (check_form, check_points, check_own_memory, check_cpp, check_races)
+    return [*(check(kit) for check in checks), check_program(kit, runs)]
 
 
 def check_told_faults(kit: Kit) -> list[str]:

@@ -36,8 +36,9 @@ enum nicx_allowed {
 /* What stores of a driver to lent memory, and loads from it, may do (docs/explore.md, "Missing barriers"). */
 enum nicx_memory {
     NICX_WEAK = 1,         /* they may be late and old, as by --memory weak */
-    NICX_WRITES_ORDER = 2, /* a write of a register comes behind all stores before it, as writel() of Linux does */
-    NICX_READS_ORDER = 4   /* no load behind a read of a register is older than it, as behind readl() of Linux */
+    NICX_WRITES_ORDER = 2, /* a write of a register comes after all stores before it, as writel() of Linux does */
+    NICX_READS_ORDER = 4,  /* no load after a read of a register is older than it, as after readl() of Linux */
+    NICX_TSO = 8           /* in place of NICX_WEAK: stores may be late, in their order, as on x86 (--memory tso) */
 };
 
 typedef struct nicx_scenario {
@@ -68,7 +69,7 @@ typedef struct nicx_scenario {
     uint32_t points;  /* a schedule with more points than this is a failure: it never ends. 0 stands for 2,000 */
     uint32_t stack;   /* bytes of a task's stack, at least 16,384; 0 stands for 65,536 */
     uint32_t allowed; /* of enum nicx_allowed */
-    uint32_t memory;  /* of enum nicx_memory; without NICX_WEAK the others count by --memory weak alone */
+    uint32_t memory;  /* of enum nicx_memory; without NICX_WEAK the _ORDER ones count by --memory weak alone */
     bool race_free;   /* what two tasks or handlers touch of the driver's own memory is touched under a nicx_mutex that
                          both take, and by no condition: so the exhaustive search leaves out orders of their steps that
                          touch different things of the device. Where this isn't so it may miss a failure */
@@ -162,8 +163,10 @@ void nicx_arm(int timer);
 bool nicx_disarm(int timer);
 
 /* Barriers of weak memory; where memory isn't weak they do nothing, and are no points. When nicx_wmb returns all stores
-   of the task's processor before it have reached memory. A load behind nicx_rmb isn't older than it. nicx_mb does both.
-   Locks do too: a lock that is taken is a barrier of loads, and one that is given back is one of stores. */
+   to lent memory of the task's processor before it have reached memory; its atomic stores to own memory may still be
+   pending, but come before all later stores. A load after nicx_rmb isn't older than it. nicx_mb does both, and no store
+   is pending after it. Locks are barriers too: one of loads where a lock is taken, and one of stores where it is given
+   back. */
 void nicx_wmb(void);
 void nicx_rmb(void);
 void nicx_mb(void);

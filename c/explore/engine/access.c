@@ -179,10 +179,11 @@ static void judge(const struct step *step)
 
 /* --- registers --- */
 
-/* By weak memory a register's access may be a barrier, if the scenario says so. */
+/* By weak memory a register's access may be a barrier, if the scenario says so. By x86's a write is behind all stores
+   before it anyway. */
 static void order_before(void)
 {
-    if (nicxi.is_weak && nicxi.self && nicxi.scenario->memory & NICX_WRITES_ORDER)
+    if (nicxi.is_weak && nicxi.self && (nicxi.is_tso || nicxi.scenario->memory & NICX_WRITES_ORDER))
         nicxi_released(nicxi.self);
 }
 
@@ -374,6 +375,21 @@ void nicxi_memory_point(enum local local, uint64_t at, uint32_t size)
     if (!let_others(nicxi.self))
         return;
     nicxi_told(step);
+}
+
+int nicxi_store_point(uint64_t at, const void *bytes, uint32_t size, bool releases)
+{
+    struct step *step = before(STEP_LOCAL);
+    step->word = LOCAL_ATOMIC;
+    step->bus = at;
+    step->length = size;
+    if (!let_others(nicxi.self))
+        return -1;
+    int slot = nicxi_keep_own(at, bytes, size, releases);
+    step->is_kept = slot >= 0;
+    nicxi_told(step);
+    step->is_kept = false;
+    return slot;
 }
 
 void nicxi_polled(uint64_t at, uint64_t value)

@@ -1,5 +1,6 @@
 /* Barriers of the driver's own. Where memory isn't weak they are nothing, and no points. */
 #include "left.h"
+#include "parts.h"
 #include "weak.h"
 
 static bool is_barrier_here(void)
@@ -18,7 +19,7 @@ static void stand_at(enum local local, bool releases, bool acquires)
     if (nicxi_is_left())
         return;
     nicxi_went_on(self);
-    self->next.length = releases ? nicxi_released(self) : 0;
+    self->next.length = releases && acquires ? nicxi_released(self) : releases ? nicxi_ordered(self) : 0;
     if (acquires)
         nicxi_acquired(self);
     if (self->next.length)
@@ -41,11 +42,17 @@ void nicx_mb(void)
     stand_at(LOCAL_MB, true, true);
 }
 
+void nicxi_drain(void)
+{
+    if (is_barrier_here() && nicxi_released(nicxi.self))
+        nicxi.self->is_void = false;
+}
+
 /* For what is a point by itself: an atomic operation, a lock of another kind. */
 void nicx_release(void)
 {
     if (is_barrier_here())
-        nicxi_released(nicxi.self);
+        nicxi_ordered(nicxi.self);
 }
 
 void nicx_acquire(void)

@@ -38,7 +38,7 @@ enum step_kind {
     STEP_TAKE,
     STEP_START, /* a handler starts */
     STEP_VALUE, /* nicx_choose */
-    STEP_STORE, /* by weak memory: a store reaches memory */
+    STEP_STORE, /* by weak memory: a store reaches memory, the device's or the driver's own */
     STEP_RX,
     STEP_TX,
     STEP_RX_ENABLE,
@@ -55,7 +55,8 @@ struct step {
     uint8_t status;
     bool waits;          /* before or behind it the thread waits until another acts */
     bool is_beside;      /* no point of its own: a store that a barrier has reach memory */
-    bool is_kept;        /* by weak memory: a store on its way; a load that gives such stores of its own */
+    bool is_kept;        /* by weak memory: a store that is pending; a load that gives such stores of its own */
+    bool is_own;         /* of a store that reaches memory: it is of the driver's own */
     uint8_t older;       /* by weak memory: a load of a value before so many changes of it */
     uint16_t of;         /* a queue, a group, a frame, a change of the link; of a value, a store: a thread */
     uint32_t address;    /* of a register, among a function's own its offset; a block that is lent or taken */
@@ -221,7 +222,8 @@ struct engine {
     bool links[NICX_FRAMES];
     uint16_t link_count;
     struct omitted omitted; /* by a search that shrinks, and by a schedule's file */
-    bool is_weak;           /* memory is (weak.h) */
+    bool is_weak;           /* stores may be late, and loads old (weak.h), */
+    bool is_tso;            /* or stores late and in order, and no load is old */
     bool knows_memory;      /* each access of the driver's own memory is told (nicxi_touched) */
     bool is_program;        /* the first task is a whole program, which makes the device's steps itself */
 

@@ -49,7 +49,7 @@ static void write_files(struct post *post, void *argument)
     struct writing *it = argument;
     struct by_list state;
     const nicx_scenario *scenario = nicxi.scenario;
-    nicxi_give_memory(nicxi.is_weak ? WEAK : STRONG);
+    nicxi_give_memory(nicxi_memory());
     nicx_close();
     nicxi.listener = write_step;
     nicxi.listener_argument = it;

@@ -140,8 +140,11 @@ void nicxi_objects(const struct step *step, const char *about, struct objects *o
     case STEP_WRITE: add_register(objects, step->address); break;
     case STEP_VF_READ:
     case STEP_VF_WRITE: add_offset(objects, step); break;
-    case STEP_PEEK:
     case STEP_STORE:
+        if (!step->is_own)
+            add_memory(objects, step->bus, step->length);
+        break;
+    case STEP_PEEK:
     case STEP_POKE: add_memory(objects, step->bus, step->length); break;
     case STEP_LEND:
     case STEP_TAKE: add(objects, "block %u", (unsigned)step->address); break;

@@ -26,7 +26,8 @@ const char nicxi_usage[] =
     "  --no-sleep         of the exhaustive search: orders of independent steps too\n"
     "  --jobs N           so many processes, 1 to 256 (one for each core)\n"
     "  --shard K/N        of N machines that share this search the K-th, from 1 on; N up to 65,536 (1/1)\n"
-    "  --memory KIND      weak: stores to lent memory may be late, and loads of it old; strong: none is (strong,\n"
+    "  --memory KIND      weak: stores to lent memory may be late, and loads of it old, and the driver's own atomic\n"
+    "                     stores late; tso: stores may be late, in their order, as on x86; strong: none is (strong,\n"
     "                     or what the scenario says)\n"
     "  --points memory    accesses of the driver's own memory are points too, where they are known; memory:NAME those\n"
     "                     of a variable or in a function\n"
@@ -144,10 +145,12 @@ static const char *take_memory(const char *word, const char *text, struct option
 {
     if (!*text)
         return without_word(word);
-    if (strcmp(text, "weak") != 0 && strcmp(text, "strong") != 0)
-        return refused(word, "it is weak or strong");
-    options->memory = !strcmp(text, "weak") ? WEAK : STRONG;
-    return NULL;
+    for (enum given_memory memory = STRONG; memory <= TSO; memory++)
+        if (!strcmp(text, nicxi_memory_word(memory))) {
+            options->memory = memory;
+            return NULL;
+        }
+    return refused(word, "it is weak, tso or strong");
 }
 
 static const char *take_name(const char *word, const char *text, const char **name)

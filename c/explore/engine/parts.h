@@ -20,6 +20,8 @@ struct nicxi_form {
 struct nicxi_races {
     void (*begin)(void);                   /* a schedule begins */
     void (*told)(const struct step *step); /* a step was made */
+    /* A pending store of a processor to own memory reached memory: which of those that are kept, and where. */
+    void (*landed)(unsigned processor, unsigned slot, uint64_t at);
 };
 
 extern const struct nicxi_form *nicxi_form;
@@ -54,6 +56,11 @@ void nicxi_call_until(bool (*condition)(void *), void *argument, bool timed, con
 
 /* A point before an access of the driver's own memory. */
 void nicxi_memory_point(enum local local, uint64_t at, uint32_t size);
+/* The same before an atomic store of the thread that runs. By weak memory the store may be late: its place among those
+   that are kept (nicxi_keep_own); or -1: it is to be made now. */
+int nicxi_store_point(uint64_t at, const void *bytes, uint32_t size, bool releases);
+/* By weak memory: all pending stores of the thread that runs reach memory. */
+void nicxi_drain(void);
 /* What a load gave: a loop that reads the same over and over is taken to wait. */
 void nicxi_polled(uint64_t at, uint64_t value);
 /* Something in memory that others look at is another now. */

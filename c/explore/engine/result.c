@@ -10,6 +10,7 @@
 #include <string.h>
 
 #include "files.h"
+#include "weak.h"
 #include "words.h"
 
 enum { VERSION = 1, MOST_LINE = 512, RANKS_OF_LINE = 64 };
@@ -187,7 +188,7 @@ static void options(struct form *it, struct options *options)
     options->depth = number32(it, "depth", options->depth, 16);
     options->preemptions = number32(it, "preemptions", options->preemptions, UNBOUNDED);
     options->no_sleep = !flag(it, "sleep", !options->no_sleep);
-    if (flag(it, "weak", nicxi.is_weak) != nicxi.is_weak)
+    if (number(it, "weak", nicxi_memory() - STRONG, TSO - STRONG) != (uint64_t)(nicxi_memory() - STRONG))
         wrong(it, "weak: it is of another memory than this: --memory says which");
     options->shard = number32(it, "shard", options->shard + 1, 65536) - 1;
     options->shards = number32(it, "shards", options->shards, 65536);

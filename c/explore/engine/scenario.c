@@ -190,8 +190,10 @@ static const char *fault_of(const nicx_scenario *scenario)
         return "its points are above 1,000,000";
     if (scenario->stack && scenario->stack < LEAST_STACK)
         return "its stack is below 16,384 bytes";
-    if (scenario->memory > (NICX_WEAK | NICX_WRITES_ORDER | NICX_READS_ORDER))
+    if (scenario->memory > (NICX_WEAK | NICX_WRITES_ORDER | NICX_READS_ORDER | NICX_TSO))
         return "its memory isn't of enum nicx_memory";
+    if (scenario->memory & NICX_WEAK && scenario->memory & NICX_TSO)
+        return "its memory is NICX_WEAK and NICX_TSO: choose one";
     return NULL;
 }
 

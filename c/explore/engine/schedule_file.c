@@ -33,7 +33,7 @@ void nicxi_write_head(FILE *file, const struct origin *origin)
     fprintf(file, "# found by %s of seed %" PRIu64 "; who acts at each point:\n", origin->where, origin->seed);
     fprintf(file, "scenario %s\n", nicxi.scenario->name);
     if (nicxi.is_weak)
-        fprintf(file, "memory weak\n");
+        fprintf(file, "memory %s\n", nicxi_memory_word(nicxi_memory()));
     if (nicxi_asked_points)
         fprintf(file, "points %s\n", nicxi_asked_points);
     write_omitted(file, origin->omitted);
@@ -182,12 +182,12 @@ static const char *take_points(const struct schedule_file *file, const char *wor
 /* What is wrong with a line, or null. */
 static const char *take(struct schedule_file *file, const char *words, const char *told, bool is_lenient)
 {
-    if (!file->length && !strcmp(words, "memory weak")) {
+    if (!file->length && (!strcmp(words, "memory weak") || !strcmp(words, "memory tso"))) {
         file->is_weak = true;
-        return nicxi_change_memory(true);
+        return nicxi_change_memory(words[7] == 'w' ? WEAK : TSO);
     }
     if (!file->length && !file->is_weak)
-        nicxi_change_memory(false);
+        nicxi_change_memory(STRONG);
     uint16_t actor = nicxi_actor_of(words);
     if (!strncmp(words, "points ", 7))
         return take_points(file, words + 7);

@@ -206,7 +206,12 @@ void nicxi_script_step(struct script *script, uint16_t actor, const struct step 
         else
             poke(script, actor, step);
         break;
-    case STEP_STORE: poke(script, actor, step); break;
+    case STEP_STORE:
+        if (step->is_own)
+            own_step(script, actor, step);
+        else
+            poke(script, actor, step);
+        break;
     case STEP_LEND:
     case STEP_TAKE:
         snprintf(text, sizeof text, "%s %" PRIu32, step->kind == STEP_LEND ? "lend" : "unlend", step->address);

@@ -231,6 +231,8 @@ void nicx_lock(nicx_mutex *lock)
     self->next.bus = (uint64_t)(uintptr_t)lock;
     if (!stand(LOCKED, LOCAL_LOCK))
         return;
+    if (nicxi.is_tso) /* x86 takes a lock by an exchange */
+        nicxi_released(self);
     lock->kept = nicxi.epoch << 8 | (number_of(self) + 1);
     note_lock(self, lock);
 }

@@ -3,13 +3,19 @@
 #include <stdlib.h>
 #include <string.h>
 
+#include "parts.h"
+
 enum { SEEN = 16 };
 
-/* A store on its way. */
+/* A pending store. */
 struct store {
-    uint64_t bus;
+    uint64_t bus; /* of own memory its address in the process */
     uint32_t length, room;
     uint8_t *bytes;
+    bool is_own;     /* of the driver's own memory */
+    bool releases;   /* all stores before it come first */
+    uint8_t slot;    /* of own memory: which of those that are kept */
+    uint32_t behind; /* stores made before this many barriers come first */
 };
 
 /* What a processor knows of a place: no load of it gives what it was before this time. */
@@ -21,7 +27,8 @@ struct seen {
 struct processor {
     struct store stores[NICX_STORES]; /* the oldest first */
     uint32_t count;
-    uint32_t floor; /* no load gives what memory was before this time */
+    uint32_t barriers; /* of stores, while some were pending */
+    uint32_t floor;    /* no load gives what memory was before this time */
     struct seen seen[SEEN];
     uint32_t seen_count, next;
 };
@@ -69,10 +76,37 @@ static const char *copy_memory(void)
     return NULL;
 }
 
+static enum given_memory wanted_memory(void)
+{
+    uint32_t of_scenario = nicxi.scenario->memory;
+    if (given_memory != AS_SCENARIO)
+        return given_memory;
+    return of_scenario & NICX_WEAK ? WEAK : of_scenario & NICX_TSO ? TSO : STRONG;
+}
+
+static const char *open_as(enum given_memory memory)
+{
+    nicxi.is_weak = memory != STRONG;
+    nicxi.is_tso = memory == TSO;
+    if (nicxi.is_weak && nicxi_form && !nicxi_races)
+        return "with weak memory the search has to see the driver's atomics and fences: compile it with "
+               "-fsanitize=thread";
+    return nicxi.is_weak ? copy_memory() : NULL;
+}
+
+enum given_memory nicxi_memory(void)
+{
+    return nicxi.is_tso ? TSO : nicxi.is_weak ? WEAK : STRONG;
+}
+
+const char *nicxi_memory_word(enum given_memory memory)
+{
+    return memory == TSO ? "tso" : memory == WEAK ? "weak" : "strong";
+}
+
 const char *nicxi_weak_open(void)
 {
-    nicxi.is_weak = given_memory == WEAK || (given_memory == AS_SCENARIO && nicxi.scenario->memory & NICX_WEAK);
-    return nicxi.is_weak ? copy_memory() : NULL;
+    return open_as(wanted_memory());
 }
 
 void nicxi_weak_close(void)
@@ -86,19 +120,18 @@ void nicxi_weak_close(void)
     memset(&weak, 0, sizeof weak);
 }
 
-const char *nicxi_change_memory(bool is_weak)
+const char *nicxi_change_memory(enum given_memory memory)
 {
-    if (nicxi.is_weak == is_weak)
+    if (memory == nicxi_memory())
         return NULL;
     nicxi_weak_close();
     nicxi_back();
-    nicxi.is_weak = is_weak;
-    const char *fault = is_weak ? copy_memory() : NULL;
+    const char *fault = open_as(memory);
     nicxi_list_actors();
     return fault;
 }
 
-/* The copy is what the bring-up left; nothing is on its way. */
+/* The copy is what the bring-up left; nothing is pending. */
 void nicxi_weak_back(void)
 {
     while (weak.count) {
@@ -107,8 +140,10 @@ void nicxi_weak_back(void)
     }
     weak.used = 0;
     weak.time = 0;
-    for (int k = 0; k < MOST_THREADS; k++)
-        weak.processors[k].count = weak.processors[k].floor = weak.processors[k].seen_count = 0;
+    for (int k = 0; k < MOST_THREADS; k++) {
+        struct processor *it = &weak.processors[k];
+        it->count = it->barriers = it->floor = it->seen_count = 0;
+    }
 }
 
 bool nicxi_weak_is_exact(void)
@@ -215,10 +250,16 @@ static void note_seen(struct processor *it, uint64_t bus, uint32_t length, uint3
     it->seen[k] = seen;
 }
 
+/* Whether a store is of this memory, lent or the driver's own, and has a byte of the range. */
+static bool touches(const struct store *store, bool is_own, uint64_t at, uint64_t length)
+{
+    return store->is_own == is_own && nicxi_overlap(store->bus, store->length, at, length);
+}
+
 static bool gives_own(const struct processor *it, uint64_t bus, uint32_t length)
 {
     for (uint32_t k = 0; k < it->count; k++)
-        if (nicxi_overlap(it->stores[k].bus, it->stores[k].length, bus, length))
+        if (touches(&it->stores[k], false, bus, length))
             return true;
     return false;
 }
@@ -243,7 +284,7 @@ bool nicxi_can_be_older(const struct actor *actor)
 {
     const struct thread *thread = &nicxi.threads[actor->of];
     uint32_t time;
-    if (thread->state != READY || thread->interrupted_by >= 0 || thread->next.kind != STEP_PEEK)
+    if (nicxi.is_tso || thread->state != READY || thread->interrupted_by >= 0 || thread->next.kind != STEP_PEEK)
         return false;
     const struct processor *it = processor_of(thread);
     const struct step *load = &thread->next;
@@ -278,11 +319,32 @@ uint8_t nicxi_load(struct step *step, uint8_t *bytes)
     }
     for (uint32_t k = 0; k < it->count; k++) {
         const struct store *store = &it->stores[k];
-        step->is_kept |= nicxi_overlap(store->bus, store->length, step->bus, step->length);
+        if (!touches(store, false, step->bus, step->length))
+            continue;
+        step->is_kept = true;
         lay_over(bytes, step->bus, step->length, store->bytes, store->bus, store->length);
     }
     note_seen(it, step->bus, step->length, time);
     return status;
+}
+
+static void reach_device(struct processor *it, const struct store *store, struct step *step)
+{
+    step->status = nic_dma_write(&nicxi.device, store->bus, store->bytes, store->length);
+    nicxi_memory_changed(step);
+    note_seen(it, store->bus, store->length, weak.time);
+    if (step->status == NIC_NOT_LENT && !(nicxi.scenario->allowed & NICX_NOT_LENT))
+        nicxi_failed(NICX_MEMORY, "a store of %s reaches 0x%llx, which isn't lent any more",
+                     nicxi.threads[step->of].name, (unsigned long long)store->bus);
+}
+
+static void reach_own_memory(const struct store *store, struct step *step)
+{
+    step->is_own = true;
+    step->status = NIC_DONE;
+    memcpy((void *)(uintptr_t)store->bus, store->bytes, store->length);
+    if (nicxi_races)
+        nicxi_races->landed(step->of, store->slot, store->bus);
 }
 
 /* A store of a processor reaches memory; its place in the list is free again. */
@@ -293,14 +355,12 @@ static void land(struct processor *it, uint32_t place, struct step *step)
     step->of = (uint16_t)(it - weak.processors);
     step->bus = store.bus;
     step->length = store.length;
-    step->status = nic_dma_write(&nicxi.device, store.bus, store.bytes, store.length);
     memmove(&it->stores[place], &it->stores[place + 1], (it->count - place - 1) * sizeof store);
     it->stores[--it->count] = store;
-    nicxi_memory_changed(step);
-    note_seen(it, store.bus, store.length, weak.time);
-    if (step->status == NIC_NOT_LENT && !(nicxi.scenario->allowed & NICX_NOT_LENT))
-        nicxi_failed(NICX_MEMORY, "a store of %s reaches 0x%llx, which isn't lent any more",
-                     nicxi.threads[step->of].name, (unsigned long long)store.bus);
+    if (store.is_own)
+        reach_own_memory(&store, step);
+    else
+        reach_device(it, &store, step);
 }
 
 /* The oldest one is sent ahead, beside the step of who does so. */
@@ -312,7 +372,15 @@ static void land_oldest(struct processor *it)
     nicxi_told(&step);
 }
 
-static bool keep_bytes(struct store *store, const uint8_t *bytes, uint32_t length)
+/* So many of the oldest are sent ahead. */
+static uint32_t land_first(struct processor *it, uint32_t count)
+{
+    for (uint32_t k = 0; k < count; k++)
+        land_oldest(it);
+    return count;
+}
+
+static bool keep_bytes(struct store *store, const void *bytes, uint32_t length)
 {
     if (store->room < length) {
         uint8_t *room = realloc(store->bytes, length);
@@ -322,6 +390,24 @@ static bool keep_bytes(struct store *store, const uint8_t *bytes, uint32_t lengt
         store->room = length;
     }
     memcpy(store->bytes, bytes, length);
+    return true;
+}
+
+/* As the last one: false where there is no memory for it. */
+static bool keep_store(struct processor *it, struct store store, const void *bytes)
+{
+    if (it->count == NICX_STORES)
+        land_oldest(it);
+    struct store *last = &it->stores[it->count];
+    if (!keep_bytes(last, bytes, store.length)) {
+        nicxi_failed(NICX_MISUSE, "there is no memory for a pending store");
+        return false;
+    }
+    store.bytes = last->bytes;
+    store.room = last->room;
+    store.behind = it->barriers;
+    *last = store;
+    it->count++;
     return true;
 }
 
@@ -342,31 +428,85 @@ uint8_t nicxi_store(struct step *step, const uint8_t *bytes)
     step->is_kept = false;
     if (status != NIC_DONE || !step->length)
         return status;
+    step->is_kept = keep_store(it, (struct store){.bus = step->bus, .length = step->length}, bytes);
+    return status;
+}
+
+/* --- atomic stores to memory of the driver's own --- */
+
+/* One that no pending store of the processor has. */
+static uint8_t free_slot(const struct processor *it)
+{
+    uint32_t taken = 0;
+    uint8_t slot = 0;
+    for (uint32_t k = 0; k < it->count; k++)
+        if (it->stores[k].is_own)
+            taken |= 1u << it->stores[k].slot;
+    while (taken >> slot & 1)
+        slot++;
+    return slot;
+}
+
+int nicxi_keep_own(uint64_t at, const void *bytes, uint32_t length, bool releases)
+{
+    struct processor *it = processor_of(nicxi.self);
     if (it->count == NICX_STORES)
         land_oldest(it);
-    struct store *store = &it->stores[it->count];
-    if (!keep_bytes(store, bytes, step->length)) {
-        nicxi_failed(NICX_MISUSE, "there is no memory for a store on its way");
-        return status;
+    struct store store = {.bus = at, .length = length, .is_own = true, .releases = releases, .slot = free_slot(it)};
+    return keep_store(it, store, bytes) ? store.slot : -1;
+}
+
+/* So many of the oldest have to land before no store to own memory is left in the range. */
+static uint32_t up_to(const struct processor *it, uint64_t at, uint64_t length)
+{
+    uint32_t count = it->count;
+    while (count && !touches(&it->stores[count - 1], true, at, length))
+        count--;
+    return count;
+}
+
+/* A load that another store than the last one gives a part of gives what memory is, once they have landed. */
+void nicxi_load_own(uint64_t at, void *bytes, uint32_t length)
+{
+    struct processor *it = processor_of(nicxi.self);
+    uint32_t count = up_to(it, at, length);
+    const struct store *last = count ? &it->stores[count - 1] : NULL;
+    if (last && last->bus == at && last->length == length) {
+        memcpy(bytes, last->bytes, length);
+    } else if (last) {
+        land_first(it, count);
+        memcpy(bytes, (const void *)(uintptr_t)at, length);
     }
-    store->bus = step->bus;
-    store->length = step->length;
-    it->count++;
-    step->is_kept = true;
-    return status;
+}
+
+void nicxi_land_own(uint64_t at, uint64_t length)
+{
+    struct processor *it = processor_of(nicxi.self);
+    land_first(it, up_to(it, at, length));
+}
+
+void nicxi_land_everywhere(uint64_t at, uint64_t length)
+{
+    for (int k = 0; k < MOST_THREADS; k++)
+        land_first(&weak.processors[k], up_to(&weak.processors[k], at, length));
 }
 
 /* --- stores that reach memory by themselves --- */
 
-/* Stores to one place stay in their order. */
+/* Stores to one place stay in their order, those before a barrier come first, and what releases comes after all. */
+static bool comes_first(const struct store *old, const struct store *new)
+{
+    return new->releases || old->behind < new->behind || touches(old, new->is_own, new->bus, new->length);
+}
+
 bool nicxi_can_land(const struct actor *actor)
 {
     const struct processor *it = &weak.processors[actor->of];
     uint32_t place = (uint32_t)actor->on;
-    if (place >= it->count)
+    if (place >= it->count || (nicxi.is_tso && place))
         return false;
     for (uint32_t k = 0; k < place; k++)
-        if (nicxi_overlap(it->stores[k].bus, it->stores[k].length, it->stores[place].bus, it->stores[place].length))
+        if (comes_first(&it->stores[k], &it->stores[place]))
             return false;
     return true;
 }
@@ -381,9 +521,17 @@ void nicxi_land(const struct actor *actor, struct step *step)
 uint32_t nicxi_released(const struct thread *thread)
 {
     struct processor *it = processor_of(thread);
+    return land_first(it, it->count);
+}
+
+uint32_t nicxi_ordered(const struct thread *thread)
+{
+    struct processor *it = processor_of(thread);
     uint32_t count = it->count;
-    while (it->count)
-        land_oldest(it);
+    while (count && it->stores[count - 1].is_own)
+        count--;
+    land_first(it, count);
+    it->barriers += it->count != 0;
     return count;
 }
 

@@ -54,6 +54,14 @@ static const char *memory_words(const struct step *step, const char *stray, char
     return room;
 }
 
+/* The variable at an address of the driver's own memory, or the address. */
+static const char *own_name(uint64_t at, char name[MOST_SYMBOL])
+{
+    if (!nicxi_symbol((const void *)(uintptr_t)at, name, MOST_SYMBOL))
+        snprintf(name, MOST_SYMBOL, "0x%llx", (unsigned long long)at);
+    return name;
+}
+
 /* Of the driver's own memory, or of a library's object. */
 static const char *own_words(const struct step *step, char *room)
 {
@@ -61,12 +69,23 @@ static const char *own_words(const struct step *step, char *room)
     char name[MOST_SYMBOL];
     if (step->word < LOCAL_CALL)
         return local_words(step, room);
-    if (!nicxi_symbol((const void *)(uintptr_t)step->bus, name, sizeof name))
-        snprintf(name, sizeof name, "0x%llx", (unsigned long long)step->bus);
+    own_name(step->bus, name);
     if (step->word != LOCAL_CALL)
-        snprintf(room, MOST_WORDS, "%s %.60s, %u bytes", words[step->word - LOCAL_LOAD], name, step->length);
+        snprintf(room, MOST_WORDS, "%s %.60s, %u bytes%s", words[step->word - LOCAL_LOAD], name, step->length,
+                 step->is_kept ? ", on its way" : "");
     else
         snprintf(room, MOST_WORDS, "%.40s%s%.60s", step->call, step->bus ? " " : "", step->bus ? name : "");
+    return room;
+}
+
+/* A store that reaches memory, lent or the driver's own. */
+static const char *landing_words(const struct step *step, char *room)
+{
+    char name[MOST_SYMBOL];
+    if (step->is_own)
+        snprintf(room, MOST_WORDS, "%.60s, %u bytes reach memory", own_name(step->bus, name), step->length);
+    else
+        snprintf(room, MOST_WORDS, "0x%05llx, %u bytes reach memory", (unsigned long long)step->bus, step->length);
     return room;
 }
 
@@ -102,9 +121,7 @@ const char *nicxi_words(const struct step *step, char room[MOST_WORDS])
     case STEP_VF_WRITE: return access_words(step, stray, room);
     case STEP_PEEK:
     case STEP_POKE: return memory_words(step, stray, room);
-    case STEP_STORE:
-        snprintf(room, MOST_WORDS, "0x%05llx, %u bytes reach memory", (unsigned long long)step->bus, step->length);
-        return room;
+    case STEP_STORE: return landing_words(step, room);
     case STEP_VALUE:
         snprintf(room, MOST_WORDS, "of %u, %s", step->length,
                  step->of == NOBODY ? "in begin" : nicxi.threads[step->of].name);

@@ -234,6 +234,9 @@ static const char *end(void)
 }
 
 MODES("fine", .name = is("scenario") ? "a scenario" : "faulty", .fifo = is("fifo") ? 0 : 64,
-      .queues = is("queues") ? 0 : 1, .stack = is("stack") ? 4096 : 0, .memory = is("memory_kind") ? 8 : 0,
+      .queues = is("queues") ? 0 : 1, .stack = is("stack") ? 4096 : 0,
+      .memory = is("memory_kind")    ? 16
+                : is("two_memories") ? NICX_WEAK | NICX_TSO
+                                     : 0,
       .vfs = is("vfs") ? 64 : 0, .points = is("points") ? 1000001 : 200, .always = always,
       .end = is("no_end") ? NULL : end)

@@ -223,7 +223,8 @@ static void ended(struct thread *thread)
         nicxi_failed(NICX_MISUSE, "%s ends and holds %s, which it took at %s", thread->name,
                      nicxi_name(task->held[0].object, "a lock", object), nicxi_line(task->held[0].at, where));
     task->is_done = true;
-    nicxi_race_release(task);
+    if (thread->is_made) /* nobody joins a task of the scenario: its stores may still be late */
+        nicxi_race_release(task);
     nicxi_changed_memory();
 }
 

@@ -7,6 +7,7 @@
 
 #include "../engine/independent.h"
 #include "../engine/symbols.h"
+#include "../engine/weak.h"
 #include "form.h"
 
 /* --- clocks --- */
@@ -151,29 +152,36 @@ static void take(enum space space, uint64_t of)
     join(&now[self_number()], clock_of(space, of));
 }
 
-/* By weak memory what gives is a barrier of stores, and what takes one of loads. */
+/* By weak memory no store is pending after what gives, and no load older than what takes; on x86 a lock that is taken
+   is a barrier of stores too. */
 void nicxi_race_release(const void *object)
 {
     if (nicxi_is_in_thread())
-        nicx_release();
+        nicxi_drain();
     if (is_told())
         give(MEMORY, (uintptr_t)object);
 }
 
 void nicxi_race_acquire(const void *object)
 {
-    if (nicxi_is_in_thread())
+    if (nicxi_is_in_thread()) {
         nicx_acquire();
+        if (nicxi.is_tso)
+            nicxi_drain();
+    }
     if (is_told())
         take(MEMORY, (uintptr_t)object);
 }
 
-/* --- atomic operations; a fence counts for the relaxed ones before or behind it --- */
+/* --- atomic operations; a fence counts for the relaxed ones before or after it --- */
 
 static struct {
-    struct clock loaded; /* what relaxed loads saw, for a fence behind them */
-    struct clock stored; /* what the last fence gave, for relaxed stores behind it */
+    struct clock loaded; /* what relaxed loads saw, for a fence after them */
+    struct clock stored; /* what the last fence gave, for relaxed stores after it */
 } fences[MOST_THREADS];
+
+/* What the pending stores of each processor will give. */
+static struct clock late[MOST_THREADS][NICX_STORES];
 
 static bool acquires(int order)
 {
@@ -219,6 +227,22 @@ void nicxi_race_store(uint64_t at, int order)
         put(at, order, false);
 }
 
+void nicxi_race_store_late(int slot, int order)
+{
+    if (!is_told())
+        return;
+    unsigned self = self_number();
+    struct clock *clock = &late[nicxi.self->on >= 0 ? (unsigned)nicxi.self->on : self][slot];
+    *clock = releases(order) ? now[self] : fences[self].stored;
+    if (releases(order))
+        tick(self);
+}
+
+static void landed(unsigned processor, unsigned slot, uint64_t at)
+{
+    *clock_of(MEMORY, at) = late[processor][slot];
+}
+
 void nicxi_race_exchange(uint64_t at, int order)
 {
     if (!is_told())
@@ -236,6 +260,8 @@ void nicxi_race_fence(int order)
         nicx_acquire();
     if (releases(order))
         nicx_release();
+    if (order == ALL)
+        nicxi_drain();
     if (acquires(order))
         join(&now[self], &fences[self].loaded);
     if (releases(order)) {
@@ -383,6 +409,11 @@ static const struct thread *owner_of(uint64_t at)
     return NULL;
 }
 
+bool nicxi_race_is_shared(uint64_t at)
+{
+    return !owner_of(at) && !nicxi_state_is_local(at);
+}
+
 static const char *place_words(uint64_t at, char room[MOST_NAMED])
 {
     const struct thread *owner = owner_of(at);
@@ -483,6 +514,8 @@ void nicxi_race_forget(const void *at, size_t length)
 
 void nicxi_race_free(const void *at, size_t length, const void *call)
 {
+    if (nicxi.is_weak && nicxi.phase == RUNNING)
+        nicxi_land_everywhere((uintptr_t)at, length);
     if (!is_told())
         return;
     for (uint64_t key = (uintptr_t)at >> 3; key <= ((uintptr_t)at + length - 1) >> 3; key++)
@@ -629,7 +662,7 @@ static void begin(void)
 
 void nicxi_race_open(void)
 {
-    static const struct nicxi_races races = {begin, told};
+    static const struct nicxi_races races = {begin, told, landed};
     nicxi_races = &races;
     is_open = true;
 }

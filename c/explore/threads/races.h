@@ -30,6 +30,10 @@ void nicxi_race_load(uint64_t at, int order);
 void nicxi_race_store(uint64_t at, int order);
 void nicxi_race_exchange(uint64_t at, int order);
 void nicxi_race_fence(int order);
+/* A store that is kept for a while (nicxi_keep_own), in this place: what it gives is there once it has landed. */
+void nicxi_race_store_late(int slot, int order);
+/* Whether others may see what lies at an address: not the stack of a task, nor a variable of each thread. */
+bool nicxi_race_is_shared(uint64_t at);
 
 /* Whether an address is one of the program's variables of each thread, which two threads never share. */
 bool nicxi_state_is_local(uint64_t at);

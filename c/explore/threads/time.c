@@ -27,8 +27,10 @@ static bool pause_for(const char *call, uint64_t time)
 {
     if (!nicxi_is_ours())
         return false;
-    if (nicxi_caller())
+    if (nicxi_caller()) {
         nicxi_call(PAUSED, call, NULL);
+        nicxi_drain(); /* who sleeps leaves no store pending */
+    }
     now();
     slept += time;
     return true;

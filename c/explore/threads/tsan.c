@@ -4,16 +4,26 @@
 #define _GNU_SOURCE
 #include <string.h>
 
+#include "../engine/weak.h"
 #include "form.h"
 #include "memory.h"
 #include "races.h"
 
+/* Whether stores of the code that runs may be late. */
+static inline bool is_weak_here(void)
+{
+    return nicxi.is_weak && nicxi_is_in_thread();
+}
+
 /* --- accesses --- */
 
+/* A plain access of what the thread itself stored atomically has that store reach memory first. */
 static inline void access(const void *at, size_t length, unsigned how, const void *call)
 {
     if (nicxi_memory_is_point && nicxi_is_in_thread())
         nicxi_memory_points((uintptr_t)at, length, how, call);
+    if (is_weak_here())
+        nicxi_land_own((uintptr_t)at, length);
     nicxi_race_access((uintptr_t)at, length, how, call);
 }
 
@@ -133,10 +143,51 @@ static void atomic_done(const volatile void *at, uint64_t old, bool changed)
         nicxi_polled((uintptr_t)at, old);
 }
 
+/* By weak memory a store of what others may see is late, unless it is sequentially consistent: then no store is pending
+   after it. */
+static bool may_be_late(const volatile void *at, int order)
+{
+    return is_weak_here() && order != ALL && nicxi_race_is_shared((uintptr_t)at);
+}
+
+static bool releases(int order)
+{
+    return order == RELEASE || order == BOTH || order == ALL;
+}
+
+/* The point before a store, and the store where it is late: whether it is. */
+static bool stores_late(volatile void *at, const void *value, unsigned size, int order, const void *call)
+{
+    bool is_late = may_be_late(at, order);
+    int slot = -1;
+    if (is_late)
+        slot = nicxi_store_point((uintptr_t)at, value, size, releases(order));
+    else if (nicxi_is_in_thread())
+        nicxi_memory_point(LOCAL_ATOMIC, (uintptr_t)at, size);
+    nicxi_race_access((uintptr_t)at, size, WRITES | ATOMIC, call);
+    if (slot >= 0) {
+        nicxi_race_store_late(slot, order);
+        nicxi_changed_memory();
+    } else if (is_weak_here() && order == ALL) {
+        nicxi_drain();
+    }
+    return slot >= 0;
+}
+
+/* An exchange is made at once: pending stores of the place come before it, on x86, or where it releases, all. */
+static void before_exchange(volatile void *at, unsigned size, int order)
+{
+    if (is_weak_here() && (nicxi.is_tso || releases(order)))
+        nicxi_drain();
+    else if (is_weak_here())
+        nicxi_land_own((uintptr_t)at, size);
+}
+
 #define ATOMIC_EXCHANGE(bits, type, name, operation)                                                                   \
     type __tsan_atomic##bits##_##name(volatile type *at, type value, int order)                                        \
     {                                                                                                                  \
         atomic_point(at, sizeof *at, WRITES, HERE);                                                                    \
+        before_exchange(at, sizeof *at, order);                                                                        \
         type old = *at, new = (type)(operation);                                                                       \
         nicxi_race_exchange((uintptr_t)at, order);                                                                     \
         *at = new;                                                                                                     \
@@ -150,6 +201,7 @@ static void atomic_done(const volatile void *at, uint64_t old, bool changed)
                                                       int otherwise)                                                   \
     {                                                                                                                  \
         atomic_point(at, sizeof *at, WRITES, HERE);                                                                    \
+        before_exchange(at, sizeof *at, order);                                                                        \
         type old = *at;                                                                                                \
         bool is_equal = old == *expected;                                                                              \
         if (is_equal) {                                                                                                \
@@ -169,12 +221,15 @@ static void atomic_done(const volatile void *at, uint64_t old, bool changed)
         atomic_point(at, sizeof *at, READS, HERE);                                                                     \
         nicxi_race_load((uintptr_t)at, order);                                                                         \
         type value = *at;                                                                                              \
+        if (is_weak_here())                                                                                            \
+            nicxi_load_own((uintptr_t)at, &value, sizeof value);                                                       \
         atomic_done(at, (uint64_t)value, false);                                                                       \
         return value;                                                                                                  \
     }                                                                                                                  \
     void __tsan_atomic##bits##_store(volatile type *at, type value, int order)                                         \
     {                                                                                                                  \
-        atomic_point(at, sizeof *at, WRITES, HERE);                                                                    \
+        if (stores_late(at, &value, sizeof value, order, HERE))                                                        \
+            return;                                                                                                    \
         nicxi_race_store((uintptr_t)at, order);                                                                        \
         bool changed = *at != value;                                                                                   \
         *at = value;                                                                                                   \

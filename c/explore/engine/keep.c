@@ -100,7 +100,7 @@ static void write_all(struct writing *it, const struct keeping *keeping)
     if (!post)
         return;
     nicxi_write_head(it->schedule, &origin);
-    if (it->turn->kind == TURN_NONE)
+    if (nicxi_fails_always(it->turn))
         fprintf(it->schedule, "# %s\n", nicxi_turn_words(it->turn, words));
     nicxi_script_begin(&it->script, it->script.file, &origin);
     nicxi_page_begin(it->page, &origin, it->turn, cycle_from);

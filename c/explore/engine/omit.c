@@ -1,17 +1,23 @@
 /* What a failure doesn't need is left out: tasks, handlers, frames, changes of the link. Much fails for want of what is
-   missing, as where `end` counts frames that never come. So something is left out only where some schedule without it
-   is fine: then it is the order that fails, as before. */
+   missing, as where `end` counts frames that never come, or a task waits for another one that isn't there. So something
+   is left out only where schedules by chance are fine without it at least half as often as those of the whole: then it
+   is the order that fails, as before. One that is fine isn't enough, since without a driver's poll a frame that is
+   dropped makes one. */
 #include <string.h>
 
 #include "shrink.h"
 
 enum { TRIES = 64 };
 
-static bool can_be_fine(const struct shrinking *it, const struct omitted *omitted)
+static uint32_t fine_without(const struct shrinking *it, const struct omitted *omitted, uint32_t wanted)
 {
     const struct beginning any = {omitted, NULL, 0, TRIES};
-    uint32_t tried;
-    return nicxi_can_be_fine(it->options, it->post, &any, &tried);
+    return nicxi_count_fine(it->options, it->post, &any, wanted);
+}
+
+static bool can_be_fine(const struct shrinking *it, const struct omitted *omitted)
+{
+    return fine_without(it, omitted, it->needed) >= it->needed;
 }
 
 /* Without these of a list as well. */
@@ -56,7 +62,11 @@ static uint32_t named_tasks(void)
 bool nicxi_omit(struct shrinking *it)
 {
     it->omitted = it->best->omitted;
-    if (it->best->result.outcome == NICX_HANG || !can_be_fine(it, &it->omitted))
+    if (it->best->result.outcome == NICX_HANG)
+        return false;
+    if (!it->needed)
+        it->needed = (fine_without(it, &it->omitted, TRIES) + 1) / 2;
+    if (!it->needed)
         return false;
     bool any = omit_of(it, it->omitted.threads, named_tasks());
     any |= omit_of(it, it->omitted.threads + NICX_TASKS, nicxi.handlers);

@@ -55,7 +55,7 @@ void nicxi_page_begin(FILE *file, const struct origin *origin, const struct turn
         fprintf(file, "\"turn\":%" PRIu32 ",\"tried\":%" PRIu32 ",", turn->point, turn->tried);
         put_field(file, "other", nicxi_turn_other(turn, words));
     }
-    if (turn->kind == TURN_NONE)
+    if (nicxi_fails_always(turn))
         put_field(file, "always", nicxi_turn_words(turn, words));
     if (cycle_from != NO_CYCLE)
         fprintf(file, "\"cycle\":%" PRIu32 ",", cycle_from);

@@ -20,6 +20,7 @@ struct post {
     volatile bool is_running;       /* amid a schedule */
     volatile bool is_found;         /* `result` tells of a failure of `run` */
     volatile bool is_done;          /* the process' work came to its end: it didn't exit amid it */
+    volatile uint32_t fine;         /* of the schedules that were counted so many were (shrink.h) */
     bool is_stale;                  /* the failure is that schedules aren't the same each time */
     bool is_trial;                  /* a schedule before the first run */
     bool is_over;                   /* an exhaustive search that has come to its end */

@@ -77,12 +77,72 @@ bool nicxi_is_the_same(const nicx_result *a, const nicx_result *b)
     return a->outcome == b->outcome && (a->outcome == NICX_ENDLESS || are_alike(words, others));
 }
 
+/* --- what a smaller schedule has to keep --- */
+
+/* When frames and changes of the link came, by their numbers; NEVER where they didn't. */
+struct arrivals {
+    uint32_t frames[NICX_FRAMES], links[NICX_FRAMES];
+};
+
+#define NEVER UINT32_MAX
+
+static void list_arrivals(struct arrivals *arrivals, const uint16_t *schedule, uint32_t points,
+                          const struct omitted *omitted)
+{
+    uint16_t frame = nicxi_next_kept(omitted->frames, 0, nicxi.frame_count);
+    uint16_t link = nicxi_next_kept(omitted->links, 0, nicxi.link_count);
+    memset(arrivals, 0xFF, sizeof *arrivals);
+    for (uint32_t k = 0; k < points; k++) {
+        uint8_t kind = nicxi_is_value(schedule[k]) ? BY_THREAD : nicxi.actors[schedule[k]].kind;
+        if (kind == BY_WIRE && frame < nicxi.frame_count) {
+            arrivals->frames[frame] = k;
+            frame = nicxi_next_kept(omitted->frames, frame + 1u, nicxi.frame_count);
+        } else if (kind == BY_LINK && link < nicxi.link_count) {
+            arrivals->links[link] = k;
+            link = nicxi_next_kept(omitted->links, link + 1u, nicxi.link_count);
+        }
+    }
+}
+
+/* A frame that came before a change of the link still does, and one that came after it too: a link that goes down
+   earlier drops it, which is another matter. */
+static bool keeps_arrivals(const struct shrinking *it, uint32_t points)
+{
+    static struct arrivals old, new;
+    if (!nicxi.link_count || !nicxi.frame_count)
+        return true;
+    list_arrivals(&old, it->best->schedule, it->best->result.points, &it->best->omitted);
+    list_arrivals(&new, it->post->schedule, points, &it->omitted);
+    for (uint16_t link = 0; link < nicxi.link_count; link++)
+        for (uint16_t frame = 0; frame < nicxi.frame_count; frame++)
+            if (!it->omitted.links[link] && !it->omitted.frames[frame] &&
+                (old.frames[frame] < old.links[link]) != (new.frames[frame] < new.links[link]))
+                return false;
+    return true;
+}
+
+/* Whether a task or a handler acts in it. */
+static bool has_driver(const uint16_t *schedule, uint32_t points)
+{
+    for (uint32_t k = 0; k < points; k++)
+        if (!nicxi_is_value(schedule[k]) && nicxi.actors[schedule[k]].kind == BY_THREAD)
+            return true;
+    return false;
+}
+
+/* Whether a schedule that fails is still one of the driver's, in the same course of things. */
+static bool is_fit(const struct shrinking *it, uint32_t points)
+{
+    return keeps_arrivals(it, points) &&
+           (has_driver(it->post->schedule, points) || !has_driver(it->best->schedule, it->best->result.points));
+}
+
 /* Without some of the scenario it is better as long as it isn't longer; else it has fewer switches, or fewer points.
    One that goes round is better than one of which that isn't seen. */
 static bool is_better(const struct shrinking *it, uint32_t points, uint32_t switches)
 {
     const nicx_result *old = &it->best->result;
-    if (!nicxi_is_the_same(&it->post->result, old))
+    if (!nicxi_is_the_same(&it->post->result, old) || !is_fit(it, points))
         return false;
     if (!it->post->cycle != !it->best->cycle)
         return it->post->cycle != 0;
@@ -255,7 +315,7 @@ bool nicxi_attempt_by_chance(struct shrinking *it)
     it->tries++;
     it->post->cycle = 0;
     if (!nicxi_do(it->post, it->options->hang, fail_by_chance, it) ||
-        !nicxi_is_the_same(&it->post->result, &kept.result))
+        !nicxi_is_the_same(&it->post->result, &kept.result) || !is_fit(it, it->post->at))
         return false;
     uint16_t *schedule = malloc(kept.result.points * sizeof *schedule + 1);
     if (!schedule)
@@ -334,11 +394,11 @@ uint32_t nicxi_shrink(const struct options *options, struct failure *failure)
     size_t size = ((size_t)nicxi.most_points + 1) * sizeof *failure->schedule;
     struct failure best = *failure;
     struct shrinking it = {.options = options,
-                           .best = &best,
-                           .post = nicxi_posts(1),
-                           .omitted = failure->omitted,
-                           .list = malloc(size),
-                           .limit = nicxi_limit(MOST_SECONDS)};
+                          .best = &best,
+                          .post = nicxi_posts(1),
+                          .omitted = failure->omitted,
+                          .list = malloc(size),
+                          .limit = nicxi_limit(MOST_SECONDS)};
     best.schedule = malloc(size);
     if (it.post && it.list && best.schedule) {
         memcpy(best.schedule, failure->schedule, failure->result.points * sizeof *best.schedule);

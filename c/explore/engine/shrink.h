@@ -13,6 +13,7 @@ struct shrinking {
     uint16_t *list;         /* and in this order */
     uint32_t length;
     uint32_t tries;
+    uint32_t needed; /* so many schedules have to be fine without what is left out; 0: unknown */
     struct limit limit;
 };
 
@@ -22,8 +23,8 @@ bool nicxi_attempt(struct shrinking *it);
 /* The same of schedules by chance without `omitted`, shrunk. */
 bool nicxi_attempt_by_chance(struct shrinking *it);
 
-/* Leaves out tasks, handlers, frames and changes of the link for as long as it fails as before, and as not all
-   schedules of what is left fail. Whether any was left out. */
+/* Leaves out tasks, handlers, frames and changes of the link for as long as it fails as before, and schedules of what
+   is left are fine about as often. Whether any was left out. */
 bool nicxi_omit(struct shrinking *it);
 
 /* Whether two failures are of one cause. */
@@ -48,8 +49,10 @@ struct beginning {
     uint32_t length, tries;
 };
 
-/* Makes schedules that begin so and go on by chance: true at the first one that is fine, which is in the post then. How
-   many were tried: all, or as many as some seconds allow. */
+/* Makes schedules that begin so and go on by chance, until so many were fine: how many were. */
+uint32_t nicxi_count_fine(const struct options *options, struct post *post, const struct beginning *beginning,
+                          uint32_t wanted);
+/* The same until one is fine, which is in the post then. How many were tried: all, or as many as some seconds allow. */
 bool nicxi_can_be_fine(const struct options *options, struct post *post, const struct beginning *beginning,
                        uint32_t *tried);
 

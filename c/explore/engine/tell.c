@@ -104,7 +104,7 @@ static void tell_omitted(const struct omitted *omitted)
 static void tell_turn(const struct turn *turn)
 {
     char words[MOST_TURN];
-    if (turn->kind == TURN_NONE)
+    if (nicxi_fails_always(turn))
         printf("%s: %s\n", nicxi.scenario->name, nicxi_turn_words(turn, words));
     if (turn->kind == TURN_FOUND)
         printf("%s: it goes wrong at point %" PRIu32 ": had %s there, it could end well\n", nicxi.scenario->name,
@@ -119,8 +119,9 @@ void nicxi_tell_failure(const struct failure *failure, const nicx_result *found,
     printf("%s: FAILED %s: %s\n", name, nicxi_outcome_name(failure->result.outcome), failure->result.words);
     printf("%s: found by %s, %" PRIu32 " points and %" PRIu32 " switches", name, nicxi_where(failure, where),
            found->points, found->switches);
-    if (tries)
-        printf("; shrunk by %" PRIu32 " tries to %" PRIu32 " and %" PRIu32, tries, failure->result.points,
+    if (tries) /* a schedule of fewer switches may have more points */
+        printf("; %s by %" PRIu32 " tries to %" PRIu32 " and %" PRIu32,
+               failure->result.points > found->points ? "reordered" : "shrunk", tries, failure->result.points,
                failure->result.switches);
     if (failure->cycle)
         printf(", the last %" PRIu32 " over and over", failure->cycle);

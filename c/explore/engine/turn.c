@@ -17,7 +17,7 @@ enum { FEW = 100, MANY = 1000 };
 struct going {
     const struct beginning *beginning;
     struct by_chance chance;
-    uint32_t first;
+    uint32_t first, wanted;
     double left; /* seconds */
     bool is_unfit;
 };
@@ -49,33 +49,47 @@ static void go_on(struct post *post, void *argument)
         post->run = k;
         nicxi_by_chance(&going->chance, 0, k);
         nicx_run(&chooser, &post->result);
-        if (!going->is_unfit && post->result.outcome == NICX_FINE) {
+        if (!going->is_unfit && post->result.outcome == NICX_FINE && ++post->fine == going->wanted) {
             post->is_found = true;
             return;
         }
     }
 }
 
-/* A process that ends amid a schedule has failed in it, and the next one goes on behind that. */
-bool nicxi_can_be_fine(const struct options *options, struct post *post, const struct beginning *beginning,
-                       uint32_t *tried)
+/* A process that ends during a schedule has failed in it, and the next one goes on after that. */
+static void count_fine(const struct options *options, struct post *post, const struct beginning *beginning,
+                       uint32_t wanted, uint32_t *tried)
 {
     static struct going going;
     memset(&going, 0, sizeof going);
     going.beginning = beginning;
+    going.wanted = wanted;
+    post->fine = 0;
     const struct limit limit = nicxi_limit(MOST_SECONDS);
-    for (*tried = 0; going.first < beginning->tries && !nicxi_is_over(&limit);) {
+    for (*tried = 0; post->fine < wanted && going.first < beginning->tries && !nicxi_is_over(&limit);) {
         going.left = nicxi_left(&limit);
         post->run = going.first;
         bool is_told = nicxi_do(post, options->hang, go_on, &going);
         *tried = (uint32_t)post->run + 1;
         if (!is_told)
-            return false;
-        if (post->result.outcome == NICX_FINE)
-            return true;
+            return;
         going.first = (uint32_t)post->run + 1;
     }
-    return false;
+}
+
+uint32_t nicxi_count_fine(const struct options *options, struct post *post, const struct beginning *beginning,
+                          uint32_t wanted)
+{
+    uint32_t tried;
+    count_fine(options, post, beginning, wanted, &tried);
+    return post->fine;
+}
+
+bool nicxi_can_be_fine(const struct options *options, struct post *post, const struct beginning *beginning,
+                       uint32_t *tried)
+{
+    count_fine(options, post, beginning, 1, tried);
+    return post->fine;
 }
 
 /* --- the step --- */
@@ -129,7 +143,10 @@ void nicxi_find_turn(const struct options *options, const struct failure *failur
         return;
     }
     uint32_t lost = first_lost(&it);
-    turn->kind = lost == UNKNOWN ? TURN_UNKNOWN : lost ? TURN_FOUND : TURN_NONE;
+    turn->kind = lost == UNKNOWN                        ? TURN_UNKNOWN
+                 : lost                                 ? TURN_FOUND
+                 : failure->result.outcome == NICX_RACE ? TURN_RACE
+                                                        : TURN_NONE;
     turn->tried = it.tried;
     if (turn->kind == TURN_FOUND && can_be_fine(&it, lost - 1, MANY)) {
         turn->point = lost - 1;
@@ -159,6 +176,10 @@ const char *nicxi_turn_words(const struct turn *turn, char room[MOST_TURN])
     else if (turn->kind == TURN_FOUND)
         snprintf(room, MOST_TURN, "here it goes wrong: had %.120s, it could end well", nicxi_turn_other(turn, other));
     if (turn->kind == TURN_NONE)
-        snprintf(room, MOST_TURN, "all of %u schedules fail: it is no matter of the order", (unsigned)turn->tried);
+        snprintf(room, MOST_TURN, "all %u tried schedules fail: the order of the steps doesn't matter",
+                 (unsigned)turn->tried);
+    if (turn->kind == TURN_RACE)
+        snprintf(room, MOST_TURN, "all %u tried schedules have a race: nothing orders the two accesses in any of them",
+                 (unsigned)turn->tried);
     return room;
 }

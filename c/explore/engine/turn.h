@@ -8,8 +8,9 @@ enum { MOST_TURN = 300 };
 
 enum turn_kind {
     TURN_UNKNOWN,
-    TURN_FOUND, /* before `point` some schedule was fine, in which `other` acted there; behind it none */
-    TURN_NONE   /* no schedule was fine: it is no matter of the order */
+    TURN_FOUND, /* before `point` some schedule was fine, in which `other` acted there; after it none */
+    TURN_NONE,  /* no schedule was fine: the order of the steps doesn't matter */
+    TURN_RACE   /* the same of a data race, which any order of the steps shows */
 };
 
 struct turn {
@@ -18,6 +19,12 @@ struct turn {
     uint32_t point;
     uint32_t tried; /* so many schedules */
 };
+
+/* Whether all schedules failed. */
+static inline bool nicxi_fails_always(const struct turn *turn)
+{
+    return turn->kind == TURN_NONE || turn->kind == TURN_RACE;
+}
 
 void nicxi_find_turn(const struct options *options, const struct failure *failure, struct turn *turn);
 

@@ -765,6 +765,34 @@ def check_points(kit: Kit) -> str:
     return f"{len(POINTS) + 1} drivers that break just before a call's effect"
 
 
+ASSEMBLY = {
+    "x86_64": {
+        "MFENCE": "mfence",
+        "SFENCE": "sfence",
+        "LOCK_OR": "lock or",
+        "LOCK_ADD": "lock add",
+        "LOCK_CMPXCHG": "lock cmpxchg or xadd",
+    },
+    "aarch64": {"DMB": "dmb", "DSB": "dsb"},
+}
+
+
+def check_assembly(kit: Kit) -> str:
+    """A barrier by inline assembly is named by the first line, and a driver that has none isn't said to have one."""
+    source, barriers = HERE / "tests/assembly.c", ASSEMBLY.get(os.uname().machine, {})
+    words = ["--quiet", "--jobs", 1, "--runs", 5]
+    for define, name in barriers.items():
+        said = ran([kit.build_form(source, f"BARRIER={define}", of_memory=True), *words])
+        wanted = rf"assembly: inline assembly isn't seen, so {name} at assembly\.c:\d+ orders nothing"
+        told(said.splitlines()[0], wanted, define)
+    for right in (source, HERE / "tests/points.c", HERE / "examples/forwarder.c"):
+        form = "program" if right.parent.name == "examples" else "threads"
+        program = kit.build_form(right, "FIXED", of_memory=True, form=form)
+        if "inline assembly" in ran([program, *([] if right != HERE / "tests/points.c" else ["wait"]), *words]):
+            raise Wrong(f"{right.name} has no inline assembly")
+    return f"{len(barriers)} barriers by inline assembly"
+
+
 STOPPED = "end: the queue stays stopped, though a descriptor is free"
 UNSEEN_ATOMICS = "with weak memory the search has to see the driver's atomics and fences: compile it with -fsanitize"
 
@@ -862,7 +890,7 @@ AMOUNTS = {
 
 def check_forms(kit: Kit, runs: int) -> list[str]:
     """A driver's own threads and memory: their archive has no sanitizers' checks in it."""
-    checks = (check_form, check_points, check_own_memory, check_cpp, check_races)
+    checks = (check_form, check_points, check_own_memory, check_assembly, check_cpp, check_races)
     return [*(check(kit) for check in checks), check_program(kit, runs)]
 
 

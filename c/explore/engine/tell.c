@@ -46,10 +46,16 @@ bool nicxi_tell_nothing(const struct options *options, const struct totals *tota
 /* The first line of a search that is blind to some of what the driver's threads do. */
 static void tell_unseen(void)
 {
+    char words[MOST_WORDS];
     if (nicxi_form && !nicxi_races)
         printf("%s: plain accesses and atomics aren't seen, so no bug in their order is found: compile with "
                "-fsanitize=thread\n",
                nicxi.scenario->name);
+    else if (nicxi_form && nicxi_form->assembly(words, sizeof words))
+        printf(
+            "%s: inline assembly isn't seen, so %s orders nothing: use atomic_thread_fence, an atomic of C11 or of the "
+            "compiler, or nicx_mb instead\n",
+            nicxi.scenario->name, words);
 }
 
 void nicxi_tell_totals(const struct options *options, const struct totals *totals)

@@ -1,7 +1,7 @@
 /* Litmus tests of the driver's own memory, built with -fsanitize=thread: small programs of two to four tasks over C11
-   atomics, by the usual names (SB is Dekker's, MP passes a message, ..). All schedules of each are made under each model
-   of memory, and what comes out is compared with what is listed: no more may come, and no less. `litmus` prints how many
-   there are; `litmus NAME` what one gives. */
+   atomics, by the usual names (SB is Dekker's, MP passes a message, ..). All schedules of each are made under each
+   model of memory, and what comes out is compared with what is listed: no more may come, and no less. `litmus` prints
+   how many there are; `litmus NAME` what one gives. */
 #include <stdatomic.h>
 #include <stdio.h>
 #include <stdlib.h>
@@ -111,8 +111,8 @@ TASK(own_half, put(&x, 0x10002, RLX); uint16_t half; memcpy(&half, (void *)&x, s
 TASK(y_then_x, put(&y, 1, SC); r[2] = get(&x, RLX) != 0;)
 
 /* Memory is freed while a store to it is pending: none comes after that. */
-TASK(frees, atomic_int *own = malloc(64); put(own, 7, RLX); free(own); plain = malloc(64); *plain = 1;
-     put(&x, 1, SC); r[0] = *plain;)
+TASK(frees, atomic_int *own = malloc(64); put(own, 7, RLX); free(own); plain = malloc(64); *plain = 1; put(&x, 1, SC);
+     r[0] = *plain;)
 
 struct outcome {
     const char *strong, *tso, *weak;

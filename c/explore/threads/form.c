@@ -228,6 +228,16 @@ static void ended(struct thread *thread)
     nicxi_changed_memory();
 }
 
+static bool assembly(char *room, size_t size)
+{
+    char line[MOST_NAMED];
+    const void *where;
+    const char *name = nicxi_find_assembly(&where);
+    if (name)
+        snprintf(room, size, "%s at %s", name, nicxi_line(where, line));
+    return name != NULL;
+}
+
 static const struct nicxi_form form = {
     .open = nicxi_state_open,
     .keep = nicxi_state_keep,
@@ -238,6 +248,7 @@ static const struct nicxi_form form = {
     .holds_any = holds_any,
     .tell_wait = tell_wait,
     .ended = ended,
+    .assembly = assembly,
 };
 
 /* The linker is told to take this, whatever the driver calls. */

@@ -107,6 +107,9 @@ bool nicxi_mutex_is_mine(const struct thread *self, const pthread_mutex_t *mutex
 void nicxi_mutex_take(struct thread *self, pthread_mutex_t *mutex, unsigned count, const void *at);
 unsigned nicxi_mutex_give(struct thread *self, pthread_mutex_t *mutex);
 
+/* A barrier or an exchange by inline assembly in the driver's code: its name, or null. */
+const char *nicxi_find_assembly(const void **where);
+
 /* The driver's variables and what it took from malloc. */
 void nicxi_state_open(void);
 void nicxi_state_keep(void);

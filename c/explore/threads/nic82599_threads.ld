@@ -1,5 +1,17 @@
-/* The variables of a driver stand together, so that they can be put back before each schedule. What isn't the driver's
-   stays where it is: this library, and what the compiler adds. It stands beside the linker's own script. */
+/* The variables of a driver stand together, so that they can be put back before each schedule, and so does its code, in
+   which barriers are looked for that the search can't see. What isn't the driver's stays where it is: this library, and
+   what the compiler adds. It stands beside the linker's own script. */
+SECTIONS
+{
+    .nicx.text :
+    {
+        nicxi_text_begin = .;
+        *(EXCLUDE_FILE(*libnic82599* *crt1.o *crti.o *crtbegin*.o *crtend*.o *crtn.o *libc.a *libc_nonshared.a *libgcc* *libstdc++* *libclang_rt* *libasan* *libubsan*) .text
+          EXCLUDE_FILE(*libnic82599* *crt1.o *crti.o *crtbegin*.o *crtend*.o *crtn.o *libc.a *libc_nonshared.a *libgcc* *libstdc++* *libclang_rt* *libasan* *libubsan*) .text.*)
+        nicxi_text_end = .;
+    }
+}
+INSERT AFTER .text;
 SECTIONS
 {
     .nicx.data :

@@ -1,0 +1,56 @@
+/* A driver with a barrier or an exchange by inline assembly, which BARRIER names and the search can't see; without that
+   it has none. Built with -fsanitize=thread. For c/explore/check.py: what the first line of the search says. */
+#include <stdatomic.h>
+
+#include "card.h"
+
+static atomic_int flag;
+static int count;
+
+#if defined __x86_64__
+#define MFENCE __asm__ volatile("mfence" ::: "memory")
+#define SFENCE __asm__ volatile("sfence" ::: "memory")
+#define LOCK_OR __asm__ volatile("lock; orl $0,(%%rsp)" ::: "memory", "cc")
+#define LOCK_ADD __asm__ volatile("lock; addl $0,-4(%%rsp)" ::: "memory", "cc")
+#define LOCK_CMPXCHG                                                                                                   \
+    do {                                                                                                               \
+        int old = 0;                                                                                                   \
+        __asm__ volatile("lock; cmpxchgl %2,%1" : "+a"(old), "+m"(count) : "r"(1) : "memory", "cc");                   \
+    } while (0)
+#elif defined __aarch64__
+#define DMB __asm__ volatile("dmb ish" ::: "memory")
+#define DSB __asm__ volatile("dsb st" ::: "memory")
+#endif
+
+#ifndef BARRIER
+#define BARRIER atomic_thread_fence(memory_order_seq_cst)
+#endif
+
+#if defined(__GNUC__) && !defined(__clang__)
+#pragma GCC diagnostic ignored "-Wtsan" /* fences are known here */
+#endif
+
+static void acts(void *unused)
+{
+    (void)unused;
+    atomic_fetch_add(&flag, 1);
+    BARRIER;
+    count += atomic_load(&flag);
+}
+
+static const char *bring_up(void)
+{
+    return NULL;
+}
+
+static void begin(void)
+{
+    nicx_task("acts", acts, NULL);
+}
+
+static const char *end(void)
+{
+    return NULL;
+}
+
+DRIVER(.name = "assembly")

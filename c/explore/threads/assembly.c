@@ -1,0 +1,92 @@
+/* Barriers and exchanges that a driver makes by inline assembly or by intrinsics of the processor: neither the
+   compiler's checks nor the search see them. They are looked for in the driver's code as it was linked, by bytes that
+   no other instruction of a compiler has; where none is found, nothing is said. */
+#include <string.h>
+
+#include "form.h"
+
+extern const uint8_t nicxi_text_begin[], nicxi_text_end[];
+
+#if defined __x86_64__
+
+static bool begins(const uint8_t *at, size_t left, const char *bytes, size_t length)
+{
+    return left >= length && !memcmp(at, bytes, length);
+}
+
+#define BEGINS(bytes) begins(at, left, bytes, sizeof(bytes) - 1)
+
+/* Of an instruction behind its prefixes: an exchange with memory, which nobody makes without a lock. */
+static bool exchanges(const uint8_t *at, size_t left)
+{
+    bool has_rex = left && (at[0] & 0xF0) == 0x40;
+    if (has_rex) {
+        at++;
+        left--;
+    }
+    if (left < 3 || at[0] != 0x0F || at[2] >> 6 == 3)
+        return false;
+    return at[1] == 0xB0 || at[1] == 0xB1 || at[1] == 0xC0 || at[1] == 0xC1;
+}
+
+/* What begins here, or null. */
+static const char *instruction_at(const uint8_t *at, size_t left)
+{
+    if (BEGINS("\x0F\xAE\xF0"))
+        return "mfence";
+    if (BEGINS("\x0F\xAE\xF8"))
+        return "sfence";
+    if (BEGINS("\x0F\xAE\xE8"))
+        return "lfence";
+    if (BEGINS("\xF0\x83\x0C\x24\x00") || BEGINS("\xF0\x48\x83\x0C\x24\x00"))
+        return "lock or";
+    if (BEGINS("\xF0\x83\x44\x24\xFC\x00") || BEGINS("\xF0\x48\x83\x44\x24\xFC\x00"))
+        return "lock add";
+    if (left > 1 && at[0] == 0xF0 && exchanges(at + 1, left - 1))
+        return "lock cmpxchg or xadd";
+    return NULL;
+}
+
+enum { STEP = 1 };
+
+#elif defined __aarch64__
+
+/* Instructions are words of 32 bits, the lowest byte first. */
+static const char *instruction_at(const uint8_t *at, size_t left)
+{
+    if (left < 4)
+        return NULL;
+    uint32_t word = (uint32_t)at[0] | (uint32_t)at[1] << 8 | (uint32_t)at[2] << 16 | (uint32_t)at[3] << 24;
+    if ((word & 0xFFFFF0FF) == 0xD50330BF)
+        return "dmb";
+    if ((word & 0xFFFFF0FF) == 0xD503309F)
+        return "dsb";
+    return NULL;
+}
+
+enum { STEP = 4 };
+
+#else
+
+static const char *instruction_at(const uint8_t *at, size_t left)
+{
+    (void)at;
+    (void)left;
+    return NULL;
+}
+
+enum { STEP = 1 };
+
+#endif
+
+const char *nicxi_find_assembly(const void **where)
+{
+    for (const uint8_t *at = nicxi_text_begin; at < nicxi_text_end; at += STEP) {
+        const char *name = instruction_at(at, (size_t)(nicxi_text_end - at));
+        if (name) {
+            *where = at;
+            return name;
+        }
+    }
+    return NULL;
+}

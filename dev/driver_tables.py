@@ -82,7 +82,7 @@ def c_header() -> str:
 
 
 def c_names() -> str:
-    """c/explore/engine/names.inc, its two tables."""
+    """c/explore/engine/names.inc, its three tables."""
     registers = places_of_names = ""
     for row in TABLE:
         many = "true" if row.count > 1 else "false"
@@ -94,7 +94,20 @@ def c_names() -> str:
         at = f"0x{it.offset:04X}, 0x{it.stride or 4:02X}, {it.count(max(POOL_SIZES))}, 0, {many}"
         places_of_names += f'    {{"{it.name}", {at}}},\n'
     text = replaced(NAMES.read_text(), "registers[] = {\n", registers, "};\n")
-    return replaced(text, "offsets[] = {\n", places_of_names, "};\n")
+    text = replaced(text, "offsets[] = {\n", places_of_names, "};\n")
+    return replaced(text, "aliases[] = {\n", "".join(map(c_aliases, TABLE)), "};\n")
+
+
+def c_aliases(row: Row) -> str:
+    """The other addresses of a row's registers, each with the first address that it stands for."""
+    lines = ""
+    for run in row.runs[len(row.first_runs) :]:
+        first = row.runs[0]
+        assert run.first_index == 0 and run.count <= first.count, row.name
+        low = "true" if run.low else "false"
+        at = f"0x{run.first:05X}, 0x{run.stride:02X}, {run.count}, 0x{first.first:05X}, 0x{first.stride:02X}, {low}"
+        lines += f"    {{{at}}}, /* {row.name} */\n"
+    return lines
 
 
 def rust_registers() -> str:

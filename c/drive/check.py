@@ -198,6 +198,33 @@ def check_places(kit: Kit) -> str:
     return "a failed row names the driver's line"
 
 
+# Written after reception was enabled, at each address, and how the card names it.
+LATE = {
+    "NIC_SRRCTL(0)": "SRRCTL.0.",
+    "0x02100": "SRRCTL.0.",
+    "NIC_MRQC": "MRQC",
+    "0x0EC80": "MRQC",
+    "0x05C04": "RETA.1.",
+    "0x0EB04": "RETA.1.",
+    "0x0EB80": "RSSRK.0.",
+}
+
+
+def check_aliases(kit: Kit) -> str:
+    """A driver that writes registers at their other addresses passes as before, and what it writes too late is named
+    by the register, whichever address it takes."""
+    driver, words = HERE / "corpus/driver.c", ("--runs", 10, "--every", 10)
+    states = [row["state"] for row in kit.card(kit.build(driver, "ALIASES"), 0, *words).values()]
+    here = driver.read_text().replace('"bugs.h"', f'"{HERE}/corpus/bugs.h"')
+    enable = "nicx_write32(NIC_RXCTRL, NIC_RXCTRL_RXEN);"
+    for address, name in LATE.items():
+        source = kit.folder / "writes_late.c"
+        source.write_text(here.replace(enable, f"{{ {enable} nicx_write32({address}, nicx_read32({address})); }}"))
+        row = kit.card(kit.build(source), 1, "--rows", "setup-reception-last", *words)["setup-reception-last"]
+        expect(row, f"{name} is set up after RXCTRL.RXEN", address)
+    return f"registers' other addresses: {states.count('passed')} rows passed, {len(LATE)} late writes named"
+
+
 # What the command does of pages, with a failed row, a toolchain, and the programs of ./nicbench that are there.
 PAGES = """import sys
 from pathlib import Path
@@ -303,6 +330,7 @@ def check_all(kit: Kit, full: bool) -> list[str]:
         check_refusals(kit),
         check_words(kit),
         check_places(kit),
+        check_aliases(kit),
         check_pages(),
         check_files(kit),
         check_faults(kit, few),

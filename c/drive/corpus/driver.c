@@ -6,6 +6,9 @@
 #include <string.h>
 
 #include "nic82599_drive.h"
+#ifdef ALIASES
+#include "../tests/aliases.h" /* registers are written at another of their addresses, where they have one */
+#endif
 
 enum bug {
     NONE,

@@ -4,6 +4,7 @@
 #define NICD_DRIVE_H
 
 #include "../../explore/engine/engine.h"
+#include "../../explore/engine/names.h"
 #include "nic82599_drive.h"
 
 enum {

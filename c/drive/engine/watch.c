@@ -286,11 +286,25 @@ static void judge_sleep(const struct step *step, bool is_of_driver)
         nicd_note("%s acts for the driver, and it is suspended", nicxi.self->name);
 }
 
-void nicd_watch(void *unused, uint16_t actor, const struct step *step)
+/* An access of a register by another of its addresses is one by its first: rows know only that. A write of bits 15:0
+   alone changes no others. */
+static struct step by_first_address(const struct step *made)
+{
+    struct step step = *made;
+    bool is_low = false;
+    if (step.kind == STEP_READ || step.kind == STEP_WRITE)
+        step.address = nicxi_first_address(step.address, &is_low);
+    if (is_low && step.kind == STEP_WRITE)
+        step.word = step.address == NIC_EIAM ? nicd_peek(NIC_EIAM) : step.word & 0xFFFF;
+    return step;
+}
+
+void nicd_watch(void *unused, uint16_t actor, const struct step *made)
 {
     (void)unused;
+    const struct step first = by_first_address(made), *step = &first;
     bool is_of_driver = step->kind < STEP_RX && is_drivers(actor);
-    cover(step, is_of_driver);
+    cover(made, is_of_driver);
     nicd.events += step->kind >= STEP_RX;
     tell_fault(step);
     judge_sleep(step, is_of_driver);

@@ -61,8 +61,9 @@ static bool is_before_reception(uint32_t address)
 
 static void see_reception(const struct step *step, bool is_drivers)
 {
+    char name[MOST_NAME];
     if (is_write(step, is_drivers) && is_before_reception(step->address) && nicd_peek(NIC_RXCTRL) & NIC_RXCTRL_RXEN)
-        nicd_note("register 0x%05x is set up after RXCTRL.RXEN", (unsigned)step->address);
+        nicd_note("%s is set up after RXCTRL.RXEN", nicxi_register(step->address, name));
 }
 
 static void see_masks(const struct step *step, bool is_drivers)
@@ -341,7 +342,8 @@ const struct scenario nicd_setup_rows[] = {
         .control = open_and_check, .begin = forget, .opened = check_moderation, .see = see_moderation,
         .reaches = {"EITR was written"}),
     ROW("setup-cause-read", "causes of queues aren't taken by reads",
-        "With MSI-X a queue's cause is cleared by EIAC or by a write of EICR; the bench clears it by a read too",
+        "With MSI-X a queue's cause is cleared by EIAC or by a write of EICR; on the bench a read clears it too, "
+        "unless GPIE.OCD is 1",
         "Extended Interrupt Cause", RECEIVES | INTERRUPTS | PHYSICAL, .setup = {.interrupts = true}, .takes = true,
         .comes = 3, .see = see_cause_read),
     ROW("setup-tails-in-use", "tails stay within the ring, also over a wrap",

@@ -26,6 +26,20 @@ static const char *named(const struct run *list, size_t count, uint32_t at, cons
     return room;
 }
 
+uint32_t nicxi_first_address(uint32_t address, bool *is_low)
+{
+    *is_low = false;
+    for (size_t k = 0; k < COUNT(aliases); k++) {
+        const struct alias *alias = &aliases[k];
+        uint32_t from = address - alias->first;
+        if (from % alias->stride || from / alias->stride >= alias->count)
+            continue;
+        *is_low = alias->is_low;
+        return alias->to + alias->to_stride * (from / alias->stride);
+    }
+    return address;
+}
+
 const char *nicxi_register(uint32_t address, char room[MOST_NAME])
 {
     return named(registers, COUNT(registers), address, "0x%05" PRIx32, room);

@@ -31,11 +31,35 @@ static void try_macro(const char *macro, uint32_t address)
     expect(nicxi_register(address, got), want);
 }
 
+/* Each address of the table is a register's first one, or stands for one. */
+static void try_aliases(void)
+{
+    static const struct {
+        uint32_t address;
+        const char *name;
+        bool is_low;
+    } some[] = {{0x00004, "CTRL", false},        {0x00A90, "EICS", true},       {0x00AA0, "EIMS", true},
+                {0x00AB0, "EIMC", true},         {0x00AD0, "EIAM", true},       {0x02100, "SRRCTL[0]", false},
+                {0x0213C, "SRRCTL[15]", false},  {0x05400, "RAL[0]", false},    {0x0547C, "RAH[15]", false},
+                {0x0EC80, "MRQC", false},        {0x0EB7C, "RETA[31]", false},  {0x0EBA4, "RSSRK[9]", false},
+                {0x054BC, "PSRTYPE[15]", false}, {0x01014, "SRRCTL[0]", false}, {0x00880, "EIMS", false}};
+    char got[MOST_NAME];
+    bool is_low;
+    for (size_t k = 0; k < sizeof some / sizeof *some; k++) {
+        expect(nicxi_register(nicxi_first_address(some[k].address, &is_low), got), some[k].name);
+        expect(is_low ? "low" : "whole", some[k].is_low ? "low" : "whole");
+    }
+#define ADDRESS(address)                                                                                               \
+    expect(*nicxi_register(nicxi_first_address(address, &is_low), got) == '0' ? "no name" : "a name", "a name");
+#include "addresses.inc"
+}
+
 int main(void)
 {
     char got[MOST_NAME];
 #define MACRO(macro, address) try_macro(#macro, address);
 #include "macros.inc"
+    try_aliases();
     expect(nicxi_register(0x00004, got), "0x00004");
     expect(nicxi_register(0x01002, got), "0x01002");
     expect(nicxi_register(0x1FFFC, got), "0x1fffc");

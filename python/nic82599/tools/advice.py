@@ -14,15 +14,35 @@ from .reason_table import reason, rows
 from .regs import ENABLE, Register
 from .script import Instruction, Op, Script
 
-_ABSENT = {address: (name, what) for what, names in ABSENT for address, name in names.items()}
 
 
 @dataclass(frozen=True, order=True)
 class Warning:
-    """A warning and the line that it is about."""
+    """A warning and the line that it is about. Of a stray access `family` is what was reached: one line is printed for
+    all accesses of a family."""
 
     line: int
     text: str
+    family: str = ""
+
+
+@dataclass(frozen=True)
+class Absent:
+    """A register of the card that the bench hasn't: what it and its neighbours are called, and what a driver does."""
+
+    name: str
+    family: str
+    what: str
+
+
+def absent_at(address: int) -> Absent | None:
+    """Which register of the card is at an address that the bench hasn't."""
+    for what, runs in ABSENT:
+        for first, last, stride, name in runs:
+            if first <= address <= last and not (address - first) % stride:
+                index = f"[{(address - first) // stride}]" if last > first and name.isidentifier() else ""
+                return Absent(name + index, name, what)
+    return None
 
 
 # What drivers write to clear all causes or masks at once, whichever bits a register has.
@@ -89,16 +109,17 @@ class Advice:
     def _strays(self) -> Iterator[Warning]:
         """Accesses that name nothing."""
         for pc in self.strays:
-            one = self.script.instructions[pc]
+            one, line = self.script.instructions[pc], self.script.line_of[pc]
+            absent = absent_at(one.a)
             if one.op in (Op.VF_READ, Op.VF_WRITE):
-                yield self._at(
-                    pc, f"offset 0x{one.a:04x} of a virtual function names no register: the access is `stray`"
-                )
-            elif one.a in _ABSENT:
-                name, what = _ABSENT[one.a]
-                yield self._at(pc, f"0x{one.a:05x} is {name}, which the bench hasn't: {what}")
+                text = f"offset 0x{one.a:04x} of a virtual function names no register: the access is `stray`"
+                yield Warning(line, text, text)
+            elif absent:
+                text = f"0x{one.a:05x} is {absent.name}, which the bench hasn't: {absent.what}"
+                yield Warning(line, text, absent.family)
             else:
-                yield self._at(pc, f"0x{one.a:05x} names no register: the access is `stray`")
+                text = f"0x{one.a:05x} names no register: the access is `stray`"
+                yield Warning(line, text, text)
 
     def _words(self) -> Iterator[Warning]:
         """Words with bits that are reserved, that aren't kept, or that go to a register which takes none."""

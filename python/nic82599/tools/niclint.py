@@ -17,7 +17,7 @@ import argparse
 from collections import Counter
 from collections.abc import Callable
 
-from .advice import Advice
+from .advice import Advice, Warning
 from .forms import MOST_TOLD, Place, explained
 from .printable import shortened
 from .recording import is_recording, of_recording, read, refuse_sizes
@@ -25,7 +25,7 @@ from .refusals import most_of, refusals
 from .run import Run, of_trace
 from .script import Bench, Refused, Script, of_text, read_bytes, text_of
 from .tool import Parser, called, ended, limit, limit_of_script, sizes
-from .trace import trace_of
+from .trace import Step, trace_of
 
 # So many lines are told of one warning.
 SHOWN = 3
@@ -53,8 +53,27 @@ def refusal(path: str, text: str, refused: Refused, place: Place) -> None:
 
 
 def lint(path: str, script: Script, run: Callable[[], Run] | None) -> int:
-    """Prints the warnings for a script, and what its run tells; the status."""
+    """Prints the warnings for a script, and what its run tells: first what went wrong, last accesses of registers that
+    aren't there, which seldom matter. The status."""
     warnings = Advice(script).all()
+    strays = [one for one in warnings if one.family]
+    made = run() if run else None
+    if made:
+        explain(path, made, is_wrong)
+    tell_warnings(path, [one for one in warnings if not one.family])
+    tell_strays(path, strays)
+    if made:
+        told = {one.line for one in strays}
+        explain(path, made, lambda step: not is_wrong(step) and not (is_stray(step) and made.line(step.pc) in told))
+        for note in made.notes:
+            print(f"{path}: note: {note}")
+        print(f"{path}: {made.last}")
+    elif not warnings:
+        print(f"{path}: {len(script.instructions)} instructions, nothing to say")
+    return 1 if warnings or (made and any(step.is_trouble for step in made.steps)) else 0
+
+
+def tell_warnings(path: str, warnings: list[Warning]) -> None:
     told: Counter[str] = Counter()
     for one in warnings:
         told[one.text] += 1
@@ -63,23 +82,34 @@ def lint(path: str, script: Script, run: Callable[[], Run] | None) -> int:
     for warning, count in told.items():
         if count > SHOWN:
             print(f"{path}: warning: at {count - SHOWN} lines more: {warning}")
-    is_trouble = run is not None and explain(path, run())
-    if not warnings and run is None:
-        print(f"{path}: {len(script.instructions)} instructions, nothing to say")
-    return 1 if warnings or is_trouble else 0
 
 
-def explain(path: str, run: Run) -> bool:
-    """Prints why steps did nothing or failed, and says whether one of them was trouble."""
+def tell_strays(path: str, strays: list[Warning]) -> None:
+    """A line for each family of registers that aren't there: the first access, and how many lines reach it."""
+    families: dict[str, list[Warning]] = {}
+    for one in strays:
+        families.setdefault(one.family, []).append(one)
+    for first, *more in families.values():
+        others = f" ({len(more)} more of this family)" if more else ""
+        print(f"{path}:{first.line}: warning: {first.text}{others}")
+
+
+def explain(path: str, run: Run, which: Callable[[Step], bool]) -> None:
+    """Prints why some of the steps did nothing, failed or were refused."""
     for step, reasons in zip(run.steps, run.reasons):
         held = [reason.text for reason in reasons if reason.held]
-        if held:
+        if held and which(step):
             where = f"{path}:{run.line(step.pc)}: step {step.number}"
             print(f"{where}: {run.shown(step.pc)} -> {step.answer}: {'; '.join(held)}")
-    for note in run.notes:
-        print(f"{path}: note: {note}")
-    print(f"{path}: {run.last}")
-    return any(step.is_trouble for step in run.steps)
+
+
+def is_wrong(step: Step) -> bool:
+    """Whether a step went wrong, by more than an access of a register that isn't there."""
+    return step.is_trouble and not is_stray(step)
+
+
+def is_stray(step: Step) -> bool:
+    return step.reply.startswith("stray")
 
 
 def of_script(asked: argparse.Namespace, raw: bytes) -> int:

@@ -66,10 +66,11 @@ def check_walk(look: Look, rings: list[str], pictures: Path | None) -> None:
 
 
 def check_opening(look: Look) -> None:
-    """That it opens at the first step that went wrong, else at the first that did nothing, else at the last, and that
-    the URL's number is the header's."""
+    """That it opens at the first step that went wrong, else at the first that did nothing, else at the first stray
+    access, else at the last, and that the URL's number is the header's."""
     numbers = [number for number in range(look.count) if look.kind(number) in TROUBLE]
-    numbers = numbers or [number for number in range(look.count) if look.kind(number) == "idle"]
+    for kind in ("idle", "stray"):
+        numbers = numbers or [number for number in range(look.count) if look.kind(number) == kind]
     look.browser.size(1_280, 800, False)
     look.browser.load(look.file)
     look.is_at(numbers[0] if numbers else look.count - 1, "opening it")

@@ -374,17 +374,19 @@ def check_cut(folder: Path, expect: Expect) -> None:
 
 
 def check_opening(folder: Path, expect: Expect) -> None:
-    """Without other trouble a script opens at its first idle step, and a recording at its last; else both at the first
-    trouble."""
+    """Without other trouble a script opens at its first idle step, and a recording at its last, or both at the first
+    access of a register that isn't there; else at the first trouble."""
     file = folder / "idle.recording"
-    for last, script_at, recorded_at in (("r STATUS", 1, 3), ("r 0x10140", 4, 4)):
-        text = f"r STATUS\nrx\nr STATUS\nint pf\n{last}\nr STATUS\n"
-        (folder / "idle.nic").write_text(text)
+    for steps, script_at, recorded_at in (
+        ("r STATUS\nrx\nr STATUS\nint pf\nr STATUS", 1, 3),
+        ("r 0x10140\nrx\nr STATUS\nint pf\nr STATUS", 1, 3),
+        ("r 0x10140\nrx\nr STATUS\nint pf\npeek 0x0 1", 4, 4),
+        ("r STATUS\nr 0x10140\nr STATUS\nr 0x10140\nr STATUS", 1, 1),
+    ):
+        (folder / "idle.nic").write_text(f"{steps}\nr STATUS\n")
         record(folder / "idle.nic", None, file)
         places_of = of_script(Bench(), str(folder / "idle.nic")).opening, of_recording(str(file)).opening
-        expect(places_of == (script_at, recorded_at), f"with {last} the pages open at {places_of}")
-
-
+        expect(places_of == (script_at, recorded_at), f"with {steps.split()} the pages open at {places_of}")
 def check_place(script: Path, vfs: int | None, chance: random.Random, expect: Expect) -> None:
     """What the debugger says of a recording's steps is what nicbench's says of a script."""
     bench = Bench(vfs)

@@ -59,18 +59,20 @@ def lint(path: str, script: Script, run: Callable[[], Run] | None) -> int:
     strays = [one for one in warnings if one.family]
     made = run() if run else None
     if made:
-        explain(path, made, is_wrong)
+        explain(path, made, lambda step: step.is_trouble)
     tell_warnings(path, [one for one in warnings if not one.family])
     tell_strays(path, strays)
     if made:
-        told = {one.line for one in strays}
-        explain(path, made, lambda step: not is_wrong(step) and not (is_stray(step) and made.line(step.pc) in told))
+        named = {one.line for one in strays}
+        rest = [step for step in made.steps if not step.is_trouble]
+        shown = {step.number for step in rest if step.kind != "stray" or made.line(step.pc) not in named}
+        explain(path, made, lambda step: step.number in shown)
         for note in made.notes:
             print(f"{path}: note: {note}")
         print(f"{path}: {made.last}")
     elif not warnings:
         print(f"{path}: {len(script.instructions)} instructions, nothing to say")
-    return 1 if warnings or (made and any(step.is_trouble for step in made.steps)) else 0
+    return 1 if warnings or (made and any(step.is_trouble or step.kind == "stray" for step in made.steps)) else 0
 
 
 def tell_warnings(path: str, warnings: list[Warning]) -> None:
@@ -101,15 +103,6 @@ def explain(path: str, run: Run, which: Callable[[Step], bool]) -> None:
         if held and which(step):
             where = f"{path}:{run.line(step.pc)}: step {step.number}"
             print(f"{where}: {run.shown(step.pc)} -> {step.answer}: {'; '.join(held)}")
-
-
-def is_wrong(step: Step) -> bool:
-    """Whether a step went wrong, by more than an access of a register that isn't there."""
-    return step.is_trouble and not is_stray(step)
-
-
-def is_stray(step: Step) -> bool:
-    return step.reply.startswith("stray")
 
 
 def of_script(asked: argparse.Namespace, raw: bytes) -> int:

@@ -147,7 +147,7 @@ function showNow(n, state) {
     return;
   }
   const [pc, , acc, changes, more] = run.steps[n - 1], reply = replyOf(run.steps[n - 1]);
-  const tone = { fault: "bad", message: "good", idle: "odd" }[groupOf(more.k)] ?? "";
+  const tone = { fault: "bad", message: "good", idle: "odd", stray: "odd" }[groupOf(more.k)] ?? "";
   const answer = make("code", { className: tone, title: reply }, cut(reply, 80) || `acc ${hex(acc)}`);
   element("answer").replaceChildren(make("code", {}, run.shown[pc]), " → ", answer);
   const reasons = (more.y || []).map(([held, text]) => make("li", { className: held ? "held" : "" }, run.texts[text]));
@@ -262,7 +262,7 @@ function showLines(n) {
     if (latest.get(pc) === shown) continue;
     latest.set(pc, shown);
     line.lastChild.textContent = shown;
-    line.lastChild.className = `reply ${{ fault: "fault", idle: "odd" }[kind] ?? ""}`;
+    line.lastChild.className = `reply ${{ fault: "fault", idle: "odd", stray: "odd" }[kind] ?? ""}`;
   }
   lastLine?.classList.remove("here");
   lastLine = n ? rowOf.get(run.steps[n - 1][0]) : null;
@@ -375,7 +375,7 @@ function keys(event) {
   }
   if (event.target.id === "search") return;
   const moves = { ArrowLeft: -1, ArrowRight: 1, PageUp: -10, PageDown: 10, Home: -count, End: count };
-  const letters = { f: "fault", m: "message", i: "idle", w: "warning" }, letter = event.key.toLowerCase();
+  const letters = { f: "fault", m: "message", i: "idle", s: "stray", w: "warning" }, letter = event.key.toLowerCase();
   if (event.key in moves) show(position + moves[event.key]);
   else if (letter in letters) jump(letters[letter], event.shiftKey);
   else if (event.key === " " && event.target.tagName !== "BUTTON") play();
@@ -389,7 +389,7 @@ function keys(event) {
 // The marks below the slider, each wide enough to hit. Where several steps would share a mark, it is that of the first
 // of the worst kind.
 function drawMarks() {
-  const marks = element("marks"), width = marks.clientWidth, wide = 14, ranks = [...TROUBLE, "message", "idle", "warning"];
+  const marks = element("marks"), width = marks.clientWidth, wide = 14, ranks = [...TROUBLE, "message", "idle", "stray", "warning"];
   const markOf = (step) => kindOf(step) || (warningsOf(step).length ? "warning" : "");
   const isApart = width / Math.max(1, count) >= wide, bins = new Map();
   run.steps.forEach((step, k) => {

@@ -22,7 +22,7 @@ Event = dict[str, Any]
 PARTS = {"rx": "receive", "int": "interrupts", "qstep": "queues", "eestep": "EEPROM", "arrive": "link", "link": "link"}
 # The tracks that each run has, in front of those of who acts.
 STEPS, TROUBLE, MESSAGES = range(1, 4)
-NAMES = {STEPS: "all steps", TROUBLE: "faults, drops, refusals, idle steps", MESSAGES: "messages"}
+NAMES = {STEPS: "all steps", TROUBLE: "faults, drops, refusals, stray accesses, idle steps", MESSAGES: "messages"}
 
 
 def actor_of(run: Run, step: Step, is_explored: bool) -> str:

@@ -73,7 +73,8 @@ class Run:
     @property
     def opening(self) -> int | None:
         """The step of the finding; else the first step that failed, met a fault, dropped a frame or was refused; else
-        the first that did nothing, of a recording the last; else the last, if there is one."""
+        the first that did nothing, of a recording the last; else the first access of a register that isn't there; else
+        the last step, if there is one."""
         if self.finding and self.finding.step is not None and not self.last.startswith("failed"):
             return self.finding.step
         numbers = [step.number for step in self.steps if step.is_trouble]
@@ -82,6 +83,9 @@ class Run:
         idle = [step.number for step in self.steps if step.kind == "idle"]
         if idle:
             return idle[-1 if self.is_recorded else 0]
+        strays = [step.number for step in self.steps if step.kind == "stray"]
+        if strays:
+            return strays[0]
         return self.steps[-1].number if self.steps else None
 
 

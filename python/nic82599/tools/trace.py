@@ -22,7 +22,7 @@ CHUNK = 9_000
 RESET_BITS = 1 << 3 | 1 << 26
 
 
-REFUSALS = ("stray", "no ", "not lent", "misaligned")
+REFUSALS = ("no ", "not lent", "misaligned")
 TROUBLE = ("failed", "fault", "dropped", "refused")
 
 
@@ -50,18 +50,18 @@ class Step:
 
     @property
     def kind(self) -> str:
-        """What a reader looks for: `failed` (an expect), `fault`, `dropped` (a frame), `refused` (an access or a call
-        that meets nothing), `idle`, `message`, or nothing."""
+        """What a reader looks for: `failed` (an expect), `fault`, `dropped` (a frame), `refused` (a call that meets
+        nothing), `stray` (an access of a register that isn't there), `idle`, `message`, or nothing."""
         if self.status == "failed":
             return "failed"
         if self.reply.startswith(REFUSALS):
             return "refused"
         first_word = self.reply.partition(" ")[0]
-        return first_word if first_word in ("fault", "dropped", "idle", "message") else ""
+        return first_word if first_word in ("fault", "dropped", "stray", "idle", "message") else ""
 
     @property
     def is_trouble(self) -> bool:
-        """Whether it is a failed expect, a fault, a drop or a refusal."""
+        """Whether it is a failed expect, a fault, a drop or a refusal; a stray access seldom matters."""
         return self.kind in TROUBLE
 
     @property

@@ -4,7 +4,8 @@
    REFUSE_GROWTH, REFUSE_THREAD, FAIL_IO and SHORT_IO are numbers, counted from 1. Where REFUSE_WITHIN is set, growths
    count only behind a line `call` and before the line that follows it, on standard output. The first REFUSE_SKIP
    growths don't count: they are those of a language's own start, before the program's. Where REFUSE_OWN is set, growths
-   count only of a thread that wrote a line `call`: others are those of what runs the tests. At the end a line goes to
+   count only of a thread that wrote a line `call`: others are those of what runs the tests. Where LATE_THREADS is set,
+   each thread is made as asked and begins so many seconds later, as on a busy machine. At the end a line goes to
    the file descriptor REFUSE_TELL: how many growths, threads, reads and writes there were, whether one was refused, how
    many blocks of memory weren't given back, and which growth was the last before the first thread, which is the
    thread's own. */
@@ -24,7 +25,7 @@ extern void __libc_free(void *);
 
 static atomic_long growths, threads, transfers, refused, held;
 static long of_thread;
-static long refuse_growth, refuse_thread, fail_io, short_io, skipped;
+static long refuse_growth, refuse_thread, fail_io, short_io, skipped, late_by;
 static int within, own, tell = -1, ready;
 static atomic_int counting;
 static __thread int is_caller;
@@ -42,6 +43,7 @@ __attribute__((constructor)) static void begin(void)
     fail_io = number("FAIL_IO");
     short_io = number("SHORT_IO");
     skipped = number("REFUSE_SKIP");
+    late_by = number("LATE_THREADS");
     within = getenv("REFUSE_WITHIN") != NULL;
     own = getenv("REFUSE_OWN") != NULL;
     tell = getenv("REFUSE_TELL") ? (int)number("REFUSE_TELL") : -1;
@@ -115,6 +117,20 @@ void free(void *block)
     __libc_free(block);
 }
 
+/* A thread that begins late. */
+struct late {
+    void *(*start)(void *);
+    void *of;
+};
+
+static void *begin_late(void *at)
+{
+    struct late it = *(struct late *)at;
+    __libc_free(at);
+    sleep((unsigned)late_by);
+    return it.start(it.of);
+}
+
 int pthread_create(pthread_t *thread, const pthread_attr_t *how, void *(*start)(void *), void *of)
 {
     static int (*real)(pthread_t *, const pthread_attr_t *, void *(*)(void *), void *);
@@ -126,7 +142,11 @@ int pthread_create(pthread_t *thread, const pthread_attr_t *how, void *(*start)(
         refused++;
         return EAGAIN;
     }
-    return real(thread, how, start, of);
+    struct late *late = late_by ? __libc_malloc(sizeof *late) : NULL;
+    if (!late)
+        return real(thread, how, start, of);
+    *late = (struct late){start, of};
+    return real(thread, how, begin_late, late);
 }
 
 /* What becomes of a transfer of so many bytes: -1 where it fails, else how many of them are asked for. */

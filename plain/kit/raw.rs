@@ -15,7 +15,7 @@ pub(super) use keeping::keeping;
 pub(super) use refusing::{counted, granted};
 pub(super) use ring::Ring;
 pub(super) use shared::Shared;
-pub(super) use threads::beside;
+pub use threads::beside;
 
 use alloc::alloc::{alloc, realloc, Layout};
 use alloc::boxed::Box;

@@ -124,28 +124,7 @@ impl Condvar {
 }
 
 pub mod atomic {
-    //! `std::sync::atomic`, with Rattle's number whose values obey a rule, which is proved.
+    //! `std::sync::atomic`.
 
-    use core::marker::PhantomData;
     pub use core::sync::atomic::{AtomicU64, Ordering};
-
-    /// What the values of an `AtomicIn` obey.
-    pub trait Rule {}
-
-    /// A number whose values obey a rule.
-    pub struct AtomicIn<R>(AtomicU64, PhantomData<fn() -> R>);
-
-    impl<R: Rule> AtomicIn<R> {
-        pub fn new(word: u64) -> Self {
-            AtomicIn(AtomicU64::new(word), PhantomData)
-        }
-
-        pub fn load(&self, order: Ordering) -> u64 {
-            self.0.load(order)
-        }
-
-        pub fn compare_exchange(&self, old: u64, new: u64, done: Ordering, failed: Ordering) -> Result<u64, u64> {
-            self.0.compare_exchange(old, new, done, failed)
-        }
-    }
 }

@@ -6,27 +6,29 @@ use std::sync::atomic::{AtomicU64, Ordering};
 use std::sync::{Mutex, Wait};
 use std::thread;
 
-/// How often a task looks whether the others have come. After each look the others may run, so that a busy machine
-/// gives them the time.
-const TURNS: u32 = 1_000_000;
+/// How often a task looks whether another has come that will come: longer than a test may take. After each look the
+/// others may run.
+pub const PATIENT: u32 = u32::MAX;
+/// How often it looks where the other comes later only.
+pub const SHORT: u32 = 1_000;
 
 /// How many points a worker comes to.
 const POINTS: u8 = 200;
 
-/// A task that comes to a place, and looks there for a while whether two have come. A turn takes the lock and frees it.
+/// A task that comes to a place, and waits there until two have come. A look takes the lock and frees it.
 #[derive(Drop)]
 struct Meet<'a, R: Wait> {
     rt: &'a R,
     come: &'a Mutex<u64>,
 }
 
-/// Comes to a place. Whether two have come, within the turns.
-pub fn meets<R: Wait>(rt: &R, come: &Mutex<u64>) -> bool {
+/// Comes to a place. Whether two have come, within so many looks.
+pub fn meets<R: Wait>(rt: &R, come: &Mutex<u64>, looks: u32) -> bool {
     {
         let mut come = come.lock(rt);
         *come = come.wrapping_add(1);
     }
-    for _turn in 0..TURNS {
+    for _look in 0..looks {
         if *come.lock(rt) >= 2 {
             return true;
         }
@@ -42,7 +44,7 @@ impl<'a, R: Wait> Task<bool> for Meet<'a, R> {
 
     fn run(self) -> bool {
         let Meet { rt, come } = self;
-        meets(rt, come)
+        meets(rt, come, PATIENT)
     }
 
     fn give_up(self) -> bool {
@@ -83,7 +85,7 @@ fn two_tasks_meet(rt: HostRuntime) {
         rt: &rt,
         come: &come,
     });
-    let mut cells = [first, second];
+    let mut cells = Vec::from_array(rt.alloc(), [first, second]).expect(&rt, "memory");
     let mut missing = 0u32;
     run(
         &rt,
@@ -91,9 +93,9 @@ fn two_tasks_meet(rt: HostRuntime) {
         &mut || missing = missing.saturating_add(count_missing(&starts)),
         &mut cells,
     );
-    let [first, second] = cells;
-    has_met(&rt, first);
-    has_met(&rt, second);
+    for cell in cells {
+        has_met(&rt, cell);
+    }
     same(&rt, missing as usize, 0);
 }
 

@@ -1,6 +1,6 @@
 //! Runs of two workers: at gates of the test's own, under a limit of entries, and with other events between theirs.
 
-use crate::meeting::meets;
+use crate::meeting::{PATIENT, SHORT, meets};
 use crate::outcome::{Hand, holds, same, sees};
 use crate::stranger::{Beside, How, LEAST};
 use crate::team::{Came, Order, run_team};
@@ -8,17 +8,18 @@ use pmd::{Gate, Lockstep};
 use std::sync::atomic::{AtomicU64, Ordering};
 use std::sync::{Mutex, Wait};
 
-/// A gate whose first point opens to a worker only while both are at it: each polls there for a while whether the other
-/// has come. Its other points are open, and so is the first to anybody else.
+/// A gate whose first point opens to a worker only while both are at it: each looks there, so many times at most,
+/// whether the other has come. Its other points are open, and so is the first to anybody else.
 #[derive(Drop)]
 struct Meeting<'a, R> {
     rt: &'a R,
     come: Mutex<u64>,
+    looks: u32,
 }
 
 impl<'a, R: Wait> Gate for Meeting<'a, R> {
     fn pass(&self, worker: usize, point: u8) -> bool {
-        worker >= 2 || point != 0 || meets(self.rt, &self.come)
+        worker >= 2 || point != 0 || meets(self.rt, &self.come, self.looks)
     }
 
     fn leave(&self, _worker: usize) {}
@@ -104,6 +105,7 @@ fn two_workers_stand_at_one_point(rt: HostRuntime) {
     let gate = Meeting {
         rt: &rt,
         come: Mutex::new(0),
+        looks: PATIENT,
     };
     let came = alone(&rt, &gate, ONE_FRAME);
     is_counted(&rt, &came, (1, 0, 0));
@@ -117,6 +119,7 @@ fn workers_one_after_the_other_do_not_meet(rt: HostRuntime) {
         meeting: Meeting {
             rt: &rt,
             come: Mutex::new(0),
+            looks: SHORT,
         },
         left: AtomicU64::new(0),
     };

@@ -91,15 +91,12 @@ all_ended (j ∷ jobs) (s ∷ cells) after [] new sit count ended drained = absu
 taken : {A : Type 0} → (xs rest : List A) (n : ℕ) → n ≡ length xs → take n (xs ++ rest) ≡ xs
 taken xs rest n is = ap (λ (k : ℕ). take k (xs ++ rest)) is ∙ take-append_seam xs rest
 
--- a run over the cells and the collectors of vectors
-pub run_over : (jobs : List Job) (cells after : List (TaskCell Assignment Back)) (old new : List Collector)
-    (len count : ℕ)
-    (rest : List (TaskCell Assignment Back)) (left : List Collector) → AllSit jobs cells old → len ≡ length cells
-    → length after ≡ length cells → count ≡ length old → EachEnded IsBack cells after → AreDrained old new
-    → AllEnded jobs (take len (after ++ rest)) (take count (new ++ left))
-run_over jobs cells after old new len count rest left sit is same has ended drained =
-    rw (taken after rest len (is ∙ sym same), taken new left count (has ∙ sym drained.0))
-    (all_ended jobs cells after old new sit same ended drained)
+-- a run over cells, and over the collectors of a vector
+pub run_over : (jobs : List Job) (cells after : List (TaskCell Assignment Back)) (old new : List Collector) (count : ℕ)
+    (left : List Collector) → AllSit jobs cells old → length after ≡ length cells → count ≡ length old
+    → EachEnded IsBack cells after → AreDrained old new → AllEnded jobs after (take count (new ++ left))
+run_over jobs cells after old new count left sit same has ended drained =
+    rw (taken new left count (has ∙ sym drained.0)) (all_ended jobs cells after old new sit same ended drained)
 
 one_come : (j : Job) (t : TaskCell Assignment Back) (d : Collector) → HasEnded j t d → HasCome t d
 one_come j (Ended b) d (end, pair, room) = (pair, omega (arith, end.few, room))

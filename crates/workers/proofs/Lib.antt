@@ -10,6 +10,7 @@ pub mod Gathering
 pub mod InOrder
 pub mod Keeping
 pub mod OthersLend
+pub mod RestOfCells
 pub mod Returning
 pub mod Sharing
 pub mod Sitting

@@ -1,7 +1,6 @@
 ghost use Rattle.std.specs.Prelude.{◌≡◌, true};
-ghost use Rattle.workers.specs.TaskCells.{waits, IsEnded};
+ghost use Rattle.workers.specs.TaskCells.{waits};
 
-use crate::start::Start;
 use std::mem;
 
 /// What is to be done on a thread of its own, and comes to an end.
@@ -29,8 +28,21 @@ pub enum TaskCell<T, E> {
     Empty,
 }
 
+/// Takes the task out of its cell.
+pub(crate) fn take<T, E>(cell: &mut TaskCell<T, E>) -> T
+    requires { waits cell.old ≡ true }
+    ensures task { cell.old ≡ TaskCell.Waits result }
+    ensures empty { cell.new ≡ TaskCell.Empty }
+{
+    match mem::replace(cell, TaskCell::Empty) {
+        TaskCell::Waits(task) => task,
+        TaskCell::Ended(_end) => unreachable!(),
+        TaskCell::Empty => unreachable!(),
+    }
+}
+
 /// Puts an end into a cell that is empty.
-fn put<T, E>(cell: &mut TaskCell<T, E>, end: E)
+pub(crate) fn put<T, E>(cell: &mut TaskCell<T, E>, end: E)
     requires { cell.old ≡ TaskCell.Empty }
     ensures { cell.new ≡ TaskCell.Ended end }
 {
@@ -38,24 +50,5 @@ fn put<T, E>(cell: &mut TaskCell<T, E>, end: E)
         TaskCell::Empty => {}
         TaskCell::Waits(_task) => unreachable!(),
         TaskCell::Ended(_end) => unreachable!(),
-    }
-}
-
-/// Does the task of a cell, or gives it up where the caller has given it up.
-pub(crate) fn work_at<E, T: Task<E>>(start: &Start, cell: &mut TaskCell<T, E>)
-    requires { waits cell.old ≡ true }
-    ensures { IsEnded T.ends cell.old cell.new }
-{
-    match mem::replace(cell, TaskCell::Empty) {
-        TaskCell::Waits(task) => {
-            let end = if start.begin() {
-                task.run()
-            } else {
-                task.give_up()
-            };
-            put(cell, end);
-        }
-        TaskCell::Ended(_end) => unreachable!(),
-        TaskCell::Empty => unreachable!(),
     }
 }

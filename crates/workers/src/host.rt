@@ -7,19 +7,9 @@ ghost use Rattle.workers.specs.Coming.{AreDrained};
 use crate::feeding::feed;
 use crate::gate::Gate;
 use crate::reports::Collector;
-use crate::start::Start;
 use pmd_driver::{Pass, Shared};
 use std::alloc::Global;
 use std::sync::Wait;
-
-/// Leaves the gate for each worker whose thread doesn't begin, so that nobody waits for it.
-fn leave_for_missing<G: Gate>(gate: &G, starts: &[Start]) {
-    for (worker, start) in starts.iter().enumerate() {
-        if start.is_missing() {
-            gate.leave(worker);
-        }
-    }
-}
 
 /// Takes what has come from each worker so far.
 fn drain_all(collectors: &mut [Collector])
@@ -57,7 +47,7 @@ pub(crate) fn host<R: Wait, G: Gate, const VFS: u8, const FIFO: u16>(
     alloc: Global,
     gate: &G,
     shared: &Shared<VFS, FIFO>,
-    starts: &[Start],
+    worker: usize,
     pass: &mut Pass,
     frames: Vec<Vec<u8>>,
     collectors: &mut [Collector],
@@ -66,8 +56,6 @@ pub(crate) fn host<R: Wait, G: Gate, const VFS: u8, const FIFO: u16>(
     ensures count { result ≡ done_in (gained pass.old pass.new) }
     ensures drained { AreDrained collectors.old collectors.new }
 {
-    leave_for_missing(gate, starts);
-    let worker = starts.len();
     let fed = feed_at(rt, alloc, gate, shared, worker, pass, frames);
     gate.pass(worker, 1);
     gate.leave(worker);

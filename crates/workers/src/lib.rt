@@ -3,9 +3,9 @@
 //! `run_workers` has the jobs done, with the calling thread to feed them and to collect what they tell; `run_worker` is
 //! the run of one of them, over any way to a device.
 //!
-//! Tasks on threads: a task sits in a `TaskCell`, and after `run` its end does; one whose thread doesn't begin in time
-//! gives up, so that nobody waits for it, and `Start` tells whether it began. A place to meet: `Gate` is what a worker
-//! asks of it, and `Lockstep` is the gate at which all members meet that haven't left.
+//! Tasks on threads: a task sits in a `TaskCell`, and after `run` its end does; one for which no thread can be made
+//! gives up, so that nobody waits for it, and its `Start` says so. A place to meet: `Gate` is what a worker asks of it,
+//! and `Lockstep` is the gate at which all members meet that haven't left.
 //!
 //! A worker: `job.rt` has what it is to do, `reports.rt` the way of its reports, `feeding.rt` the frames that arrive
 //! meanwhile; `turns.rt` takes one packet, tells of it and sends it again; `driving.rt` has a whole run and the points

@@ -1,66 +1,33 @@
-//! Whether the thread of a task began.
+//! Whether a task has a thread.
 
-ghost use Rattle.std.specs.Prelude.{◌≤◌};
+use std::sync::atomic::{AtomicU64, Ordering};
 
-use std::sync::atomic::{AtomicIn, Ordering, Rule};
-use std::thread;
-
-/// How often the calling thread looks whether a thread began.
-const LOOKS: u32 = 1_000_000;
-
-/// Nobody has said anything yet.
+/// No thread was refused.
 const OPEN: u64 = 0;
-/// The task's thread began.
-const BEGUN: u64 = 1;
-/// The calling thread waits no longer.
-const GIVEN_UP: u64 = 2;
+/// No thread could be made.
+const REFUSED: u64 = 1;
 
-/// What may be said of a thread: one of the three words.
-struct Said;
-
-impl Rule for Said {
-    ghost use Rattle.workers.specs.declared.start.TheConstants.{GIVEN_UP};
-
-    ghost invariant = { λ word. word ≤ GIVEN_UP };
-}
-
-/// Whether the thread of a task began. Either the thread says that it began, or the calling thread that it waits no
-/// longer: the first word stands.
+/// Whether a task has a thread. One that was made is waited for, however long it takes to begin.
 #[derive(Drop)]
 pub struct Start {
-    word: AtomicIn<Said>,
+    word: AtomicU64,
 }
 
 impl Start {
-    /// No thread began yet.
+    /// No thread was refused yet.
     pub fn new() -> Start {
         Start {
-            word: AtomicIn::new(OPEN),
+            word: AtomicU64::new(OPEN),
         }
     }
 
-    /// Says one thing, where nothing was said yet. False where something was.
-    fn say(&self, word: u64) -> bool
-        requires { word ≤ GIVEN_UP }
-    {
-        self.word
-            .compare_exchange(OPEN, word, Ordering::SeqCst, Ordering::SeqCst)
-            .is_ok()
+    /// No thread can be made.
+    pub(crate) fn refuse(&self) {
+        self.word.store(REFUSED, Ordering::SeqCst);
     }
 
-    /// The thread says that it began. False where the calling thread gave it up.
-    pub(crate) fn begin(&self) -> bool {
-        self.say(BEGUN)
-    }
-
-    /// The calling thread looks for a while whether the thread began, and else gives it up. True where it gave it up.
+    /// Whether no thread could be made for the task. It stays so from the host's call on.
     pub fn is_missing(&self) -> bool {
-        for _look in 0..LOOKS {
-            if self.word.load(Ordering::SeqCst) != OPEN {
-                return false;
-            }
-            thread::yield_now();
-        }
-        self.say(GIVEN_UP)
+        self.word.load(Ordering::SeqCst) == REFUSED
     }
 }

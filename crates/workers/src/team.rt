@@ -61,11 +61,12 @@ fn run_cells<R: Threads + Wait + Sync, G: Gate + Sync, const VFS: u8, const FIFO
     pass: &mut Pass,
     frames: Vec<Vec<u8>>,
     collectors: &mut [Collector],
-    cells: &mut [TaskCell<WorkerTask<'_, R, G, VFS, FIFO>, Back>],
+    cells: &mut Vec<TaskCell<WorkerTask<'_, R, G, VFS, FIFO>, Back>>,
 ) -> usize
-    requires waits { All (λ s. waits s ≡ true) cells.old }
-    requires starts { length starts.now ≡ length cells.old }
-    ensures ended { EachEnded IsBack cells.old cells.new }
+    requires waits { All (λ s. waits s ≡ true) cells.old.items }
+    requires starts { length starts.now ≡ vec_len cells.old }
+    ensures ended { EachEnded IsBack cells.old.items cells.new.items }
+    ensures same { vec_len cells.new ≡ vec_len cells.old }
     ensures fed { AreFed (map (λ frame. frame.items) frames.items) pass.old pass.new }
     ensures count { result ≡ done_in (gained pass.old pass.new) }
     ensures drained { AreDrained collectors.old collectors.new }
@@ -81,7 +82,16 @@ fn run_cells<R: Threads + Wait + Sync, G: Gate + Sync, const VFS: u8, const FIFO
             ensures drained { AreDrained collectors.entry.now collectors.exit.now }
         {
             let frames = mem::replace(&mut frames, Vec::new(alloc));
-            fed = host(rt, alloc, gate, shared, starts, pass, frames, collectors);
+            fed = host(
+                rt,
+                alloc,
+                gate,
+                shared,
+                starts.len(),
+                pass,
+                frames,
+                collectors,
+            );
         },
         cells,
     );
@@ -138,7 +148,8 @@ fn run_in<R: Threads + Wait + Sync, G: Gate + Sync, const VFS: u8, const FIFO: u
 /// tells of each and sends it again, reaps, passes point 2, and stops the driver. The calling thread, whose number at
 /// the gate is that of the jobs, passes point 0, has the frames arrive up to the first that is refused, none where the
 /// gate doesn't let it on, passes point 1 and leaves; then it takes what the workers reported, and joins them. A worker
-/// that ends early leaves the gate, and so does the calling thread for one whose thread doesn't begin.
+/// that ends early leaves the gate, and so does one for which no thread can be made, before another waits for it: it
+/// ends with `NoThread`. A thread that was made is waited for, however long it takes to begin.
 ///
 /// What each end tells is in order over every history of the device that leaves the queue of its job alone, up to the
 /// last call of the end's pass: the packets that its driver handed out are a prefix of those delivered on the queue,

@@ -40,7 +40,7 @@ mod system {
         }
     }
 
-    pub(in crate::kit) fn beside(one: &mut (dyn FnMut() + Send), other: &mut dyn FnMut()) -> bool {
+    pub fn beside(one: &mut (dyn FnMut() + Send), other: &mut dyn FnMut()) -> bool {
         let mut task = Task { call: one, has_panicked: false };
         let at: *mut Task<'_> = &mut task;
         let mut thread = 0;
@@ -63,7 +63,7 @@ mod system {
 mod system {
     use std::thread::{scope, Builder};
 
-    pub(in crate::kit) fn beside(one: &mut (dyn FnMut() + Send), other: &mut dyn FnMut()) -> bool {
+    pub fn beside(one: &mut (dyn FnMut() + Send), other: &mut dyn FnMut()) -> bool {
         scope(|all| match Builder::new().spawn_scoped(all, one) {
             Ok(_) => {
                 other();
@@ -75,4 +75,4 @@ mod system {
 }
 
 /// Calls the one in a thread of its own, and the other here. False where no thread can be made: then none was called.
-pub(in crate::kit) use system::beside;
+pub use system::beside;

@@ -150,6 +150,6 @@ ABSENT: tuple[tuple[str, tuple[tuple[int, int, int, str], ...]], ...] = (
         (0x08780, 0x08780, 0x04, "SSVPC"),
     )),
     ("skip: no interrupt is throttled", (
-        (0x00820, 0x00824, 0x04, "VTEITR of a virtual function"),
+        (0x00820, 0x00820, 0x04, "VTEITR of a virtual function"),
     )),
 )

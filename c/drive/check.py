@@ -8,7 +8,6 @@ from __future__ import annotations
 
 import ast
 import json
-import os
 import re
 import subprocess
 import sys
@@ -20,7 +19,7 @@ from typing import Any
 HERE = Path(__file__).resolve().parent
 C = HERE.parent
 sys.path.insert(0, str(C))
-from explore.check import STRICT, Wrong, ran, told  # noqa: E402
+from explore.check import STRICT, Wrong, ran, sanitized_engine, told  # noqa: E402
 
 
 @dataclass(frozen=True)
@@ -310,16 +309,13 @@ def check_foreign_cards(kit: Kit, card: Path) -> None:
         told(nicdrive(kit.folder, ["--compare", bad, card], 2), f"^nicdrive: .*{wanted}", text[:40])
 
 
-def check_sanitized(kit: Kit, flags: list[str]) -> str:
-    """The card's engine and a driver with the sanitizers' checks in them: all rows, and some bugs."""
+def check_sanitized(kit: Kit, flags: list[str], engine: Path) -> str:
+    """The card's engine and a driver with the sanitizers' checks in them: all rows, and some bugs. The engine is made
+    in a folder, or taken from there."""
     folder = kit.folder / "sanitized"
     folder.mkdir(exist_ok=True)
-    # (by its way from there: a name with a space would be refused)
-    out = os.path.relpath(folder / "out", C)
-    parts = [f"{out}/libnic82599{part}.a" for part in ("_drive", "_explore")]
-    words = " ".join(flags)
-    ran(["make", "-s", "-C", C, f"OUT={out}", f"EXPLORE_FLAGS={words}", f"DRIVE_FLAGS={words}", *parts])
-    own = replace(kit, folder=folder, flags=flags, engine=folder / "out")
+    made = sanitized_engine(engine, kit.compiler, flags, "drive", "explore")
+    own = replace(kit, folder=folder, flags=flags, engine=made[0].parent)
     rows = own.card(own.build(HERE / "corpus/driver.c"), 0, "--runs", 5, "--every", 5)
     return f"sanitized, {sum(row['state'] == 'passed' for row in rows.values())} rows; {check_bugs(own, 2000, 12)}"
 

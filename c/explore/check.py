@@ -211,6 +211,9 @@ def check_examples(kit: Kit, runs: int) -> str:
 
 # --- how faults are told ---
 
+# A sanitizer that reports a crash looks no lines up, which takes longer than all else.
+CRASHES = {name: "symbolize=0" for name in ("ASAN_OPTIONS", "UBSAN_OPTIONS")}
+
 FAULTS = {
     "end": "end: it ended <here> & \"now\"",
     "lines": "end: rx 0: nobody\u00e9 takes it; int 5: no message\n",
@@ -360,7 +363,7 @@ def check_faults(kit: Kit) -> str:
         words = [program, mode, "--quiet", "--jobs", 2, "--out", out, "--junit", junit]
         words += ["--no-shrink"] if mode in ("hang", "endless", "ticks") else []
         words += ["--hang", 2] if mode == "hang" else NO_HANG
-        told(ran(words, 1), f"FAILED {wanted}", mode)
+        told(ran(words, 1, env={**os.environ, **CRASHES}), f"FAILED {wanted}", mode)
         failure = xml.etree.ElementTree.parse(junit).find("testcase/failure")
         if failure is None or not (failure.text or "").strip().startswith("# "):
             raise Wrong(f"{mode}: the JUnit file has no failure with its schedule")
@@ -855,7 +858,7 @@ def check_threads(kit: Kit, searches: int) -> str:
     if "-fsanitize=address,undefined" not in kit.flags:
         if links(kit.compiler, THREAD, kit.folder):
             folder = kit.out("thread")
-            explorer = sanitized_explorer(folder, kit.compiler, THREAD)
+            (explorer,) = sanitized_engine(folder, kit.compiler, THREAD, "explore")
             kits.append(replace(kit, folder=folder, flags=THREAD, explorer=explorer))
         else:
             more = ", not under the thread sanitizer, which isn't here"
@@ -867,15 +870,15 @@ def check_threads(kit: Kit, searches: int) -> str:
     return said + more
 
 
-def sanitized_explorer(folder: Path, compiler: str, flags: list[str]) -> Path:
-    """The engine itself with the sanitizers' checks in it."""
-    made = folder / "explorer"
-    archive = made / "libnic82599_explore.a"
+def sanitized_engine(folder: Path, compiler: str, flags: list[str], *parts: str) -> list[Path]:
+    """Archives of the engine itself, by their names, with the sanitizers' checks in them."""
+    made = folder / "engine"
     # (by its way from there: a name with a space would be refused)
     out = os.path.relpath(made, C)
-    flagged = f"EXPLORE_FLAGS={' '.join(flags)}"
-    ran(["make", "-s", "-C", C, f"OUT={out}", f"CC={compiler}", flagged, f"{out}/{archive.name}"])
-    return archive
+    flagged = [f"{name}_FLAGS={' '.join(flags)}" for name in ("EXPLORE", "DRIVE")]
+    names = [f"libnic82599_{part}.a" for part in parts]
+    ran(["make", "-s", "-C", C, f"OUT={out}", f"CC={compiler}", *flagged, *(f"{out}/{name}" for name in names)])
+    return [made / name for name in names]
 
 
 # How many states of the table's test, scenarios of that of sleep sets, and schedules of each twin by chance; to how

@@ -10,7 +10,7 @@ import shutil
 from pathlib import Path
 from typing import Any
 
-from explore.check import HERE, NO_HANG, Kit, Wrong, ran, told
+from explore.check import CRASHES, HERE, NO_HANG, Kit, Wrong, ran, told
 
 SOURCE = HERE / "tests/told.c"
 FOUND = r"found by .*, (\d+) points and (\d+) switches; shrunk by \d+ tries to (\d+) and (\d+)"
@@ -173,12 +173,12 @@ def check_page(kit: Kit, program: Path) -> str:
             raise Wrong(f"{name}: its schedule goes wrong elsewhere than its page")
     faulty = kit.build(HERE / "tests/faulty.c")
     for mode in ("crash", "end"):  # (amid a step; words that look like a tag)
-        ran([faulty, mode, "--quiet", "--jobs", 1, *NO_HANG, "--out", out], 1)
+        ran([faulty, mode, "--quiet", "--jobs", 1, *NO_HANG, "--out", out], 1, env={**os.environ, **CRASHES})
         data = page_of(out / "faulty.html")
         if data["outcome"] != mode or not data["steps"]:
             raise Wrong(f"faulty {mode}: its page has no steps, or another end")
     words = [faulty, "crash", "--quiet", "--jobs", 1, *NO_HANG, "--strategy", "priorities"]
-    said = ran([*words, "--out", out], 1)
+    said = ran([*words, "--out", out], 1, env={**os.environ, **CRASHES})
     told(said, "found by random before run 0,", "a crash before the first run")
     found_by(kit, program, "round")
     if page_of(out / "told.html")["cycle"] != len(page_of(out / "told.html")["steps"]) - 4:

@@ -333,6 +333,16 @@ fn sends() {
 }
 
 #[test]
+fn a_slot_without_a_frame_is_written_back() {
+    let nic = with_queues();
+    nic.memory().put_descriptor(0x1000, 0, Descriptor::transmit(0x1800, 16, 32, txd::RS)).unwrap();
+    nic.write(TDT.at(0), 1);
+    let advanced = nic.settle(1).unwrap().find(|it| matches!(it, Event::Advanced { .. }));
+    assert_eq!(advanced, Some(Event::Advanced { queue: 0, slot: 0, back: Some(0x1000) }));
+    assert!(nic.memory().descriptor(0x1000, 0).unwrap().is_sent());
+}
+
+#[test]
 fn the_head_is_written_back() {
     let nic = with_queues();
     let memory = nic.memory();

@@ -177,7 +177,13 @@ static int irq_info(struct work *it)
     return 0;
 }
 
-static int set_files(struct work *it, uint32_t start, uint32_t count)
+/* Whether others have their turn before what is left of a message. */
+static bool may_not_go_on(const struct work *it)
+{
+    return budget_is_late(it->began) || !it->session->calls->may_go_on(it->session->function);
+}
+
+static int give_files(struct work *it, uint32_t start, uint32_t count)
 {
     int error = 0;
     for (uint32_t i = 0; i < count; i++) {
@@ -188,8 +194,34 @@ static int set_files(struct work *it, uint32_t start, uint32_t count)
         if (i < it->message->file_count)
             it->message->files[i] = file; /* closed with the message's others */
     }
-    vectors_flush(&it->session->vectors);
     return error;
+}
+
+/* Vectors get files, and what waited for them is sent. */
+static int set_files(struct work *it, uint32_t start, uint32_t count)
+{
+    struct session *session = it->session;
+    if (session->done++ == 0)
+        session->error = give_files(it, start, count);
+    while (vectors_flush_one(&session->vectors))
+        if (may_not_go_on(it))
+            return GOES_ON;
+    return session->error;
+}
+
+/* Messages are sent, to all of these vectors or to those that are named. */
+static int raise_each(struct work *it, uint32_t start, uint32_t count, const uint8_t *named)
+{
+    uint64_t *done = &it->session->done;
+    while (*done < count) {
+        uint32_t i = (uint32_t)(*done)++;
+        if (named && !named[i])
+            continue;
+        vectors_raise(&it->session->vectors, start + i);
+        if (*done < count && may_not_go_on(it))
+            return GOES_ON;
+    }
+    return 0;
 }
 
 static int set_irqs(struct work *it)
@@ -215,10 +247,7 @@ static int set_irqs(struct work *it)
         return set_files(it, start, count);
     if (how != VFU_SET_NONE && how != VFU_SET_BOOL)
         return EINVAL;
-    for (uint32_t i = 0; i < count; i++)
-        if (how == VFU_SET_NONE || each[i])
-            vectors_raise(vectors, start + i);
-    return 0;
+    return raise_each(it, start, count, how == VFU_SET_BOOL ? each : NULL);
 }
 
 /* An access of a region that is there; false, and nothing happened, where it isn't inside. */
@@ -249,12 +278,6 @@ static int region_write(struct work *it)
         return EINVAL;
     it->reply = sizeof *asked;
     return 0;
-}
-
-/* Whether others have their turn before what is left of a message. */
-static bool may_not_go_on(const struct work *it)
-{
-    return budget_is_late(it->began) || !it->session->calls->may_go_on(it->session->function);
 }
 
 static int write_multiple(struct work *it)

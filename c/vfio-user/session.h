@@ -40,7 +40,8 @@ struct session {
     bool is_paused;  /* messages that came wait for the next turn */
     bool is_amid;    /* so does the rest of this one: */
     struct message message;
-    uint64_t done; /* writes of it */
+    uint64_t done; /* of it: writes, or vectors */
+    int error;     /* that it has come to */
     struct session_counts counts;
 };
 

@@ -50,9 +50,12 @@ void vectors_raise(struct vectors *it, unsigned int vector)
         it->pending |= UINT64_C(1) << vector;
 }
 
-void vectors_flush(struct vectors *it)
+bool vectors_flush_one(struct vectors *it)
 {
     for (unsigned int vector = 0; it->pending && vector < it->count; vector++)
-        if (it->pending >> vector & 1 && send_one(it, vector))
+        if (it->pending >> vector & 1 && send_one(it, vector)) {
             it->pending &= ~(UINT64_C(1) << vector);
+            return true;
+        }
+    return false;
 }

@@ -24,7 +24,7 @@ bool vectors_set(struct vectors *it, unsigned int vector, int file);
 bool vectors_has(const struct vectors *it, unsigned int vector);
 /* Sends a message, or has it wait until its vector has a file. */
 void vectors_raise(struct vectors *it, unsigned int vector);
-/* Sends what waits and can be sent. */
-void vectors_flush(struct vectors *it);
+/* Sends one of those that wait and can be sent: false, there is none. */
+bool vectors_flush_one(struct vectors *it);
 
 #endif

@@ -4,6 +4,7 @@
 #include <errno.h>
 #include <signal.h>
 #include <string.h>
+#include <sys/eventfd.h>
 #include <sys/mman.h>
 #include <sys/socket.h>
 #include <sys/un.h>
@@ -11,12 +12,14 @@
 
 #include "../../tests/check.h"
 #include "log.h"
+#include "notifier.h"
 #include "peer/peer.h"
 #include "session.h"
 #include "wire.h"
 
 #define WRITES 340u /* in one message */
 #define A_TURN 16u
+#define VECTORS 64u
 #define SENDERS 16u
 #define PASSED_OVER 8u
 
@@ -65,7 +68,7 @@ static struct peer begin(void)
     const struct vfu_version version = {0, 0};
     int ends[2];
     CHECK(socketpair(AF_UNIX, SOCK_STREAM, 0, ends) == 0);
-    session_begin(&session, &calls, NULL, 1, 0);
+    session_begin(&session, &calls, NULL, VECTORS, 0);
     session_open(&session, ends[0]);
     struct peer peer = {ends[1], 0};
     peer_send(&peer, VFU_VERSION, VFU_NO_REPLY, &version, sizeof version, NULL, 0);
@@ -120,6 +123,58 @@ static void many_writes(bool is_wrong)
     session_close(&session);
     session_end(&session);
     close(peer.file);
+}
+
+/* ---- a message of many interrupts ---- */
+
+static bool never(void *function)
+{
+    (void)function;
+    return false;
+}
+
+static uint64_t told(int event)
+{
+    uint64_t count = 0;
+    return read(event, &count, sizeof count) == (ssize_t)sizeof count ? count : 0;
+}
+
+/* Serves until nothing is left: one interrupt a turn at most; how many there were. */
+static uint64_t interrupts(int event)
+{
+    uint64_t all = 0, now;
+    do {
+        CHECK(session_serve(&session));
+        now = told(event);
+        CHECK(now <= 1);
+        all += now;
+    } while (session_is_paused(&session));
+    return all;
+}
+
+/* Those that are sent, and those that waited for their file. The kernel calls all that watch an eventfd, of which a
+   client has as many as it likes. */
+static void many_interrupts(void)
+{
+    static const struct session_calls slowly = {.may_serve = always, .may_go_on = never};
+    const struct vfu_irq_set raise = {sizeof raise, VFU_SET_NONE | VFU_SET_TRIGGER, VFU_MSIX, 0, VECTORS};
+    struct peer peer = begin();
+    int event = eventfd(0, EFD_CLOEXEC | EFD_NONBLOCK), files[VFU_FILES_MOST];
+    uint8_t room[64];
+    session.calls = &slowly;
+    for (unsigned int i = 0; i < VFU_FILES_MOST; i++)
+        files[i] = event;
+    uint16_t first = peer_send(&peer, VFU_DEVICE_SET_IRQS, 0, &raise, sizeof raise, NULL, 0);
+    CHECK(interrupts(event) == 0 && peer_reply(&peer, first, room, sizeof room) == 0); /* all wait */
+    const struct vfu_irq_set give = {sizeof give, VFU_SET_EVENTFD | VFU_SET_TRIGGER, VFU_MSIX, 0, VFU_FILES_MOST};
+    uint16_t second = peer_send(&peer, VFU_DEVICE_SET_IRQS, 0, &give, sizeof give, files, VFU_FILES_MOST);
+    CHECK(interrupts(event) == VFU_FILES_MOST && peer_reply(&peer, second, room, sizeof room) == 0);
+    uint16_t third = peer_send(&peer, VFU_DEVICE_SET_IRQS, 0, &raise, sizeof raise, NULL, 0);
+    CHECK(interrupts(event) == VFU_FILES_MOST && peer_reply(&peer, third, room, sizeof room) == 0);
+    session_close(&session);
+    session_end(&session);
+    close(peer.file);
+    close(event);
 }
 
 /* Its client goes in the middle, and the next one begins with its own. */
@@ -231,8 +286,10 @@ int main(int count, char **words)
 {
     CHECK(count == 2);
     signal(SIGPIPE, SIG_IGN);
+    CHECK(notifier_open());
     many_writes(false);
     many_writes(true);
+    many_interrupts();
     one_goes();
     long_datagrams(words[1]);
     bytes_of_memory();

@@ -79,7 +79,7 @@ static void one_out(void *to, const uint8_t *frame, size_t length)
 {
     struct card *it = to;
     if (it->sink)
-        it->sink(it->sink_to, frame, length);
+        it->sink(it->sink_to, it->budget.payer, frame, length);
 }
 
 /* Sends what is left of a large send, as much as the budget allows: false where some is left yet. */

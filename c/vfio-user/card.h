@@ -33,7 +33,7 @@ struct card_options {
 };
 
 /* Where frames go that the card sent. */
-typedef void card_sink(void *to, const uint8_t *frame, size_t length);
+typedef void card_sink(void *to, unsigned int sender, const uint8_t *frame, size_t length);
 
 #define CARD_ACCESSES 16
 

@@ -20,11 +20,11 @@ struct events {
     struct pollfd ending, functions[SERVER_FUNCTIONS][FUNCTION_POLLS], wire[WIRE_POLLS], control[CONTROL_POLLS];
 };
 
-static void from_card(void *to, const uint8_t *frame, size_t length)
+static void from_card(void *to, unsigned int sender, const uint8_t *frame, size_t length)
 {
     struct server *it = to;
     traffic_take(&it->traffic, frame, length);
-    wire_send(&it->wire, frame, length);
+    wire_send(&it->wire, sender, frame, length);
 }
 
 /* ---- open ---- */

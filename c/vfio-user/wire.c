@@ -114,12 +114,12 @@ static void flush(struct wire *it)
         flush_stream(it);
 }
 
-/* Keeps a frame behind its length; what is more than WIRE_KEPT is lost. */
-static bool keep(struct wire *it, struct buffer *buffer, const uint8_t *frame, size_t length)
+/* Keeps a frame behind its length; what is more than so many bytes is lost. */
+static bool keep(struct wire *it, struct buffer *buffer, size_t most, const uint8_t *frame, size_t length)
 {
     uint8_t head[LENGTH_BYTES];
     put_length(head, length);
-    if (buffer_waiting(buffer) + length <= WIRE_KEPT && buffer_put(buffer, head, sizeof head, frame, length))
+    if (buffer_waiting(buffer) + length <= most && buffer_put(buffer, head, sizeof head, frame, length))
         return true;
     it->counts.lost_full++;
     return false;
@@ -132,7 +132,7 @@ static void send_out(struct wire *it, const uint8_t *frame, size_t length)
         return;
     }
     bool is_first = buffer_waiting(&it->out) == 0;
-    if (keep(it, &it->out, frame, length) && is_first)
+    if (keep(it, &it->out, WIRE_KEPT, frame, length) && is_first)
         flush(it);
 }
 
@@ -147,7 +147,13 @@ static void capture(struct wire *it, enum capture_direction direction, const uin
     output_end(&it->capture, 0);
 }
 
-void wire_send(struct wire *it, const uint8_t *frame, size_t length)
+/* Whether a frame is kept that comes back for one of this sender. */
+static bool comes_back(struct wire *it, unsigned int sender, const uint8_t *frame, size_t length)
+{
+    return keep(it, &it->local[sender % WIRE_SENDERS], WIRE_COMING_BACK, frame, length);
+}
+
+void wire_send(struct wire *it, unsigned int sender, const uint8_t *frame, size_t length)
 {
     static uint8_t reply[WIRE_FRAME_MOST];
     it->counts.out++;
@@ -159,23 +165,37 @@ void wire_send(struct wire *it, const uint8_t *frame, size_t length)
     }
     if (it->options.kind == WIRE_RESPOND) {
         size_t answer = respond(frame, length, responder, it->options.address, reply);
-        it->counts.replies += answer && keep(it, &it->local, reply, answer);
+        it->counts.replies += answer && comes_back(it, sender, reply, answer);
     } else if (it->options.kind != WIRE_NONE) {
         send_out(it, frame, length);
     }
     if (it->options.has_hairpin)
-        it->counts.hairpins += keep(it, &it->local, frame, length);
+        it->counts.hairpins += comes_back(it, sender, frame, length);
 }
 
 /* ---- frames for the card ---- */
 
+/* Whose turn it is among those whose frames have come back; WIRE_SENDERS: nothing waits. */
+static unsigned int next_local(const struct wire *it)
+{
+    for (unsigned int i = 0; i < WIRE_SENDERS; i++) {
+        unsigned int sender = (it->next_local + i) % WIRE_SENDERS;
+        if (buffer_waiting(&it->local[sender]))
+            return sender;
+    }
+    return WIRE_SENDERS;
+}
+
 static size_t from_local(struct wire *it)
 {
-    if (!buffer_waiting(&it->local))
+    unsigned int sender = next_local(it);
+    if (sender == WIRE_SENDERS)
         return 0;
-    size_t length = get_length(buffer_front(&it->local));
-    memcpy(it->frame, buffer_front(&it->local) + LENGTH_BYTES, length);
-    buffer_take(&it->local, LENGTH_BYTES + length);
+    struct buffer *buffer = &it->local[sender];
+    size_t length = get_length(buffer_front(buffer));
+    memcpy(it->frame, buffer_front(buffer) + LENGTH_BYTES, length);
+    buffer_take(buffer, LENGTH_BYTES + length);
+    it->next_local = sender + 1;
     return length;
 }
 
@@ -258,13 +278,20 @@ static size_t from_file(struct wire *it)
     return 0;
 }
 
+static size_t from_others(struct wire *it, bool plays)
+{
+    size_t length = 0;
+    if (it->file >= 0)
+        length = it->options.kind == WIRE_DGRAM ? from_datagram(it) : from_stream(it);
+    return !length && plays ? from_file(it) : length;
+}
+
 size_t wire_next(struct wire *it, bool plays)
 {
-    size_t length = from_local(it);
-    if (!length && it->file >= 0)
-        length = it->options.kind == WIRE_DGRAM ? from_datagram(it) : from_stream(it);
-    if (!length && plays)
-        length = from_file(it);
+    size_t length = it->others_turn ? from_others(it, plays) : from_local(it);
+    if (!length)
+        length = it->others_turn ? from_local(it) : from_others(it, plays);
+    it->others_turn = !it->others_turn;
     if (!length)
         return 0;
     if (length < FRAME_LEAST) { /* whoever sends on a wire fills up */
@@ -326,7 +353,7 @@ void wire_serve(struct wire *it, const struct pollfd *polls)
 
 bool wire_has_more(const struct wire *it, bool plays)
 {
-    if (buffer_waiting(&it->local) || (plays && it->played))
+    if (next_local(it) < WIRE_SENDERS || (plays && it->played))
         return true;
     return has_frame(it);
 }
@@ -399,7 +426,8 @@ void wire_close(struct wire *it)
     bool has_name = it->listener >= 0 || (it->options.kind == WIRE_DGRAM && it->file >= 0);
     hang_up(it);
     connector_end(&it->connector);
-    buffer_clear(&it->local);
+    for (unsigned int sender = 0; sender < WIRE_SENDERS; sender++)
+        buffer_clear(&it->local[sender]);
     if (it->listener >= 0)
         close(it->listener);
     if (has_name)

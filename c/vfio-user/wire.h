@@ -10,6 +10,7 @@
 #include <stdint.h>
 #include <stdio.h>
 
+#include "budget.h"
 #include "buffer.h"
 #include "capture.h"
 #include "connector.h"
@@ -17,6 +18,8 @@
 #define WIRE_FRAME_MOST 65536u  /* bytes: longer ones no card sends or takes */
 #define WIRE_LENGTH_MOST 69632u /* QEMU sends none longer: what claims to be isn't its format */
 #define WIRE_KEPT (16u << 20)
+#define WIRE_COMING_BACK (1u << 20) /* bytes of replies and hairpins that are kept of each sender's */
+#define WIRE_SENDERS BUDGET_PAYERS  /* who sends frames: clients by their sockets, and who else pays for it */
 #define WIRE_POLLS 2
 
 enum wire_kind { WIRE_NONE, WIRE_RESPOND, WIRE_STREAM, WIRE_LISTEN, WIRE_DGRAM };
@@ -42,9 +45,11 @@ struct wire {
     struct wire_counts counts;
     int file, listener; /* -1: none */
     struct connector connector;
-    struct buffer out;   /* for the other end: stream: bytes; dgram: frames behind their lengths */
-    struct buffer in;    /* of a stream */
-    struct buffer local; /* replies and hairpins, behind their lengths */
+    struct buffer out;                 /* for the other end: stream: bytes; dgram: frames behind their lengths */
+    struct buffer in;                  /* of a stream */
+    struct buffer local[WIRE_SENDERS]; /* replies and hairpins of each sender's frames, behind their lengths */
+    unsigned int next_local;           /* whose turn it is of these, */
+    bool others_turn;                  /* and whether it is the other end's, or the file's, before them */
     struct output capture;
     FILE *played;
     struct capture_reader play;
@@ -55,10 +60,10 @@ struct wire {
 bool wire_open(struct wire *it, const struct wire_options *options);
 void wire_close(struct wire *it);
 
-/* A frame of the card's. */
-void wire_send(struct wire *it, const uint8_t *frame, size_t length);
+/* A frame of the card's, by the sender whose ring it lay in. */
+void wire_send(struct wire *it, unsigned int sender, const uint8_t *frame, size_t length);
 /* The next frame for the card, at least 60 bytes: in it->frame, and its length; 0: none waits. `plays`: those of the
-   file too. */
+   file too. What comes back of each sender's frames, and the other end, take turns: none keeps the others out. */
 size_t wire_next(struct wire *it, bool plays);
 
 /* What is to be polled for: WIRE_POLLS entries, unused ones with file -1. `takes`: the card has room

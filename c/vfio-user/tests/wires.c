@@ -56,8 +56,8 @@ static void passes_a_stream(int peer)
 {
     uint8_t frame[2000], bytes[4 + 2000];
     make_frame(frame, 1514, 1);
-    wire_send(&wire, frame, 1514);
-    wire_send(&wire, frame, 60);
+    wire_send(&wire, 0, frame, 1514);
+    wire_send(&wire, 0, frame, 60);
     take(peer, bytes, 4 + 1514);
     CHECK(memcmp(bytes, "\0\0\5\352", 4) == 0 && memcmp(bytes + 4, frame, 1514) == 0);
     take(peer, bytes, 4 + 60);
@@ -139,7 +139,7 @@ static void streams(void)
     struct sockaddr_un name = name_of(first_path);
     uint8_t frame[100] = {0};
     CHECK(wire_open(&wire, &listens));
-    wire_send(&wire, frame, sizeof frame);
+    wire_send(&wire, 0, frame, sizeof frame);
     CHECK(wire.counts.lost_nobody == 1 && wire.counts.out == 1);
     int peer = socket(AF_UNIX, SOCK_STREAM, 0);
     CHECK(connect(peer, (const struct sockaddr *)&name, sizeof name) == 0);
@@ -183,7 +183,7 @@ static void a_full_end(void)
     serve(true);
     for (; wire.counts.lost_full < 10; sent++) {
         make_frame(frame, sizeof frame, (unsigned int)sent);
-        wire_send(&wire, frame, sizeof frame);
+        wire_send(&wire, 0, frame, sizeof frame);
     }
     CHECK(sent * sizeof frame > WIRE_KEPT && sent * sizeof frame < 2 * WIRE_KEPT);
     for (uint64_t i = 0; i < sent - 10; i++) {
@@ -214,7 +214,7 @@ static void datagrams(void)
     static uint8_t frame[70000], got[20000];
     unsigned int count = 0;
     CHECK(wire_open(&wire, &options));
-    wire_send(&wire, frame, 60);
+    wire_send(&wire, 0, frame, 60);
     CHECK(wire.counts.lost_nobody == 1);
     int peer = socket(AF_UNIX, SOCK_DGRAM, 0);
     unlink(second_path);
@@ -222,7 +222,7 @@ static void datagrams(void)
     wait_for_other();
     for (; count < 100 || (count < DATAGRAMS && wire_patience(&wire) != 1); count++) { /* until its queue is full */
         make_frame(frame, 1514, count);
-        wire_send(&wire, frame, 1514);
+        wire_send(&wire, 0, frame, 1514);
     }
     CHECK(wire_patience(&wire) == 1);
     for (unsigned int i = 0; i < count; i++) {
@@ -240,6 +240,48 @@ static void datagrams(void)
     CHECK(access(first_path, F_OK) != 0);
 }
 
+/* ---- turns ---- */
+
+/* Sends so many frames of 60 bytes by the other end, in one piece. */
+static void send_ten(int peer, uint8_t mark)
+{
+    uint8_t bytes[10 * 64] = {0};
+    for (unsigned int i = 0; i < 10; i++) {
+        bytes[64 * i + 3] = 60;
+        bytes[64 * i + 63] = mark;
+    }
+    CHECK(send(peer, bytes, sizeof bytes, 0) == sizeof bytes);
+}
+
+/* What comes back of one sender's frames doesn't keep out what comes back of another's, nor the other end's. */
+static void turns(void)
+{
+    const struct wire_options listens = {.kind = WIRE_LISTEN, .path = first_path, .has_hairpin = true};
+    struct sockaddr_un name = name_of(first_path);
+    uint8_t frame[60] = {0};
+    unsigned int from[3] = {0};
+    CHECK(wire_open(&wire, &listens));
+    while (wire.counts.lost_full == 0)
+        wire_send(&wire, 1, frame, sizeof frame);
+    CHECK(wire.counts.hairpins * 64 <= WIRE_COMING_BACK + 64);
+    frame[59] = 1;
+    for (unsigned int i = 0; i < 10; i++)
+        wire_send(&wire, 2, frame, sizeof frame);
+    CHECK(wire.counts.lost_full == 1);
+    int peer = socket(AF_UNIX, SOCK_STREAM, 0);
+    CHECK(connect(peer, (const struct sockaddr *)&name, sizeof name) == 0);
+    serve(true);
+    send_ten(peer, 2);
+    serve(true);
+    for (unsigned int i = 0; i < 40; i++) {
+        CHECK(wire_next(&wire, false) == 60 && wire.frame[59] < 3);
+        from[wire.frame[59]]++;
+    }
+    CHECK(from[0] == 20 && from[1] == 10 && from[2] == 10);
+    close(peer);
+    wire_close(&wire);
+}
+
 /* ---- captures ---- */
 
 static void captures(void)
@@ -250,7 +292,7 @@ static void captures(void)
     CHECK(wire_open(&wire, &out));
     for (unsigned int i = 0; i < 50; i++) {
         make_frame(frame, 60 + i, i);
-        wire_send(&wire, frame, 60 + i);
+        wire_send(&wire, 0, frame, 60 + i);
         CHECK(wire_next(&wire, false) == 60 + i); /* it comes back */
     }
     CHECK(wire.counts.hairpins == 50);
@@ -320,6 +362,7 @@ int main(int count, char **words)
     streams();
     a_full_end();
     datagrams();
+    turns();
     captures();
     spoilt_captures();
     answers();

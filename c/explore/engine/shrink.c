@@ -394,11 +394,11 @@ uint32_t nicxi_shrink(const struct options *options, struct failure *failure)
     size_t size = ((size_t)nicxi.most_points + 1) * sizeof *failure->schedule;
     struct failure best = *failure;
     struct shrinking it = {.options = options,
-                          .best = &best,
-                          .post = nicxi_posts(1),
-                          .omitted = failure->omitted,
-                          .list = malloc(size),
-                          .limit = nicxi_limit(MOST_SECONDS)};
+                           .best = &best,
+                           .post = nicxi_posts(1),
+                           .omitted = failure->omitted,
+                           .list = malloc(size),
+                           .limit = nicxi_limit(MOST_SECONDS)};
     best.schedule = malloc(size);
     if (it.post && it.list && best.schedule) {
         memcpy(best.schedule, failure->schedule, failure->result.points * sizeof *best.schedule);

@@ -119,7 +119,7 @@ static void bad_accesses(struct peer *it)
     CHECK(reply[16] == 0xFF && reply[17] == 0xFF);
 }
 
-/* It is no end of its own: the server closes what it was sent later, and would not see till then that its client goes. */
+/* No end of its own: the server closes later what it was sent, and until then wouldn't see that its client goes. */
 static void map_socket(struct peer *it)
 {
     int other = socket(AF_UNIX, SOCK_STREAM | SOCK_CLOEXEC, 0);

@@ -1,9 +1,8 @@
 //! Values with several owners, locks, and threads.
 
 use super::super::host::HostRuntime;
-use super::super::sync::atomic::{AtomicIn, Ordering, Rule};
 use super::super::sync::{Arc, Condvar, Mutex, Wait};
-use super::super::thread::{for_each_mut, join_mut, scope, scope_env};
+use super::super::thread::{beside, join_mut, scope, scope_env};
 use super::*;
 use std::rc::Rc;
 
@@ -73,35 +72,14 @@ fn one_of_two_is_woken() {
     assert!(RT.forever().take(3).eq([(); 3]));
 }
 
-struct Any;
-
-impl Rule for Any {}
-
-#[test]
-fn a_number_is_exchanged_where_it_is_the_old_one() {
-    let number = AtomicIn::<Any>::new(5);
-    let exchange = |old, new| number.compare_exchange(old, new, Ordering::SeqCst, Ordering::SeqCst);
-    assert_eq!((exchange(4, 9), number.load(Ordering::SeqCst)), (Err(5), 5));
-    assert_eq!((exchange(5, 9), number.load(Ordering::SeqCst)), (Ok(5), 9));
-}
-
 #[test]
 fn work_is_split() {
-    for count in 0..40 {
-        for threads in [1, 2, 3, 7, 64] {
-            let mut all: Vec<_> = vec![(0, None); count];
-            for_each_mut(&RT, &mut all, threads, &|place, it: &mut (usize, _)| {
-                *it = (it.0 + place + 1, Some(std::thread::current().id()));
-            });
-            assert!(all.iter().enumerate().all(|(place, it)| it.0 == place + 1));
-            let mut of: Vec<_> = all.iter().map(|it| it.1).collect();
-            of.dedup();
-            assert!(of.len() <= threads, "{} threads of {threads} for {count}", of.len());
-        }
-    }
     let (mut one, mut other) = (None, None);
     join_mut(&RT, &mut || one = Some(std::thread::current().id()), &mut || other = Some(std::thread::current().id()));
     assert!(one.is_some() && one != other && other == Some(std::thread::current().id()));
+    let here = std::thread::current().id();
+    let made = beside(&mut || one = Some(std::thread::current().id()), &mut || other = None);
+    assert_eq!((made, one != Some(here), other), (true, true, None));
     let sum = Mutex::new(0);
     scope(scope_env(), &RT, |all| (0..5).for_each(|k| all.spawn(move || ()).map(|()| *sum.lock(&RT) += k).unwrap()));
     assert_eq!(sum.into_inner(), 10);

@@ -1,8 +1,8 @@
 //! A shared device that doesn't close with the wrong passes: its history stays as it is, takes further calls up to its
 //! limit, and closes with the right passes.
 
-use crate::bench::count_calls;
-use crate::outcome::{Hand, push, refused, same, same_pair, sees, some};
+use crate::bench::{count_calls, end};
+use crate::outcome::{Hand, done, push, refused, same, same_pair, sees, some};
 use crate::shared::{
     Bench, closed, counted, is_full, passes_of, refused_step, shared, three_steps, write_and_read,
 };
@@ -94,4 +94,44 @@ fn put_a_namesakes_pass(rt: &impl Hand) {
 #[test]
 fn a_close_with_a_namesakes_pass_keeps_the_history(rt: HostRuntime) {
     put_a_namesakes_pass(&rt);
+}
+
+/// It is closed without pass 1, and with one of another shared device: the missing pass is reported.
+fn swap_a_pass(rt: &impl Hand) {
+    let (bench, mut passes) = called(rt);
+    let (other, mut others) = shared(rt, 2, 2, 16);
+    let own = some(rt, passes.pop());
+    push(rt, &mut passes, some(rt, others.pop()));
+    let (bench, mut passes) = stays_open(rt, bench, passes, CloseFault::MissingPass(1));
+    push(rt, &mut others, some(rt, passes.pop()));
+    push(rt, &mut passes, own);
+    goes_on(rt, bench, passes);
+    same(rt, closed(rt, other, others), 0);
+}
+
+#[test]
+fn a_missing_pass_is_reported_before_a_foreign_one(rt: HostRuntime) {
+    swap_a_pass(&rt);
+}
+
+/// Where the calls of pass 1 and of pass 0 are in the history: the first three are of pass 1, the ten after them of
+/// pass 0.
+fn look_for_calls(rt: &impl Hand) {
+    let (bench, passes) = called(rt);
+    let closed = done(rt, bench.close(passes));
+    let first = done(rt, closed.of_pass(rt.alloc(), 1));
+    let second = done(rt, closed.of_pass(rt.alloc(), 0));
+    let third = done(rt, closed.of_pass(rt.alloc(), 2));
+    sees(rt, first.as_slice() == [0, 1, 2].as_slice());
+    sees(
+        rt,
+        second.as_slice() == [3, 4, 5, 6, 7, 8, 9, 10, 11, 12].as_slice(),
+    );
+    sees(rt, third.is_empty());
+    same(rt, end(rt, closed.into_device()).len(), 0);
+}
+
+#[test]
+fn positions_of_a_pass_are_those_of_its_calls(rt: HostRuntime) {
+    look_for_calls(&rt);
 }

@@ -201,6 +201,38 @@ fn start_beside(rt: &impl Hand, steps: Steps, size: u16, numbers: (u32, u32)) ->
     }
 }
 
+/// A start on a queue that the device can't have: the size of a ring and the number of blocks are looked at before.
+type Unnamed<'a> = (&'a str, u16, u32, Why);
+
+#[rattlefmt::skip]
+const UNNAMED: [Unnamed<'static>; 3] = [
+    ("a ring of twelve with too few blocks", 12, 8, Why::BadSize),
+    ("eight blocks for a ring of eight", 8, 8, Why::NoBuffer),
+    ("enough blocks", 8, 32, Why::DeviceFault),
+];
+
+/// A start on queue 128 is refused as its row says, and lends nothing.
+fn check_unnamed(rt: &impl Hand, (name, size, count, wanted): Unnamed<'_>) {
+    let mut direct = opened(rt, 64, 0);
+    let arena = done(rt, Arena::new(rt.alloc(), 0, count));
+    let start = Pmd::start(rt.alloc(), &mut direct, Port::Pf, 128, size, 1518, arena);
+    let (why, is_lent) = come_home(rt, &mut direct, refused(rt, start));
+    holds(rt, name, "refused", why == wanted && !is_lent);
+    end(rt, in_hand(direct));
+}
+
+/// Each of these starts is refused as its row says.
+fn check_all_unnamed(rt: &impl Hand, rows: &[Unnamed<'_>]) {
+    for row in rows {
+        check_unnamed(rt, *row);
+    }
+}
+
+#[test]
+fn too_few_blocks_are_reported_before_a_queue_that_is_not_there(rt: HostRuntime) {
+    check_all_unnamed(&rt, &UNNAMED);
+}
+
 /// A start is refused as its row says.
 fn check_start(rt: &impl Hand, (name, steps, size, numbers, wanted, is_lent): Start<'_>) {
     let (why, was_lent) = start_beside(rt, steps, size, numbers);

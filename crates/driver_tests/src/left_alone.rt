@@ -31,16 +31,20 @@ impl Deed {
 }
 
 /// An event of another pass, the word of GCR_EXT before it, and whether queue 0 is left alone. It is where other queues
-/// are written, blocks that the driver doesn't lend are taken, and such blocks are written. It isn't by any access to a
-/// register that the queue relies on, by a reset of its pool, and by accesses to its driver's blocks.
+/// are written, the filter and the switches of both directions are, blocks that the driver doesn't lend are taken, and
+/// such blocks are written. It isn't by any access to a register that the queue relies on, by a reset of its pool, and
+/// by accesses to its driver's blocks.
 type Row<'a> = (&'a str, u32, Deed, bool);
 
 #[rattlefmt::skip]
-const ROWS: [Row<'static>; 19] = [
+const ROWS: [Row<'static>; 22] = [
     ("TDT of queue 1", 0, Deed::Writes(Port::Pf, 0x06058, 3), true),
     ("TDT of no pool's queue", 0, Deed::Writes(Port::Vf(0), 0x2018, 3), true),
     ("a reset of no pool", 0, Deed::Writes(Port::Pf, 0x00300, 0x0400_0000), true),
     ("TDT of the last of the pool's eight queues", 1, Deed::Writes(Port::Vf(0), 0x21D8, 3), true),
+    ("FCTRL", 0, Deed::Writes(Port::Pf, 0x05080, 0x700), true),
+    ("RXCTRL", 0, Deed::Writes(Port::Pf, 0x03000, 0), true),
+    ("DMATXCTL", 0, Deed::Writes(Port::Pf, 0x04A80, 0), true),
     ("a block that isn't lent is taken", 0, Deed::Takes(6), true),
     ("a block that isn't lent is poked", 0, Deed::Pokes(0x3000), true),
     ("a step of receiving", 0, Deed::Steps, true),

@@ -1,0 +1,4 @@
+pub mod Addresses
+pub mod Ending
+pub mod Others
+pub mod Writes

@@ -1,0 +1,55 @@
+-- Which other events leave a queue alone, and which entries of a history count.
+use Rattle.std.proofs.Common.{◌≡◌, ℕ, false, eqb, List, [], ◌∷◌, ◌++◌, refl, ap, sym, ◌∙◌}
+use Rattle.std.proofs.lemmas.Bool.{both_ways, or_parts}
+use Rattle.lock_laws.specs.Leaving.{HistoriesLeave, HistoriesLeaveQueues, OthersLeaveQueues}
+use Rattle.lock_laws.specs.Prelude.{Entry, Watched, has_begun}
+
+pub others_leave : OthersLeaveQueues
+others_leave w mode mine = (
+  record {
+    lend = λ block. (λ h. h, λ h. h);
+    take = λ number. (λ h. h, λ h. h);
+    poke = λ address bytes. (λ h. h, λ h. h);
+    write = λ port number word. tt;
+  },
+  record {
+    piece = λ q slot desc at len end other. (λ h. h other, λ h differs. h);
+    own = λ slot desc at len end other. absurd (other refl);
+    head = λ q slot back other. (λ h. h other, λ h differs. h);
+    sent_head = λ q len back other. (λ h. h other, λ h differs. h);
+    no_head = λ q slot. tt;
+    no_sent_head = λ q len. tt;
+  },
+)
+
+-- what is before the last entry, or before one further on, begins no earlier
+begins_no_earlier : (pass : ℕ) (h before after : List Entry) (e other : Entry) →
+    h ++ e ∷ [] ≡ before ++ other ∷ after → has_begun pass h ≡ false → has_begun pass before ≡ false
+begins_no_earlier pass h [] after e other split not_yet = refl
+begins_no_earlier pass [] (b ∷ before) after e other split not_yet =
+    absurd (no_rest before (sym (ap (λ (es : List Entry). tail es) split))) where
+      tail : List Entry → List Entry
+      tail [] = []
+      tail (x ∷ xs) = xs
+
+      no_rest : (xs : List Entry) → xs ++ other ∷ after ≡ [] → ⊥
+      no_rest [] h = cc
+      no_rest (x ∷ xs) h = cc
+begins_no_earlier pass (x ∷ h) (b ∷ before) after e other split not_yet =
+    let parts = or_parts (eqb x.pass pass) (has_begun pass h) not_yet in
+    let same : x ≡ b = cc in
+    let rest : h ++ e ∷ [] ≡ before ++ other ∷ after = cc in
+    rw (sym (ap (λ (y : Entry). eqb y.pass pass) same) ∙ parts.0)
+    (begins_no_earlier pass h before after e other rest parts.1)
+
+histories_leave_one : (w : Watched) (h : List Entry) (e : Entry) → HistoriesLeave w h e
+histories_leave_one w h e = record {
+  before = λ not_yet before other after split begun.
+      absurd (both_ways (has_begun w.pass before)
+      (begins_no_earlier w.pass h before after e other split not_yet) begun);
+  register = λ after begun differs ends leaves. ends ((leaves h e after refl begun).registers differs);
+  block = λ after begun differs ends leaves. ends ((leaves h e after refl begun).blocks differs);
+}
+
+pub histories_leave : HistoriesLeaveQueues
+histories_leave w h e = histories_leave_one w h e

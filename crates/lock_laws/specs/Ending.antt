@@ -1,0 +1,37 @@
+-- How a history is closed, by the passes that are there, and where the entries of a pass are.
+use Rattle.std.specs.Prelude.{◌≡◌, ◌≢◌, ◌↔◌, ◌<◌, ◌≤◌, ◌==◌, ◌&&◌, ℕ, Bool, true, false, List, length, Contains, AllPairs}
+use Rattle.std.specs.Prelude.{slice_get, Option, Some}
+use Rattle.std.specs.List.{list_any}
+use Rattle.device_lock.specs.Closing.{Answers}
+use Rattle.device_lock.specs.Positions.{positions_of}
+use Rattle.lock_laws.specs.Prelude.{PassValue, Entry, CloseFault, MissingPass, ForeignPass}
+
+-- whether a pass of the bench has this tag
+abbrev pub is_there : ℕ → ℕ → List PassValue → Bool
+is_there bench tag passes = list_any (λ p. p.bench == bench && p.tag == tag) passes
+
+-- a lowest tag that no pass has is reported whatever else is wrong: passes of other benches, or one that comes twice,
+-- or calls that the history hasn't. Where each tag is there, a pass of another bench, or with no tag of this one, is
+-- reported
+pub record ClosingTells (bench count : ℕ) (h : List Entry) (passes : List PassValue) (answer : Option CloseFault) :
+    Type 0 where
+  pub missing : (tag : ℕ) → tag < count → is_there bench tag passes ≡ false →
+      ((lower : ℕ) → lower < tag → is_there bench lower passes ≡ true) → answer ≡ Some (MissingPass tag)
+  pub foreign : ((tag : ℕ) → tag < count → is_there bench tag passes ≡ true) → (p : PassValue) →
+      Contains passes p → p.bench ≢ bench → answer ≡ Some ForeignPass
+  pub untagged : ((tag : ℕ) → tag < count → is_there bench tag passes ≡ true) → (p : PassValue) →
+      Contains passes p → count ≤ p.tag → answer ≡ Some ForeignPass
+
+abbrev pub ClosingHasAnOrder : Type 0
+ClosingHasAnOrder =
+    (bench count : ℕ) (h : List Entry) (passes : List PassValue) (answer : Option CloseFault) →
+    Answers bench count h passes answer → ClosingTells bench count h passes answer
+
+-- position p is listed exactly where entry p, of which the first is entry 0, has the tag; and in ascending order
+pub record PositionsAre (tag : ℕ) (h : List Entry) : Type 0 where
+  pub listed : (p : ℕ) (e : Entry) → slice_get h p ≡ Some e → Contains (positions_of tag h) p ↔ (e.pass ≡ tag)
+  pub inside : (p : ℕ) → Contains (positions_of tag h) p → p < length h
+  pub ascend : AllPairs ◌<◌ (positions_of tag h)
+
+abbrev pub PositionsAreExact : Type 0
+PositionsAreExact = (tag : ℕ) (h : List Entry) → PositionsAre tag h

@@ -1,0 +1,123 @@
+-- Which events of other passes leave the queue of a driver alone, by the names of registers and the bits of words.
+use Rattle.std.specs.Prelude.{◌≡◌, ◌≢◌, ◌↔◌, ◌+◌, ◌/◌, ◌%◌, ◌<◌, ◌≤◌, ◌==◌, ◌||◌, ℕ, Bool, true, false}
+use Rattle.std.specs.Prelude.{List, [], ◌∷◌, ◌++◌, Some, None}
+use Rattle.device_lock.specs.NicDevice.RegTable.declared.rows.RowId.TheVariants as row
+use Rattle.device_lock.specs.NicDevice.VfMap.declared.mode.Mode.TheVariants.{Off, Pools16, Pools32, Pools64}
+use Rattle.device_lock.specs.NicDevice.declared.event.Event.TheVariants as event
+use Rattle.lock_laws.specs.Prelude.{Place, RowId, Mode, Block, Event, Port, Pf, Wrote, Advanced, Sent}
+use Rattle.lock_laws.specs.Prelude.{Blocks, LeavesAlone, LeavesBlocks, LeavesRegisters, WritesOutside, lent_by}
+use Rattle.lock_laws.specs.Prelude.{has_begun, mode_through, place_at, Watched, Entry}
+
+-- the registers of the whole device on which a driver's queue rests
+abbrev pub is_setting : RowId → Bool
+is_setting row.Ctrl = true
+is_setting row.Hlreg0 = true
+is_setting row.Maxfrs = true
+is_setting row.GcrExt = true
+is_setting other = false
+
+-- the registers of a ring
+abbrev pub is_ring : RowId → Bool
+is_ring row.Rdbal = true
+is_ring row.Rdbah = true
+is_ring row.Rdlen = true
+is_ring row.Rdh = true
+is_ring row.Srrctl = true
+is_ring row.Rdt = true
+is_ring row.Rxdctl = true
+is_ring row.Tdbal = true
+is_ring row.Tdbah = true
+is_ring row.Tdlen = true
+is_ring row.Tdh = true
+is_ring row.Tdt = true
+is_ring row.Txdctl = true
+is_ring row.Tdwbal = true
+is_ring row.Tdwbah = true
+is_ring other = false
+
+-- the register by which a pool is reset
+abbrev pub is_reset : RowId → Bool
+is_reset row.Pvfctrl = true
+is_reset other = false
+
+-- pool v has queue q: the eight from 8v on with 16 pools, the four from 4v on with 32 and the two from 2v on with 64
+abbrev pub pool_has : Mode → ℕ → ℕ → Bool
+pool_has Off v q = false
+pool_has Pools16 v q = q / 8 == v
+pool_has Pools32 v q = q / 4 == v
+pool_has Pools64 v q = q / 2 == v
+
+-- a write of a word that reaches a register doesn't leave the queue alone where the register is CTRL, HLREG0, MAXFRS or
+-- GCR_EXT, where it is of the queue's own rings, and where it is the PVFCTRL of the queue's pool and bit 26 is 1. Any
+-- other does
+pub record WriteLeaves (w : Watched) (mode : Mode) (write : Event Block) (p : Place) (word : ℕ) : Type 0 where
+  pub setting : is_setting p.row ≡ true → LeavesRegisters w mode write → ⊥
+  pub own_ring : is_ring p.row ≡ true → p.index ≡ w.queue → LeavesRegisters w mode write → ⊥
+  pub other_ring : is_ring p.row ≡ true → p.index ≢ w.queue → LeavesRegisters w mode write
+  pub own_pool : is_reset p.row ≡ true → word / 0x4000000 % 2 ≡ 1 → pool_has mode p.index w.queue ≡ true →
+      LeavesRegisters w mode write → ⊥
+  pub other_pool : is_reset p.row ≡ true → pool_has mode p.index w.queue ≡ false → LeavesRegisters w mode write
+  pub no_reset : is_reset p.row ≡ true → word / 0x4000000 % 2 ≡ 0 → LeavesRegisters w mode write
+  pub other : (is_setting p.row || (is_ring p.row || is_reset p.row)) ≡ false → LeavesRegisters w mode write
+
+-- and so does one that reaches no register
+pub record WritesLeave (w : Watched) (mode : Mode) (port : Port) (number word : ℕ) : Type 0 where
+  pub register : (p : Place) → place_at mode w.vfs port number ≡ Some p →
+      WriteLeaves w mode (event.Write port number word) p word
+  pub none : place_at mode w.vfs port number ≡ None → LeavesRegisters w mode (event.Write port number word)
+
+abbrev pub WritesLeaveQueues : Type 0
+WritesLeaveQueues =
+    (w : Watched) (mode : Mode) (port : Port) (number word : ℕ) → w.queue < 128 → WritesLeave w mode port number word
+
+-- by the datasheet's addresses: FCTRL is left to others, and CTRL, at both of its addresses, HLREG0, MAXFRS and GCR_EXT
+-- aren't
+pub record AddressesLeave (w : Watched) (mode : Mode) (word : ℕ) : Type 0 where
+  pub filter : LeavesRegisters w mode (event.Write Pf 0x05080 word)
+  pub control : LeavesRegisters w mode (event.Write Pf 0x00000 word) → ⊥
+  pub control_again : LeavesRegisters w mode (event.Write Pf 0x00004 word) → ⊥
+  pub padding : LeavesRegisters w mode (event.Write Pf 0x04240 word) → ⊥
+  pub limit : LeavesRegisters w mode (event.Write Pf 0x04268 word) → ⊥
+  pub pools : LeavesRegisters w mode (event.Write Pf 0x11050 word) → ⊥
+
+abbrev pub AddressesLeaveQueues : Type 0
+AddressesLeaveQueues = (w : Watched) (mode : Mode) (word : ℕ) → AddressesLeave w mode word
+
+-- no other event touches a register, and of these the first three touch the block that they name alone
+pub record BlocksLeave (w : Watched) (mode : Mode) (mine : Blocks) : Type 0 where
+  pub lend : (block : Block) → LeavesBlocks mine (event.Lend block) ↔ (mine block.number ≡ false)
+  pub take : (number : ℕ) → LeavesBlocks mine (event.Take number) ↔ (mine number ≡ false)
+  pub poke : (address : ℕ) (bytes : List ℕ) →
+      LeavesBlocks mine (event.Poke16 address bytes) ↔ (mine (address / 2048) ≡ false)
+  pub write : (port : Port) (number word : ℕ) → LeavesBlocks mine (event.Write port number word)
+
+-- what a step of another queue wrote, as its reply reports, is in none of the driver's blocks: the piece of a frame,
+-- the 16 bytes of its descriptor, and the reported head
+pub record StepsLeave (queue : ℕ) (mine : Blocks) : Type 0 where
+  pub piece : (q slot desc at len : ℕ) (end : Bool) → q ≢ queue →
+      WritesOutside queue mine (Wrote q slot end desc at len)
+      ↔ (((a : ℕ) → at ≤ a → a < at + len → mine (a / 2048) ≡ false)
+      × ((a : ℕ) → desc ≤ a → a < desc + 16 → mine (a / 2048) ≡ false))
+  pub own : (slot desc at len : ℕ) (end : Bool) → WritesOutside queue mine (Wrote queue slot end desc at len)
+  pub head : (q slot back : ℕ) → q ≢ queue →
+      WritesOutside queue mine (Advanced q slot (Some back)) ↔ (mine (back / 2048) ≡ false)
+  pub sent_head : (q len back : ℕ) → q ≢ queue →
+      WritesOutside queue mine (Sent q len (Some back)) ↔ (mine (back / 2048) ≡ false)
+  pub no_head : (q slot : ℕ) → WritesOutside queue mine (Advanced q slot None)
+  pub no_sent_head : (q len : ℕ) → WritesOutside queue mine (Sent q len None)
+
+abbrev pub OthersLeaveQueues : Type 0
+OthersLeaveQueues =
+    (w : Watched) (mode : Mode) (mine : Blocks) → BlocksLeave w mode mine × StepsLeave w.queue mine
+
+-- only entries after the first one of the driver's pass count, and one of another pass that doesn't leave the queue's
+-- registers or the pass's blocks alone ends it
+pub record HistoriesLeave (w : Watched) (h : List Entry) (e : Entry) : Type 0 where
+  pub before : has_begun w.pass h ≡ false → LeavesAlone w (h ++ e ∷ [])
+  pub register : (after : List Entry) → has_begun w.pass h ≡ true → e.pass ≢ w.pass →
+      (LeavesRegisters w (mode_through w.vfs Off h) e.event → ⊥) → LeavesAlone w (h ++ e ∷ after) → ⊥
+  pub block : (after : List Entry) → has_begun w.pass h ≡ true → e.pass ≢ w.pass →
+      (LeavesBlocks (lent_by w.pass (h ++ e ∷ after)) e.event → ⊥) → LeavesAlone w (h ++ e ∷ after) → ⊥
+
+abbrev pub HistoriesLeaveQueues : Type 0
+HistoriesLeaveQueues = (w : Watched) (h : List Entry) (e : Entry) → HistoriesLeave w h e

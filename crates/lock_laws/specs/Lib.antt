@@ -1,0 +1,3 @@
+pub mod Ending
+pub mod Leaving
+pub mod Prelude

@@ -1,0 +1,43 @@
+//! The lock's definitions, a second time: which events leave a queue alone, in which order a closing finds its faults
+//! and where the entries of a pass are, written by hand and independently of the definitions that the contracts cite.
+//!
+//! Each law is the contract of a function that does nothing.
+#![tactic(auto)]
+
+ghost use Rattle.lock_laws.specs.Ending.{ClosingHasAnOrder, PositionsAreExact};
+ghost use Rattle.lock_laws.specs.Leaving.{AddressesLeaveQueues, HistoriesLeaveQueues, OthersLeaveQueues, WritesLeaveQueues};
+
+/// A write of another pass leaves a driver's queue alone but for these: one of CTRL, HLREG0, MAXFRS or GCR_EXT,
+/// whatever it writes; one of a register of the queue's own rings; and one of PVFCTRL[v] with bit 26, where pool v has
+/// the queue. Writes of all other registers leave it alone, as those of FCTRL, at 0x05080.
+#[tactic(auto, using(crate::proofs::Writes::writes_leave))]
+pub fn writes_leave_queues_alone()
+    ensures register { WritesLeaveQueues }
+    ensures address { AddressesLeaveQueues }
+{}
+
+/// To lend, to take and to poke a block leaves a driver's queue alone exactly where the block is none that its pass
+/// lends. A step of another queue does exactly where what it wrote, as its reply reports, is in none of them.
+#[tactic(auto, using(crate::proofs::Others::others_leave))]
+pub fn other_events_leave_queues_alone()
+    ensures { OthersLeaveQueues }
+{}
+
+/// A history up to the first entry of a driver's pass leaves its queue alone. One write after that entry, or one access
+/// to a block, by which another pass doesn't leave it alone is enough that the whole history doesn't.
+#[tactic(auto, using(crate::proofs::Others::histories_leave))]
+pub fn histories_leave_queues_alone()
+    ensures { HistoriesLeaveQueues }
+{}
+
+/// A closing reports the lowest tag that no pass of the bench has, whatever else is wrong with the passes; and where
+/// each tag is there a pass of another bench, or without a tag of this one.
+#[tactic(auto, using(crate::proofs::Ending::closing_tells))]
+pub fn closing_has_an_order()
+    ensures { ClosingHasAnOrder }
+{}
+
+/// A position is listed for a pass exactly where the entry there, the first being at 0, has its tag. They ascend.
+pub fn positions_are_exact()
+    ensures { PositionsAreExact }
+{}

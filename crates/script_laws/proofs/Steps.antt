@@ -1,0 +1,178 @@
+-- What a step of the machine does.
+use Rattle.std.proofs.Common.{◌≡◌, ℕ, ◌+◌, bit_and, Some, refl, ap, sym, subst}
+use Rattle.std.proofs.lemmas.Bool.{eq-eqb, ne_eqb}
+use Rattle.machine.specs.Machine.{Step, executed_if_some, machine_step, word_peeked, word_read}
+use Rattle.machine.specs.MachineState.{MachineState}
+use Rattle.machine.specs.declared.machine.Status.{Status}
+use Rattle.machine.specs.declared.machine.Status.TheVariants.{Ended, Failed}
+use Rattle.machine.specs.declared.machine.StepAnswer.TheVariants as answer
+use Rattle.nic_device.specs.Step.{step_of}
+use Rattle.nic_device.specs.declared.event.Event.{Event}
+use Rattle.nic_device.specs.declared.event.Event.TheVariants as event
+use Rattle.nic_device.specs.declared.event.Port.TheVariants.{Pf, Vf}
+use Rattle.nic_device.specs.declared.event.Reply.{Reply}
+use Rattle.nic_device.specs.declared.event.Reply.TheVariants as reply
+use Rattle.program.specs.DmaArena.Block.{Block, zero_block}
+use Rattle.program.specs.Listing.{Listing, string_at}
+use Rattle.program.specs.declared.instruction.Instruction.{Instruction}
+use Rattle.program.specs.declared.instruction.Instruction.TheVariants as instr
+use Rattle.script_laws.specs.Steps.{acc_read, acc_seen, as_it_was, status_after, IsNext, Made, Makes, Acted, Acts, LentNone}
+use Rattle.script_laws.specs.Steps.{EventsAreMade, MachinesAct, InstructionsMakeEvents, InstructionsAct}
+
+-- the step that the next instruction makes
+stepped : (program : Listing) (s : MachineState) (i : Instruction ℕ ℕ) → IsNext program s i →
+    machine_step program s ≡ executed_if_some program s (Some i)
+unfolding machine_step
+stepped program s i next = ap (executed_if_some program s) next
+
+-- a reply to a read, and to a look, is kept so
+same_read : (r : Reply Block) (acc : ℕ) → word_read r acc ≡ acc_read r acc
+same_read (reply.Word w) acc = refl
+same_read other acc = refl
+
+same_seen : (i : ℕ) (r : Reply Block) (acc : ℕ) → word_peeked i r acc ≡ acc_seen i r acc
+same_seen i (reply.Bytes bytes) acc = refl
+same_seen i other acc = refl
+
+module _ (program : Listing) (s : MachineState) where
+  made_by : (i : Instruction ℕ ℕ) (e : Event Block) (acc : Reply Block → ℕ → ℕ) → IsNext program s i →
+      Made program s (executed_if_some program s (Some i)) e acc → Makes program s e acc
+  made_by i e acc next made =
+      subst (λ (t : Step). Made program s t e acc) (sym (stepped program s i next)) made
+
+  acted_by : (i : Instruction ℕ ℕ) (acc pc : ℕ) (status : Status) → IsNext program s i →
+      Acted s (executed_if_some program s (Some i)) acc pc status → Acts program s acc pc status
+  acted_by i acc pc status next acted =
+      subst (λ (t : Step). Acted s t acc pc status) (sym (stepped program s i next)) acted
+
+events_made : (program : Listing) (s : MachineState) → EventsAreMade program s
+events_made program s = record {
+  write = λ address word next.
+      made_by program s (instr.Write address word) (event.Write Pf address word) as_it_was next
+      (record { answer = refl; device = refl; acc = refl; pc = refl; status = refl; steps = refl });
+  read = λ address next.
+      made_by program s (instr.Read address) (event.Read Pf address) acc_read next (record {
+        answer = refl;
+        device = refl;
+        acc = same_read (step_of s.device (event.Read Pf address)).reply s.acc;
+        pc = refl;
+        status = refl;
+        steps = refl;
+      });
+  vf_write = λ v offset word next.
+      made_by program s (instr.VfWrite v offset word) (event.Write (Vf v) offset word) as_it_was next
+      (record { answer = refl; device = refl; acc = refl; pc = refl; status = refl; steps = refl });
+  vf_read = λ v offset next.
+      made_by program s (instr.VfRead v offset) (event.Read (Vf v) offset) acc_read next (record {
+        answer = refl;
+        device = refl;
+        acc = same_read (step_of s.device (event.Read (Vf v) offset)).reply s.acc;
+        pc = refl;
+        status = refl;
+        steps = refl;
+      });
+  lend = λ block next free.
+      made_by program s (instr.Lend block) (event.Lend (zero_block block)) as_it_was next
+      (rw free (record { answer = refl; device = refl; acc = refl; pc = refl; status = refl; steps = refl }));
+  lend_none = λ block next taken.
+      subst (λ (t : Step). LentNone program s t) (sym (stepped program s (instr.Lend block) next))
+      (rw taken (record {
+        answer = refl;
+        device = refl;
+        arena = refl;
+        acc = refl;
+        pc = refl;
+        status = refl;
+        steps = refl;
+      }));
+  unlend = λ block next.
+      made_by program s (instr.Unlend block) (event.Take block) as_it_was next
+      (record { answer = refl; device = refl; acc = refl; pc = refl; status = refl; steps = refl });
+  poke = λ address number next.
+      made_by program s (instr.Poke address number) (event.Poke16 address (string_at program.strings number))
+      as_it_was next
+      (record { answer = refl; device = refl; acc = refl; pc = refl; status = refl; steps = refl });
+  peek = λ address i next.
+      made_by program s (instr.Peek address i) (event.Peek16 address) (acc_seen i) next (record {
+        answer = refl;
+        device = refl;
+        acc = same_seen i (step_of s.device (event.Peek16 address)).reply s.acc;
+        pc = refl;
+        status = refl;
+        steps = refl;
+      });
+  arrive = λ number next.
+      made_by program s (instr.Arrive number) (event.Arrive (string_at program.strings number)) as_it_was next
+      (record { answer = refl; device = refl; acc = refl; pc = refl; status = refl; steps = refl });
+  rx = λ next.
+      made_by program s instr.RxStep event.RxStep as_it_was next
+      (record { answer = refl; device = refl; acc = refl; pc = refl; status = refl; steps = refl });
+  tx = λ queue next.
+      made_by program s (instr.TxStep queue) (event.TxStep queue) as_it_was next
+      (record { answer = refl; device = refl; acc = refl; pc = refl; status = refl; steps = refl });
+  int = λ group next.
+      made_by program s (instr.IntStep group) (event.IntStep group) as_it_was next
+      (record { answer = refl; device = refl; acc = refl; pc = refl; status = refl; steps = refl });
+  switch = λ dir queue next.
+      made_by program s (instr.QueueStep dir queue) (event.QueueStep dir queue) as_it_was next
+      (record { answer = refl; device = refl; acc = refl; pc = refl; status = refl; steps = refl });
+  eeprom = λ next.
+      made_by program s instr.EepromStep event.EepromStep as_it_was next
+      (record { answer = refl; device = refl; acc = refl; pc = refl; status = refl; steps = refl });
+  link = λ up next.
+      made_by program s (instr.Link up) (event.Link up) as_it_was next
+      (record { answer = refl; device = refl; acc = refl; pc = refl; status = refl; steps = refl });
+  collect = λ next.
+      made_by program s instr.Collect event.Collect as_it_was next
+      (record { answer = refl; device = refl; acc = refl; pc = refl; status = refl; steps = refl });
+}
+
+pub make : InstructionsMakeEvents
+make program s = events_made program s
+
+-- all that a step without an event leaves
+abbrev left : MachineState → (acc pc : ℕ) → Status → Step
+left s acc pc status =
+    record { answer = answer.Local; state = record s { acc = acc; pc = pc; status = status; steps = s.steps + 1 } }
+
+acted_so : (program : Listing) (s : MachineState) (i : Instruction ℕ ℕ) (acc pc : ℕ) (status : Status) →
+    IsNext program s i → executed_if_some program s (Some i) ≡ left s acc pc status → Acts program s acc pc status
+acted_so program s i acc pc status next is =
+    acted_by program s i acc pc status next (subst (λ (t : Step). Acted s t acc pc status) (sym is) (record {
+      answer = refl;
+      device = refl;
+      arena = refl;
+      acc = refl;
+      pc = refl;
+      status = refl;
+      steps = refl;
+    }))
+
+machines_act : (program : Listing) (s : MachineState) → MachinesAct program s
+machines_act program s = record {
+  expected = λ want mask next is.
+      acted_so program s (instr.Expect want mask) s.acc (s.pc + 1) (status_after program (s.pc + 1)) next
+      (rw (eq-eqb (bit_and s.acc mask) want is) refl);
+  unexpected = λ want mask next isnt.
+      acted_so program s (instr.Expect want mask) s.acc s.pc (Failed s.pc (bit_and s.acc mask) want) next
+      (rw (ne_eqb (bit_and s.acc mask) want isnt) refl);
+  mask = λ word next.
+      acted_so program s (instr.And word) (bit_and s.acc word) (s.pc + 1) (status_after program (s.pc + 1)) next refl;
+  equal = λ word target next is.
+      acted_so program s (instr.JumpIfEqual word target) s.acc target (status_after program target) next
+      (rw (eq-eqb s.acc word is) refl);
+  not_equal = λ word target next isnt.
+      acted_so program s (instr.JumpIfEqual word target) s.acc (s.pc + 1) (status_after program (s.pc + 1)) next
+      (rw (ne_eqb s.acc word isnt) refl);
+  unless_equal = λ word target next is.
+      acted_so program s (instr.JumpUnlessEqual word target) s.acc (s.pc + 1) (status_after program (s.pc + 1)) next
+      (rw (eq-eqb s.acc word is) refl);
+  unless_other = λ word target next isnt.
+      acted_so program s (instr.JumpUnlessEqual word target) s.acc target (status_after program target) next
+      (rw (ne_eqb s.acc word isnt) refl);
+  jump = λ target next. acted_so program s (instr.Jump target) s.acc target (status_after program target) next refl;
+  halt = λ next. acted_so program s instr.Halt s.acc s.pc Ended next refl;
+}
+
+pub act_so : InstructionsAct
+act_so program s = machines_act program s

@@ -1,0 +1,50 @@
+-- What the debugger's commands do, by numbers.
+use Rattle.std.specs.Prelude.{ℕ, ◌≡◌, ◌-◌, ◌<◌, ◌≤◌, ◌==◌, not, Bool, true, false, [], ◌∷◌, ◌++◌, length, filter}
+use Rattle.std.specs.Prelude.{None, Ok, Err}
+use Rattle.std.specs.List.{list_any}
+use Rattle.debugger.specs.Commands.{command_of}
+use Rattle.debugger.specs.Session.{Session, view_of}
+use Rattle.debugger.specs.declared.command.Command.{Command}
+use Rattle.debugger.specs.declared.command.Command.TheVariants.{Back, Break, Clear}
+use Rattle.debugger.specs.declared.command.DebugRefusal.{DebugRefusal}
+use Rattle.debugger.specs.declared.command.DebugRefusal.TheVariants.{AtStart, NoSuchPc, TooManyBreaks}
+
+-- whether an instruction has a breakpoint
+abbrev pub is_set : Session → ℕ → Bool
+is_set s pc = list_any (λ set. set == pc) s.breakpoints
+
+-- a command is answered so, and the session is this one afterwards
+pub record IsDone (s : Session) (command : Command) (after : Session) : Type 0 where
+  pub answer : (command_of s command).answer ≡ Ok (view_of after None)
+  pub session : (command_of s command).session ≡ after
+
+pub record IsRefused (s : Session) (command : Command) (refusal : DebugRefusal) : Type 0 where
+  pub answer : (command_of s command).answer ≡ Err refusal
+  pub session : (command_of s command).session ≡ s
+
+-- a breakpoint is set at an instruction of the program: one that is set stays, also among 32, one more is the last, and
+-- a 33rd is refused
+pub record BreaksAreSet (s : Session) (pc : ℕ) : Type 0 where
+  pub outside : length s.program.instructions ≤ pc → IsRefused s (Break pc) NoSuchPc
+  pub again : pc < length s.program.instructions → is_set s pc ≡ true → IsDone s (Break pc) s
+  pub room : pc < length s.program.instructions → is_set s pc ≡ false → length s.breakpoints < 32 →
+      IsDone s (Break pc) (record s { breakpoints = s.breakpoints ++ pc ∷ [] })
+  pub full : pc < length s.program.instructions → is_set s pc ≡ false → 32 ≤ length s.breakpoints →
+      IsRefused s (Break pc) TooManyBreaks
+
+-- one that is set is cleared, and no other
+pub record BreaksAreCleared (s : Session) (pc : ℕ) : Type 0 where
+  pub set : is_set s pc ≡ true →
+      IsDone s (Clear pc) (record s { breakpoints = filter (λ other. not (other == pc)) s.breakpoints })
+  pub none : is_set s pc ≡ false → IsRefused s (Clear pc) NoSuchPc
+
+-- a session goes back as far as its first step
+pub record GoesBack (s : Session) (count : ℕ) : Type 0 where
+  pub back : count ≤ s.steps → IsDone s (Back count) (record s { steps = s.steps - count })
+  pub refused : s.steps < count → IsRefused s (Back count) AtStart
+
+abbrev pub BreakpointsAreBounded : Type 0
+BreakpointsAreBounded = (s : Session) (pc : ℕ) → BreaksAreSet s pc × BreaksAreCleared s pc
+
+abbrev pub SessionsGoBack : Type 0
+SessionsGoBack = (s : Session) (count : ℕ) → GoesBack s count

@@ -1,0 +1,139 @@
+-- What a step of the machine does, instruction by instruction.
+use Rattle.std.specs.Prelude.{ℕ, ◌≡◌, ◌≢◌, ◌+◌, ◌*◌, ◌==◌, Bool, true, false, bit_and, length, slice_index, Some}
+use Rattle.std.specs.Prelude.{if◌then◌else◌}
+use Rattle.machine.specs.Machine.{Step, machine_step, next_instruction}
+use Rattle.machine.specs.MachineState.{MachineState}
+use Rattle.machine.specs.declared.machine.Status.{Status}
+use Rattle.machine.specs.declared.machine.Status.TheVariants.{Running, Ended, Failed}
+use Rattle.machine.specs.declared.machine.StepAnswer.TheVariants as answer
+use Rattle.nic_device.specs.Step.{step_of}
+use Rattle.nic_device.specs.declared.event.Event.{Event}
+use Rattle.nic_device.specs.declared.event.Event.TheVariants as event
+use Rattle.nic_device.specs.declared.event.Port.TheVariants.{Pf, Vf}
+use Rattle.nic_device.specs.declared.event.Reply.{Reply}
+use Rattle.nic_device.specs.declared.event.Reply.TheVariants.{Word, Stray, Bytes}
+use Rattle.program.specs.DmaArena.Block.{Block, zero_block}
+use Rattle.program.specs.DmaArena.Numbers.{is_free}
+use Rattle.program.specs.DmaRing.declared.dir.Dir.{Dir}
+use Rattle.program.specs.IntrUnit.declared.group.Group.{Group}
+use Rattle.program.specs.Listing.{Listing, string_at}
+use Rattle.program.specs.declared.instruction.Instruction.{Instruction}
+use Rattle.program.specs.declared.instruction.Instruction.TheVariants as instr
+
+-- after the last instruction a machine has ended
+abbrev pub status_after : Listing → ℕ → Status
+status_after program pc = if pc == length program.instructions then Ended else Running
+
+-- the accumulator after a reply to a read: its word, also that of a register that isn't there
+abbrev pub acc_read : Reply Block → ℕ → ℕ
+acc_read (Word w) acc = w
+acc_read (Stray w) acc = w
+acc_read other acc = acc
+
+-- and to a look at 16 bytes: word i of them, the low byte first
+abbrev pub acc_seen : ℕ → Reply Block → ℕ → ℕ
+acc_seen i (Bytes bytes) acc =
+    slice_index bytes (4 * i) + 0x100 * slice_index bytes (4 * i + 1) + 0x10000 * slice_index bytes (4 * i + 2)
+    + 0x1000000 * slice_index bytes (4 * i + 3)
+acc_seen i other acc = acc
+
+-- a step that makes an event: the device takes its step, its reply is returned, and this is in the accumulator
+pub record Made (program : Listing) (s : MachineState) (step : Step) (e : Event Block) (kept : Reply Block → ℕ → ℕ) :
+    Type 0 where
+  pub answer : step.answer ≡ answer.Made (step_of s.device e).reply
+  pub device : step.state.device ≡ (step_of s.device e).state
+  pub acc : step.state.acc ≡ kept (step_of s.device e).reply s.acc
+  pub pc : step.state.pc ≡ s.pc + 1
+  pub status : step.state.status ≡ status_after program (s.pc + 1)
+  pub steps : step.state.steps ≡ s.steps + 1
+
+-- one that makes none: the device and the blocks are as before, this is in the accumulator, this instruction is next
+pub record Acted (s : MachineState) (step : Step) (word next : ℕ) (now : Status) : Type 0 where
+  pub answer : step.answer ≡ answer.Local
+  pub device : step.state.device ≡ s.device
+  pub arena : step.state.arena ≡ s.arena
+  pub acc : step.state.acc ≡ word
+  pub pc : step.state.pc ≡ next
+  pub status : step.state.status ≡ now
+  pub steps : step.state.steps ≡ s.steps + 1
+
+-- to lend a block that isn't free makes no event
+pub record LentNone (program : Listing) (s : MachineState) (step : Step) : Type 0 where
+  pub answer : step.answer ≡ answer.NoBlock
+  pub device : step.state.device ≡ s.device
+  pub arena : step.state.arena ≡ s.arena
+  pub acc : step.state.acc ≡ s.acc
+  pub pc : step.state.pc ≡ s.pc + 1
+  pub status : step.state.status ≡ status_after program (s.pc + 1)
+  pub steps : step.state.steps ≡ s.steps + 1
+
+-- so it is with the next step of the machine
+abbrev pub Makes : Listing → MachineState → Event Block → (Reply Block → ℕ → ℕ) → Type 0
+Makes program s e acc = Made program s (machine_step program s) e acc
+
+abbrev pub Acts : Listing → MachineState → (acc pc : ℕ) → Status → Type 0
+Acts program s acc pc status = Acted s (machine_step program s) acc pc status
+
+-- whether this instruction is the next of a machine that runs
+abbrev pub IsNext : Listing → MachineState → Instruction ℕ ℕ → Type 0
+IsNext program s i = next_instruction program s ≡ Some i
+
+abbrev pub as_it_was : Reply Block → ℕ → ℕ
+as_it_was reply acc = acc
+
+-- each instruction makes its event
+pub record EventsAreMade (program : Listing) (s : MachineState) : Type 0 where
+  pub write : (address word : ℕ) → IsNext program s (instr.Write address word) →
+      Makes program s (event.Write Pf address word) as_it_was
+  pub read : (address : ℕ) → IsNext program s (instr.Read address) → Makes program s (event.Read Pf address) acc_read
+  pub vf_write : (v offset word : ℕ) → IsNext program s (instr.VfWrite v offset word) →
+      Makes program s (event.Write (Vf v) offset word) as_it_was
+  pub vf_read : (v offset : ℕ) → IsNext program s (instr.VfRead v offset) →
+      Makes program s (event.Read (Vf v) offset) acc_read
+  pub lend : (block : ℕ) → IsNext program s (instr.Lend block) → is_free s.arena block ≡ true →
+      Makes program s (event.Lend (zero_block block)) as_it_was
+  pub lend_none : (block : ℕ) → IsNext program s (instr.Lend block) → is_free s.arena block ≡ false →
+      LentNone program s (machine_step program s)
+  pub unlend : (block : ℕ) → IsNext program s (instr.Unlend block) → Makes program s (event.Take block) as_it_was
+  pub poke : (address number : ℕ) → IsNext program s (instr.Poke address number) →
+      Makes program s (event.Poke16 address (string_at program.strings number)) as_it_was
+  pub peek : (address i : ℕ) → IsNext program s (instr.Peek address i) →
+      Makes program s (event.Peek16 address) (acc_seen i)
+  pub arrive : (number : ℕ) → IsNext program s (instr.Arrive number) →
+      Makes program s (event.Arrive (string_at program.strings number)) as_it_was
+  pub rx : IsNext program s instr.RxStep → Makes program s event.RxStep as_it_was
+  pub tx : (queue : ℕ) → IsNext program s (instr.TxStep queue) → Makes program s (event.TxStep queue) as_it_was
+  pub int : (group : Group) → IsNext program s (instr.IntStep group) →
+      Makes program s (event.IntStep group) as_it_was
+  pub switch : (dir : Dir) (queue : ℕ) → IsNext program s (instr.QueueStep dir queue) →
+      Makes program s (event.QueueStep dir queue) as_it_was
+  pub eeprom : IsNext program s instr.EepromStep → Makes program s event.EepromStep as_it_was
+  pub link : (up : Bool) → IsNext program s (instr.Link up) → Makes program s (event.Link up) as_it_was
+  pub collect : IsNext program s instr.Collect → Makes program s event.Collect as_it_was
+
+-- an `expect` goes on exactly where acc & M is V, and else fails with acc & M and V, where it is; an `and` leaves
+-- acc & V; a jump that isn't made goes on; a `halt` ends the machine where it is
+pub record MachinesAct (program : Listing) (s : MachineState) : Type 0 where
+  pub expected : (want mask : ℕ) → IsNext program s (instr.Expect want mask) → bit_and s.acc mask ≡ want →
+      Acts program s s.acc (s.pc + 1) (status_after program (s.pc + 1))
+  pub unexpected : (want mask : ℕ) → IsNext program s (instr.Expect want mask) → bit_and s.acc mask ≢ want →
+      Acts program s s.acc s.pc (Failed s.pc (bit_and s.acc mask) want)
+  pub mask : (word : ℕ) → IsNext program s (instr.And word) →
+      Acts program s (bit_and s.acc word) (s.pc + 1) (status_after program (s.pc + 1))
+  pub equal : (word target : ℕ) → IsNext program s (instr.JumpIfEqual word target) → s.acc ≡ word →
+      Acts program s s.acc target (status_after program target)
+  pub not_equal : (word target : ℕ) → IsNext program s (instr.JumpIfEqual word target) → s.acc ≢ word →
+      Acts program s s.acc (s.pc + 1) (status_after program (s.pc + 1))
+  pub unless_equal : (word target : ℕ) → IsNext program s (instr.JumpUnlessEqual word target) → s.acc ≡ word →
+      Acts program s s.acc (s.pc + 1) (status_after program (s.pc + 1))
+  pub unless_other : (word target : ℕ) → IsNext program s (instr.JumpUnlessEqual word target) → s.acc ≢ word →
+      Acts program s s.acc target (status_after program target)
+  pub jump : (target : ℕ) → IsNext program s (instr.Jump target) →
+      Acts program s s.acc target (status_after program target)
+  pub halt : IsNext program s instr.Halt → Acts program s s.acc s.pc Ended
+
+abbrev pub InstructionsMakeEvents : Type 0
+InstructionsMakeEvents = (program : Listing) (s : MachineState) → EventsAreMade program s
+
+abbrev pub InstructionsAct : Type 0
+InstructionsAct = (program : Listing) (s : MachineState) → MachinesAct program s

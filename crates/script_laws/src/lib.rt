@@ -1,0 +1,68 @@
+//! Objects, the machine, the debugger and arenas, a second time: each byte of an instruction, what each instruction
+//! does, breakpoints and the last block's number, written by hand and independently of the definitions that the
+//! contracts of the crates below cite.
+//!
+//! Each law is the contract of a function that does nothing, or that calls one function with numbers.
+#![tactic(auto)]
+
+ghost use Rattle.std.specs.Prelude.{◌≡◌, Ok, Err, IfOk, IfErr};
+ghost use Rattle.dma_arena.specs.Numbers.{all_free};
+ghost use Rattle.script_laws.specs.Commands.{BreakpointsAreBounded, SessionsGoBack};
+ghost use Rattle.script_laws.specs.Objects.{InstructionsAreBytes, ObjectsAreBytes};
+ghost use Rattle.script_laws.specs.Steps.{InstructionsAct, InstructionsMakeEvents};
+
+use dma_arena::{Arena, ArenaFault};
+use std::alloc::Global;
+
+/// An instruction is twelve bytes in an object: the operation, 1 to 22, its kind, 16 bits of a block, queue, function,
+/// data string or target, and two words of 32 bits, of each the low byte first; what an operation doesn't use is 0. The
+/// object of `arrive` with a data string of three bytes and of `halt` is these 45 bytes: 4e 42 53 43, version 1, two
+/// instructions, one data string, 0, and 45, the number of all bytes; then both instructions, and the string after its
+/// length.
+#[tactic(auto, using(crate::proofs::Objects::instructions, crate::proofs::Objects::objects))]
+pub fn instructions_are_bytes()
+    ensures each { InstructionsAreBytes }
+    ensures object { ObjectsAreBytes }
+{}
+
+/// A step of a machine that runs makes the event of its next instruction, with the operands of that instruction, and
+/// returns the device's reply. A read leaves its word in the accumulator, also that of a stray access, and a look at 16
+/// bytes the word that it names, the low byte first; no other event changes the accumulator. To lend a block that isn't
+/// free makes no event. The next instruction is the one after it, and after the last one the machine has ended.
+#[tactic(auto, using(crate::proofs::Steps::make))]
+pub fn instructions_make_events()
+    ensures { InstructionsMakeEvents }
+{}
+
+/// An `expect` of V under a mask M goes on exactly where acc & M is V. Else it fails with acc & M and V, and stays
+/// where it is. An `and` leaves acc & V in the accumulator. A jump leads to its target where it is taken, by whether
+/// the accumulator equals its word, and else to the next instruction. A `halt` ends the machine where it is. None
+/// changes the device or the blocks, and each counts as a step.
+#[tactic(auto, using(crate::proofs::Steps::act_so))]
+pub fn instructions_act()
+    ensures { InstructionsAct }
+{}
+
+/// A breakpoint is set at an instruction of the program. One that is already set stays, also where 32 are set; one more
+/// is then refused with `TooManyBreaks`, and one after the last instruction with `NoSuchPc`, as is clearing one that
+/// isn't set. Going back leads to as many steps fewer, and before the first step is refused with `AtStart`.
+#[tactic(auto, using(crate::proofs::Commands::breakpoints, crate::proofs::Commands::back))]
+pub fn breakpoints_are_bounded()
+    ensures breaks { BreakpointsAreBounded }
+    ensures back { SessionsGoBack }
+{}
+
+/// There is an arena of block 65,535 alone, which has it free. It is refused for lack of memory alone.
+pub fn last_block_is_there(alloc: Global) -> Result<Arena, ArenaFault>
+    ensures made { IfOk result (λ arena. arena ≡ all_free 65535 1) }
+    ensures refused { IfErr result (λ fault. fault ≡ ArenaFault.OutOfMemory) }
+{
+    Arena::new(alloc, 65_535, 1)
+}
+
+/// There is no arena with block 65,536.
+pub fn no_block_is_after_it(alloc: Global) -> Result<Arena, ArenaFault>
+    ensures { result ≡ Err ArenaFault.TooMany }
+{
+    Arena::new(alloc, 65_535, 2)
+}

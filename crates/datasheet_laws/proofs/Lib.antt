@@ -2,6 +2,7 @@ pub mod Accesses
 pub mod Addresses
 pub mod ByKind
 pub mod Choice
+pub mod Eeprom
 pub mod Filter
 pub mod Hash
 pub mod Holes

@@ -1,5 +1,6 @@
 pub mod Accesses
 pub mod Choice
+pub mod Eeprom
 pub mod Filter
 pub mod Hash
 pub mod ByKind

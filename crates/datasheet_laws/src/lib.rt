@@ -6,6 +6,8 @@
 #![tactic(auto)]
 
 ghost use Rattle.datasheet_laws.specs.Choice.{TypesAreChosen, QueuesAreChosen, ResetsAreAsked};
+ghost use Rattle.datasheet_laws.specs.Eeprom.{ImagesAreByNumber, FilesAreByNumber, WritesAreByNumber};
+ghost use Rattle.datasheet_laws.specs.Eeprom.{TextsAreByNumber, TextsPoint, WordsPoint};
 ghost use Rattle.datasheet_laws.specs.Filter.{FramesAreLetIn, PoolsAreChosen};
 ghost use Rattle.datasheet_laws.specs.Hash.{HashIsOfTheKey};
 ghost use Rattle.datasheet_laws.specs.ByKind.{WordsAreStored, RingsAreHeld, KindsAreRead, SidesAreAsked, EepromIsRead};
@@ -187,4 +189,28 @@ pub fn settings_are_bits()
     ensures device { DevicesAreSet }
     ensures queue { QueuesAreSet }
     ensures counter { CountersStay }
+{}
+
+/// An EEPROM image has 64, 128, 256 and so on up to 16,384 words of 16 bits. Words 0x03 to 0x0E, and no others, point
+/// to a word of the image, which says how many words follow it, all of them in the image; 0 and 0xFFFF point to none,
+/// and say that none follow. Words 0x00 to 0x3F with all that follow these add up to 0xBABA, modulo 2^16. Word 0x0D
+/// points to the register writes, of three words each: the offset, of which the register's is four times, and the low
+/// and the high half of the data. In a file the low byte of each word is first, and the first fault is reported of: an
+/// odd number of bytes, a size, what a word points to, the sum, and the number of words of the register writes.
+#[tactic(auto, using(crate::proofs::Eeprom::images, crate::proofs::Eeprom::writes))]
+pub fn images_are_by_number()
+    ensures image { ImagesAreByNumber }
+    ensures file { FilesAreByNumber }
+    ensures writes { WritesAreByNumber }
+{}
+
+/// In the image of a text words 0x03 to 0x0E, one by one, point to nothing or to a word from 0x40 on that is in the
+/// image with all that follow it. So a value of 5 is refused in each of them, and isn't in words 0x02 and 0x0F.
+/// Register write k of a text is in words 0x41 + 3k to 0x43 + 3k of its image, in the order of the text; word 0x40 says
+/// how many words follow it, and word 0x0D is 0x40. Without register writes word 0x0D is 0xFFFF.
+#[tactic(auto, using(crate::proofs::Eeprom::point, crate::proofs::Eeprom::words_point, crate::proofs::Eeprom::texts))]
+pub fn texts_are_laid_out()
+    ensures pointers { TextsPoint }
+    ensures examples { WordsPoint }
+    ensures text { TextsAreByNumber }
 {}

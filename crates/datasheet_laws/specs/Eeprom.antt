@@ -1,0 +1,148 @@
+-- EEPROM images, by the numbers of their words and bytes.
+use Rattle.std.specs.Prelude.{ℕ, ◌≡◌, ◌≢◌, ◌<◌, ◌≤◌, ◌^◌, ◌↔◌, ◌+◌, ◌*◌, ◌/◌, ◌%◌, ◌==◌, ◌||◌, ◌&&◌, not, nat_le, nat_lt, Bool, true, false, IsTrue}
+use Rattle.std.specs.Prelude.{if◌then◌else◌, Option, Some, None, List, [], ◌∷◌, length, take, drop, sum, sum_by}
+use Rattle.std.specs.Prelude.{get_or, slice_get, slice_index}
+use Rattle.std.specs.List.{list_all}
+use Rattle.eeprom_image.specs.Bytes.{words_of}
+use Rattle.eeprom_image.specs.Content.{Content}
+use Rattle.eeprom_image.specs.Fault.{plain_word, points_inside, content_fault}
+use Rattle.eeprom_image.specs.File.{file_fault}
+use Rattle.eeprom_image.specs.Image.{IsImage}
+use Rattle.eeprom_image.specs.Text.{IsImageOf}
+use Rattle.eeprom_image.specs.Triples.{triples_of}
+use Rattle.eeprom_image.specs.declared.file.LoadFault.{LoadFault}
+use Rattle.eeprom_image.specs.declared.file.LoadFault.TheVariants.{OddLength, BadSize, SectionOutside, BadChecksum, NotTriples}
+use Rattle.eeprom_image.specs.declared.text.AsmFault.{AsmFault}
+use Rattle.eeprom_image.specs.declared.text.AsmFault.TheVariants.{Reserved, PointerOutside}
+use Rattle.datasheet_laws.specs.Prelude.{list_any}
+
+-- word n of an image, 0xFFFF where it has none
+abbrev pub nth : List ℕ → ℕ → ℕ
+nth words n = get_or words n 0xFFFF
+
+-- 0 and 0xFFFF point to nothing, and say that no words follow
+abbrev pub names_none : ℕ → Bool
+names_none w = w == 0 || w == 0xFFFF
+
+-- how many words follow the one at an index, which says so
+abbrev pub following : List ℕ → ℕ → ℕ
+following words at = if names_none (nth words at) then 0 else nth words at
+
+-- the sum of the words that follow the one to which word n points
+abbrev pub pointed_sum : List ℕ → ℕ → ℕ
+pointed_sum words n =
+    let at = nth words n in sum (if names_none at then [] else take (following words at) (drop (at + 1) words))
+
+-- all of these, and the one to which word n points, are in the image
+abbrev pub points_in : List ℕ → ℕ → Bool
+points_in words n = let at = nth words n in names_none at || nat_lt (at + following words at) (length words)
+
+-- what words 0x03 to 0x0E point to is in the image, and word 0x0F points to nothing
+abbrev pub all_point_in : List ℕ → Bool
+all_point_in words =
+    list_all (points_in words)
+    (0x03 ∷ 0x04 ∷ 0x05 ∷ 0x06 ∷ 0x07 ∷ 0x08 ∷ 0x09 ∷ 0x0A ∷ 0x0B ∷ 0x0C ∷ 0x0D ∷ 0x0E ∷ [])
+
+-- words 0x00 to 0x3F, with what follows the words to which words 0x03 to 0x0E point, add up to 0xBABA, modulo 2^16
+abbrev pub adds_up : List ℕ → Bool
+adds_up words =
+    (sum (take 64 words) + sum_by (pointed_sum words)
+    (0x03 ∷ 0x04 ∷ 0x05 ∷ 0x06 ∷ 0x07 ∷ 0x08 ∷ 0x09 ∷ 0x0A ∷ 0x0B ∷ 0x0C ∷ 0x0D ∷ 0x0E ∷ [])) % 65536 == 0xBABA
+
+-- the words of the section to which word 0x0D points are register writes, of three words each
+abbrev pub has_writes : List ℕ → Bool
+has_writes words = let at = nth words 0x0D in names_none at || following words at % 3 == 0
+
+-- an image has one of nine numbers of words
+abbrev pub is_number : ℕ → Bool
+is_number n =
+    list_any (λ size. n == size) (64 ∷ 128 ∷ 256 ∷ 512 ∷ 1024 ∷ 2048 ∷ 4096 ∷ 8192 ∷ 16384 ∷ [])
+
+-- what words are an image
+pub record IsByNumber (words : List ℕ) : Type 0 where
+  pub size : IsTrue (is_number (length words))
+  pub fits : (n : ℕ) → nth words n < 65536
+  pub inside : IsTrue (all_point_in words)
+  pub checksum : IsTrue (adds_up words)
+  pub writes : IsTrue (has_writes words)
+
+abbrev pub ImagesAreByNumber : Type 0
+ImagesAreByNumber = (words : List ℕ) → IsImage words ↔ IsByNumber words
+
+-- a file has one of these faults, in this order, or none
+abbrev pub first_fault : ℕ → List ℕ → Option LoadFault
+first_fault count words =
+    if not (count % 2 == 0) then Some OddLength else
+    if not (is_number (count / 2)) then Some BadSize else
+    if not (all_point_in words) then Some SectionOutside else
+    if not (adds_up words) then Some BadChecksum else
+    if not (has_writes words) then Some NotTriples else None
+
+-- word n of a file is bytes 2n and 2n + 1, the low one first
+pub record FileIsRead (bytes : List ℕ) : Type 0 where
+  pub fault : file_fault bytes ≡ first_fault (length bytes) (words_of bytes)
+  pub word : (n : ℕ) → 2 * n + 1 < length bytes →
+      nth (words_of bytes) n ≡ slice_index bytes (2 * n) + 256 * slice_index bytes (2 * n + 1)
+  pub count : length (words_of bytes) ≡ length bytes / 2
+
+abbrev pub FilesAreByNumber : Type 0
+FilesAreByNumber = (bytes : List ℕ) → FileIsRead bytes
+
+-- register write k of an image: with p the word 0x0D, word p + 1 + 3k is the register's offset in words, p + 2 + 3k the
+-- low half of the data and p + 3 + 3k the high one; as many as fit in the words that follow word p
+pub record WritesStand (words : List ℕ) : Type 0 where
+  pub none : names_none (nth words 0x0D) ≡ true → triples_of words ≡ []
+  pub count : names_none (nth words 0x0D) ≡ false →
+      length (triples_of words) ≡ following words (nth words 0x0D) / 3
+  pub each : names_none (nth words 0x0D) ≡ false → (k : ℕ) → 3 * k + 3 ≤ following words (nth words 0x0D) →
+      let at = nth words 0x0D + 3 * k in
+      slice_get (triples_of words) k
+      ≡ Some (4 * nth words (at + 1), nth words (at + 2) + 65536 * nth words (at + 3))
+
+abbrev pub WritesAreByNumber : Type 0
+WritesAreByNumber = (words : List ℕ) → IsImage words → WritesStand words
+
+-- the word to which word n of a text's image points is at 0x40 or above, and in the image with all that follow it
+abbrev pub points_past : Content → ℕ → Bool
+points_past content n =
+    let at = plain_word content n in
+    let count = plain_word content at in
+    names_none at || (nat_le 0x40 at && nat_lt (at + (if names_none count then 0 else count)) content.size)
+
+-- a text's image points from words 0x03 to 0x0E alone
+abbrev pub TextsPoint : Type 0
+TextsPoint =
+    (content : Content) →
+    points_inside content
+    ≡ list_all (points_past content)
+    (0x03 ∷ 0x04 ∷ 0x05 ∷ 0x06 ∷ 0x07 ∷ 0x08 ∷ 0x09 ∷ 0x0A ∷ 0x0B ∷ 0x0C ∷ 0x0D ∷ 0x0E ∷ [])
+
+-- what a text of 128 words says that gives word n the value 5
+abbrev pub with_5 : ℕ → Content
+with_5 n = record { size = 128; words = (n, 5) ∷ []; triples = [] }
+
+-- it points outside from word n
+abbrev pub IsPointer : ℕ → Type 0
+IsPointer n = content_fault (with_5 n) ≡ Some PointerOutside
+
+-- each of words 0x03 to 0x0E is a pointer, and of 0x0D a text gives no value; words 0x02 and 0x0F are none
+pub record WordsPoint : Type 0 where
+  pub below : content_fault (with_5 0x02) ≡ None
+  pub first : IsPointer 0x03 × IsPointer 0x04 × IsPointer 0x05 × IsPointer 0x06 × IsPointer 0x07 × IsPointer 0x08
+  pub last : IsPointer 0x09 × IsPointer 0x0A × IsPointer 0x0B × IsPointer 0x0C × IsPointer 0x0E
+  pub section : content_fault (with_5 0x0D) ≡ Some (Reserved 0x0D)
+  pub above : content_fault (with_5 0x0F) ≡ None
+
+-- register write k of a text is in words 0x41 + 3k to 0x43 + 3k, in the order of the text, and word 0x40 says how many
+-- words follow it; word 0x0D is 0x40 then, and without register writes 0xFFFF
+pub record IsLaidOutSo (content : Content) : Type 0 where
+  pub none : content.triples ≡ [] → plain_word content 0x0D ≡ 0xFFFF
+  pub some : content.triples ≢ [] → plain_word content 0x0D ≡ 0x40
+  pub count : content.triples ≢ [] → plain_word content 0x40 ≡ 3 * length content.triples
+  pub each : (k offset word : ℕ) → slice_get content.triples k ≡ Some (offset, word) →
+      (plain_word content (0x41 + 3 * k) ≡ offset / 4 % 65536)
+      × (plain_word content (0x42 + 3 * k) ≡ word % 65536)
+      × (plain_word content (0x43 + 3 * k) ≡ word / 65536)
+
+abbrev pub TextsAreByNumber : Type 0
+TextsAreByNumber = (content : Content) → IsLaidOutSo content

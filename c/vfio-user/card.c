@@ -5,10 +5,9 @@
 #include <string.h>
 #include <time.h>
 
+#include "dma_memory.h"
 #include "log.h"
-#include "memory.h"
 
-#define WHY_BYTES 65536
 #define RESETS (NIC_CTRL_RST | NIC_CTRL_LRST)
 
 /* The bus calls back without a word of whom it calls: there is one card. */
@@ -50,7 +49,7 @@ static void fault(bool is_transmit, const nic_told *told)
                is_transmit ? "sending" : "receiving", told->queue, told->slot, nic_fault_name(told->why), told->bus);
 }
 
-/* ---- what the bus calls: the hooks, and memory.h ---- */
+/* ---- what the bus calls: the hooks, and dma_memory.h ---- */
 
 static void note_enable(uint32_t address)
 {
@@ -559,17 +558,13 @@ void card_go(struct card *it)
     bus_eeprom();
 }
 
-/* Descriptors that come next are given to the device first: else it has none to tell of. */
-void card_tell_why(struct card *it, FILE *to)
+void card_give_due(struct card *it)
 {
-    static char text[WHY_BYTES];
+    budget_ask(&it->budget);
     for (uint16_t queue = 0; queue < BUS_QUEUES; queue++)
         if (it->stepper.is_due[queue])
             rings_step(it->rings, true, queue);
     rings_prepare_receive(it->rings);
-    rings_fill(it->rings);
-    nic_why(bus_device(), text, sizeof text);
-    fputs(text, to);
 }
 
 void card_tell_due(const struct card *it, FILE *to)

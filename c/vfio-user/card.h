@@ -112,8 +112,8 @@ void card_seed(struct card *it, const uint64_t *seed);
 void card_hold(struct card *it);
 /* After it was held: what was asked of queues and EEPROM happens, and steps are made as before. */
 void card_go(struct card *it);
-/* What is in the way of what waits, in the library's words. */
-void card_tell_why(struct card *it, FILE *to);
+/* Descriptors that come next are given to the device, which else has none that `why` could tell of. */
+void card_give_due(struct card *it);
 /* Which steps are due, a line each. */
 void card_tell_due(const struct card *it, FILE *to);
 

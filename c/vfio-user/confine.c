@@ -96,7 +96,6 @@ static const struct rule serving[] = {
     CALL(ppoll),
     CALL(recvfrom),
     CALL(recvmsg),
-    CALL(sendto),
     CALL(accept4),
     CALL(read),
     CALL(readv),
@@ -129,6 +128,7 @@ static const struct rule serving[] = {
 #ifdef SYS_rseq
     CALL(rseq),
 #endif
+    {SYS_sendto, ONE_OF, 5, 1, {0}}, /* the length of a name: to whom the socket is connected, and to no other */
     {SYS_mmap, NONE_OF, 2, 1, {PROT_EXEC}},
     {SYS_mprotect, NONE_OF, 2, 1, {PROT_EXEC}},
     {SYS_newfstatat, ONE_OF, 3, 1, {AT_EMPTY_PATH}}, /* the C library's fstat */

@@ -8,11 +8,14 @@
 #include <sys/socket.h>
 #include <unistd.h>
 
+#include "explain.h"
 #include "local_socket.h"
 #include "server.h"
 #include "tell.h"
 
 #define KEPT_MOST (4u << 20)
+
+static const char short_of_memory[] = "memory is short";
 
 /* ---- requests: what each answers, or null and "ok" ---- */
 
@@ -67,7 +70,7 @@ static const char *expect(struct request *it)
             from[i] = (uint8_t)mac[i];
     if (!end || it->rest[behind ? behind : end] || count > TRAFFIC_MOST || most < FRAME_MIN || most > FRAME_JUMBO)
         return "expect COUNT MOST [FROM]: at most 1000000 frames, of 60 to 9014 bytes, from this address";
-    return traffic_expect(&it->server->traffic, count, (uint16_t)most, from) ? NULL : "memory is short";
+    return traffic_expect(&it->server->traffic, count, (uint16_t)most, from) ? NULL : short_of_memory;
 }
 
 static const char *turn(struct request *it)
@@ -159,8 +162,10 @@ static const char *due(struct request *it)
 
 static const char *why(struct request *it)
 {
-    card_tell_why(&it->server->card, it->to);
-    return NULL;
+    const char *text = explain_now(&it->server->card);
+    if (text)
+        fputs(text, it->to);
+    return text ? NULL : short_of_memory;
 }
 
 static bool one_queue(const char *text, unsigned int *queue)
@@ -289,6 +294,7 @@ static void drop(struct control_client *it)
     it->file = -1;
     it->length = it->in_at = it->in_end = 0;
     it->is_long = it->watches = false;
+    it->why = CONTROL_NO_WHY;
 }
 
 static void flush(struct control_client *it)
@@ -313,10 +319,34 @@ static void say(struct control_client *it, const char *text, size_t length)
         drop(it);
 }
 
+/* Whether the request is one that the thread answers. */
+static bool is_for_thread(const struct control_client *it, const struct server *server)
+{
+    return !it->is_long && strcmp(it->line, "why") == 0 && explain_file() >= 0 && !server->card.options.is_recorded;
+}
+
+/* The answer to `why`; null: there was no memory for one. */
+static void say_answer(struct control_client *it, const char *text)
+{
+    static const char last[] = "ok\n";
+    char error[64];
+    int length = snprintf(error, sizeof error, "error: %s\n", short_of_memory);
+    if (!text)
+        say(it, error, (size_t)length);
+    else if (*text)
+        say(it, text, strlen(text));
+    if (text && it->file >= 0)
+        say(it, last, strlen(last));
+}
+
 static void obey(struct control_client *it, struct server *server)
 {
     char *text = NULL;
     size_t length = 0;
+    if (is_for_thread(it, server)) {
+        it->why = CONTROL_WANTS_WHY;
+        return;
+    }
     FILE *to = open_memstream(&text, &length);
     if (!to)
         return;
@@ -327,6 +357,36 @@ static void obey(struct control_client *it, struct server *server)
     fclose(to);
     say(it, text, length);
     free(text);
+}
+
+/* The thread has answered. Nobody may be there who asked, and then it was for nothing. */
+static void pass_answer(struct control *it)
+{
+    const char *text = explain_text();
+    for (unsigned int i = 0; i < CONTROL_CLIENTS; i++) {
+        struct control_client *client = &it->clients[i];
+        if (client->why != CONTROL_AWAITS_WHY)
+            continue;
+        client->why = CONTROL_NO_WHY;
+        say_answer(client, text);
+    }
+    explain_end();
+}
+
+/* The next one's turn: the card as it is now is what is asked of. */
+static void ask_why(struct control *it, struct server *server)
+{
+    for (unsigned int i = 0; i < CONTROL_CLIENTS && explain_is_free(); i++) {
+        struct control_client *client = &it->clients[(it->next_why + i) % CONTROL_CLIENTS];
+        if (client->why != CONTROL_WANTS_WHY)
+            continue;
+        it->next_why = (it->next_why + i + 1) % CONTROL_CLIENTS;
+        bool is_asked = explain_ask(&server->card);
+        client->why = is_asked ? CONTROL_AWAITS_WHY : CONTROL_NO_WHY;
+        if (!is_asked)
+            say_answer(client, NULL);
+        return;
+    }
 }
 
 /* The device is held at an access that was asked for: the only line that no request asks for. */
@@ -376,7 +436,9 @@ static void serve_client(struct control_client *it, short events, struct server 
 {
     if (events & POLLOUT)
         flush(it);
-    if (it->file < 0 || buffer_waiting(&it->out))
+    if (it->why && events & (POLLHUP | POLLERR))
+        drop(it);
+    if (it->file < 0 || it->why || buffer_waiting(&it->out))
         return;
     if (it->in_at == it->in_end && events & (POLLIN | POLLHUP | POLLERR))
         receive_requests(it);
@@ -397,13 +459,13 @@ static void accept_client(struct control *it)
 
 static bool has_requests(const struct control_client *it)
 {
-    return it->file >= 0 && it->in_at < it->in_end && buffer_waiting(&it->out) == 0;
+    return it->file >= 0 && !it->why && it->in_at < it->in_end && buffer_waiting(&it->out) == 0;
 }
 
 bool control_has_more(const struct control *it)
 {
     for (unsigned int i = 0; i < CONTROL_CLIENTS; i++)
-        if (has_requests(&it->clients[i]))
+        if (has_requests(&it->clients[i]) || (it->clients[i].why == CONTROL_WANTS_WHY && explain_is_free()))
             return true;
     return false;
 }
@@ -413,18 +475,22 @@ void control_polls(const struct control *it, struct pollfd *polls)
     polls[0] = (struct pollfd){.fd = local_rests() ? -1 : it->listener, .events = POLLIN};
     for (unsigned int i = 0; i < CONTROL_CLIENTS; i++) {
         const struct control_client *client = &it->clients[i];
-        short out = buffer_waiting(&client->out) ? POLLOUT : 0;
-        polls[1 + i] = (struct pollfd){.fd = client->file, .events = (short)(out ? out : POLLIN)};
+        short out = buffer_waiting(&client->out) ? POLLOUT : 0, in = client->why ? 0 : POLLIN;
+        polls[1 + i] = (struct pollfd){.fd = client->file, .events = (short)(out ? out : in)};
     }
+    polls[1 + CONTROL_CLIENTS] = (struct pollfd){.fd = explain_file(), .events = POLLIN};
 }
 
 void control_serve(struct control *it, const struct pollfd *polls, struct server *server)
 {
     if (server->card.watch.met)
         tell_held(it, &server->card.watch);
+    if (explain_is_ready())
+        pass_answer(it);
     for (unsigned int i = 0; i < CONTROL_CLIENTS; i++)
         if (it->clients[i].file >= 0 && (polls[1 + i].revents || has_requests(&it->clients[i])))
             serve_client(&it->clients[i], polls[1 + i].revents, server);
+    ask_why(it, server);
     if (polls[0].revents & POLLIN)
         accept_client(it);
 }

@@ -11,6 +11,7 @@
 #include "closer.h"
 #include "confine.h"
 #include "ending.h"
+#include "explain.h"
 #include "janitor.h"
 #include "local_socket.h"
 #include "log.h"
@@ -93,7 +94,7 @@ static bool settle(const struct options *options)
     janitor_seal();
     if (!options->is_unconfined)
         confine_files(CONFINE_SERVER);
-    if (!closer_start()) {
+    if (!closer_start() || (options->control && !explain_start())) {
         log_line(LOG_SERVER, "no thread can be started: %s", strerror(errno));
         return false;
     }

@@ -16,21 +16,37 @@
 #include "protocol.h"
 
 #define PIECE (UINT64_C(16) << 20) /* bytes that are given back at a time, some milliseconds where all were used */
-#define RANGES_A_PIECE 64
+#define WINDOWS_A_PIECE 64
 #define MAPS_MOST CLOSER_OWNERS
+#define GRAINS 16u                       /* that a file has at most; a window is some of them in a row */
+#define GRAIN_LEAST (UINT64_C(16) << 20) /* bytes */
+#define WINDOWS_TO_BYTES 2u              /* windows may have so many times the bytes that ranges may */
 
-/* A file that ranges are pieces of. It stays open until the last of them has been given back: so the memory itself is
+/* A file that windows are pieces of. It stays open until the last of them has been given back: so the memory itself is
    freed when the file is closed, which is the closer's work. */
 struct memory_file {
     int file;
     dev_t device;
     ino_t inode;
     uint64_t page; /* bytes */
+    unsigned int ranges, windows;
+};
+
+/* A piece of a file, mapped once for all ranges that lie in it. One without ranges stays for the next one as long as
+   its file has others, and there is room. */
+struct memory_window {
+    struct memory_file *file;
+    uint8_t *at;
+    uint64_t offset, size; /* of the file; multiples of its pages */
+    uint64_t reach;        /* bytes that are there: fewer than its size once its client has cut the file */
+    uint64_t mapped;       /* bytes at `at`: fewer than its size once some are given back */
+    bool is_writable;
     unsigned int ranges;
 };
 
-static struct memory_limits the_limits = {VFU_MAPS_MOST, MEMORY_FILES_MOST, UINT64_MAX, false};
-static struct memory_map *maps[MAPS_MOST]; /* all that have ranges, for the handler of SIGBUS */
+static struct memory_limits the_limits = {VFU_MAPS_MOST, MEMORY_FILES_MOST, MEMORY_WINDOWS_MOST,
+                                          UINT64_MAX / WINDOWS_TO_BYTES, false};
+static struct memory_map *maps[MAPS_MOST]; /* all that have windows, for the handler of SIGBUS */
 
 void memory_map_limit(const struct memory_limits *limits)
 {
@@ -47,7 +63,7 @@ void memory_map_begin(struct memory_map *it, unsigned int owner)
     *it = (struct memory_map){.owner = owner};
 }
 
-/* Has the handler look at a map's ranges too. */
+/* Has the handler look at a map's windows too. */
 static bool enroll(struct memory_map *it)
 {
     unsigned int i = 0;
@@ -100,20 +116,18 @@ static uint64_t page_of(int file)
     return VFU_PAGE;
 }
 
-/* A file of the client's, which has one range more from now on. */
+/* A file of the client's, whether it has it already or not. */
 static int use_file(struct memory_map *it, int file, const struct stat *about, struct memory_file **used)
 {
     *used = known_file(it, about);
-    if (*used) {
-        (*used)->ranges++;
+    if (*used)
         return 0;
-    }
     if (it->file_count >= the_limits.files || it->file_count == MEMORY_FILES_MOST)
         return EMFILE;
     struct memory_file *made = malloc(sizeof *made);
     if (!made)
         return ENOMEM;
-    *made = (struct memory_file){fcntl(file, F_DUPFD_CLOEXEC, 0), about->st_dev, about->st_ino, page_of(file), 1};
+    *made = (struct memory_file){fcntl(file, F_DUPFD_CLOEXEC, 0), about->st_dev, about->st_ino, page_of(file), 0, 0};
     if (made->file < 0) {
         free(made);
         return errno;
@@ -123,9 +137,10 @@ static int use_file(struct memory_map *it, int file, const struct stat *about, s
     return 0;
 }
 
+/* Closes a file of which nothing is left. */
 static void leave_file(struct memory_map *it, struct memory_file *file)
 {
-    if (!file || --file->ranges)
+    if (file->ranges || file->windows)
         return;
     unsigned int place = 0;
     while (it->files[place] != file)
@@ -135,44 +150,180 @@ static void leave_file(struct memory_map *it, struct memory_file *file)
     free(file);
 }
 
-/* Maps a piece of a file that has all of it. */
+static uint64_t round_up(uint64_t number, uint64_t unit)
+{
+    return (number + unit - 1) / unit * unit;
+}
+
+static bool make_room(void **all, unsigned int *room, unsigned int count, size_t size)
+{
+    if (count <= *room)
+        return true;
+    unsigned int more = 2 * count + 16;
+    void *moved = realloc(*all, more * size);
+    if (!moved)
+        return false;
+    *all = moved;
+    *room = more;
+    return true;
+}
+
+/* ---- windows ---- */
+
+/* Bytes of a file from one place up to another. */
+struct extent {
+    uint64_t from, to;
+};
+
+/* The grains that a piece of a file lies in, up to the file's end. */
+static struct extent wide(struct extent piece, uint64_t file_bytes, uint64_t page)
+{
+    uint64_t grain = page > GRAIN_LEAST ? page : GRAIN_LEAST;
+    while (grain < file_bytes / GRAINS)
+        grain *= 2;
+    uint64_t to = round_up(piece.to, grain), end = round_up(file_bytes, page);
+    return (struct extent){piece.from / grain * grain, to < end ? to : end};
+}
+
+/* Only the pages that it lies in. */
+static struct extent narrow(struct extent piece, uint64_t page)
+{
+    return (struct extent){piece.from / page * page, round_up(piece.to, page)};
+}
+
+/* One that has all of a piece already, and was never cut. */
+static struct memory_window *known_window(const struct memory_map *it, const struct memory_file *file,
+                                          struct extent piece, bool is_writable)
+{
+    for (unsigned int i = 0; i < it->window_count; i++) {
+        struct memory_window *window = it->windows[i];
+        if (window->file == file && window->is_writable == is_writable && window->reach == window->size &&
+            window->offset <= piece.from && piece.to <= window->offset + window->size)
+            return window;
+    }
+    return NULL;
+}
+
+/* Nothing is reached there any more; there is room for it, since there was when it was made. */
+static void retire(struct memory_map *it, unsigned int place)
+{
+    struct memory_window *window = it->windows[place];
+    it->windows[place] = it->windows[--it->window_count];
+    it->retired[it->retired_count++] = window;
+    it->window_bytes -= window->size;
+    it->retired_bytes += window->size;
+}
+
+/* Windows without ranges: of this file, or (null) of all. */
+static void retire_idle(struct memory_map *it, const struct memory_file *file)
+{
+    for (unsigned int i = it->window_count; i-- > 0;)
+        if (it->windows[i]->ranges == 0 && (!file || it->windows[i]->file == file))
+            retire(it, i);
+}
+
+static bool has_room(const struct memory_map *it, struct extent extent)
+{
+    uint64_t most = the_limits.bytes * WINDOWS_TO_BYTES, bytes = extent.to - extent.from;
+    return it->window_count < the_limits.windows && it->window_count < MEMORY_WINDOWS_MOST && bytes <= most &&
+           it->window_bytes <= most - bytes;
+}
+
+/* The memory isn't reserved: its pages are the client's, and where huge ones are short the access is cut. */
+static int make_window(struct memory_map *it, struct memory_file *of, int file, struct extent extent, bool is_writable,
+                       struct memory_window **made)
+{
+    int protection = PROT_READ | (is_writable ? PROT_WRITE : 0);
+    uint64_t size = extent.to - extent.from;
+    if (!make_room((void **)&it->retired, &it->retired_room, it->retired_count + it->window_count + 1,
+                   sizeof(struct memory_window *)))
+        return ENOMEM;
+    *made = malloc(sizeof **made);
+    if (!*made)
+        return ENOMEM;
+    void *at = mmap(NULL, size, protection, MAP_SHARED | MAP_NORESERVE, file, (off_t)extent.from);
+    if (at == MAP_FAILED) {
+        int error = errno;
+        free(*made);
+        return error;
+    }
+    **made = (struct memory_window){of, at, extent.from, size, size, size, is_writable, 0};
+    it->windows[it->window_count++] = *made;
+    it->window_bytes += size;
+    of->windows++;
+    return 0;
+}
+
+/* A window for a piece of a file: one that is there, or else as large a one as there is room for. */
+static int use_window(struct memory_map *it, struct memory_file *of, int file, struct extent piece, uint64_t file_bytes,
+                      bool is_writable, struct memory_window **used)
+{
+    struct extent extent = wide(piece, file_bytes, of->page);
+    *used = known_window(it, of, piece, is_writable);
+    if (*used)
+        return 0;
+    if (!has_room(it, extent))
+        retire_idle(it, NULL);
+    if (!has_room(it, extent))
+        extent = narrow(piece, of->page);
+    return has_room(it, extent) ? make_window(it, of, file, extent, is_writable, used) : ENOBUFS;
+}
+
+/* ---- ranges and their files ---- */
+
+/* As mmap would ask of each range. */
+static bool is_open_for(int file, bool write)
+{
+    int mode = fcntl(file, F_GETFL);
+    return mode >= 0 && (write ? (mode & O_ACCMODE) == O_RDWR : (mode & O_ACCMODE) != O_WRONLY);
+}
+
+static uint64_t bytes_of(const struct memory_range *range)
+{
+    return round_up(range->size, range->window->file->page);
+}
+
+/* Finds a range its window, in a file that has all of it. */
 static int map_file(struct memory_map *it, struct memory_range *range, int file, uint64_t offset)
 {
     struct stat about;
-    int protection = PROT_READ | (range->is_writable ? PROT_WRITE : 0);
+    struct memory_file *of;
     if (!the_limits.trusts_files && !closer_is_memory(file))
         return EPERM;
     if (fstat(file, &about) != 0 || !S_ISREG(about.st_mode) || range->size > (uint64_t)about.st_size ||
         offset > (uint64_t)about.st_size - range->size)
         return EINVAL;
+    if (!is_open_for(file, range->is_writable))
+        return EACCES;
     if (it->bytes > the_limits.bytes || range->size > the_limits.bytes - it->bytes)
         return EFBIG;
-    int error = use_file(it, file, &about, &range->file);
+    int error = use_file(it, file, &about, &of);
     if (error)
         return error;
-    range->mapped = (range->size + range->file->page - 1) / range->file->page * range->file->page;
-    void *at = mmap(NULL, range->size, protection, MAP_SHARED, file, (off_t)offset);
-    if (at == MAP_FAILED) {
-        error = errno;
-        leave_file(it, range->file);
+    error = use_window(it, of, file, (struct extent){offset, offset + range->size}, (uint64_t)about.st_size,
+                       range->is_writable, &range->window);
+    if (error) {
+        range->window = NULL;
+        leave_file(it, of);
         return error;
     }
-    range->at = at;
-    it->bytes += range->mapped;
+    range->offset = offset - range->window->offset;
+    range->window->ranges++;
+    of->ranges++;
+    it->bytes += bytes_of(range);
     return 0;
 }
 
-static bool make_room(struct memory_range **ranges, unsigned int *room, unsigned int count)
+/* A range is taken back. The windows of a file that has no other go with it. */
+static void release(struct memory_map *it, const struct memory_range *range)
 {
-    if (count <= *room)
-        return true;
-    unsigned int more = 2 * count + 16;
-    struct memory_range *moved = realloc(*ranges, more * sizeof *moved);
-    if (!moved)
-        return false;
-    *ranges = moved;
-    *room = more;
-    return true;
+    struct memory_window *window = range->window;
+    if (!window)
+        return;
+    it->bytes -= bytes_of(range);
+    window->ranges--;
+    if (--window->file->ranges == 0)
+        retire_idle(it, window->file);
 }
 
 /* ---- what clients ask ---- */
@@ -180,9 +331,7 @@ static bool make_room(struct memory_range **ranges, unsigned int *room, unsigned
 int memory_map_add(struct memory_map *it, const struct memory_range *asked, int file, uint64_t offset)
 {
     struct memory_range range = *asked;
-    range.at = NULL;
-    range.file = NULL;
-    range.reach = range.size;
+    range.window = NULL;
     if (range.size == 0 || !is_page(range.address) || !is_page(range.size) || !is_page(offset) ||
         range.address > UINT64_MAX - (range.size - 1) || (file < 0 && range.is_writable))
         return EINVAL;
@@ -191,8 +340,8 @@ int memory_map_add(struct memory_map *it, const struct memory_range *asked, int 
         return EEXIST;
     if (place < it->count && it->ranges[place].address <= range.address)
         return EEXIST;
-    if (it->count >= the_limits.ranges || !make_room(&it->ranges, &it->room, it->count + 1) || !enroll(it) ||
-        !make_room(&it->retired, &it->retired_room, it->retired_count + it->count + 1))
+    if (it->count >= the_limits.ranges || !enroll(it) ||
+        !make_room((void **)&it->ranges, &it->room, it->count + 1, sizeof *it->ranges))
         return ENOSPC;
     int error = file < 0 ? 0 : map_file(it, &range, file, offset);
     if (error)
@@ -201,16 +350,6 @@ int memory_map_add(struct memory_map *it, const struct memory_range *asked, int 
     it->ranges[place] = range;
     it->count++;
     return 0;
-}
-
-/* A range that is taken back; there is room for it, since it had a place before. */
-static void retire(struct memory_map *it, const struct memory_range *range)
-{
-    if (!range->at)
-        return;
-    it->retired[it->retired_count++] = *range;
-    it->bytes -= range->mapped;
-    it->retired_bytes += range->mapped;
 }
 
 int memory_map_remove(struct memory_map *it, uint64_t address, uint64_t size)
@@ -227,7 +366,7 @@ int memory_map_remove(struct memory_map *it, uint64_t address, uint64_t size)
     if (it->ranges[first].address < address || final->address + (final->size - 1) > last)
         return EINVAL;
     for (unsigned int i = first; i < end; i++)
-        retire(it, &it->ranges[i]);
+        release(it, &it->ranges[i]);
     memmove(it->ranges + first, it->ranges + end, (it->count - end) * sizeof *it->ranges);
     it->count -= end - first;
     return 0;
@@ -236,35 +375,37 @@ int memory_map_remove(struct memory_map *it, uint64_t address, uint64_t size)
 void memory_map_clear(struct memory_map *it)
 {
     for (unsigned int i = 0; i < it->count; i++)
-        retire(it, &it->ranges[i]);
+        release(it, &it->ranges[i]);
     it->count = 0;
 }
 
 /* ---- what is given back ---- */
 
-/* The end of a range, so that no mapping becomes two: how many bytes. */
-static uint64_t shorten(struct memory_range *range, uint64_t most)
+/* The end of a window, so that no mapping becomes two: how many bytes. */
+static uint64_t shorten(struct memory_window *window, uint64_t most)
 {
-    uint64_t page = range->file->page;
+    uint64_t page = window->file->page;
     uint64_t bytes = most < page ? page : most / page * page;
-    if (bytes > range->mapped)
-        bytes = range->mapped;
-    munmap(range->at + (range->mapped - bytes), bytes);
-    range->mapped -= bytes;
+    if (bytes > window->mapped)
+        bytes = window->mapped;
+    munmap(window->at + (window->mapped - bytes), bytes);
+    window->mapped -= bytes;
     return bytes;
 }
 
 static bool give_back(struct memory_map *it, uint64_t most)
 {
     uint64_t left = most;
-    for (unsigned int i = 0; i < RANGES_A_PIECE && it->retired_count && left; i++) {
-        struct memory_range *range = &it->retired[it->retired_count - 1];
-        uint64_t bytes = shorten(range, left);
+    for (unsigned int i = 0; i < WINDOWS_A_PIECE && it->retired_count && left; i++) {
+        struct memory_window *window = it->retired[it->retired_count - 1];
+        uint64_t bytes = shorten(window, left);
         left -= bytes < left ? bytes : left;
         it->retired_bytes -= bytes;
-        if (range->mapped)
+        if (window->mapped)
             break;
-        leave_file(it, range->file);
+        window->file->windows--;
+        leave_file(it, window->file);
+        free(window);
         it->retired_count--;
     }
     return it->retired_count != 0;
@@ -299,51 +440,52 @@ void *memory_map_run(const struct memory_map *it, uint64_t address, size_t *leng
     if (place == it->count || address < it->ranges[place].address)
         return NULL;
     const struct memory_range *range = &it->ranges[place];
-    uint64_t offset = address - range->address;
-    if (!range->at || offset >= range->reach || (write ? !range->is_writable : !range->is_readable))
+    const struct memory_window *window = range->window;
+    uint64_t offset = address - range->address, left = range->size - offset;
+    if (!window || range->offset + offset >= window->reach || (write ? !range->is_writable : !range->is_readable))
         return NULL;
-    if (*length > range->reach - offset)
-        *length = range->reach - offset;
-    return range->at + offset;
+    if (left > window->reach - range->offset - offset)
+        left = window->reach - range->offset - offset;
+    if (*length > left)
+        *length = left;
+    return window->at + range->offset + offset;
 }
 
 /* ---- files that are cut ---- */
 
 static volatile sig_atomic_t cuts;
 
-/* The range that has an address of this process. */
-static struct memory_range *range_at(uintptr_t place)
+/* The window that has an address of this process. */
+static struct memory_window *window_at(uintptr_t place)
 {
     for (unsigned int i = 0; i < MAPS_MOST; i++)
-        for (unsigned int k = 0; maps[i] && k < maps[i]->count; k++) {
-            struct memory_range *range = &maps[i]->ranges[k];
-            if (range->at && place - (uintptr_t)range->at < range->mapped)
-                return range;
-        }
+        for (unsigned int k = 0; maps[i] && k < maps[i]->window_count; k++)
+            if (place - (uintptr_t)maps[i]->windows[k]->at < maps[i]->windows[k]->size)
+                return maps[i]->windows[k];
     return NULL;
 }
 
-/* Zeros take the place of a range's rest, from the page on that the file hasn't any more. So a range is two mappings at
-   most, for which the limits have room; and since nothing there is reached from now on, they take no memory. */
-static bool cut(struct memory_range *range, uintptr_t place)
+/* Zeros take the place of a window's rest, from the page on that the file hasn't any more. So a window is two mappings
+   at most, for which the limits have room; and since nothing there is reached from now on, they take no memory. */
+static bool cut(struct memory_window *window, uintptr_t place)
 {
-    uint64_t whole = (place - (uintptr_t)range->at) / range->file->page * range->file->page;
-    if (mmap(range->at + whole, range->mapped - whole, PROT_READ | PROT_WRITE, MAP_PRIVATE | MAP_ANONYMOUS | MAP_FIXED,
+    uint64_t whole = (place - (uintptr_t)window->at) / window->file->page * window->file->page;
+    if (mmap(window->at + whole, window->size - whole, PROT_READ | PROT_WRITE, MAP_PRIVATE | MAP_ANONYMOUS | MAP_FIXED,
              -1, 0) == MAP_FAILED)
         return false;
-    if (whole < range->reach)
-        range->reach = whole;
+    if (whole < window->reach)
+        window->reach = whole;
     cuts++;
     return true;
 }
 
-/* It comes from a copy out of a range or into it, in the midst of which no range is changed. A SIGBUS of another kind
-   ends the process. */
+/* It comes from a copy out of a window or into it, in the middle of which no window is changed. A SIGBUS of another
+   kind ends the process. */
 static void on_bus_error(int number, siginfo_t *about, void *context)
 {
-    struct memory_range *range = about->si_code == BUS_ADRERR ? range_at((uintptr_t)about->si_addr) : NULL;
+    struct memory_window *window = about->si_code == BUS_ADRERR ? window_at((uintptr_t)about->si_addr) : NULL;
     (void)context;
-    if (range && cut(range, (uintptr_t)about->si_addr))
+    if (window && cut(window, (uintptr_t)about->si_addr))
         return;
     signal(number, SIG_DFL);
     raise(number);

@@ -52,7 +52,7 @@ static unsigned int between(uint64_t number, unsigned int least, unsigned int mo
     return number < least ? least : number > most ? most : (unsigned int)number;
 }
 
-/* A range is two mappings at most, and as many wait to be given back as there are. */
+/* As if each range were a window: that is two mappings at most, and as many wait to be given back as there are. */
 static unsigned int ranges_of(unsigned int clients)
 {
     uint64_t all = all_mappings();
@@ -87,7 +87,9 @@ bool resources_share(unsigned int clients, unsigned int vectors, uint64_t bytes,
         return false;
     }
     uint64_t left = all > least + passing ? (all - least - passing) / clients : 0;
-    memory_map_limit(&(struct memory_limits){.ranges = ranges_of(clients),
+    unsigned int ranges = ranges_of(clients);
+    memory_map_limit(&(struct memory_limits){.ranges = ranges,
+                                             .windows = between(ranges, MEMORY_RETIRED_MOST, MEMORY_WINDOWS_MOST),
                                              .files = between(left, MEMORY_LEAST, MEMORY_FILES_MOST),
                                              .bytes = bytes_of(clients, bytes),
                                              .trusts_files = trusts_files});

@@ -43,6 +43,7 @@ struct ring {
     struct dma_address base; /* of the client that set it up */
     struct dma_address head; /* where a transmit queue's head is written back, of the client that asked for it */
     uint32_t place, blocks;  /* of the ring in the device's memory; 0: none */
+    uint32_t lent;           /* the one of these blocks that the device has; 0: none, or all where it is recorded */
     uint32_t slots;
     bool is_legacy;  /* receive: the driver wants legacy descriptors */
     bool has_drop;   /* receive: SRRCTL's DROP_EN is the server's, not the driver's */
@@ -88,6 +89,29 @@ static void lend(struct rings *it, uint32_t first, uint32_t count)
             it->is_lent[block] = nic_lend(it->options.device, block) == NIC_DONE;
 }
 
+static void take(struct rings *it, uint32_t block)
+{
+    if (block && it->is_lent[block])
+        it->is_lent[block] = nic_take(it->options.device, block) != NIC_DONE;
+}
+
+static uint32_t block_of(const struct ring *ring, uint32_t slot)
+{
+    return ring->place + slot * NIC_DESC_BYTES / NIC_BLOCK_BYTES;
+}
+
+/* The device gets the block of the slot that it takes next, and none of the ring's others: so a long ring makes it no
+   larger than a short one, and a copy of it takes no longer. A recording has whole rings, to be drawn. */
+static void lend_slot(struct rings *it, struct ring *ring, uint32_t slot)
+{
+    uint32_t block = block_of(ring, slot);
+    if (it->options.is_recorded || ring->lent == block)
+        return;
+    take(it, ring->lent);
+    lend(it, block, 1);
+    ring->lent = block;
+}
+
 /* The guest's address of a slot. */
 static struct dma_address slot_at(const struct ring *ring, uint32_t slot)
 {
@@ -125,8 +149,9 @@ static void give_up_place(struct rings *it, struct ring *ring)
     for (uint32_t i = 0; i < ring->blocks; i++)
         it->owner[ring->place + i] = 0;
     it->counts.blocks -= ring->blocks;
+    take(it, ring->lent);
     memset(ring->ahead, 0, sizeof ring->ahead);
-    ring->place = ring->blocks = ring->slots = 0;
+    ring->place = ring->blocks = ring->slots = ring->lent = 0;
 }
 
 /* The first of `count` blocks in a row that nobody has; 0: there are none. */
@@ -161,7 +186,8 @@ static void take_place(struct rings *it, enum side side, uint16_t queue, uint32_
     }
     for (uint32_t i = 0; i < count; i++)
         it->owner[place + i] = (uint16_t)(1 + RINGS_QUEUES * side + queue);
-    lend(it, place, count);
+    if (it->options.is_recorded)
+        lend(it, place, count);
     ring->place = place;
     ring->blocks = count;
     ring->slots = slots;
@@ -561,6 +587,7 @@ static enum next next_slot(const struct rings *it, enum side side, uint16_t queu
 
 static void put_slot(struct rings *it, struct ring *ring, uint32_t slot, nic_desc descriptor)
 {
+    lend_slot(it, ring, slot);
     nic_put_desc(it->options.device, bus_of(ring->place), slot, descriptor);
     ring->is_given = true;
     ring->slot = slot;
@@ -688,13 +715,17 @@ static void fill(struct rings *it, enum side side, uint16_t queue)
         return;
     if (side == RECEIVE)
         lend(it, place, RECEIVE_BLOCKS);
-    for (uint32_t slot = head; slot != tail; slot = slot + 1 < ring->slots ? slot + 1 : 0)
-        if (!ring->is_given || slot != ring->slot)
-            nic_put_desc(it->options.device, bus_of(ring->place), slot, filler);
+    for (uint32_t slot = head; slot != tail; slot = slot + 1 < ring->slots ? slot + 1 : 0) {
+        if (ring->is_given && slot == ring->slot)
+            continue;
+        lend(it, block_of(ring, slot), 1);
+        nic_put_desc(it->options.device, bus_of(ring->place), slot, filler);
+    }
 }
 
-void rings_fill(struct rings *it)
+void rings_fill(struct rings *it, nic *device)
 {
+    it->options.device = device;
     for (uint16_t queue = 0; queue < RINGS_QUEUES; queue++) {
         fill(it, RECEIVE, queue);
         fill(it, TRANSMIT, queue);

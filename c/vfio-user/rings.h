@@ -8,6 +8,9 @@
    buffers are, or turns the ring on, or its own client goes, it stops: the queue goes off, and what the device would
    still fetch is a fault.
 
+   Of a ring the device has the 2 KB around the slot that it takes next, and what it takes to keep, copy or look at it
+   is so bounded by the number of rings.
+
    All is copied and nothing in place, since the guest runs while calls do. What the guest polls is written last, by a
    release store: a frame's bytes first, DD behind them. */
 #ifndef RINGS_H
@@ -80,8 +83,9 @@ bool rings_step(struct rings *it, bool is_transmit, uint16_t queue);
 /* The same for each receive queue that was touched: before receive steps. */
 void rings_prepare_receive(struct rings *it);
 
-/* Puts something harmless into the device's slots that aren't given yet, for whoever looks ahead on a copy of it. */
-void rings_fill(struct rings *it);
+/* Puts something harmless into a device's slots that aren't given yet, for `why`, which looks at all of them. The
+   device is a copy, and these rings are one too; or, where it is recorded, it is the device itself. */
+void rings_fill(struct rings *it, nic *device);
 
 /* The device wrote these bytes: part of a frame, or a receive descriptor. */
 void rings_written(struct rings *it, uint64_t bus, size_t length);

@@ -262,8 +262,10 @@ void server_run(struct server *it)
     bool is_late = pass_frames(it);
     while (!ending_is_asked() && !has_ended(it)) {
         struct events events;
+        bool gives_back = give_back(it);
+        int wait = patience(it, is_late); /* first: a file that is closed from here on wakes nobody */
         fill(it, &events);
-        wait_for(&events, give_back(it) || has_more(it) ? 0 : patience(it, is_late));
+        wait_for(&events, gives_back || has_more(it) ? 0 : wait);
         card_begin_turn(&it->card);
         serve_functions(it, &events);
         wire_serve(&it->wire, events.wire);

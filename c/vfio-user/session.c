@@ -98,6 +98,10 @@ static void tell_of_file(const struct session *it, const struct vfu_dma_map *ask
         log_client(it->channel.owner, LOG_MESSAGE,
                    "%s: memory at 0x%" PRIx64 " is refused: a client may have %u files of memory at once", it->name,
                    asked->address, memory_map_limits()->files);
+    else if (error == ENOBUFS)
+        log_client(it->channel.owner, LOG_MESSAGE,
+                   "%s: memory at 0x%" PRIx64 " is refused: a client may have files mapped in %u pieces at once",
+                   it->name, asked->address, memory_map_limits()->windows);
 }
 
 static int dma_map(struct work *it)

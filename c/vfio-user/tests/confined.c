@@ -23,8 +23,8 @@
 #include "notifier.h"
 
 static char folder[] = "/tmp/nic82599-confined.XXXXXX";
-static char file_path[64], socket_path[64];
-static int ends[2], event, memory_file;
+static char file_path[64], socket_path[64], datagram_path[64];
+static int ends[2], event, memory_file, datagrams;
 
 /* ---- what it may not ---- */
 
@@ -59,6 +59,14 @@ static bool calls_out(void)
 static bool calls(void)
 {
     return local_connect(socket_path) >= 0;
+}
+
+/* By the wire's socket, which is there already, to anyone who has a name. */
+static bool sends_elsewhere(void)
+{
+    struct sockaddr_un name;
+    return local_name(&name, datagram_path) &&
+           sendto(datagrams, "x", 1, MSG_DONTWAIT, (const struct sockaddr *)&name, sizeof name) == 1;
 }
 
 static bool makes_code(void)
@@ -130,6 +138,8 @@ static const struct trial {
     {"opens", opens, CONFINE_CALLER, false},
     {"calls", calls, CONFINE_SERVER, false},
     {"calls", calls, CONFINE_CALLER, true},
+    {"sends elsewhere", sends_elsewhere, CONFINE_SERVER, false},
+    {"sends elsewhere", sends_elsewhere, CONFINE_CALLER, false},
     {"makes code", makes_code, CONFINE_SERVER, false},
     {"harms others", harms_others, CONFINE_SERVER, false},
     {"serves", serves, CONFINE_SERVER, true},
@@ -199,14 +209,17 @@ static void janitor_keeps_others(void)
 
 int main(void)
 {
-    int listener = -1;
+    int listener = -1, other = -1;
     bool has_filter = is_filtered();
     CHECK(mkdtemp(folder) && socketpair(AF_UNIX, SOCK_STREAM, 0, ends) == 0);
     snprintf(file_path, sizeof file_path, "%s/file", folder);
     snprintf(socket_path, sizeof socket_path, "%s/socket", folder);
+    snprintf(datagram_path, sizeof datagram_path, "%s/datagrams", folder);
+    datagrams = socket(AF_UNIX, SOCK_DGRAM | SOCK_CLOEXEC, 0);
     event = eventfd(0, EFD_CLOEXEC);
     memory_file = memfd_create("memory", MFD_CLOEXEC);
     CHECK(ftruncate(memory_file, 4096) == 0 && !local_listen(&listener, socket_path, 4));
+    CHECK(!local_bind(&other, SOCK_DGRAM, datagram_path) && sends_elsewhere());
     CHECK(close(open(file_path, O_CREAT | O_WRONLY | O_CLOEXEC, 0600)) == 0);
     for (size_t i = 0; i < sizeof trials / sizeof *trials; i++) {
         int status = 0;

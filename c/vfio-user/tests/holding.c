@@ -1,9 +1,11 @@
-/* What waits for others in the kernel, and is held there: the closing of a client's eventfd, and the connection of the
-   wire. Guests are answered all the same. Over the program itself: holding PROGRAM FOLDER */
+/* What takes long: the closing of a client's eventfd and the connection of the wire, which wait for others in the
+   kernel and are held there, and `why` of a large device. Guests are answered all the same. Over the program itself:
+   holding PROGRAM FOLDER */
 #define _GNU_SOURCE
 #include <dirent.h>
 #include <errno.h>
 #include <fcntl.h>
+#include <inttypes.h>
 #include <linux/userfaultfd.h>
 #include <poll.h>
 #include <pthread.h>
@@ -15,6 +17,7 @@
 #include <sys/ioctl.h>
 #include <sys/mman.h>
 #include <sys/prctl.h>
+#include <sys/socket.h>
 #include <sys/syscall.h>
 #include <sys/wait.h>
 #include <unistd.h>
@@ -176,6 +179,104 @@ static void connection_that_waits(const char *wire)
     CHECK(signal_children(server, 0) == 0);
 }
 
+/* ---- `why` of a large device ---- */
+
+#define RINGS 32u /* as long as they may be */
+#define SLOTS 32768u
+#define SNAPSHOT_KB 8192 /* that a snapshot may take; the rings have twice as much */
+#define MEANWHILE 20u    /* of which there are thousands where nothing holds them */
+
+static bool has_answer(int control)
+{
+    struct pollfd answer = {control, POLLIN, 0};
+    return poll(&answer, 1, 0) == 1;
+}
+
+/* All slots of the rings wait, in a card that makes no steps. */
+static void set_up_rings(struct peer *it)
+{
+    for (uint32_t queue = 0; queue < RINGS; queue++) {
+        peer_write(it, NIC_TDBAL(queue), 0);
+        peer_write(it, NIC_TDLEN(queue), SLOTS * NIC_DESC_BYTES);
+        peer_write(it, NIC_TDT(queue), SLOTS - 1);
+    }
+    CHECK(peer_read(it, NIC_TDT(RINGS - 1)) == SLOTS - 1);
+}
+
+/* An answer that has a line for each ring. */
+static void tells_all(const char *answer)
+{
+    char line[32];
+    for (uint32_t queue = 0; queue < RINGS; queue++) {
+        snprintf(line, sizeof line, "tx %" PRIu32 ": ", queue);
+        CHECK(strstr(answer, line));
+    }
+    CHECK(strcmp(answer + strlen(answer) - 3, "ok\n") == 0);
+}
+
+/* Another client is answered, and other requests are, until `why` is. */
+static void others_are_answered(int first, int second, struct peer *other)
+{
+    unsigned int answers = 0;
+    peer_send_request(first, "why");
+    while (!has_answer(first)) {
+        peer_read(other, NIC_VFSTATUS);
+        CHECK(strstr(peer_request(second, "counts"), "ok\n"));
+        answers++;
+    }
+    CHECK(answers >= MEANWHILE);
+    tells_all(peer_answer(first));
+}
+
+/* A client's own requests: what follows `why` is answered after it. */
+static void are_in_order(int control)
+{
+    static char answers[1u << 16];
+    char *second;
+    size_t length = 0;
+    peer_send_request(control, "why");
+    peer_send_request(control, "nothing that there is");
+    do {
+        ssize_t got = recv(control, answers + length, sizeof answers - 1 - length, 0);
+        CHECK(got > 0);
+        length += (size_t)got;
+        second = strstr(answers, "error: ");
+    } while (!second);
+    *second = 0;
+    tells_all(answers);
+}
+
+static void why_of_large_rings(void)
+{
+    const char *control = program_path("", "control");
+    pid_t server = start(program_path("--control=", "control"));
+    int first = peer_stream(control), second = peer_stream(control), third = peer_stream(control);
+    struct peer host, other;
+    peer_open(&host, path);
+    peer_open(&other, other_path);
+    CHECK(peer_version(&host) == 0 && peer_version(&other) == 0);
+    peer_request(first, "hold");
+    set_up_rings(&host);
+    long long before = program_number(server, "VmRSS", 10);
+    CHECK(strstr(peer_request(first, "snapshot a"), "ok\n"));
+    CHECK(program_number(server, "VmRSS", 10) - before < SNAPSHOT_KB);
+    others_are_answered(first, second, &other);
+    peer_send_request(first, "why"); /* whose turn comes one after the other; one of them doesn't wait for it */
+    peer_send_request(second, "why");
+    peer_send_request(third, "why");
+    close(second);
+    tells_all(peer_answer(third));
+    tells_all(peer_answer(first));
+    are_in_order(first);
+    peer_send_request(first, "why"); /* the end comes meanwhile */
+    peer_read(&other, NIC_VFSTATUS);
+    CHECK(program_end(server) == 0);
+    close(first);
+    close(third);
+    peer_close(&host);
+    peer_close(&other);
+}
+
 int main(int count, char **words)
 {
     CHECK(count == 3);
@@ -186,6 +287,7 @@ int main(int count, char **words)
     eventfd_that_does_not_close();
     connection_that_waits("--wire=stream:");
     connection_that_waits(program_path("--wire=dgram:", "own,"));
+    why_of_large_rings();
     printf("holding: passed%s\n", not_tried);
     return 0;
 }

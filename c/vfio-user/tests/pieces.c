@@ -20,13 +20,22 @@
 #define PAGE 4096u
 #define MEBIBYTE (1u << 20)
 #define HUGE_2MB (21u << 26) /* of memfd_create: the page's size */
+#define FILES 250u
+#define RANGES 1000u
+#define STRIDE (100 * 1024u) /* a multiple of a page */
 
 static struct memory_map map;
 
+static int add_piece(uint64_t address, uint64_t size, int file, uint64_t offset, bool is_writable)
+{
+    const struct memory_range range = {
+        .address = address, .size = size, .is_readable = true, .is_writable = is_writable};
+    return memory_map_add(&map, &range, file, offset);
+}
+
 static int add(uint64_t address, uint64_t size, int file)
 {
-    const struct memory_range range = {.address = address, .size = size, .is_readable = true, .is_writable = true};
-    return memory_map_add(&map, &range, file, 0);
+    return add_piece(address, size, file, 0, true);
 }
 
 static int memory(uint64_t bytes)
@@ -44,7 +53,20 @@ static unsigned int pieces(void)
     return count;
 }
 
-/* A large range goes in several pieces, each of 16 MiB; many small ones in pieces of 64. */
+/* How often this process has such files mapped. */
+static unsigned int mappings(void)
+{
+    char line[300];
+    unsigned int count = 0;
+    FILE *file = fopen("/proc/self/maps", "re");
+    CHECK(file);
+    while (fgets(line, sizeof line, file))
+        count += strstr(line, "memfd:memory") != NULL;
+    fclose(file);
+    return count;
+}
+
+/* A large range goes in several pieces, each of 16 MiB; those of many files in pieces of 64. */
 static void ranges(void)
 {
     size_t length = PAGE;
@@ -52,14 +74,110 @@ static void ranges(void)
     memory_map_begin(&map, 0);
     CHECK(add(0, 100 * MEBIBYTE, file) == 0 && memory_map_run(&map, 0, &length, true));
     CHECK(memory_map_remove(&map, 0, 100 * MEBIBYTE) == 0 && !memory_map_run(&map, 0, &length, true));
-    CHECK(!memory_map_is_busy(&map) && pieces() == 7 && map.file_count == 0);
-    for (uint32_t i = 0; i < 1000; i++)
+    CHECK(!memory_map_is_busy(&map) && pieces() == 7 && map.file_count == 0 && mappings() == 0);
+    close(file);
+    for (uint32_t i = 0; i < FILES; i++) {
+        file = memory(PAGE);
         CHECK(add(i * PAGE, PAGE, file) == 0);
-    CHECK(map.file_count == 1 && add(5 * PAGE, PAGE, file) == EEXIST);
+        close(file);
+    }
+    CHECK(map.file_count == FILES && mappings() == FILES);
     memory_map_clear(&map);
-    CHECK(memory_map_is_busy(&map) && pieces() == 1000 / 64 + 1 && !memory_map_is_busy(&map) && map.file_count == 0);
+    CHECK(memory_map_is_busy(&map) && pieces() == FILES / 64 + 1 && !memory_map_is_busy(&map) && map.file_count == 0);
+    memory_map_end(&map);
+}
+
+/* The number that the file has in front of a range. */
+static uint64_t number_at(uint64_t address)
+{
+    uint64_t number;
+    size_t length = PAGE;
+    const void *at = memory_map_run(&map, address, &length, false);
+    CHECK(at && length == PAGE);
+    memcpy(&number, at, sizeof number);
+    return number;
+}
+
+/* However many ranges a file has, it is mapped in a few pieces, of which each range is its own. */
+static void shared_windows(void)
+{
+    size_t length = PAGE;
+    int file = memory(100 * MEBIBYTE);
+    memory_map_begin(&map, 0);
+    for (uint64_t i = 0; i < RANGES; i++) {
+        CHECK(pwrite(file, &i, sizeof i, (off_t)(i * STRIDE)) == (ssize_t)sizeof i);
+        CHECK(add_piece(i * 2 * PAGE, PAGE, file, i * STRIDE, true) == 0);
+    }
+    CHECK(map.file_count == 1 && map.count == RANGES && mappings() <= 16);
+    CHECK(add_piece(10 * PAGE, PAGE, file, 0, true) == EEXIST && !memory_map_run(&map, PAGE, &length, false));
+    for (uint64_t i = 0; i < RANGES; i++)
+        CHECK(number_at(i * 2 * PAGE) == i);
+    unsigned int before = mappings();
+    for (uint64_t i = 1; i < RANGES; i++) {
+        CHECK(memory_map_remove(&map, i * 2 * PAGE, PAGE) == 0 && !memory_map_run(&map, i * 2 * PAGE, &length, false));
+        CHECK(add_piece(i * 2 * PAGE, PAGE, file, 0, true) == 0 && number_at(i * 2 * PAGE) == 0);
+    }
+    CHECK(mappings() == before && !memory_map_give_back(&map));
+    CHECK(add_piece(PAGE, PAGE, file, STRIDE, false) == 0 && number_at(PAGE) == 1);
+    CHECK(!memory_map_run(&map, PAGE, &length, true) && mappings() == before + 1);
+    memory_map_clear(&map);
+    CHECK(memory_map_give_back(&map));
+    pieces();
+    CHECK(mappings() == 0 && map.file_count == 0);
     memory_map_end(&map);
     close(file);
+}
+
+/* A file that isn't open for what its range is to be is refused, whether it is mapped already or not. */
+static void open_for(void)
+{
+    char name[64];
+    int file = memory(MEBIBYTE);
+    snprintf(name, sizeof name, "/proc/self/fd/%d", file);
+    int read_only = open(name, O_RDONLY | O_CLOEXEC), write_only = open(name, O_WRONLY | O_CLOEXEC);
+    memory_map_begin(&map, 0);
+    for (unsigned int i = 0; i < 2; i++) {
+        CHECK(read_only >= 0 && add_piece(i * PAGE, PAGE, read_only, 0, true) == EACCES);
+        CHECK(write_only >= 0 && add_piece(i * PAGE, PAGE, write_only, 0, false) == EACCES && map.file_count == i);
+        CHECK(add(i * PAGE, PAGE, file) == 0);
+    }
+    CHECK(add_piece(2 * PAGE, PAGE, read_only, 0, false) == 0);
+    memory_map_end(&map);
+    close(read_only);
+    close(write_only);
+    close(file);
+}
+
+/* A client has so many windows and no more; those that no range has make room for others. */
+static void windows_most(void)
+{
+    const struct memory_limits before = *memory_map_limits();
+    struct memory_limits few = before;
+    int file = memory(160 * MEBIBYTE), others[2] = {memory(PAGE), memory(PAGE)};
+    few.windows = 3;
+    memory_map_limit(&few);
+    memory_map_begin(&map, 0);
+    for (uint64_t i = 0; i < 3; i++)
+        CHECK(add_piece(i * PAGE, PAGE, file, i * 16 * MEBIBYTE, true) == 0);
+    CHECK(add_piece(3 * PAGE, PAGE, others[0], 0, true) == ENOBUFS && map.file_count == 1);
+    CHECK(add_piece(3 * PAGE, PAGE, file, MEBIBYTE, true) == 0);
+    CHECK(memory_map_remove(&map, PAGE, 2 * PAGE) == 0 && mappings() == 3);
+    CHECK(add_piece(PAGE, PAGE, others[0], 0, true) == 0 && add_piece(2 * PAGE, PAGE, others[1], 0, true) == 0);
+    CHECK(add_piece(4 * PAGE, PAGE, file, 16 * MEBIBYTE, true) == ENOBUFS);
+    few.windows = before.windows;
+    few.bytes = 20 * MEBIBYTE; /* 40 MiB of windows: one wide, then as narrow as the range */
+    memory_map_limit(&few);
+    memory_map_clear(&map);
+    pieces();
+    for (uint64_t i = 0; i < 4; i++)
+        CHECK(add_piece(i * PAGE, PAGE, file, i * 16 * MEBIBYTE, true) == 0);
+    CHECK(map.window_bytes == 32 * MEBIBYTE + 2 * PAGE);
+    CHECK(add_piece(64 * PAGE, 21 * MEBIBYTE, file, 0, true) == EFBIG);
+    memory_map_end(&map);
+    memory_map_limit(&before);
+    close(file);
+    close(others[0]);
+    close(others[1]);
 }
 
 /* From the page on at which a file was cut nothing is reached; what lies in front of it still is. */
@@ -80,6 +198,8 @@ static void cut(void)
     *at = 1;
     length = MEBIBYTE;
     CHECK(memory_map_cuts() == before + 2 && memory_map_run(&map, 0, &length, false) && length == 4 * PAGE);
+    CHECK(ftruncate(file, MEBIBYTE) == 0 && !memory_map_run(&map, 4 * PAGE, &length, false));
+    CHECK(add_piece(MEBIBYTE, PAGE, file, 4 * PAGE, true) == 0 && memory_map_run(&map, MEBIBYTE, &length, true));
     memory_map_end(&map);
     close(file);
 }
@@ -216,6 +336,9 @@ int main(void)
     signal(SIGPIPE, SIG_IGN);
     CHECK(memory_map_guard());
     ranges();
+    shared_windows();
+    open_for();
+    windows_most();
     cut();
     bool has_huge = huge();
     records();

@@ -16,6 +16,7 @@
 #include "../../../tests/check.h"
 #include "closer.h"
 #include "ending.h"
+#include "explain.h"
 #include "log.h"
 #include "notifier.h"
 #include "options.h"
@@ -36,7 +37,7 @@ static int serve(const char *const *words)
     snprintf(path, sizeof path, "--socket-path=%s", server_path);
     for (; *words; words++)
         all[count++] = (char *)(uintptr_t)*words;
-    if (!ending_open() || !notifier_open() || !memory_map_guard() || !closer_start() ||
+    if (!ending_open() || !notifier_open() || !memory_map_guard() || !closer_start() || !explain_start() ||
         options_read(&it.options, count, all) != OPTIONS_GO || (it.options.record && !nic_record(it.options.record)) ||
         !server_open(&it))
         return 2;
@@ -239,11 +240,15 @@ uint32_t peer_vectors(struct peer *it, uint32_t first, uint32_t count, const int
 
 /* ---- control socket and wire ---- */
 
-const char *peer_request(int control, const char *words)
+void peer_send_request(int control, const char *words)
+{
+    CHECK(send(control, words, strlen(words), 0) == (ssize_t)strlen(words) && send(control, "\n", 1, 0) == 1);
+}
+
+const char *peer_answer(int control)
 {
     static char answer[1u << 16];
     size_t length = 0;
-    CHECK(send(control, words, strlen(words), 0) == (ssize_t)strlen(words) && send(control, "\n", 1, 0) == 1);
     do {
         ssize_t got = recv(control, answer + length, sizeof answer - 1 - length, 0);
         CHECK(got > 0);
@@ -251,6 +256,12 @@ const char *peer_request(int control, const char *words)
         answer[length] = 0;
     } while (!strstr(answer, "ok\n") && !strstr(answer, "error: "));
     return answer;
+}
+
+const char *peer_request(int control, const char *words)
+{
+    peer_send_request(control, words);
+    return peer_answer(control);
 }
 
 uint64_t peer_count(int control, const char *words)

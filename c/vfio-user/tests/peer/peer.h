@@ -50,7 +50,9 @@ uint32_t peer_vectors(struct peer *it, uint32_t first, uint32_t count, const int
 
 /* A stream connection to a control socket, or to a wire that listens, also where its server is just starting. */
 int peer_stream(const char *path);
-/* A request at the control socket: its whole answer, which the next one overwrites. */
+/* A request at the control socket, and its whole answer, which the next one overwrites; both. */
+void peer_send_request(int control, const char *words);
+const char *peer_answer(int control);
 const char *peer_request(int control, const char *words);
 /* A number of the answer to `counts`, which follows these words. */
 uint64_t peer_count(int control, const char *words);

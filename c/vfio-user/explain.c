@@ -1,0 +1,171 @@
+#define _GNU_SOURCE
+#include "explain.h"
+
+#include <malloc.h>
+#include <pthread.h>
+#include <signal.h>
+#include <stdint.h>
+#include <sys/eventfd.h>
+#include <unistd.h>
+
+#define TEXT_BYTES 65536
+
+/* What is looked at. */
+struct copy {
+    nic_kept device;
+    struct rings *rings;
+};
+
+enum state { FREE, ASKED, ANSWERED };
+
+/* While it is ASKED, `asked`, `text` and `is_short` are the thread's. */
+static pthread_mutex_t lock = PTHREAD_MUTEX_INITIALIZER;
+static pthread_cond_t changed = PTHREAD_COND_INITIALIZER;
+static enum state state;
+static struct copy asked;
+static char text[TEXT_BYTES];
+static bool is_short;
+static int event = -1;
+
+/* ---- the answer ---- */
+
+static void drop(struct copy *it)
+{
+    nic_drop_snapshot(&it->device);
+    rings_free(it->rings);
+    it->rings = NULL;
+}
+
+/* All of it, or (false) nothing. */
+static bool copy_card(struct copy *it, struct card *card)
+{
+    card_give_due(card);
+    *it = (struct copy){.rings = rings_copy(card->rings)};
+    if (it->rings && nic_snapshot(bus_device(), &it->device) == NIC_DONE)
+        return true;
+    drop(it);
+    return false;
+}
+
+/* Ends the copy, which took a device's memory. */
+static void look_at_copy(struct copy *it)
+{
+    nic device = {NULL};
+    is_short = nic_open(&device, 0, 1, 1) != NIC_DONE || nic_restore(&device, &it->device) != NIC_DONE;
+    if (!is_short) {
+        rings_fill(it->rings, &device);
+        nic_why(&device, text, sizeof text);
+    }
+    nic_close(&device);
+    drop(it);
+}
+
+/* ---- the thread ---- */
+
+static void *answer_all(void *nothing)
+{
+    const uint64_t one = 1;
+    (void)nothing;
+    pthread_mutex_lock(&lock);
+    for (;;) {
+        while (state != ASKED)
+            pthread_cond_wait(&changed, &lock);
+        pthread_mutex_unlock(&lock);
+        look_at_copy(&asked);
+#ifdef __GLIBC__
+        malloc_trim(0); /* else this thread keeps most of it for the next time */
+#endif
+        pthread_mutex_lock(&lock);
+        state = ANSWERED;
+        if (write(event, &one, sizeof one) < 0) {
+            /* a full counter is readable too */
+        }
+    }
+    return NULL;
+}
+
+/* Signals are the first thread's. */
+bool explain_start(void)
+{
+    pthread_t thread;
+    sigset_t all, before;
+    if (event >= 0)
+        return true;
+    event = eventfd(0, EFD_CLOEXEC | EFD_NONBLOCK);
+    if (event < 0)
+        return false;
+    sigfillset(&all);
+    pthread_sigmask(SIG_SETMASK, &all, &before);
+    int error = pthread_create(&thread, NULL, answer_all, NULL);
+    pthread_sigmask(SIG_SETMASK, &before, NULL);
+    return error == 0 && pthread_detach(thread) == 0;
+}
+
+/* ---- who asks ---- */
+
+static bool has_state(enum state wanted)
+{
+    pthread_mutex_lock(&lock);
+    bool has = state == wanted;
+    pthread_mutex_unlock(&lock);
+    return has;
+}
+
+static void become(enum state next)
+{
+    pthread_mutex_lock(&lock);
+    state = next;
+    pthread_cond_signal(&changed);
+    pthread_mutex_unlock(&lock);
+}
+
+int explain_file(void)
+{
+    return event;
+}
+
+bool explain_is_free(void)
+{
+    return has_state(FREE);
+}
+
+bool explain_ask(struct card *card)
+{
+    bool is_whole = copy_card(&asked, card);
+    if (is_whole)
+        become(ASKED);
+    return is_whole;
+}
+
+bool explain_is_ready(void)
+{
+    return has_state(ANSWERED);
+}
+
+const char *explain_text(void)
+{
+    return is_short ? NULL : text;
+}
+
+void explain_end(void)
+{
+    uint64_t count;
+    if (read(event, &count, sizeof count) < 0) {
+        /* it is read again when the next answer is */
+    }
+    become(FREE);
+}
+
+const char *explain_now(struct card *card)
+{
+    if (card->options.is_recorded) {
+        card_give_due(card);
+        rings_fill(card->rings, bus_device());
+        nic_why(bus_device(), text, sizeof text);
+        return text;
+    }
+    is_short = !copy_card(&asked, card);
+    if (!is_short)
+        look_at_copy(&asked);
+    return explain_text();
+}

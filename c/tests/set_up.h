@@ -56,7 +56,7 @@ static void set_up(nic *n, int count, uint32_t queue)
 /* A call by chance, most often one that a driver or the link makes. */
 static void one_call(nic *n, int count)
 {
-    uint32_t queue = below(QUEUES);
+    uint32_t queue = below(QUEUES), bit;
     switch (below(8)) {
     case 0: set_up(n, count, queue); break;
     case 1: each_write(n, count, NIC_RDT(queue), below(9)); break;
@@ -65,7 +65,10 @@ static void one_call(nic *n, int count)
     case 4: each_write(n, count, NIC_EICS, (uint32_t)chance()); break;
     case 5: each_arrive(n, count); break;
     case 6: each_write(n, count, below(2) ? NIC_EERD : NIC_VTEIMS, 1); break;
-    default: each_write(n, count, addresses[below(sizeof addresses / sizeof *addresses)], 1u << below(32)); break;
+    default:
+        /* One after the other: which argument is evaluated first is each compiler's own choice. */
+        bit = 1u << below(32);
+        each_write(n, count, addresses[below(sizeof addresses / sizeof *addresses)], bit);
     }
 }
 

@@ -18,10 +18,12 @@ static bool is_alone;
 
 /* --- a set-up --- */
 
-static void arrive(nic *n, unsigned last, size_t length)
+static void arrive(nic *n, unsigned last, size_t length, unsigned first)
 {
     nic_told told;
-    uint8_t frame[1514] = {2, 0, 0, 0, 0, (uint8_t)last, 2, 0, 0, 0, 0, 9, 8, 0, 0x45};
+    uint8_t frame[1600] = {2, 0, 0, 0, 0, (uint8_t)last, 2, 0, 0, 0, 0, 9, 8, 0, 0x45};
+    if (first)
+        memset(frame, (int)first, 5);
     nic_arrive(n, frame, length, &told);
 }
 
@@ -51,7 +53,7 @@ static void make(nic *n, const char *text)
     else if (!strcmp(word, "put"))
         nic_put_desc(n, a, 0, (nic_desc){b, c});
     else if (!strcmp(word, "arrive"))
-        arrive(n, (unsigned)a, b ? (size_t)b : 60);
+        arrive(n, (unsigned)a, b ? (size_t)b : 60, (unsigned)c);
     else if (!strcmp(word, "settle"))
         settle(n, (uint16_t)a);
     else if (!strcmp(word, "rx"))

@@ -3,8 +3,10 @@
 #include <stdio.h>
 #include <string.h>
 
+#include "../memory/table.h"
 #include "../recorder/look.h"
 #include "../recorder/proved.h"
+#include "drops.h"
 #include "why.h"
 
 #include "reasons.inc"
@@ -48,6 +50,24 @@ static bool read_slot(struct nicd_why *it, const struct nicd_ring *ring, uint32_
     return true;
 }
 
+/* An address that isn't lent, where it is a pointer into memory of the program's own that is, or half of one. */
+static void by_pointer(struct nicd_why *it, uint64_t bus)
+{
+    const struct nicd_table *table = nicd_table_of(it->of);
+    uint64_t right, pointer = bus;
+    if (nicd_table_bus_of(table, bus, &right))
+        nicd_why_pointer(it, bus, right);
+    else if (nicd_table_low_half(table, bus, &pointer) && nicd_table_bus_of(table, pointer, &right))
+        nicd_why_low_half(it, bus, pointer, right);
+}
+
+static bool not_lent(struct nicd_why *it, uint64_t bus, uint32_t slot, uint64_t at)
+{
+    nicd_why_not_lent(it, bus, slot, at);
+    by_pointer(it, bus);
+    return true;
+}
+
 /* --- a receive queue --- */
 
 static bool is_on(struct nicd_why *it, int side, uint16_t queue)
@@ -76,12 +96,12 @@ static void rx_slots(struct nicd_why *it, const struct nicd_ring *ring, uint16_t
         uint64_t at = address_of(ring, slot), buffer;
         nic_desc d;
         if (!read_slot(it, ring, slot, &d)) {
-            nicd_why_not_lent(it, at, slot, at);
+            not_lent(it, at, slot, at);
             return;
         }
         buffer = d.first & NIC_RXD_BUFFER;
         if (!is_lent(it, buffer, size < SHORTEST ? size : SHORTEST)) {
-            nicd_why_not_lent(it, buffer, slot, at);
+            not_lent(it, buffer, slot, at);
             return;
         }
     }
@@ -110,20 +130,26 @@ static void rx_empty(struct nicd_why *it, uint16_t queue)
         nicd_why_rx_waits(it, queue);
 }
 
+/* What of a receive queue's registers is a fault. Answers whether head or tail is outside its ring. */
+static bool rx_set_up(struct nicd_why *it, uint16_t queue)
+{
+    bool is_outside = nicd_why_rx_head_outside(it, queue);
+    is_outside |= nicd_why_rx_tail_outside(it, queue);
+    nicd_why_rx_type(it, queue);
+    nicd_why_rx_no_size(it, queue);
+    return is_outside;
+}
+
 /* What is in the way of a receive queue. */
 static void rx_queue(struct nicd_why *it, uint16_t queue)
 {
     struct nicd_ring ring = ring_of(it, NICD_RX, queue);
-    bool is_off = !is_on(it, NICD_RX, queue) && !it->inside.is_wanted[NICD_RX][queue];
-    bool is_outside = false;
+    bool is_off = !is_on(it, NICD_RX, queue) && !it->inside.is_wanted[NICD_RX][queue], is_outside;
     about(it, "rx", queue);
     rx_switch(it, queue);
     if (is_off && !has_ring(&ring))
         return;
-    is_outside |= nicd_why_rx_head_outside(it, queue);
-    is_outside |= nicd_why_rx_tail_outside(it, queue);
-    nicd_why_rx_type(it, queue);
-    nicd_why_rx_no_size(it, queue);
+    is_outside = rx_set_up(it, queue);
     if (!is_outside && ring.head == ring.tail)
         rx_empty(it, queue);
     else if (!is_outside)
@@ -141,7 +167,7 @@ static bool tx_data(struct nicd_why *it, const struct nicd_ring *ring, uint32_t 
     if (frame + length > nicd_why_frame_limit(it))
         return nicd_why_tx_too_long(it, slot) || nicd_why_tx_too_long_for_jumbo(it, slot);
     if (!is_lent(it, d.first, length))
-        return nicd_why_not_lent(it, d.first, slot, address_of(ring, slot));
+        return not_lent(it, d.first, slot, address_of(ring, slot));
     return false;
 }
 
@@ -151,7 +177,7 @@ static bool tx_back(struct nicd_why *it, const struct nicd_ring *ring, uint32_t 
     uint64_t low = WORD(NIC_TDWBAL(queue)), at = WORD(NIC_TDWBAH(queue)) << 32 | (low & ~UINT64_C(3));
     if (!(d.second & NIC_TXD_RS) || !(low & NIC_TDWBAL_HEAD_WB_EN) || is_lent(it, at, 4))
         return false;
-    return nicd_why_not_lent(it, at, slot, address_of(ring, slot));
+    return not_lent(it, at, slot, address_of(ring, slot));
 }
 
 static bool tx_slot(struct nicd_why *it, const struct nicd_ring *ring, uint32_t slot, uint64_t *frame, uint16_t queue)
@@ -159,7 +185,7 @@ static bool tx_slot(struct nicd_why *it, const struct nicd_ring *ring, uint32_t 
     nic_desc d;
     uint64_t kind;
     if (!read_slot(it, ring, slot, &d))
-        return nicd_why_not_lent(it, address_of(ring, slot), slot, address_of(ring, slot));
+        return not_lent(it, address_of(ring, slot), slot, address_of(ring, slot));
     kind = nic_desc_field(d.second, NIC_TXD_DTYP);
     if (!(d.second & NIC_TXD_DEXT))
         return nicd_why_tx_legacy(it, slot);
@@ -327,6 +353,41 @@ static void group_of_causes(struct nicd_why *it, unsigned group, bool is_stopped
         nicd_why_no_msix(it);
 }
 
+/* --- what was dropped --- */
+
+static void one_drop(struct nicd_why *it, const struct nicd_drops *drops, unsigned kind, uint64_t count)
+{
+    char to[18];
+    const uint8_t *of = drops->to[kind];
+    snprintf(to, sizeof to, "%02x:%02x:%02x:%02x:%02x:%02x", of[0], of[1], of[2], of[3], of[4], of[5]);
+    switch (kind) {
+    case NIC_WHY_LINK_DOWN: nicd_why_dropped_down(it, count); break;
+    case NIC_WHY_OFF: nicd_why_dropped_off(it, count); break;
+    case NIC_WHY_SHORT: nicd_why_dropped_short(it, count, drops->length[kind]); break;
+    case NIC_WHY_LONG: nicd_why_dropped_long(it, count, drops->length[kind]); break;
+    case NIC_WHY_FILTER: nicd_why_dropped_one(it, count, to); break;
+    case NIC_WHY_NO_POOL: nicd_why_dropped_no_pool(it, count, to); break;
+    case NIC_WHY_POOL_OFF: nicd_why_dropped_pool_off(it, count, to); break;
+    case NIC_WHY_FULL: nicd_why_dropped_full(it, count); break;
+    case NIC_WHY_QUEUE_OFF: nicd_why_dropped_queue_off(it, count); break;
+    case NIC_WHY_NO_SLOT: nicd_why_dropped_no_slot(it, count); break;
+    case NICD_TO_MANY: nicd_why_dropped_many(it, count, to); break;
+    case NICD_TO_ALL: nicd_why_dropped_all(it, count); break;
+    default: break;
+    }
+}
+
+static void drops(struct nicd_why *it)
+{
+    struct nicd_drops all;
+    about(it, "", -1);
+    if (!nicd_drops_of(it->of, &all))
+        return;
+    for (unsigned kind = 0; kind < NICD_DROPS; kind++)
+        if (all.count[kind])
+            one_drop(it, &all, kind, all.count[kind]);
+}
+
 /* --- the whole --- */
 
 /* What stops all queues, or those of a side, where one of them is in use. */
@@ -403,6 +464,7 @@ static void tell(struct nicd_why *it)
     rx_side(it);
     sends &= !tx_side(it);
     rx_pools(it);
+    drops(it);
     frames(it, is_stopped);
     for (uint16_t queue = 0; queue < NICD_QUEUES; queue++)
         if (is_in_use(it, NICD_RX, queue))
@@ -428,19 +490,53 @@ static void look(struct nicd_why *it)
             it->inside.is_wanted[side][queue] = is_on(it, side, queue);
 }
 
+static void begin(struct nicd_why *it, nic *n, char *text, size_t size)
+{
+    memset(it, 0, sizeof *it);
+    it->of = n;
+    it->text = text;
+    it->room = size;
+}
+
+static size_t end(struct nicd_why *it)
+{
+    if (it->room)
+        it->text[it->used] = 0;
+    return it->length;
+}
+
 size_t nic_why(nic *n, char *text, size_t size)
 {
     struct nicd_why it;
     uint32_t word;
-    memset(&it, 0, sizeof it);
-    it.of = n;
-    it.text = text;
-    it.room = size;
+    begin(&it, n, text, size);
     if (nic_peek32(n, NIC_STATUS, &word) == NIC_DONE) {
         look(&it);
         tell(&it);
     }
-    if (size)
-        text[it.used] = 0;
-    return it.length;
+    return end(&it);
+}
+
+size_t nicd_why_fault(nic *n, const nic_told *told, bool transmit, char *text, size_t size)
+{
+    struct nicd_why it;
+    struct nicd_ring ring = nicd_ring_of(n, transmit, told->queue);
+    begin(&it, n, text, size);
+    if (told->why == NIC_FAULT_NOT_LENT)
+        not_lent(&it, told->bus, ring.head, address_of(&ring, ring.head));
+    else if (!transmit)
+        rx_set_up(&it, told->queue);
+    else if (!nicd_why_tx_head_outside(&it, told->queue) && !nicd_why_tx_tail_outside(&it, told->queue))
+        tx_slots(&it, &ring, told->queue);
+    return end(&it);
+}
+
+size_t nicd_why_drop(nic *n, unsigned kind, uint64_t count, char *text, size_t size)
+{
+    struct nicd_why it;
+    struct nicd_drops all;
+    begin(&it, n, text, size);
+    nicd_drops_of(n, &all);
+    one_drop(&it, &all, kind, count);
+    return end(&it);
 }

@@ -32,6 +32,10 @@ struct nicd_why {
     char names[512];
 };
 
+/* What a slot's fault is about, in lines as those of nic_why; and a line that tells of one kind of drops (drops.h). */
+size_t nicd_why_fault(nic *n, const nic_told *told, bool transmit, char *text, size_t size);
+size_t nicd_why_drop(nic *n, unsigned kind, uint64_t count, char *text, size_t size);
+
 /* Finds out what registers don't show, on a copy of the controller, which itself isn't changed. */
 void nicd_look_inside(nic *of, struct nicd_inside *inside);
 

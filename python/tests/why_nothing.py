@@ -40,8 +40,9 @@ def make(nic: Nic, line: str) -> None:
         with contextlib.suppress(nic82599.NotLent):
             nic.memory.write(bus, first.to_bytes(8, "little") + second.to_bytes(8, "little"))
     elif word == "arrive":
-        last, length = given[0], given[1] if given[1:] else 60
-        nic.arrive(bytes.fromhex(f"0200000000{last:02x}020000000009080045").ljust(length, b"\0"))
+        last, length, first = [*given, 60, 0][:2] + [given[2] if given[2:] else 0]
+        to = bytes([first] * 5 if first else [2, 0, 0, 0, 0]) + bytes([last])
+        nic.arrive((to + bytes.fromhex("020000000009080045")).ljust(length, b"\0"))
     elif word == "int":
         nic.int_step(given[0] - 1 if given[0] else None)
     else:
@@ -97,6 +98,21 @@ class Why(unittest.TestCase):
             told = nic.why().splitlines()
             self.assertEqual(len([line for line in told if line.endswith("the queue is off")]), 128)
             self.assertEqual(told[-1], "rx 127: SRRCTL[127].DESCTYPE 0: 1 is the form that the bench has")
+
+    def test_restored(self) -> None:
+        """What was dropped is counted from a restored snapshot on, and of each controller by itself."""
+        frame = bytes([2, 0, 0, 0, 0, 9]) + bytes(54)
+        with Nic(blocks=1) as nic, Nic(blocks=1) as other, nic.snapshot() as kept:
+            for _ in range(2):
+                nic.arrive(frame)
+            other["RXCTRL"] = 1
+            other.arrive(frame)
+            self.assertEqual(nic.why(), "2 frames were dropped: RXCTRL.RXEN was 0")
+            self.assertIn("1 frame was dropped: FCTRL.UPE was 0", other.why())
+            nic.restore(kept)
+            self.assertEqual(nic.why(), "")
+            nic.arrive(frame)
+            self.assertEqual(nic.why(), "1 frame was dropped: RXCTRL.RXEN was 0")
 
     def test_example(self) -> None:
         """The example prints what is stored."""
@@ -203,6 +219,12 @@ def test_nothing_waits():
     assert False
 
 
+def test_dropped():
+    nic = Nic()
+    nic["RXCTRL"] = 1
+    assert nic.arrive(bytes([2, 0, 0, 0, 0, 9]) + bytes(54)) is None
+
+
 def test_fine():
     assert broken()["RDH"] == 0
 '''
@@ -223,16 +245,18 @@ class Plugin(unittest.TestCase):
 
     def test_sections(self) -> None:
         text = self.told()
-        self.assertIn("7 failed, 2 passed", text)
+        self.assertIn("8 failed, 2 passed", text)
         parts = dict(re.findall(r"^_+ (test_\w+) _+$(.*?)(?=^_+ test_|^=+ short)", text, re.M | re.S))
         for name in ("in_a_with", "by_a_fixture", "of_a_session_again", "still_open", "two"):
             self.assertIn(OFF, parts[f"test_{name}"], name)
             self.assertIn("why nothing happens in <Nic of 0 virtual functions and 256 blocks", parts[f"test_{name}"])
         self.assertIn("EICR 0x00000001 (RTxQ[0]), EIMS 0x00000000", parts["test_two"])
         self.assertIn("256 blocks> (2 of 2)", parts["test_two"])
+        self.assertIn("1 frame was dropped: FCTRL.UPE was 0", parts["test_dropped"])
+        self.assertIn("the last one to 02:00:00:00:00:09", parts["test_dropped"])
         for name in ("gone", "nothing_waits"):
             self.assertNotIn("why nothing happens", parts[f"test_{name}"], name)
-        self.assertEqual(text.count("why nothing happens"), 6)
+        self.assertEqual(text.count("why nothing happens"), 7)
 
 
 if __name__ == "__main__":

@@ -28,6 +28,9 @@ fn make(nic: &Nic, line: &str) {
         ("arrive", &[last, ..]) => {
             let mut frame = vec![0; given.get(1).map_or(60, |it| *it as usize)];
             frame[..15].copy_from_slice(&[2, 0, 0, 0, 0, last as u8, 2, 0, 0, 0, 0, 9, 8, 0, 0x45]);
+            if let Some(&first) = given.get(2) {
+                frame[..5].fill(first as u8);
+            }
             let _ = nic.arrive(&frame).unwrap();
         }
         ("link", &[up]) => assert!(nic.link(up == 1)),

@@ -1,0 +1,30 @@
+/* What was dropped of each controller since it was made, or since a snapshot was restored into it. */
+#ifndef NICD_DROPS_H
+#define NICD_DROPS_H
+
+#include "nic82599.h"
+
+/* The kinds of drops: those of enum nic_why, of which the filter's are three, by the frame's destination. */
+enum nicd_drop { NICD_TO_MANY = NIC_WHY_NO_SLOT + 1, NICD_TO_ALL, NICD_DROPS };
+
+struct nicd_drops {
+    uint64_t count[NICD_DROPS];
+    /* The last frame of each kind that was dropped as it arrived. */
+    size_t length[NICD_DROPS];
+    uint8_t to[NICD_DROPS][6];
+};
+
+/* The kind of a drop. A frame that a receive step dropped has no bytes here. */
+unsigned nicd_drop_kind(uint8_t why, const uint8_t *frame);
+/* Counts one. Without memory for the first one of a controller it isn't counted. */
+void nicd_note_drop(const nic *n, uint8_t why, const uint8_t *frame, size_t length);
+/* Nothing was dropped. */
+void nicd_forget_drops(const nic *n);
+/* False: nothing was dropped, and all is 0. */
+bool nicd_drops_of(const nic *n, struct nicd_drops *drops);
+
+/* All of it is held while the process forks. */
+void nicd_drops_hold(void);
+void nicd_drops_let_go(void);
+
+#endif

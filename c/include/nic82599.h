@@ -159,6 +159,12 @@ bool nic_is_proved(void);
    without their proofs; or "unproved", compiled so by Rattle's compiler. */
 const char *nic_edition(void);
 
+/* --- on standard error --- */
+
+/* With the variable NIC82599_TELL, as NIC82599_TELL=1, faults, drops and stray accesses of all controllers are reported
+   on standard error when they happen: the first of a kind with its reason; the 10th, the 100th and so on; and their
+   number when the controller or the process ends. The variable is read when the first controller is made. */
+
 /* --- recordings --- */
 
 /* Records each controller that is made from now on: what a program asks of it is written to a file as lines of the
@@ -315,8 +321,10 @@ uint8_t nic_next_step(nic *n, nic_settling *where, nic_told *told);
 /* What is in the way of what waits, in lines of text that end with '\n': of each frame that waits, each queue that
    isn't at rest, each cause that has no message, and a read of the EEPROM. A line names registers and bits with their
    values, as tools/niclint --trace does: "rx 3: RDH[3] 0, RDT[3] 0: head and tail meet, no slot is the device's until
-   the driver moves the tail". No text: nothing waits. What was dropped or sent waits no more; a queue that a fault
-   switched off has its reason as long as the slot is there.
+   the driver moves the tail". No text: nothing waits, and nothing was dropped. What was sent waits no more; frames
+   that were dropped are counted by what dropped them, since the controller was made or a snapshot was restored into it.
+   A queue that a fault switched off has its reason as long as the slot is there. Of an address that isn't lent, and is
+   a pointer into memory of the caller's that is, the text says which bus address it stands for.
    As snprintf it writes at most `size` bytes with the 0 behind them, and returns how long the whole text is without it;
    a line that has no room as a whole isn't written, and none after it. `size` may be 0. A closed controller has none.
    Nothing changes. Registers don't show which frames wait, what was asked of a queue, and what was told: this is found

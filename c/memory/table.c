@@ -57,6 +57,28 @@ bool nicd_table_has_bytes(const struct nicd_table *it, const void *memory, size_
     return it && has_between(it, (uintptr_t)memory, (uintptr_t)memory + bytes);
 }
 
+bool nicd_table_bus_of(const struct nicd_table *it, uint64_t address, uint64_t *bus)
+{
+    uint32_t place = it && address <= UINTPTR_MAX ? below_address(it, (uintptr_t)address) : 0;
+    if (!it || place >= it->count || address > UINTPTR_MAX || address_at(it, place) > address)
+        return false;
+    *bus = (uint64_t)it->by_address[place] * NICD_BLOCK + (address - address_at(it, place));
+    return true;
+}
+
+/* Memory may lie on both sides of a border of 4 GiB, so the high halves of the lowest and the highest are tried. */
+bool nicd_table_low_half(const struct nicd_table *it, uint64_t low, uint64_t *address)
+{
+    uint64_t bus;
+    for (int side = 0; it && it->count && low <= UINT32_MAX && side < 2; side++) {
+        uint64_t at = address_at(it, side ? it->count - 1 : 0) + (uint64_t)(side ? NICD_BLOCK - 1 : 0);
+        *address = (at & ~(uint64_t)UINT32_MAX) | low;
+        if (*address != low && nicd_table_bus_of(it, *address, &bus))
+            return true;
+    }
+    return false;
+}
+
 static void note_borders(void)
 {
     uintptr_t low = UINTPTR_MAX, high = 0;

@@ -34,6 +34,11 @@ void nicd_table_end(struct nicd_table *it);
 bool nicd_table_has(const struct nicd_table *it, uint32_t block);
 bool nicd_table_has_bytes(const struct nicd_table *it, const void *memory, size_t bytes);
 
+/* The bus address of a byte of the caller's memory. False: it isn't lent here. Takes a null table. */
+bool nicd_table_bus_of(const struct nicd_table *it, uint64_t address, uint64_t *bus);
+/* An address of the caller's memory with this low half, which is all that there is of it. False: none. */
+bool nicd_table_low_half(const struct nicd_table *it, uint64_t low, uint64_t *address);
+
 /* Blocks first to end - 1 have memory of the caller's from now on, one after the other; and none of the caller's. */
 void nicd_table_add(struct nicd_table *it, uint32_t first, uint32_t end, uint8_t *host);
 void nicd_table_remove(struct nicd_table *it, uint32_t first, uint32_t end);

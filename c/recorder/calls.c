@@ -1,25 +1,29 @@
 /* The calls of the library on a controller. Each is the call of the proved archive, which c/recorder/calls.syms gives
-   another name, for a controller that is open; and while a controller is recorded also a line of the recording. */
+   another name, for a controller that is open; and while a controller is recorded also a line of the recording, or
+   where the environment asks for it one on standard error. What was dropped is counted for nic_why. */
 #include <inttypes.h>
 #include <stdio.h>
 #include <string.h>
 
 #include "../memory/lent.h"
 #include "../memory/shadow.h"
+#include "../why/drops.h"
 #include "catch_up.h"
+#include "names.h"
 #include "proved.h"
 #include "recording.h"
 #include "reply.h"
+#include "tell.h"
 
 enum { MOST_VFS = 63, MOST_BLOCKS = 65536, UNIT = NICD_UNIT, SHOWN = 4, QUEUES = 128 };
-enum { NOTE_BYTES = 200, MOST_REPLY = 160 };
+enum { NOTE_BYTES = 200, MOST_REPLY = 160, LINE = 64 };
 
-#define IS_OFF __builtin_expect(!__atomic_load_n(&nicd_is_recording, __ATOMIC_RELAXED), 1)
+#define IS_OFF __builtin_expect(!__atomic_load_n(&nicd_is_watched, __ATOMIC_RELAXED), 1)
 /* A handle that was never opened, or that nic_close ended. */
 #define IS_CLOSED(n) __builtin_expect(!(n)->device, 0)
 #define COLD static __attribute__((noinline, cold))
-/* The call alone, where nothing is recorded; what stands behind it makes it, and its line. */
-#define UNLESS_RECORDED(n, call)                                                                                       \
+/* The call alone, where nothing is recorded or reported; what follows makes it, and its line. */
+#define UNLESS_WATCHED(n, call)                                                                                        \
     do {                                                                                                               \
         if (IS_CLOSED(n))                                                                                              \
             return NIC_CLOSED;                                                                                         \
@@ -35,15 +39,18 @@ static void reply(struct recording *it, const char *text)
     nicd_add(it, "%s\n", text);
 }
 
-static void reply_word(struct recording *it, uint8_t status, uint32_t word)
+/* Of an access by number a comment after the reply has the register's name, where there is one. */
+static void reply_word(struct recording *it, uint8_t status, uint32_t word, const char *name)
 {
     nicd_add_reply(it);
-    nicd_add(it, "%s 0x%08" PRIx32 "\n", status == NIC_DONE ? "word" : "stray", word);
+    nicd_add(it, "%s 0x%08" PRIx32 "%s%s\n", status == NIC_DONE ? "word" : "stray", word, name ? "  # " : "",
+             name ? name : "");
 }
 
-static void reply_write(struct recording *it, uint8_t status)
+static void reply_write(struct recording *it, uint8_t status, const char *name)
 {
-    reply(it, status == NIC_DONE ? "done" : "stray 0x00000000");
+    nicd_add_reply(it);
+    nicd_add(it, "%s%s%s\n", status == NIC_DONE ? "done" : "stray 0x00000000", name ? "  # " : "", name ? name : "");
 }
 
 static void reply_told(struct recording *it, uint8_t status, const nic_told *told)
@@ -76,9 +83,10 @@ void nic_free(nic n)
     if (IS_CLOSED(&n))
         return;
     if (!IS_OFF) {
-        nicd_end(nicd_enter(&n));
+        nicd_end(&n, nicd_enter(&n));
         nicd_leave(NULL);
     }
+    nicd_forget_drops(&n);
     nicd_free_in_place(n);
 }
 
@@ -86,7 +94,7 @@ void nic_free(nic n)
 
 uint8_t nic_snapshot(nic *n, nic_kept *kept)
 {
-    UNLESS_RECORDED(n, nicd_snapshot(n, kept));
+    UNLESS_WATCHED(n, nicd_snapshot(n, kept));
     struct recording *it = nicd_enter(n);
     nicd_before_read(it, n, 0, NICD_ALL);
     uint8_t status = nicd_snapshot(n, kept);
@@ -101,6 +109,8 @@ uint8_t nic_restore(nic *n, const nic_kept *kept)
     if (IS_CLOSED(n) || !kept->kept)
         return NIC_CLOSED;
     uint8_t status = nicd_restore_in_place(n, kept);
+    if (status == NIC_DONE)
+        nicd_forget_drops(n);
     if (IS_OFF)
         return status;
     struct recording *it = nicd_enter(n);
@@ -130,77 +140,93 @@ void nic_free_snapshot(nic_kept kept)
 
 COLD uint8_t read_register(nic *n, uint32_t address, uint32_t *word)
 {
+    char line[LINE], room[NICD_NAME];
     struct recording *it = nicd_enter(n);
     uint8_t status = nicd_read32(n, address, word);
+    snprintf(line, sizeof line, "r 0x%05" PRIx32, address);
     if (it) {
-        nicd_add(it, "r 0x%05" PRIx32, address);
-        reply_word(it, status, *word);
+        nicd_add(it, "%s", line);
+        reply_word(it, status, *word, nicd_register(address, room));
     }
+    if (status == NIC_STRAY)
+        nicd_tell_stray(n, address, line);
     nicd_leave(it);
     return status;
 }
 
 uint8_t nic_read32(nic *n, uint32_t address, uint32_t *word)
 {
-    UNLESS_RECORDED(n, nicd_read32(n, address, word));
+    UNLESS_WATCHED(n, nicd_read32(n, address, word));
     return read_register(n, address, word);
 }
 
 COLD uint8_t write_register(nic *n, uint32_t address, uint32_t word)
 {
+    char line[LINE], room[NICD_NAME];
     struct recording *it = nicd_enter(n);
     uint8_t status = nicd_write32(n, address, word);
+    snprintf(line, sizeof line, "w 0x%05" PRIx32 " 0x%08" PRIx32, address, word);
     if (it) {
-        nicd_add(it, "w 0x%05" PRIx32 " 0x%08" PRIx32, address, word);
-        reply_write(it, status);
+        nicd_add(it, "%s", line);
+        reply_write(it, status, nicd_register(address, room));
     }
+    if (status == NIC_STRAY)
+        nicd_tell_stray(n, address, line);
     nicd_leave(it);
     return status;
 }
 
 uint8_t nic_write32(nic *n, uint32_t address, uint32_t word)
 {
-    UNLESS_RECORDED(n, nicd_write32(n, address, word));
+    UNLESS_WATCHED(n, nicd_write32(n, address, word));
     return write_register(n, address, word);
 }
 
 COLD uint8_t read_vf(nic *n, uint8_t vf, uint32_t offset, uint32_t *word)
 {
+    char line[LINE], room[NICD_NAME];
     struct recording *it = nicd_enter(n);
     uint8_t status = nicd_vf_read32(n, vf, offset, word);
+    snprintf(line, sizeof line, "vr %u 0x%04" PRIx32, vf, offset);
     if (it && vf < MOST_VFS) {
-        nicd_add(it, "vr %u 0x%04" PRIx32, vf, offset);
-        reply_word(it, status, *word);
+        nicd_add(it, "%s", line);
+        reply_word(it, status, *word, nicd_offset(offset, room));
     } else if (it) {
         refused(it, "a read of a function above 62", status);
     }
+    if (status == NIC_STRAY)
+        nicd_tell_vf_stray(n, vf, offset, line);
     nicd_leave(it);
     return status;
 }
 
 uint8_t nic_vf_read32(nic *n, uint8_t vf, uint32_t offset, uint32_t *word)
 {
-    UNLESS_RECORDED(n, nicd_vf_read32(n, vf, offset, word));
+    UNLESS_WATCHED(n, nicd_vf_read32(n, vf, offset, word));
     return read_vf(n, vf, offset, word);
 }
 
 COLD uint8_t write_vf(nic *n, uint8_t vf, uint32_t offset, uint32_t word)
 {
+    char line[LINE], room[NICD_NAME];
     struct recording *it = nicd_enter(n);
     uint8_t status = nicd_vf_write32(n, vf, offset, word);
+    snprintf(line, sizeof line, "vw %u 0x%04" PRIx32 " 0x%08" PRIx32, vf, offset, word);
     if (it && vf < MOST_VFS) {
-        nicd_add(it, "vw %u 0x%04" PRIx32 " 0x%08" PRIx32, vf, offset, word);
-        reply_write(it, status);
+        nicd_add(it, "%s", line);
+        reply_write(it, status, nicd_offset(offset, room));
     } else if (it) {
         refused(it, "a write of a function above 62", status);
     }
+    if (status == NIC_STRAY)
+        nicd_tell_vf_stray(n, vf, offset, line);
     nicd_leave(it);
     return status;
 }
 
 uint8_t nic_vf_write32(nic *n, uint8_t vf, uint32_t offset, uint32_t word)
 {
-    UNLESS_RECORDED(n, nicd_vf_write32(n, vf, offset, word));
+    UNLESS_WATCHED(n, nicd_vf_write32(n, vf, offset, word));
     return write_vf(n, vf, offset, word);
 }
 
@@ -244,7 +270,7 @@ static void moved(struct recording *it, const char *call, uint32_t block, uint8_
 
 uint8_t nic_lend(nic *n, uint32_t block)
 {
-    UNLESS_RECORDED(n, nicd_lend(n, block));
+    UNLESS_WATCHED(n, nicd_lend(n, block));
     struct recording *it = nicd_enter(n);
     uint8_t status = nicd_lend(n, block);
     if (it)
@@ -255,7 +281,7 @@ uint8_t nic_lend(nic *n, uint32_t block)
 
 uint8_t nic_take(nic *n, uint32_t block)
 {
-    UNLESS_RECORDED(n, nicd_take_in_place(n, block));
+    UNLESS_WATCHED(n, nicd_take_in_place(n, block));
     struct recording *it = nicd_enter(n);
     uint8_t status = nicd_take_in_place(n, block);
     if (it)
@@ -276,18 +302,21 @@ static void moved_range(struct recording *it, const char *call, uint64_t bus, si
 
 uint8_t nic_lend_memory(nic *n, uint64_t bus, void *memory, size_t bytes)
 {
-    UNLESS_RECORDED(n, nicd_lend_memory(n, bus, memory, bytes));
+    UNLESS_WATCHED(n, nicd_lend_memory(n, bus, memory, bytes));
     struct recording *it = nicd_enter(n);
     uint8_t status = nicd_lend_memory(n, bus, memory, bytes);
     if (it)
         moved_range(it, "lend", bus, bytes, status);
+    if (it && status == NIC_DONE && bytes)
+        nicd_add(it, "#: in place %" PRIu64 " to %" PRIu64 "\n", bus / NIC_BLOCK_BYTES,
+                 (bus + bytes - 1) / NIC_BLOCK_BYTES);
     nicd_leave(it);
     return status;
 }
 
 uint8_t nic_unlend_memory(nic *n, uint64_t bus, size_t bytes)
 {
-    UNLESS_RECORDED(n, nicd_unlend_memory(n, bus, bytes));
+    UNLESS_WATCHED(n, nicd_unlend_memory(n, bus, bytes));
     struct recording *it = nicd_enter(n);
     uint8_t status = nicd_unlend_memory(n, bus, bytes);
     if (it)
@@ -314,7 +343,7 @@ COLD uint8_t lend_all(nic *n)
 
 uint8_t nic_lend_all(nic *n)
 {
-    UNLESS_RECORDED(n, nicd_lend_all(n));
+    UNLESS_WATCHED(n, nicd_lend_all(n));
     return lend_all(n);
 }
 
@@ -358,7 +387,7 @@ COLD uint8_t read_memory(nic *n, uint64_t bus, uint8_t *bytes, size_t length)
 
 uint8_t nic_dma_read(nic *n, uint64_t bus, uint8_t *bytes, size_t length)
 {
-    UNLESS_RECORDED(n, nicd_dma_read(n, bus, bytes, length));
+    UNLESS_WATCHED(n, nicd_dma_read(n, bus, bytes, length));
     return read_memory(n, bus, bytes, length);
 }
 
@@ -392,11 +421,16 @@ COLD uint8_t write_memory(nic *n, uint64_t bus, const uint8_t *bytes, size_t len
 
 uint8_t nic_dma_write(nic *n, uint64_t bus, const uint8_t *bytes, size_t length)
 {
-    UNLESS_RECORDED(n, nicd_dma_write(n, bus, bytes, length));
+    UNLESS_WATCHED(n, nicd_dma_write(n, bus, bytes, length));
     return write_memory(n, bus, bytes, length);
 }
 
 /* --- the link --- */
+
+COLD void drop(const nic *n, uint8_t why, const uint8_t *frame, size_t length)
+{
+    nicd_note_drop(n, why, frame, length);
+}
 
 COLD uint8_t arrive(nic *n, const uint8_t *frame, size_t length, nic_told *told)
 {
@@ -408,14 +442,23 @@ COLD uint8_t arrive(nic *n, const uint8_t *frame, size_t length, nic_told *told)
         nicd_add(it, "arrive d%" PRIu32, nicd_add_data(it, frame, length));
         reply_told(it, status, told);
     }
+    if (status == NIC_DROPPED)
+        drop(n, told->why, frame, length);
+    nicd_tell_arrival(n, told, frame);
     nicd_leave(it);
     return status;
 }
 
 uint8_t nic_arrive(nic *n, const uint8_t *frame, size_t length, nic_told *told)
 {
-    UNLESS_RECORDED(n, nicd_arrive(n, frame, length, told));
-    return arrive(n, frame, length, told);
+    if (IS_CLOSED(n))
+        return NIC_CLOSED;
+    if (!IS_OFF)
+        return arrive(n, frame, length, told);
+    uint8_t status = nicd_arrive(n, frame, length, told);
+    if (status == NIC_DROPPED)
+        drop(n, told->why, frame, length);
+    return status;
 }
 
 COLD uint8_t collect(nic *n, uint8_t *room, size_t length, nic_told *told)
@@ -440,13 +483,13 @@ COLD uint8_t collect(nic *n, uint8_t *room, size_t length, nic_told *told)
 
 uint8_t nic_collect(nic *n, uint8_t *room, size_t length, nic_told *told)
 {
-    UNLESS_RECORDED(n, nicd_collect(n, room, length, told));
+    UNLESS_WATCHED(n, nicd_collect(n, room, length, told));
     return collect(n, room, length, told);
 }
 
 uint8_t nic_link(nic *n, bool up)
 {
-    UNLESS_RECORDED(n, nicd_link(n, up));
+    UNLESS_WATCHED(n, nicd_link(n, up));
     struct recording *it = nicd_enter(n);
     uint8_t status = nicd_link(n, up);
     if (it) {
@@ -458,6 +501,14 @@ uint8_t nic_link(nic *n, bool up)
 }
 
 /* --- steps --- */
+
+/* A step that may have dropped a frame, of which nothing but that is known by now. */
+static uint8_t counted(const nic *n, uint8_t status, const nic_told *told)
+{
+    if (__builtin_expect(status == NIC_DROPPED, 0))
+        drop(n, told->why, NULL, 0);
+    return status;
+}
 
 /* What a step did; one without memory did nothing. */
 static uint8_t stepped(struct recording *it, uint8_t status, const nic_told *told, const char *line)
@@ -474,30 +525,33 @@ static uint8_t stepped(struct recording *it, uint8_t status, const nic_told *tol
 
 uint8_t nic_rx_step(nic *n, nic_told *told)
 {
-    UNLESS_RECORDED(n, nicd_rx_step(n, told));
+    UNLESS_WATCHED(n, counted(n, nicd_rx_step(n, told), told));
     struct recording *it = nicd_enter(n);
     nicd_before_receive(it, n);
-    uint8_t status = nicd_rx_step(n, told);
+    uint8_t status = counted(n, nicd_rx_step(n, told), told);
     nicd_behind_step(it, n, told);
+    nicd_tell_step(n, told, false);
     return stepped(it, status, told, "rx");
 }
 
 uint8_t nic_tx_step(nic *n, uint16_t queue, nic_told *told)
 {
-    UNLESS_RECORDED(n, nicd_tx_step(n, queue, told));
+    UNLESS_WATCHED(n, nicd_tx_step(n, queue, told));
     char line[16];
     struct recording *it = nicd_enter(n);
     snprintf(line, sizeof line, "tx %u", queue);
     nicd_before_transmit(it, n, queue);
     uint8_t status = nicd_tx_step(n, queue, told);
-    if (status != NIC_NO_QUEUE && status != NIC_OUT_OF_MEMORY)
+    if (status != NIC_NO_QUEUE && status != NIC_OUT_OF_MEMORY) {
         nicd_behind_step(it, n, told);
+        nicd_tell_step(n, told, true);
+    }
     return stepped(it, status, told, line);
 }
 
 uint8_t nic_queue_step(nic *n, bool transmit, uint16_t queue, nic_told *told)
 {
-    UNLESS_RECORDED(n, nicd_queue_step(n, transmit, queue, told));
+    UNLESS_WATCHED(n, nicd_queue_step(n, transmit, queue, told));
     char line[24];
     struct recording *it = nicd_enter(n);
     snprintf(line, sizeof line, "qstep %s %u", transmit ? "tx" : "rx", queue);
@@ -506,7 +560,7 @@ uint8_t nic_queue_step(nic *n, bool transmit, uint16_t queue, nic_told *told)
 
 uint8_t nic_eeprom_step(nic *n, nic_told *told)
 {
-    UNLESS_RECORDED(n, nicd_eeprom_step(n, told));
+    UNLESS_WATCHED(n, nicd_eeprom_step(n, told));
     struct recording *it = nicd_enter(n);
     return stepped(it, nicd_eeprom_step(n, told), told, "eestep");
 }
@@ -521,7 +575,7 @@ static void group_line(uint16_t group, char line[24])
 
 uint8_t nic_int_step(nic *n, uint8_t group, nic_told *told)
 {
-    UNLESS_RECORDED(n, nicd_int_step(n, group, told));
+    UNLESS_WATCHED(n, nicd_int_step(n, group, told));
     char line[24];
     struct recording *it = nicd_enter(n);
     uint8_t status = nicd_int_step(n, group, told);
@@ -549,14 +603,23 @@ static void settled(struct recording *it, const nic_told *told)
     reply_told(it, told->status, told);
 }
 
+/* Of the steps of a settling those that dropped a frame. */
+static void count_drops(const nic *n, const nic_told *told, size_t count)
+{
+    for (const nic_told *end = told + count; told < end; told++)
+        counted(n, told->status, told);
+}
+
 COLD uint8_t settle(nic *n, uint16_t queues, nic_told *told, size_t length, size_t *count)
 {
     struct recording *it = nicd_enter(n);
     nicd_before_settle(it, n, queues);
     uint8_t status = nicd_settle(n, queues, told, length, count);
-    for (size_t k = 0; it && k < *count; k++) {
+    for (size_t k = 0; k < *count; k++) {
         nicd_behind_step(it, n, &told[k]);
-        settled(it, &told[k]);
+        nicd_tell_step(n, &told[k], told[k].step == NIC_TRANSMIT);
+        if (it)
+            settled(it, &told[k]);
     }
     nicd_leave(it);
     return status;
@@ -567,7 +630,9 @@ uint8_t nic_settle(nic *n, uint16_t queues, nic_told *told, size_t length, size_
     *count = 0;
     if (IS_CLOSED(n))
         return NIC_CLOSED;
-    return IS_OFF ? nicd_settle(n, queues, told, length, count) : settle(n, queues, told, length, count);
+    uint8_t status = IS_OFF ? nicd_settle(n, queues, told, length, count) : settle(n, queues, told, length, count);
+    count_drops(n, told, *count);
+    return status;
 }
 
 /* --- the steps of a settling, one by one --- */
@@ -632,22 +697,30 @@ static uint8_t next_step(nic *n, nic_settling *where, nic_told *told)
     return NIC_DONE;
 }
 
+COLD uint8_t watched_step(nic *n, nic_settling *where, nic_told *told)
+{
+    struct recording *it = nicd_enter(n);
+    nicd_before_settle(it, n, where->queues);
+    uint8_t status = next_step(n, where, told);
+    if (status == NIC_MORE) {
+        nicd_behind_step(it, n, told);
+        nicd_tell_step(n, told, told->step == NIC_TRANSMIT);
+        if (it)
+            settled(it, told);
+    }
+    nicd_leave(it);
+    return status;
+}
+
 uint8_t nic_next_step(nic *n, nic_settling *where, nic_told *told)
 {
     if (IS_CLOSED(n))
         return NIC_CLOSED;
     if (where->queues > QUEUES)
         return NIC_NO_QUEUE;
-    if (IS_OFF)
-        return next_step(n, where, told);
-    struct recording *it = nicd_enter(n);
-    nicd_before_settle(it, n, where->queues);
-    uint8_t status = next_step(n, where, told);
+    uint8_t status = IS_OFF ? next_step(n, where, told) : watched_step(n, where, told);
     if (status == NIC_MORE)
-        nicd_behind_step(it, n, told);
-    if (it && status == NIC_MORE)
-        settled(it, told);
-    nicd_leave(it);
+        counted(n, told->status, told);
     return status;
 }
 
@@ -665,7 +738,7 @@ COLD void note(struct recording *it, const char *text)
 
 uint8_t nic_note(nic *n, const char *text)
 {
-    UNLESS_RECORDED(n, NIC_DONE);
+    UNLESS_WATCHED(n, NIC_DONE);
     struct recording *it = nicd_enter(n);
     if (it)
         note(it, text);
@@ -689,7 +762,7 @@ static void installed(struct recording *it, const char *form, const uint8_t *byt
 
 uint8_t nic_install_image(nic *n, const uint8_t *bytes, size_t length)
 {
-    UNLESS_RECORDED(n, nicd_install_image(n, bytes, length));
+    UNLESS_WATCHED(n, nicd_install_image(n, bytes, length));
     struct recording *it = nicd_enter(n);
     uint8_t status = nicd_install_image(n, bytes, length);
     installed(it, "image", bytes, length, status);

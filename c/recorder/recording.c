@@ -1,6 +1,8 @@
 #define _POSIX_C_SOURCE 200809L
 #include "recording.h"
 #include "../memory/table.h"
+#include "../why/drops.h"
+#include "tell.h"
 
 #include <errno.h>
 #include <fcntl.h>
@@ -41,7 +43,7 @@ enum { AS_WRITTEN = O_NOINHERIT | O_BINARY };
 enum { AS_WRITTEN = O_CLOEXEC };
 #endif
 
-int nicd_is_recording;
+int nicd_is_watched;
 
 /* All that follows is held by `all`. */
 static pthread_mutex_t all = PTHREAD_MUTEX_INITIALIZER;
@@ -63,7 +65,7 @@ static void let_go(void)
 
 static void note(void)
 {
-    __atomic_store_n(&nicd_is_recording, recordings != NULL, __ATOMIC_RELAXED);
+    __atomic_store_n(&nicd_is_watched, recordings != NULL || nicd_is_telling(), __ATOMIC_RELAXED);
 }
 
 static void say(const char *name, const char *why)
@@ -153,10 +155,12 @@ static void before_fork(void)
 {
     hold();
     nicd_table_hold();
+    nicd_drops_hold();
 }
 
 static void in_parent(void)
 {
+    nicd_drops_let_go();
     nicd_table_let_go();
     let_go();
 }
@@ -164,7 +168,9 @@ static void in_parent(void)
 /* A child has controllers that its parent records: in the child they aren't. Its own are, if the file is its own. */
 static void in_child(void)
 {
+    nicd_drops_let_go();
     nicd_table_let_go();
+    nicd_tell_forked();
     finish_all();
     files = 0;
     if (path && !strstr(path, "%p")) {
@@ -174,15 +180,29 @@ static void in_child(void)
     let_go();
 }
 
-static void prepare(void)
+static void prepare_forks(void)
 {
     pthread_atfork(before_fork, in_parent, in_child);
 }
 #else
-static void prepare(void)
+static void prepare_forks(void)
 {
 }
 #endif
+
+static void at_exit(void)
+{
+    hold();
+    nicd_tell_all_ends();
+    let_go();
+}
+
+static void prepare(void)
+{
+    prepare_forks();
+    if (nicd_is_telling())
+        atexit(at_exit);
+}
 
 /* --- which controllers --- */
 
@@ -239,13 +259,15 @@ void nicd_begin(const nic *n, uint8_t vfs, uint16_t fifo, uint32_t blocks)
         free(it);
         take_path(NULL);
     }
+    nicd_tell_begin(n);
     note();
     let_go();
 }
 
-void nicd_end(struct recording *it)
+void nicd_end(const nic *n, struct recording *it)
 {
     struct recording **at = &recordings;
+    nicd_tell_end(n);
     if (!it)
         return;
     while (*at != it)

@@ -10,17 +10,17 @@
 /* A recording of one controller, whose text is written when an event is complete. */
 struct recording;
 
-/* Whether any controller is recorded: what each call looks at. */
-extern int nicd_is_recording;
+/* Whether any controller is recorded, or reported on (tell.h): what each call looks at. */
+extern int nicd_is_watched;
 
 /* The recording of a controller, or null. All recordings are held until nicd_leave, also where there is none. */
 struct recording *nicd_enter(const nic *n);
 /* Writes what was added since nicd_enter, and lets the others go on. Takes null. */
 void nicd_leave(struct recording *it);
 
-/* A controller that was made, where controllers are to be recorded; and one that ended. */
+/* A controller that was made, where controllers are to be recorded; and one that ends, which may have none. */
 void nicd_begin(const nic *n, uint8_t vfs, uint16_t fifo, uint32_t blocks);
-void nicd_end(struct recording *it);
+void nicd_end(const nic *n, struct recording *it);
 
 /* The number of a snapshot that was made now, and of one that is restored: 0 if it isn't of this recording. */
 uint32_t nicd_keep(struct recording *it, const nic_kept *kept);

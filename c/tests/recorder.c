@@ -142,7 +142,7 @@ static void in_place(void)
     ANSWERS(NIC_DONE, nic_unlend_memory(&n, NIC_BLOCK_BYTES, NIC_BLOCK_BYTES));
     ANSWERS(NIC_BAD_MEMORY, nic_lend_memory(&n, 1, memory, NIC_BLOCK_BYTES));
     finish(&n);
-    CHECK(holds("place", HEAD "#: lend 0 to 1               # done\n"
+    CHECK(holds("place", HEAD "#: lend 0 to 1               # done\n#: in place 0 to 1\n"
                               "data d0 00050000000000000000000000000000\n"
                               "poke 0x00010 d0              # done\n"
                               "peek 0x00010 1               # bytes 00050000000000000000000000000000\n"

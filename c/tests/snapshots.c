@@ -300,6 +300,18 @@ static void set_space(rlim_t most)
     CHECK(setrlimit(RLIMIT_AS, &limit) == 0);
 }
 
+/* Whether a limit of address space holds here: QEMU's user emulation takes one and doesn't keep to it. */
+static bool is_kept_to(void)
+{
+    struct rlimit limit;
+    CHECK(getrlimit(RLIMIT_AS, &limit) == 0);
+    set_space(space());
+    void *volatile more = malloc((size_t)64 << 20);
+    set_space(limit.rlim_cur);
+    free(more);
+    return !more;
+}
+
 /* Takes another snapshot and restores one, under a limit. How the latter ended. */
 static uint8_t restore_below(nic *n, const nic_kept *kept, rlim_t limit, rlim_t most)
 {
@@ -354,7 +366,11 @@ int main(int count, char **words)
     sizes();
     keeps_its_blocks();
     /* (a sanitizer takes more address space than any limit would leave it) */
-    if (count > 1 && strcmp(words[1], "limited") == 0 && space())
-        CHECK(refused() > 0);
+    if (count > 1 && strcmp(words[1], "limited") == 0) {
+        if (space() && is_kept_to())
+            CHECK(refused() > 0);
+        else
+            puts("no limit of address space holds here");
+    }
     return 0;
 }

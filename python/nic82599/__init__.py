@@ -1025,8 +1025,9 @@ class Nic(_Registers, _OneOwner):
 
     def why(self) -> str:
         """What is in the way of what waits, a reason on each line: of each frame that waits, each queue that isn't at
-        rest, each cause that has no message. Empty where nothing waits. Nothing changes; lent memory is copied for the
-        time of the call.
+        rest, each cause that has no message; and which frames were dropped. Empty where nothing waits and nothing was
+        dropped. Nothing changes; lent memory is copied for the time of the call. With the variable NIC82599_TELL=1
+        faults, drops and stray accesses are reported on standard error when they happen.
 
         >>> with Nic() as nic:
         ...     nic.lend()

@@ -82,7 +82,8 @@ def rx_descriptor(buffer: int) -> bytes:
 
 
 def received(data: HasBytes) -> Received:
-    """What the device wrote back to a receive descriptor."""
+    """What the device wrote back to a receive descriptor: `done`, `end`, `length`, `rss_type`, `rss_hash`, `ipv4`,
+    `ipv6`, `tcp` and `udp` (`Received` says what each is). ValueError where it hasn't 16 bytes."""
     halves = halves_of(data)
 
     def of(name: str) -> int:

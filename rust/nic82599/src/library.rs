@@ -14,8 +14,10 @@ impl Nic {
     // --- why nothing happens ---
 
     /// What is in the way of what waits, a reason on each line: of each frame that waits, each queue that isn't at
-    /// rest, each cause that has no message. Empty where nothing waits. Nothing changes; lent memory is copied for the
-    /// time of the call. A test that failed tells it: `assert_eq!(nic.read(RDH.at(3)), 1, "{}", nic.why())`.
+    /// rest, each cause that has no message; and which frames were dropped. Empty where nothing waits and nothing was
+    /// dropped. Nothing changes; lent memory is copied for the time of the call. A test that failed tells it:
+    /// `assert_eq!(nic.read(RDH.at(3)), 1, "{}", nic.why())`. With the variable NIC82599_TELL=1 faults, drops and stray
+    /// accesses are reported on standard error when they happen.
     ///
     /// ```
     /// use nic82599::{regs, Nic, Sizes};

@@ -1,0 +1,67 @@
+#include "names.h"
+
+#include <inttypes.h>
+#include <stdbool.h>
+#include <stdio.h>
+
+#include "../explore/engine/names.inc"
+
+#define COUNT(list) (sizeof(list) / sizeof *(list))
+
+enum { SPACE = 0x20000 };
+
+/* Of each word's place one more than the run that it is of, or 0; filled at the first look, since a recording looks at
+   each access. */
+static uint8_t register_at[SPACE / 4], offset_at[SPACE / 4];
+
+static void fill(uint8_t *places, const struct run *list, size_t count)
+{
+    for (size_t k = 0; k < count; k++)
+        for (uint32_t i = 0; i < list[k].count; i++)
+            places[(list[k].first + list[k].stride * i) / 4] = (uint8_t)(k + 1);
+}
+
+static void fill_once(void)
+{
+    static bool is_filled;
+    if (is_filled)
+        return;
+    fill(register_at, registers, COUNT(registers));
+    fill(offset_at, offsets, COUNT(offsets));
+    is_filled = true;
+}
+
+static const char *named(const uint8_t *places, const struct run *list, uint32_t at, char *room)
+{
+    fill_once();
+    unsigned number = at % 4 || at >= SPACE ? 0 : places[at / 4];
+    if (!number)
+        return NULL;
+    const struct run *run = &list[number - 1];
+    if (run->many)
+        snprintf(room, NICD_NAME, "%s[%" PRIu32 "]", run->name, run->index + (at - run->first) / run->stride);
+    else
+        snprintf(room, NICD_NAME, "%s", run->name);
+    return room;
+}
+
+/* The first address of the register that another address of it names, or this one. */
+static uint32_t first_of(uint32_t address)
+{
+    for (const struct alias *alias = aliases; alias < aliases + COUNT(aliases); alias++) {
+        uint32_t from = address - alias->first;
+        if (from < alias->stride * alias->count && from % alias->stride == 0)
+            return alias->to + alias->to_stride * (from / alias->stride);
+    }
+    return address;
+}
+
+const char *nicd_register(uint32_t address, char room[NICD_NAME])
+{
+    return named(register_at, registers, first_of(address), room);
+}
+
+const char *nicd_offset(uint32_t offset, char room[NICD_NAME])
+{
+    return named(offset_at, offsets, offset, room);
+}

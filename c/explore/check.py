@@ -139,7 +139,9 @@ def check_script(kit: Kit, path: Path) -> None:
 
 
 def check_names(kit: Kit) -> str:
-    """Each address of the register table, and each offset of a function, has its name; others have none."""
+    """Each address of the register table, and each offset of a function, has its name; others have none. Names of Rust
+    are reported as its source has them."""
+    ran([kit.build(HERE / "tests/demangle.c")])
     return ran([kit.build(HERE / "tests/names.c")]).strip()
 
 
@@ -219,7 +221,7 @@ FAULTS = {
     "lines": "end: rx 0: nobody\u00e9 takes it; int 5: no message\n",
     "always": "always: the head moved",
     "locks": "deadlock: (up|down) waits for (first|second), which (up|down) holds",
-    "waits": "deadlock: faulty waits, and nobody can act",
+    "waits": r"deadlock: faulty waits( at faulty\.c:\d+)?, and nobody can act\n",
     "endless": r"endless: no end after 200 points; last came task faulty: does its loop need nicx_wait\?",
     "ticks": r"endless: no end after 200 points; last came .*: tick fires over and over: is it armed each time\?",
     "memory": "memory: faulty reads 0x0, which isn't lent",
@@ -239,7 +241,7 @@ FAULTS = {
     "memory_elsewhere": "misuse: faulty calls nic_lend_memory, whose stores no search sees",
     "held": "misuse: faulty ends and holds second",
     "left": "misuse: begin doesn't make all of the driver's state anew: .* check: the twentieth schedule",
-    "beyond": "deadlock: faulty waits, and nobody can act",
+    "beyond": r"deadlock: faulty waits at faulty\.c:\d+, and nobody can act; if that is a delay, call nicx_pause there",
 }
 
 # What is told beside, with the status of the search.
@@ -357,7 +359,8 @@ def told(text: str, wanted: str, what: str) -> None:
 
 def check_faults(kit: Kit) -> str:
     """Each fault is told by itself, with a schedule and as JUnit."""
-    program, out = kit.build(HERE / "tests/faulty.c"), kit.out("faults")
+    out = kit.out("faults")
+    program = replace(kit, flags=[*kit.flags, "-g"]).build(HERE / "tests/faulty.c")  # (lines are named)
     for mode, wanted in FAULTS.items():
         junit = out / "result.xml"
         words = [program, mode, "--quiet", "--jobs", 2, "--out", out, "--junit", junit]
@@ -584,6 +587,46 @@ def check_refusals(kit: Kit) -> str:
     return f"{len(REFUSALS) + len(WORDS) + 13} refusals"
 
 
+# --- a driver's own memory that isn't seen ---
+
+MISSING = {
+    "count": r"note: count\(\) in task \w+ (reads and writes driver|touches driver at unpointed.c:\d+ and driver) at "
+    r"unpointed.c:\d+ with no point in between, and count\(\) in task \w+ touches driver too, at unpointed.c:\d+: call "
+    r"nicx_point\(\) in between, or compile with -fsanitize=thread and link with @nic82599_threads.opts",
+    "push": r"note: push\(\) in task \w+ touches .* with no point in between, and push\(\) in task",
+}
+POINTED = {"count": "FAILED end: a count is lost", "push": "FAILED end: a slot is lost"}
+
+
+def check_unpointed(kit: Kit) -> str:
+    """Where a driver touches what others touch, and a point is missing, that is told, and nothing of one that has its
+    points, whose bug is found; and the same bug is found without any where accesses are seen."""
+    if os.uname().machine != "x86_64":
+        return "no missing points, which are looked for on x86-64 alone"
+    source, out = HERE / "tests/unpointed.c", kit.out("unpointed-found")
+    debug = replace(kit, flags=[*kit.flags, "-g"])
+    silent, pointed, seen = debug.build(source), debug.build(source, "POINTED"), kit.build_form(source, of_memory=True)
+    words = ["--quiet", "--jobs", 2, "--no-shrink", "--out", out, "--runs", 400]
+    for mode, wanted in MISSING.items():
+        said = ran([silent, mode, *words])
+        told(said, wanted, mode)
+        told(ran([silent, mode, *words, "--strategy", "exhaustive", "--preemptions", 2]), wanted, mode)
+        found = ran([pointed, mode, *words], 1) + ran([seen, mode, *words], 1)
+        told(found, f"{POINTED[mode]}(.*\n)*.*FAILED race: driver", mode)
+        if "no point in between" in found:
+            raise Wrong(f"unpointed {mode}: a point is reported as missing that is there:\n{found}")
+    for mode in ("locked", "flags"):
+        if "no point in between" in ran([silent, mode, *words]):
+            raise Wrong(f"unpointed {mode}: a point is reported as missing that no schedule needs")
+    wanted = r"note: interrupted\(\) in task one .* and interrupt\(\) in handler"
+    told(ran([silent, "interrupt", *words]), wanted, "interrupt")
+    told(ran([seen, "interrupt", *words], 1), "FAILED end: a count is lost", "interrupt")
+    told(ran([seen, "interrupt", "--replay", out / "unpointed.schedule"], 1), "start isr on one", "interrupt")
+    masked = kit.build_form(source, "POINTED", of_memory=True)
+    ran([masked, "interrupt", *words, "--strategy", "exhaustive", "--preemptions", "any"])
+    return f"{len(MISSING)} drivers without a point that they need"
+
+
 # --- the table of independent steps ---
 
 
@@ -682,18 +725,28 @@ def check_form(kit: Kit) -> str:
     return f"{len(modes)} uses of a driver's own threads"
 
 
+CPP = {
+    "MUTEX": "nothing was found",
+    "LOST": r"FAILED deadlock: run waits in pthread_cond_wait",
+    "ORDER=seq_cst": "nothing was found",
+    "ORDER=relaxed": r"FAILED race: \(anonymous namespace\)::driver\+0x\w+, 4 bytes: run at std_threads\.cc:\d+ "
+    r"reads, and thread-1 at std_threads\.cc:\d+ wrote it before",
+}
+
+
 def check_cpp(kit: Kit) -> str:
     """Threads of C++, where its compiler is here."""
     if not shutil.which("g++"):
         return "no threads of C++, whose compiler isn't here"
-    source, words = HERE / "tests/std_threads.cc", ["--quiet", "--jobs", 2, "--out", kit.folder]
-    for name, defines, status in (("std_threads", [], 0), ("std_threads-lost", ["-DLOST"], 1)):
-        program = kit.folder / name
-        line = ["g++", "-std=c++11", *STRICT[1:], "-g", *defines, "-static-libstdc++", f"-I{C}/include", source]
-        ran([*line, f"-L{C}/out", f"@{C}/out/nic82599_threads.opts", "-o", program])
-        said = ran([program, *words, "--runs", 1000], status)
-        told(said, "FAILED deadlock: run waits in pthread_cond_wait" if defines else "nothing was found", name)
-    return "threads of C++"
+    source, words = HERE / "tests/std_threads.cc", ["--quiet", "--jobs", 2, "--no-shrink", "--out", kit.folder]
+    for define, wanted in CPP.items():
+        program, made = kit.folder / "std_threads", kit.folder / "std_threads.o"
+        seen = [] if define == "LOST" else ["-fsanitize=thread"]
+        line = ["g++", "-std=c++11", *STRICT[1:], "-g", "-O1", *seen, f"-D{define}", f"-I{C}/include"]
+        ran([*line, "-c", source, "-o", made])
+        ran(["g++", made, "-static-libstdc++", f"-L{C}/out", f"@{C}/out/nic82599_threads.opts", "-o", program])
+        told(ran([program, *words, "--runs", 1000], 1 if "FAILED" in wanted else 0), wanted, define)
+    return "threads, locks, conditions and atomics of C++"
 
 
 def check_points_line(program: Path, schedule: Path) -> None:
@@ -757,6 +810,10 @@ def check_points(kit: Kit) -> str:
         raise Wrong(f"points.c has the modes {', '.join(modes_of(source))}")
     for mode, wanted in POINTS.items():
         told(ran([wrong, mode, *words], 1), f"FAILED {wanted}", mode)
+        if mode == "cnd_wait":
+            schedule = (out / "points.schedule").read_text()
+            told(schedule, r"# thrd_create wake11 at points\.c:\d+ .*\n", "a thread of C11")
+            told(schedule, r"task thread-1 +# begins at points\.c:\d+\n", "a thread of C11")
         bounds = ["--strategy", "exhaustive", "--preemptions", 2]
         told(ran([right, mode, *words, *bounds]), "these are all schedules", f"{mode}, fixed")
     source = HERE / "tests/main_returns.c"
@@ -899,8 +956,8 @@ def check_forms(kit: Kit, runs: int) -> list[str]:
 
 def check_told_faults(kit: Kit) -> list[str]:
     """What is told of faults, values and refusals."""
-    parts = (check_names, check_faults, check_never, check_choices, check_weak, check_kit)
-    return [check(kit) for check in (*parts, check_bounds, check_shards, check_refusals)]
+    parts = (check_names, check_faults, check_never, check_choices, check_weak, check_kit, check_bounds)
+    return [check(kit) for check in (*parts, check_shards, check_refusals, check_unpointed)]
 
 
 def check_searches(kit: Kit, amount: str) -> list[str]:

@@ -216,8 +216,8 @@ uint32_t nicx_frame_number(const uint8_t *frame, size_t length);
 /* In `begin`: names so many numbered frames, at most NICX_FRAMES, the first of number 0. Another length is misuse. */
 void nicx_frames(uint32_t count, size_t length);
 
-/* The hash of a flow, 0 where none is made, and the queue of its frames, by MRQC, RSSRK and RETA as they are now: if
-   bits 3:0 of MRQC aren't 1 it is 0. These are no points. */
+/* The hash of a flow, 0 where none is made, and the queue of its frames, by MRQC, RSSRK and RETA as they are now: 0
+   if none is made or bits 3:0 of MRQC aren't 1. These are no points. */
 uint32_t nicx_rss_hash(const nicx_flow *flow);
 uint16_t nicx_rss_queue(const nicx_flow *flow);
 

@@ -196,8 +196,8 @@ class Found(unittest.TestCase):
     def test_faults(self) -> None:
         for steps, wanted in {
             ("up", "down"): "deadlock: t",
-            ("wait",): "deadlock: t0 waits, and nobody can act",
-            ("await",): "deadlock: t0 waits, and nobody can act",
+            ("wait",): "deadlock: t0 waits at explorer.py:",
+            ("await",): "deadlock: t0 waits at explorer.py:",
             ("loop",): "endless: no end after 200 points; last came task t0",
             ("check", "count"): "check: it wasn't counted",
             ("assert",): "check: an assertion",
@@ -207,6 +207,9 @@ class Found(unittest.TestCase):
             ("lend_memory",): "misuse: t0 lends memory in place, whose stores no search sees",
         }.items():
             self.assertIn(wanted, self.failure(Faulty(*steps), 200), steps)
+        delay = r"waits at explorer\.py:\d+.*, and nobody can act; if that is a delay, call pause there\n"
+        self.assertRegex(self.failure(Faulty("await"), 200), delay)
+        self.assertNotRegex(self.failure(Faulty("wait"), 200), delay)
         self.assertIn("always: it was counted", self.failure(Looking("count", "pause")))
         self.assertIn("hang: t0 runs and makes no point", self.failure(Faulty("hang"), hang=0.2))
         for strategy in ("random", "priorities", "exhaustive"):
@@ -294,6 +297,7 @@ class Found(unittest.TestCase):
             "preemptions": (-1, 1_001, "any", None),
             "jobs": (0, 257, "4", 2.0),
             "hang": (0, -1, "x", float("nan"), None),
+            "seconds": (0, -1, "x", float("nan"), 1e10),
             "out": ("/nowhere", "/dev/null", 5),
         }.items():
             for value in values:
@@ -456,6 +460,30 @@ class Told(unittest.TestCase):
             self.assertIn("without task count\n", text)
             self.assertRegex(text, r"task take +# peek 0x\w+, 8 bytes at explorer\.py:\d+\n")
             self.assertEqual(replay(Much(), path).words, "a frame is lost")
+
+    def test_turn(self) -> None:
+        """Where it goes wrong is told, as a line before its step, with the line of each point; or that all fail."""
+        failure = self.found(Race())
+        turn, lines = failure.result.turn, str(failure).splitlines()
+        self.assertIsNotNone(turn)
+        place = next(number for number, line in enumerate(lines) if "# here it goes wrong: had task poll acted" in line)
+        self.assertEqual((turn.point, turn.other), (place - 2, "task poll"), failure)
+        self.assertRegex(lines[place - 1], r"task poll +# peek 0x\w+, 8 bytes at race\.py:\d+$")
+        self.assertRegex(lines[place + 1], r"rx +# wrote queue 0 slot \d end$")
+        with tempfile.TemporaryDirectory() as folder:
+            path = self.found(Race(), out=folder).path
+            self.assertIn(f"\n{turn.line}\n", path.read_text())
+            self.assertEqual(replay(Race(), path).outcome, "end")
+        always = self.found(Faulty("wait")).result
+        self.assertIsNone(always.turn.point, always)
+        self.assertIn("the order of the steps doesn't matter", always.turn.line)
+        self.assertIsNone(self.found(Polite()).result.turn)
+
+    def test_seconds(self) -> None:
+        """A search ends by the clock, by any strategy, and one that isn't ended goes on to its runs."""
+        for words in ({}, {"strategy": "exhaustive", "preemptions": 1_000}, {"jobs": 2}):
+            self.assertGreater(search(Fixed(), None, seconds=0.3, **words).distinct, 0, words)
+        self.assertEqual(search(Fixed(), 20, seconds=1_000_000).distinct, search(Fixed(), 20).distinct)
 
     def test_cycle(self) -> None:
         with tempfile.TemporaryDirectory() as folder:

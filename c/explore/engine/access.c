@@ -297,21 +297,32 @@ uint8_t nicx_dma_read(uint64_t bus, uint8_t *bytes, size_t length)
     return step->status;
 }
 
-uint8_t nicx_dma_write(uint64_t bus, const uint8_t *bytes, size_t length)
+/* The bytes are these, or what the source gives after the point. */
+static uint8_t nicxi_write_bytes(uint64_t bus, const uint8_t *bytes, nicxi_bytes_at *source, size_t length)
 {
-    if (!nicxi_may_act())
-        return NIC_NOT_LENT;
-    note_call(__builtin_return_address(0));
     struct step *step = before(STEP_POKE);
     step->bus = bus;
     step->length = (uint32_t)length;
     note_change();
     if (!let_others(nicxi.self))
         return NIC_NOT_LENT;
-    step->status = store(step, bytes);
+    step->status = store(step, source ? source(bus, length) : bytes);
     after(step);
     judge(step);
     return step->status;
+}
+
+uint8_t nicx_dma_write(uint64_t bus, const uint8_t *bytes, size_t length)
+{
+    if (!nicxi_may_act())
+        return NIC_NOT_LENT;
+    note_call(__builtin_return_address(0));
+    return nicxi_write_bytes(bus, bytes, NULL, length);
+}
+
+uint8_t nicxi_write_from(uint64_t bus, nicxi_bytes_at *source, size_t length)
+{
+    return nicxi_write_bytes(bus, NULL, source, length);
 }
 
 uint64_t nicx_get64(uint64_t bus)

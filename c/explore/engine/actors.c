@@ -1,5 +1,6 @@
 /* Who may act, and the steps of the device. */
 #include <stdio.h>
+#include <string.h>
 
 #include "engine.h"
 #include "weak.h"
@@ -8,7 +9,6 @@ static void add(uint8_t kind, uint16_t of, int on)
 {
     struct actor *actor = &nicxi.actors[nicxi.count++];
     actor->kind = kind;
-    actor->idle = nicxi.is_idle && kind >= BY_RX && kind <= BY_EEPROM;
     actor->of = of;
     actor->on = on;
     actor->last = kind == BY_OLDER ? UINT32_MAX : 0; /* where somebody has to act, none acts so by itself */
@@ -18,10 +18,12 @@ static void add(uint8_t kind, uint16_t of, int on)
 static void add_starts(uint16_t handler)
 {
     int where = nicxi.threads[handler].where;
+    nicxi.threads[handler].starts = nicxi.count;
     if (where == NICX_ANYWHERE)
         for (uint16_t task = 0; task < nicxi.tasks; task++)
             add(BY_START, handler, task);
     add(BY_START, handler, where >= 0 ? where : -1);
+    nicxi.threads[handler].end = nicxi.count;
 }
 
 static void add_threads(void)
@@ -41,27 +43,58 @@ static void add_memory(uint16_t thread)
         add(BY_OLDER, thread, older);
 }
 
-void nicxi_list_actors(void)
+/* Where the device's steps lie among the actors: of a queue both enables lie side by side, receiving first. */
+static struct {
+    uint16_t tx, messages, enables, eeprom;
+} first;
+
+static void add_device(void)
 {
     const nicx_scenario *scenario = nicxi.scenario;
-    nicxi.count = 0;
-    add_threads();
-    for (uint16_t handler = 0; handler < nicxi.handlers; handler++)
-        add_starts((uint16_t)(NICX_TASKS + handler));
-    if (nicxi.is_program)
-        return;
-    add(BY_WIRE, 0, -1);
-    add(BY_LINK, 0, -1);
     add(BY_RX, 0, -1);
+    first.tx = nicxi.count;
     for (uint16_t queue = 0; queue < scenario->queues; queue++)
         add(BY_TX, queue, -1);
+    first.messages = nicxi.count;
     for (uint16_t group = 0; group <= scenario->vfs; group++)
         add(BY_INT, group, -1);
+    first.enables = nicxi.count;
     for (uint16_t queue = 0; queue < scenario->queues; queue++) {
         add(BY_RX_ENABLE, queue, -1);
         add(BY_TX_ENABLE, queue, -1);
     }
+    first.eeprom = nicxi.count;
     add(BY_EEPROM, 0, -1);
+}
+
+static void wake(uint16_t number)
+{
+    nicxi.awake[number / 64] |= UINT64_C(1) << number % 64;
+}
+
+static void wake_all(uint16_t from, uint16_t to, uint16_t step)
+{
+    for (uint16_t k = from; k < to; k = (uint16_t)(k + step))
+        wake(k);
+}
+
+void nicxi_list_actors(void)
+{
+    nicxi.count = 0;
+    memset(nicxi.awake, 0, sizeof nicxi.awake);
+    add_threads();
+    for (uint16_t handler = 0; handler < nicxi.handlers; handler++)
+        add_starts((uint16_t)(NICX_TASKS + handler));
+    nicxi.steps_from = nicxi.steps_to = nicxi.count;
+    if (nicxi.is_program)
+        return;
+    add(BY_WIRE, 0, -1);
+    add(BY_LINK, 0, -1);
+    nicxi.steps_from = nicxi.count;
+    add_device();
+    nicxi.steps_to = nicxi.count;
+    if (!nicxi.is_idle)
+        wake_all(nicxi.steps_from, nicxi.steps_to, 1);
     for (uint16_t k = 0; nicxi.is_weak && k < NICX_TASKS + nicxi.handlers; k++)
         if (k < nicxi.tasks || k >= NICX_TASKS)
             add_memory(k);
@@ -75,7 +108,7 @@ static bool holds(const struct thread *thread)
     return it_holds;
 }
 
-static bool can_go_on(const struct thread *thread)
+bool nicxi_can_go_on(const struct thread *thread)
 {
     if (thread->interrupted_by >= 0)
         return false;
@@ -105,13 +138,13 @@ static bool can_start(const struct thread *handler, int on)
 bool nicxi_can_act(const struct actor *actor)
 {
     switch (actor->kind) {
-    case BY_THREAD: return can_go_on(&nicxi.threads[actor->of]);
+    case BY_THREAD: return nicxi_can_go_on(&nicxi.threads[actor->of]);
     case BY_START: return can_start(&nicxi.threads[actor->of], actor->on);
     case BY_WIRE: return nicxi.next_frame < nicxi.frame_count;
     case BY_LINK: return nicxi.next_link < nicxi.link_count;
     case BY_STORE: return nicxi_can_land(actor);
     case BY_OLDER: return nicxi_can_be_older(actor);
-    default: return !actor->idle;
+    default: return !nicxi_is_idle((uint16_t)(actor - nicxi.actors));
     }
 }
 
@@ -127,51 +160,85 @@ enum {
     WAKES_ALL = WAKES_RECEIVE | WAKES_TRANSMIT | WAKES_INT | WAKES_EEPROM
 };
 
-/* The registers of causes, masks and vectors; of receive and transmit queues; EERD. */
-static unsigned woken_by_write(uint32_t address)
+/* Of one queue alone, or of each. With few queues it is each, since that costs little, and a seed goes on to give the
+   schedules that it gave. */
+enum { EACH_QUEUE = UINT16_MAX, FEW_QUEUES = 2 };
+
+struct woken {
+    unsigned kinds;
+    uint16_t queue;
+};
+
+/* The registers of causes, masks and vectors; of a receive and of a transmit queue; EERD. */
+static struct woken woken_by_write(uint32_t address)
 {
     if (address >= 0x00800 && address < 0x01000)
-        return WAKES_INT;
-    if ((address >= 0x01000 && address < 0x02000) || (address >= 0x0D000 && address < 0x0E000))
-        return WAKES_RECEIVE;
+        return (struct woken){WAKES_INT, EACH_QUEUE};
+    if (address >= 0x01000 && address < 0x02000)
+        return (struct woken){WAKES_RECEIVE, (uint16_t)((address - 0x01000) / 0x40)};
+    if (address >= 0x0D000 && address < 0x0E000)
+        return (struct woken){WAKES_RECEIVE, (uint16_t)(64 + (address - 0x0D000) / 0x40)};
     if (address >= 0x06000 && address < 0x08000)
-        return WAKES_TRANSMIT;
-    return address == NIC_EERD ? WAKES_EEPROM : WAKES_ALL;
+        return (struct woken){WAKES_TRANSMIT, (uint16_t)((address - 0x06000) / 0x40)};
+    return (struct woken){address == NIC_EERD ? WAKES_EEPROM : WAKES_ALL, EACH_QUEUE};
 }
 
-static unsigned woken_by_vf_write(uint32_t offset)
+static struct woken woken_by_vf_write(const struct step *step)
 {
+    uint32_t offset = step->address;
     if (offset >= 0x100 && offset < 0x300)
-        return WAKES_INT;
-    if (offset >= 0x1000 && offset < 0x2000)
-        return WAKES_RECEIVE;
-    return offset >= 0x2000 && offset < 0x3000 ? WAKES_TRANSMIT : WAKES_ALL;
+        return (struct woken){WAKES_INT, EACH_QUEUE};
+    if (offset >= 0x1000 && offset < 0x3000 && step->physical != NO_ADDRESS)
+        return woken_by_write(step->physical);
+    return (struct woken){WAKES_ALL, EACH_QUEUE};
 }
 
-static unsigned woken_by(const struct step *step)
+static struct woken woken_by(const struct step *step)
 {
     switch (step->kind) {
     case STEP_WRITE: return woken_by_write(step->address);
-    case STEP_VF_WRITE: return woken_by_vf_write(step->address);
-    case STEP_ARRIVE: return WAKES_RX | WAKES_INT;
+    case STEP_VF_WRITE: return woken_by_vf_write(step);
+    case STEP_ARRIVE: return (struct woken){WAKES_RX | WAKES_INT, EACH_QUEUE};
     case STEP_READ:
     case STEP_VF_READ:
     case STEP_LINK:
     case STEP_TX:
-    case STEP_RX: return WAKES_INT;
-    case STEP_RX_ENABLE: return WAKES_RX;
-    case STEP_TX_ENABLE: return WAKES_TX;
-    default: return 0;
+    case STEP_RX: return (struct woken){WAKES_INT, EACH_QUEUE};
+    case STEP_RX_ENABLE: return (struct woken){WAKES_RX, EACH_QUEUE};
+    case STEP_TX_ENABLE: return (struct woken){WAKES_TX, step->of};
+    default: return (struct woken){0, EACH_QUEUE};
     }
+}
+
+static void wake_queues(const struct woken *woken)
+{
+    uint16_t queues = (uint16_t)(first.messages - first.tx), from = 0, to = queues;
+    if (woken->queue != EACH_QUEUE && queues > FEW_QUEUES) {
+        from = woken->queue < queues ? woken->queue : queues;
+        to = (uint16_t)(from + (from < queues));
+    }
+    if (woken->kinds & WAKES_TX)
+        wake_all((uint16_t)(first.tx + from), (uint16_t)(first.tx + to), 1);
+    if (woken->kinds & 1 << BY_RX_ENABLE)
+        wake_all((uint16_t)(first.enables + 2 * from), (uint16_t)(first.enables + 2 * to), 2);
+    if (woken->kinds & 1 << BY_TX_ENABLE)
+        wake_all((uint16_t)(first.enables + 2 * from + 1), (uint16_t)(first.enables + 2 * to + 1), 2);
 }
 
 void nicxi_wake(const struct step *step)
 {
-    unsigned woken = woken_by(step);
+    struct woken woken = woken_by(step);
     nicxi.is_changed = true;
-    for (uint16_t k = 0; woken && k < nicxi.count; k++)
-        if (woken >> nicxi.actors[k].kind & 1)
-            nicxi.actors[k].idle = false;
+    if (!woken.kinds || nicxi.steps_from == nicxi.steps_to)
+        return;
+    if (woken.kinds & WAKES_RX)
+        wake(nicxi.steps_from);
+    if (woken.kinds & (WAKES_TRANSMIT | 1 << BY_RX_ENABLE))
+        wake_queues(&woken);
+    if (woken.kinds & WAKES_INT)
+        wake_all(first.messages, first.enables, 1);
+    if (woken.kinds & WAKES_EEPROM)
+        wake(first.eeprom);
 }
 
 /* --- the steps --- */

@@ -139,11 +139,13 @@ struct thread {
     struct step next; /* before what it stands */
     struct polls polls;
     const void *call;    /* where it accesses packet memory */
+    const void *waits;   /* behind its last call of nicx_wait or nicx_wait_until */
     nicx_mutex *held[8]; /* the locks that it holds; of more than eight not all */
     uint32_t locks;      /* how many it holds */
     uint16_t group;      /* of a handler */
     uint8_t vector;
     int where;
+    uint16_t starts, end; /* its starts are the actors from the one to the other */
 };
 
 enum actor_kind {
@@ -163,7 +165,6 @@ enum actor_kind {
 
 struct actor {
     uint8_t kind;
-    bool idle;               /* a step of the device that had nothing to do, and nothing came up since */
     uint16_t of;             /* a thread, a queue, a group */
     int on;                  /* of a start: the task, or -1; of a store its place; of an older load how old it is */
     uint32_t last;           /* one more than the point at which it acted last; 0 where it didn't */
@@ -226,16 +227,20 @@ struct engine {
     bool is_tso;            /* or stores late and in order, and no load is old */
     bool knows_memory;      /* each access of the driver's own memory is told (nicxi_touched) */
     bool is_program;        /* the first task is a whole program, which makes the device's steps itself */
+    bool loads_unseen; /* the driver reads lent memory by pointers too, which is no step (c/drive/engine/in_place.c) */
 
     /* The device (device.c). */
     nic device;
     bool is_changed; /* since it was brought back: else there is nothing to bring back */
     bool is_idle;    /* as it was kept it has no step to make, so none is tried before something wakes it */
 
-    /* Who may act (actors.c). An actor of the device that had nothing to do is idle, and isn't tried again before a
-       step that can give it work has woken it (nicxi_wake). Waking too many costs time, waking too few schedules. */
+    /* Who may act (actors.c), in this order: threads and what comes from outside, the device's steps from `steps_from`
+       on, stores and older loads from `steps_to` on. A step of the device that had nothing to do is idle, its bit of
+       `awake` is 0, and it isn't tried again before a step that can give it work has woken it (nicxi_wake). Waking too
+       many costs time, waking too few schedules. */
     struct actor actors[MOST_ACTORS];
-    uint16_t count;
+    uint16_t count, steps_from, steps_to;
+    uint64_t awake[MOST_ACTORS / 64 + 1];
     uint16_t next_frame, next_link; /* that come next */
     uint32_t came;                  /* frames that came in this schedule */
 
@@ -269,6 +274,7 @@ struct engine {
     nicxi_listener *listener;
     void *listener_argument;
     nicxi_listener *watch; /* hears of each event beside the listener: for a scenario that judges by them */
+    void (*publish)(void); /* before each call of a driver: makes the stores that it made by pointers, as such calls */
     struct notes *notes;
     struct coverage *coverage;
 };
@@ -283,6 +289,11 @@ void nicxi_failed(uint8_t outcome, const char *form, ...);
 void nicxi_leave(void);
 /* Whether a call that acts may be made: not by what may only look, which fails. */
 bool nicxi_may_act(void);
+/* The driver's stores by pointers so far are made, each at a point: where a scenario has such (`publish`). */
+void nicxi_publish(void);
+/* Such a store: as nicx_dma_write, of what the source says at the time. */
+typedef const uint8_t *nicxi_bytes_at(uint64_t bus, size_t length);
+uint8_t nicxi_write_from(uint64_t bus, nicxi_bytes_at *source, size_t length);
 /* A wait of no thread: in the bring-up the device makes its steps. One that never ends is told, and ends the process.
  */
 void nicxi_wait_outside(void);
@@ -303,8 +314,19 @@ uint16_t nicxi_next_kept(const bool *omitted, uint16_t from, uint16_t count);
 
 /* Lists the actors of a schedule, once its tasks and handlers are named. */
 void nicxi_list_actors(void);
-/* Whether an actor may act, as far as is known without trying. */
+/* Whether an actor may act, as far as is known without trying; a thread that doesn't stand ready. */
 bool nicxi_can_act(const struct actor *actor);
+bool nicxi_can_go_on(const struct thread *thread);
+/* A step of the device, by its actor's number. */
+static inline bool nicxi_is_idle(uint16_t number)
+{
+    return !(nicxi.awake[number / 64] >> number % 64 & 1);
+}
+
+static inline void nicxi_set_idle(uint16_t number)
+{
+    nicxi.awake[number / 64] &= ~(UINT64_C(1) << number % 64);
+}
 /* Whether the first of those that can act is the one that acted last. */
 bool nicxi_goes_on(const uint16_t *can);
 /* Whether all of these are steps of the device that may turn out to have nothing to do. */

@@ -309,7 +309,7 @@ static void remember_idle(const struct exhaustive *it, const struct node *node)
 {
     for (uint32_t k = 0; k < node->count; k++)
         if (it->can[node->can + k] & IDLE)
-            nicxi.actors[actor_at(it, node, k)].idle = true;
+            nicxi_set_idle(actor_at(it, node, k));
 }
 
 /* The choice of a point that was come to before; the last point's may be another one by now. */

@@ -368,6 +368,12 @@ static bool are_apart(const struct step *a, const struct step *b)
     return nicxi.scenario->race_free;
 }
 
+/* What the driver reads by pointers after its step may be what the device wrote. */
+static bool may_be_read(const struct step *a, const struct step *b)
+{
+    return nicxi.loads_unseen && is_of_driver(a) && (b->kind == STEP_RX || b->kind == STEP_TX);
+}
+
 /* By weak memory a step that changes memory, or may, makes loads of others older. */
 static bool may_change_memory(const struct step *step)
 {
@@ -379,6 +385,8 @@ bool nicxi_are_independent(const struct step *a, const struct step *b)
     if (a->waits || b->waits || (nicxi.is_weak && may_change_memory(a) && may_change_memory(b)))
         return false;
     if (is_of_driver(a) && is_of_driver(b) && !are_apart(a, b))
+        return false;
+    if (may_be_read(a, b) || may_be_read(b, a))
         return false;
     return nicxi_row_of(a, b) >= 0;
 }

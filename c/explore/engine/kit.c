@@ -186,8 +186,8 @@ uint32_t nicx_rss_hash(const nicx_flow *flow)
 
 uint16_t nicx_rss_queue(const nicx_flow *flow)
 {
-    uint32_t entry = hashed_bytes(flow) ? nicx_rss_hash(flow) & 127 : 0;
-    if ((nicxi_peek(NIC_MRQC) & NIC_MRQC_MRQE) != 1)
+    uint32_t entry = nicx_rss_hash(flow) & 127;
+    if ((nicxi_peek(NIC_MRQC) & NIC_MRQC_MRQE) != 1 || !hashed_bytes(flow))
         return 0;
     return nicxi_peek(NIC_RETA(entry / 4)) >> 8 * (entry % 4) & 15;
 }

@@ -15,6 +15,7 @@ struct nicxi_form {
     bool (*holds_any)(const struct thread *thread);                   /* a lock: so others may wait for it */
     bool (*tell_wait)(const struct thread *thread, bool for_lock);    /* tells what it waits for, where that is known */
     void (*ended)(struct thread *thread);                             /* its function returned */
+    const void *(*function_of)(const struct thread *thread);          /* of one that the driver made: where it begins */
     bool (*assembly)(char *room,
                      size_t size); /* a barrier of the driver's by inline assembly: "mfence at driver.c:9" */
 };

@@ -1,6 +1,6 @@
-/* Memory in one piece, which goes back to what it was by a copy. What is taken of it is of powers of two, with its
-   class in the 16 bytes before it. Free ones of a size are in a list whose links lie in them. The lists' heads lie in
-   the piece too, so that they go back with it. */
+/* Memory in one piece, which goes back to what it was by a copy, so what is taken of it is little larger than it has to
+   be. Its class stands in the 16 bytes before it. Free ones of a class are in a list whose links lie in them. The heads
+   of these lists lie in the piece too, so that they go back with it. */
 #ifndef NICX_PIECE_H
 #define NICX_PIECE_H
 
@@ -9,7 +9,7 @@
 #include <string.h>
 #include <sys/mman.h>
 
-enum { HEAD = 16, SMALLEST = 5, CLASSES = 40, FIRST = 512 };
+enum { HEAD = 16, UNIT = 16, PARTS = 8, CLASSES = PARTS * 24, FIRST = 2048 };
 
 #define PIECE_ROOM ((size_t)1 << 30)
 
@@ -35,19 +35,27 @@ static inline bool piece_has(const struct piece *piece, const void *taken)
            (const char *)taken < (const char *)piece + PIECE_ROOM;
 }
 
+/* With its head: each multiple of 16 up to 128, and from there on eight sizes up to twice as much. */
 static inline unsigned piece_class(size_t size)
 {
-    unsigned k = SMALLEST;
-    while (((size_t)1 << k) < size + HEAD)
-        k++;
-    return k;
+    size_t units = (size + HEAD + UNIT - 1) / UNIT;
+    unsigned shift = 0;
+    while ((units - 1) >> shift >= 2 * (size_t)PARTS)
+        shift++;
+    return units <= PARTS ? (unsigned)units - 1 : PARTS * shift + (unsigned)((units - 1) >> shift);
+}
+
+static inline size_t piece_whole(unsigned k)
+{
+    unsigned shift = k < PARTS ? 0 : k / PARTS - 1;
+    return ((size_t)(k - PARTS * shift) + 1) << shift << 4;
 }
 
 /* What was never given out. */
 static inline void *piece_fresh(struct piece *piece, unsigned k)
 {
-    size_t whole = (size_t)1 << k;
-    if (k >= CLASSES || whole > PIECE_ROOM - piece->used)
+    size_t whole = k < CLASSES ? piece_whole(k) : PIECE_ROOM;
+    if (whole > PIECE_ROOM - piece->used)
         return NULL;
     char *taken = (char *)piece + piece->used + HEAD;
     piece->used += whole;
@@ -80,7 +88,7 @@ static inline size_t piece_size(const void *taken)
 {
     unsigned k;
     memcpy(&k, (const char *)taken - HEAD, sizeof k);
-    return ((size_t)1 << k) - HEAD;
+    return piece_whole(k) - HEAD;
 }
 
 #endif

@@ -7,6 +7,7 @@
 #include <string.h>
 #include <unwind.h>
 
+#include "parts.h"
 #include "words.h"
 
 enum { MOST_FRAMES = 64, MOST_OBJECT = 2 * MOST_TEXT };
@@ -52,12 +53,22 @@ static unsigned first_of_driver(const struct frames *frames, unsigned end)
     return first;
 }
 
-/* How many frames there are to the function of the thread, with it. */
+/* The driver's function at which a thread begins. */
+static const void *function_of(const struct thread *thread)
+{
+    const void *function = nicxi_form && thread->is_made ? nicxi_form->function_of(thread) : NULL;
+    return function ? function : (const void *)(uintptr_t)thread->function;
+}
+
+/* How many frames there are to that, with it; below it lies what calls it. */
 static unsigned end_of_thread(const struct frames *frames, const struct thread *self)
 {
-    for (unsigned k = 0; k < frames->count; k++)
-        if (nicxi_function(frames->calls[k]) == (const void *)(uintptr_t)self->function)
-            return k + 1;
+    const void *own = function_of(self), *caller = (const void *)(uintptr_t)self->function;
+    for (unsigned k = 0; k < frames->count; k++) {
+        const void *function = nicxi_function(frames->calls[k]);
+        if (function == own || function == caller)
+            return k + (function == own);
+    }
     return frames->count;
 }
 
@@ -67,6 +78,22 @@ static bool is_of_library(const char *file)
     return strstr(file, "/nic82599/src/explore/") || strstr(file, "/nic82599/src/drive/") ||
            has_prefix(file, "/rustc/") || strstr(file, "/library/core/") || strstr(file, "/library/std/") ||
            strstr(file, "/library/alloc/") || strstr(file, "/explore/engine/") || strstr(file, "/explore/threads/");
+}
+
+/* The card's own functions and scenarios are no driver's. */
+static bool is_of_card(const char *file)
+{
+    return strstr(file, "/drive/engine/") || strstr(file, "/drive/scenarios/") || strstr(file, "/drive/python/");
+}
+
+/* What the card called the driver by is left out, unless the card itself made the step. */
+static void end_at_adapter(struct place *place)
+{
+    unsigned count = place->count;
+    while (count && is_of_card(place->calls[count - 1].file))
+        count--;
+    if (count)
+        place->count = count;
 }
 
 static void add_lines(struct place *place, const void *call)
@@ -98,7 +125,7 @@ void nicxi_place(uint16_t actor, const struct step *step, struct place *place)
     if (!thread)
         return;
     if (step->kind == STEP_START || (step->kind == STEP_LOCAL && step->word == LOCAL_BEGIN)) {
-        add_lines(place, (const void *)(uintptr_t)thread->function);
+        add_lines(place, function_of(thread));
         place->count = place->count ? 1 : 0;
         return;
     }
@@ -112,8 +139,9 @@ void nicxi_place(uint16_t actor, const struct step *step, struct place *place)
     unsigned first = first_of_driver(&frames, end);
     for (unsigned k = first; k < end; k++)
         add_lines(place, frames.calls[k]);
+    end_at_adapter(place);
     if (first >= end)
-        place->function = (const void *)(uintptr_t)thread->function;
+        place->function = function_of(thread);
 }
 
 static const char *base_name(const char *path)
@@ -138,6 +166,18 @@ const char *nicxi_place_words(const struct place *place, char room[MOST_PLACE])
         memcpy(room + length, one, (size_t)more + 1);
         length += (size_t)more;
     }
+    nicxi_plain(room, room, MOST_PLACE);
+    return room;
+}
+
+const char *nicxi_line_of_call(const void *behind, char room[MOST_PLACE])
+{
+    struct source_line lines[MOST_CALLS];
+    unsigned count = behind ? nicxi_lines((const char *)behind - 1, lines, MOST_CALLS) : 0;
+    room[0] = 0;
+    for (unsigned k = 0; k < count && !*room; k++)
+        if (!is_of_library(lines[k].file) && !is_of_card(lines[k].file))
+            snprintf(room, MOST_PLACE, "%.80s:%u", base_name(lines[k].file), lines[k].line);
     nicxi_plain(room, room, MOST_PLACE);
     return room;
 }

@@ -27,6 +27,9 @@ const char *nicxi_place_words(const struct place *place, char room[MOST_PLACE]);
 /* A step in words, "locks driver.lock", and what it locks or waits for, or "". */
 void nicxi_step_words(const struct step *step, const struct place *place, char room[MOST_TOLD], char about[MOST_TOLD]);
 
+/* The line of the driver's at which a call was made, by the address after it: "poll.c:17", or "" if none is known. */
+const char *nicxi_line_of_call(const void *behind, char room[MOST_PLACE]);
+
 /* The same with its place: "locks driver.lock at poll.c:17". */
 void nicxi_tell_step(uint16_t actor, const struct step *step, char *room, size_t size);
 

@@ -10,8 +10,10 @@
 #include "heap.h"
 #include "left.h"
 #include "parts.h"
+#include "places.h"
 #include "process.h"
 #include "symbols.h"
+#include "unpointed.h"
 #include "weak.h"
 #include "words.h"
 
@@ -95,14 +97,22 @@ void nicxi_begin(void)
         nicxi_form->begun();
 }
 
+void nicxi_publish(void)
+{
+    if (nicxi.publish && nicxi.phase != ENDING && !nicxi_is_left())
+        nicxi.publish();
+}
+
 bool nicxi_may_act(void)
 {
     if (maker != &mark && nicxi.phase != CLOSED)
         nicxi_refuse_thread();
     if (nicxi_is_left())
         return false;
-    if (!nicxi.asker)
-        return true;
+    if (!nicxi.asker) {
+        nicxi_publish();
+        return !nicxi_is_left();
+    }
     nicxi_failed(NICX_MISUSE, "%s makes a call that acts: it may only look", nicxi.asker);
     nicxi_leave();
     return false;
@@ -123,6 +133,8 @@ void nicxi_told(const struct step *step)
         nicxi.listener(nicxi.listener_argument, actor, step);
     if (nicxi_races)
         nicxi_races->told(step);
+    if (nicxi_is_stepping && nicxi.phase == RUNNING && nicxi.self && step == &nicxi.self->next)
+        nicxi_steps_begin();
 }
 
 /* Whether it depends on the acts of others that it goes on. */
@@ -225,23 +237,67 @@ static bool comes_at_rest(const struct actor *actor)
 }
 
 /* Who acted last stands first, where it may go on. */
-static uint32_t list_able(bool paused)
+static inline uint32_t add_able(uint32_t count, uint16_t number)
+{
+    nicxi.can[count] = number;
+    if (number == nicxi.last && count) {
+        nicxi.can[count] = nicxi.can[0];
+        nicxi.can[0] = number;
+    }
+    return count + 1;
+}
+
+static uint32_t list_at_rest(void)
 {
     uint32_t count = 0;
-    uint16_t last = nicxi.last;
-    for (uint16_t k = 0; k < nicxi.count; k++) {
-        const struct actor *actor = &nicxi.actors[k];
-        bool can = paused ? comes_at_rest(actor) : nicxi_can_act(actor);
-        if (!can)
-            continue;
-        if (k == last && count) {
-            nicxi.can[count++] = nicxi.can[0];
-            nicxi.can[0] = k;
-        } else {
-            nicxi.can[count++] = k;
-        }
-    }
+    for (uint16_t k = 0; k < nicxi.steps_from; k++)
+        if (comes_at_rest(&nicxi.actors[k]))
+            count = add_able(count, k);
     return count;
+}
+
+static uint32_t list_of(uint32_t count, uint16_t from, uint16_t to)
+{
+    for (uint16_t k = from; k < to; k++)
+        if (nicxi_can_act(&nicxi.actors[k]))
+            count = add_able(count, k);
+    return count;
+}
+
+/* Tasks are the first actors, then come handlers. */
+static uint32_t list_threads(void)
+{
+    uint32_t count = 0;
+    uint16_t threads = (uint16_t)(nicxi.tasks + nicxi.handlers);
+    for (uint16_t k = 0; k < threads; k++) {
+        const struct thread *thread = &nicxi.threads[k < nicxi.tasks ? k : k - nicxi.tasks + NICX_TASKS];
+        bool is_ready = thread->state == READY && thread->interrupted_by < 0;
+        if (is_ready || (thread->state > READY && nicxi_can_go_on(thread)))
+            count = add_able(count, k);
+    }
+    for (uint16_t k = NICX_TASKS; k < NICX_TASKS + nicxi.handlers; k++)
+        if (nicxi.threads[k].pending)
+            count = list_of(count, nicxi.threads[k].starts, nicxi.threads[k].end);
+    return count;
+}
+
+static uint32_t list_awake(uint32_t count)
+{
+    for (uint16_t word = nicxi.steps_from / 64; word <= nicxi.steps_to / 64; word++)
+        for (uint64_t bits = nicxi.awake[word]; bits; bits &= bits - 1)
+            count = add_able(count, (uint16_t)(64 * word + __builtin_ctzll(bits)));
+    return count;
+}
+
+static uint32_t list_able(void)
+{
+    uint32_t count = list_threads();
+    if (nicxi.next_frame < nicxi.frame_count && !nicxi.is_program)
+        count = add_able(count, (uint16_t)(nicxi.steps_from - 2));
+    if (nicxi.next_link < nicxi.link_count && !nicxi.is_program)
+        count = add_able(count, (uint16_t)(nicxi.steps_from - 1));
+    count = list_awake(count);
+    return list_of(count, nicxi.steps_to, nicxi.count);
 }
 
 bool nicxi_goes_on(const uint16_t *can)
@@ -298,7 +354,7 @@ static bool device_acts(uint16_t number)
         --*nicxi.points;
         nicxi.last = last;
         nicxi.switches = switches;
-        actor->idle = true;
+        nicxi_set_idle(number);
         return false;
     }
     actor->last = *nicxi.points;
@@ -315,8 +371,8 @@ static bool device_acts(uint16_t number)
    it (nicxi_wake) is wrong: that costs a search schedules, and makes no result wrong. */
 static bool is_at_rest(void)
 {
-    for (uint16_t k = 0; k < nicxi.count; k++)
-        if (is_of_device(k) && device_acts(k))
+    for (uint16_t k = nicxi.steps_from; k < nicxi.steps_to; k++)
+        if (device_acts(k))
             return false;
     return true;
 }
@@ -360,7 +416,7 @@ static bool is_endless(void)
 static uint16_t choose(void)
 {
     while (!nicxi.result.outcome && !nicxi.is_cut && !nicxi.is_over && !is_endless()) {
-        uint32_t count = list_able(false);
+        uint32_t count = list_able();
         if (nicxi.result.outcome)
             break;
         uint32_t due = nicxi.timers ? nicxi_list_due(nicxi.can) : 0;
@@ -370,7 +426,7 @@ static uint16_t choose(void)
         if (is_resting && !is_at_rest())
             continue;
         if (is_resting)
-            count = list_able(true);
+            count = list_at_rest();
         if (!count)
             return NOBODY;
         uint32_t k = nicxi.chooser->choose(nicxi.chooser->argument, nicxi.can, count);
@@ -418,6 +474,8 @@ static bool is_wait(const struct step *step)
 
 void nicxi_next(struct thread *self)
 {
+    if (nicxi_is_stepping)
+        nicxi_steps_end();
     if (nicxi_is_left())
         return;
     if (self) {
@@ -498,12 +556,21 @@ static void reset(void)
     nicxi_cover_begin();
 }
 
+/* One that waits for somebody to act, who never does. Of nicx_wait a delay is often meant, which nobody ends. */
+static void judge_wait(const struct thread *thread)
+{
+    char where[MOST_PLACE];
+    bool is_known = *nicxi_line_of_call(thread->waits, where);
+    nicxi_failed(NICX_DEADLOCK, "%s waits%s%s, and nobody can act%s", thread->name, is_known ? " at " : "", where,
+                 is_known && thread->state == WAITING ? "; if that is a delay, call nicx_pause there" : "");
+}
+
 /* The first that waits for a lock, or for ever where it shouldn't. */
 static void judge_waiting(bool locks)
 {
-    for (int k = 0; k < MOST_THREADS; k++) {
+    for (int k = 0; k < NICX_TASKS + nicxi.handlers; k++) {
         const struct thread *thread = &nicxi.threads[k];
-        if ((k < NICX_TASKS ? k >= nicxi.tasks : k - NICX_TASKS >= nicxi.handlers) || thread->state == OFF)
+        if ((k >= nicxi.tasks && k < NICX_TASKS) || thread->state == OFF)
             continue;
         if ((locks || !thread->is_service) && nicxi_form && nicxi_form->tell_wait(thread, locks))
             continue;
@@ -512,7 +579,7 @@ static void judge_waiting(bool locks)
                          thread->lock->name ? thread->lock->name : "a lock",
                          nicxi.threads[(thread->lock->kept & 0xFF) - 1].name);
         if (!locks && !thread->is_service)
-            nicxi_failed(NICX_DEADLOCK, "%s waits, and nobody can act", thread->name);
+            judge_wait(thread);
     }
 }
 

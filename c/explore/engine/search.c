@@ -432,6 +432,8 @@ const char *nicxi_search(const struct options *options, struct totals *totals, s
         search.common->parts[k].shard = options->shard;
         search.common->parts[k].shards = options->shards;
     }
+    nicxi_look_for_points(options, &totals->unpointed);
+    search.began = nicxi_now();
     start_all(&search);
     const char *fault = search.living == options->jobs ? NULL : "a process can't be started";
     if (fault)

@@ -5,6 +5,7 @@
 #include "options.h"
 #include "process.h"
 #include "strategy.h"
+#include "unpointed.h"
 
 struct totals {
     uint64_t runs, points;
@@ -14,6 +15,7 @@ struct totals {
     struct coverage coverage;
     uint64_t distinct; /* schedules that differ; not counted by the exhaustive search */
     bool is_exact;
+    struct unpointed_list unpointed;
     struct distinct *sketch; /* by which they were counted: the caller's to free. Null: of the exhaustive search, and
                                 where no result is written */
 };

@@ -1,6 +1,8 @@
 #define _GNU_SOURCE
 #include "symbols.h"
 
+#include "demangle.h"
+
 #include <elf.h>
 #include <fcntl.h>
 #include <link.h>
@@ -103,7 +105,7 @@ static const ElfW(Shdr) * sections(uint32_t *count)
 
 struct symbol {
     uintptr_t at, size;
-    char name[MOST_SYMBOL];
+    const char *name; /* in the image */
 };
 
 /* Of the symbols of a table the smallest that covers a place. */
@@ -122,7 +124,7 @@ static bool look_in(const ElfW(Shdr) * table, const ElfW(Shdr) * names, uintptr_
             continue;
         found->at = list[k].st_value;
         found->size = list[k].st_size;
-        snprintf(found->name, sizeof found->name, "%s", text + list[k].st_name);
+        found->name = text + list[k].st_name;
         any = true;
     }
     return any;
@@ -141,16 +143,36 @@ static bool find_symbol(const void *address, struct module *module, struct symbo
     return false;
 }
 
+/* C++ has it in its library, which is in programs of that language alone. By the link form that takes its memory from
+   the driver's heap, but for the room that it is given. */
+char *__cxa_demangle(const char *symbol, char *room, size_t *size, int *status) __attribute__((weak));
+
+static bool by_library(const char *symbol, char *room, size_t size)
+{
+    size_t given = 1 << 16;
+    int status = -1;
+    char *own = __cxa_demangle && !strncmp(symbol, "_Z", 2) ? malloc(given) : NULL;
+    const char *name = own ? __cxa_demangle(symbol, own, &given, &status) : NULL;
+    if (name && !status)
+        snprintf(room, size, "%s", name);
+    if (!name || name == own)
+        free(own);
+    return name && !status;
+}
+
 bool nicxi_symbol(const void *address, char *room, size_t size)
 {
     struct module module;
     struct symbol found;
+    char name[MOST_SYMBOL];
     if (!find_symbol(address, &module, &found))
         return false;
+    if (!nicxi_demangle(found.name, name, sizeof name) && !by_library(found.name, name, sizeof name))
+        snprintf(name, sizeof name, "%s", found.name);
     if (module.at == found.at)
-        snprintf(room, size, "%s", found.name);
+        snprintf(room, size, "%s", name);
     else
-        snprintf(room, size, "%s+0x%lx", found.name, (unsigned long)(module.at - found.at));
+        snprintf(room, size, "%s+0x%lx", name, (unsigned long)(module.at - found.at));
     return true;
 }
 

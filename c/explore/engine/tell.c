@@ -6,6 +6,8 @@
 #include "parts.h"
 #include "words.h"
 
+enum { MOST_TOLD_UNPOINTED = 1024 };
+
 static void tell_never(void *argument, const char *line)
 {
     fprintf(argument, "%s: note: %s\n", nicxi.scenario->name, line);
@@ -58,10 +60,22 @@ static void tell_unseen(void)
             nicxi.scenario->name, words);
 }
 
+static void tell_unpointed(const struct unpointed_list *found)
+{
+    char words[MOST_TOLD_UNPOINTED];
+    for (uint32_t k = 0; k < found->count; k++) {
+        nicxi_unpointed_words(&found->list[k], words, sizeof words);
+        printf("%s: note: %s: call nicx_point() in between, or compile with -fsanitize=thread and link with "
+               "@nic82599_threads.opts\n",
+               nicxi.scenario->name, words);
+    }
+}
+
 void nicxi_tell_totals(const struct options *options, const struct totals *totals)
 {
     double seconds = totals->seconds > 0 ? totals->seconds : 1e-9;
     tell_unseen();
+    tell_unpointed(&totals->unpointed);
     printf("%s: %" PRIu64 " schedules, %" PRIu64 " points, %.1f s (%.0f schedules a second), %s, seed %" PRIu64 "\n",
            nicxi.scenario->name, totals->runs, totals->points, totals->seconds, (double)totals->runs / seconds,
            nicxi_strategy_name(options->strategy), options->seed);

@@ -4,6 +4,7 @@
 
 #include "left.h"
 #include "parts.h"
+#include "unpointed.h"
 #include "weak.h"
 
 static const char *name_of(const nicx_mutex *lock)
@@ -40,7 +41,10 @@ static void live(void *argument)
 {
     struct thread *self = argument;
     for (;;) {
+        if (nicxi_is_stepping)
+            nicxi_steps_begin();
         self->function(self->argument);
+        nicxi_publish();
         end(self);
         self->stack = PARKED;
         nicxi_next(self);
@@ -119,6 +123,8 @@ void nicx_point(void)
 
 void nicx_wait(void)
 {
+    if (nicxi.self)
+        nicxi.self->waits = __builtin_return_address(0);
     stand(WAITING, LOCAL_WAIT);
 }
 
@@ -139,6 +145,7 @@ void nicx_wait_until(bool (*condition)(void *), void *argument)
     }
     self->condition = condition;
     self->condition_argument = argument;
+    self->waits = __builtin_return_address(0);
     stand(UNTIL, LOCAL_UNTIL);
 }
 
@@ -149,6 +156,7 @@ void nicxi_call(enum thread_state state, const char *call, const void *object)
     struct thread *self = nicxi.self;
     if (!self)
         return;
+    self->waits = NULL;
     self->next.call = call;
     self->next.bus = (uintptr_t)object;
     stand(state, LOCAL_CALL);

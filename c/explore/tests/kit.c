@@ -35,12 +35,13 @@ static const char *bring_up(void)
     nicx_vf_read32(0, NIC_VFMAILBOX);
     nicx_write32(NIC_RXCTRL, NIC_RXCTRL_RXEN);
     nicx_write32(NIC_FCTRL, NIC_FCTRL_UPE);
-    nicx_write32(NIC_MRQC, NIC_MRQC_MRQE_IS(1) | NIC_MRQC_TCPIPV4 | NIC_MRQC_UDPIPV4 | NIC_MRQC_IPV4);
+    nicx_write32(NIC_MRQC,
+                 NIC_MRQC_MRQE_IS(1) | NIC_MRQC_TCPIPV4 | NIC_MRQC_UDPIPV4); /* of the others none is hashed */
     nicx_write32(NIC_RXCSUM, 1u << 13);
     for (uint32_t k = 0; k < NIC_RSSRK_COUNT; k++)
         nicx_write32(NIC_RSSRK(k), 0x9E3779B9u * (k + 1));
     for (uint32_t k = 0; k < NIC_RETA_COUNT; k++)
-        nicx_write32(NIC_RETA(k), 0x03020100);
+        nicx_write32(NIC_RETA(k), 0x00010203);
     for (unsigned queue = 0; queue < QUEUES; queue++)
         bring_up_receive_queue(queue, ring(queue), SLOTS * queue, SLOTS - 1);
     name_flows();

@@ -1,19 +1,45 @@
 // Threads of C++ are turned by the same form, with -static-libstdc++. With -DLOST a signal comes before it is waited
-// for, for c/explore/check.py.
+// for; with -DORDER=relaxed a std::atomic orders nothing, and with -DORDER=seq_cst what comes before it, for
+// c/explore/check.py.
+#include <atomic>
 #include <condition_variable>
 #include <mutex>
 #include <thread>
 
 #include "nic82599_explore.h"
 
-namespace {
+namespace
+{
 
 struct {
     std::mutex lock;
     std::condition_variable changed;
     bool is_set;
+    std::atomic<bool> is_told;
+    int value;
 } driver;
 
+#ifdef ORDER
+#define BY_ORDER_OF(order) std::memory_order_##order
+#define BY_ORDER(order) BY_ORDER_OF(order)
+
+void tell()
+{
+    driver.value = 1;
+    driver.is_told.store(true, BY_ORDER(ORDER));
+}
+
+void run(void *)
+{
+    driver.is_told = false;
+    std::thread other(tell);
+    while (!driver.is_told.load(BY_ORDER(ORDER)))
+        std::this_thread::yield();
+    if (driver.value != 1)
+        nicx_fail("what was told isn't there");
+    other.join();
+}
+#else
 void set(nic *card)
 {
     {
@@ -39,6 +65,7 @@ void run(void *)
 #endif
     other.join();
 }
+#endif
 
 const char *bring_up()
 {

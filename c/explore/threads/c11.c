@@ -107,7 +107,8 @@ int __wrap_thrd_create(thrd_t *thread, thrd_start_t function, void *argument)
     epoch = nicxi.epoch;
     struct beginning *it = &beginnings[next++ % MOST_THREADS];
     *it = (struct beginning){function, argument};
-    return as_c11(nicxi_create(thread, begin, it, 0, false, "thrd_create", HERE));
+    const struct creation creation = {begin, it, (const void *)(uintptr_t)function, 0, false};
+    return as_c11(nicxi_create(thread, &creation, "thrd_create", HERE));
 }
 
 int __real_thrd_join(thrd_t thread, int *result);

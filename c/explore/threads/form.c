@@ -238,6 +238,11 @@ static bool assembly(char *room, size_t size)
     return name != NULL;
 }
 
+static const void *function_of(const struct thread *thread)
+{
+    return nicxi_tasks[nicxi_number(thread)].function;
+}
+
 static const struct nicxi_form form = {
     .open = nicxi_state_open,
     .keep = nicxi_state_keep,
@@ -248,6 +253,7 @@ static const struct nicxi_form form = {
     .holds_any = holds_any,
     .tell_wait = tell_wait,
     .ended = ended,
+    .function_of = function_of,
     .assembly = assembly,
 };
 

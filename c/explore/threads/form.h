@@ -30,6 +30,7 @@ struct task {
     bool is_done, is_detached, is_joined, runs_destructors;
     void *(*begins)(void *);
     void *argument;
+    const void *function; /* the driver's own, at which it begins */
     void *values[MOST_KEYS];
 };
 

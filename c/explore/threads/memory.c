@@ -58,9 +58,27 @@ static bool is_own(uint64_t at)
     return at - (uintptr_t)fiber->bottom < fiber->size || nicxi_state_is_local(at);
 }
 
+/* Whether a handler that starts on the task that runs, and nowhere else, may do so here: its message came, or the task
+   gave the device a reason since its last point. Any other message may as well come at that point: what the device does
+   changes nothing of the driver's own. */
+static bool may_be_interrupted(void)
+{
+    const struct thread *self = nicxi.self;
+    bool is_new = self->next.kind != STEP_LOCAL;
+    if (self->masked || self->interrupted_by >= 0)
+        return false;
+    for (unsigned k = NICX_TASKS; k < NICX_TASKS + (unsigned)nicxi.handlers; k++) {
+        const struct thread *handler = &nicxi.threads[k];
+        if ((handler->pending || is_new) && !handler->is_timer && handler->state == OFF && handler->where >= 0 &&
+            self == &nicxi.threads[handler->where])
+            return true;
+    }
+    return false;
+}
+
 void nicxi_memory_points(uint64_t at, size_t length, unsigned how, const void *call)
 {
-    if (is_own(at) || (*name && !is_of_name(at) && !is_of_name((uintptr_t)call)))
-        return;
-    nicxi_memory_point(how & WRITES ? LOCAL_STORE : LOCAL_LOAD, at, (uint32_t)length);
+    bool is_asked = nicxi_memory_is_point && (!*name || is_of_name(at) || is_of_name((uintptr_t)call));
+    if ((is_asked || may_be_interrupted()) && !is_own(at))
+        nicxi_memory_point(how & WRITES ? LOCAL_STORE : LOCAL_LOAD, at, (uint32_t)length);
 }

@@ -604,11 +604,13 @@ static void handler_starts(void)
     unsigned number = nicxi.actors[nicxi.schedule[*nicxi.points - 1]].of;
     const struct thread *handler = &nicxi.threads[number];
     join(&now[number], clock_of(SIDE, MESSAGES + 16u * handler->group + handler->vector));
-    if (handler->on < 0)
+    int task = handler->on >= 0 ? handler->on : handler->where; /* one that has ended was on that processor too */
+    if (task < 0)
         return;
-    join(&now[number], &now[handler->on]);
-    tick((unsigned)handler->on);
-    sat[handler->on] |= 1u << (number - NICX_TASKS);
+    join(&now[number], &now[task]);
+    tick((unsigned)task);
+    if (handler->on >= 0)
+        sat[task] |= 1u << (number - NICX_TASKS);
 }
 
 static void goes_on_behind_handlers(unsigned self)

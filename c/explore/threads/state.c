@@ -219,7 +219,7 @@ static void *aligned(size_t alignment, size_t size)
     if (alignment <= HEAD)
         return __wrap_malloc(size);
     unsigned k = piece_class(size);
-    char *taken = __wrap_malloc(((size_t)1 << k) + alignment);
+    char *taken = __wrap_malloc(piece_whole(k) + alignment);
     if (!taken)
         return NULL;
     char *inside = (char *)(((uintptr_t)taken + alignment) & ~(uintptr_t)(alignment - 1));

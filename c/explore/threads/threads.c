@@ -98,11 +98,10 @@ static void run(void *argument)
     nicxi_race_acquire(&task->begins);
     task->result = task->begins(task->argument);
     destroy_values(task);
-    nicxi_call(READY, "return", (const void *)(uintptr_t)task->begins);
+    nicxi_call(READY, "return", task->function);
 }
 
-int nicxi_create(pthread_t *told, void *(*function)(void *), void *argument, size_t room, bool is_detached,
-                 const char *call, const void *at)
+int nicxi_create(pthread_t *told, const struct creation *creation, const char *call, const void *at)
 {
     char where[MOST_NAMED];
     nicxi_program_begins();
@@ -111,8 +110,8 @@ int nicxi_create(pthread_t *told, void *(*function)(void *), void *argument, siz
         nicxi_misuse("bring_up, begin or end calls %s at %s: threads are made in tasks", call, nicxi_line(at, where));
         return EAGAIN;
     }
-    nicxi_call(READY, call, (const void *)(uintptr_t)function);
-    struct thread *made = nicxi_make_thread(run, NULL, room);
+    nicxi_call(READY, call, creation->named);
+    struct thread *made = nicxi_make_thread(run, NULL, creation->room);
     if (!made) {
         nicxi_misuse("%s calls %s at %s, and all %d tasks are taken", self->name, call, nicxi_line(at, where),
                      NICX_TASKS);
@@ -120,9 +119,10 @@ int nicxi_create(pthread_t *told, void *(*function)(void *), void *argument, siz
     }
     struct task *task = &nicxi_tasks[nicxi_number(made)];
     made->argument = task;
-    task->begins = function;
-    task->argument = argument;
-    task->is_detached = is_detached;
+    task->begins = creation->function;
+    task->argument = creation->argument;
+    task->function = creation->named;
+    task->is_detached = creation->is_detached;
     nicxi_race_release(&task->begins);
     nicxi_changed_memory();
     *told = nicxi_number(made) + 1;
@@ -140,7 +140,9 @@ int __wrap_pthread_create(pthread_t *told, const pthread_attr_t *how, void *(*fu
         pthread_attr_getdetachstate(how, &state);
         nicxi_stack_of(how, &room);
     }
-    return nicxi_create(told, function, argument, room, state == PTHREAD_CREATE_DETACHED, "pthread_create", HERE);
+    const struct creation creation = {function, argument, (const void *)(uintptr_t)function, room,
+                                      state == PTHREAD_CREATE_DETACHED};
+    return nicxi_create(told, &creation, "pthread_create", HERE);
 }
 
 /* A thread that was made, or null: a task of the scenario isn't joined. */
@@ -166,7 +168,7 @@ static int join(pthread_t number, void **result, bool tries, bool is_timed, cons
         return EINVAL;
     if (task == &nicxi_tasks[nicxi_number(self)])
         return EDEADLK;
-    const void *object = (const void *)(uintptr_t)task->begins;
+    const void *object = task->function;
     if (tries)
         nicxi_call(READY, call, object);
     else if (is_timed)
@@ -200,7 +202,7 @@ int nicxi_detach(pthread_t number, const char *call)
     if (!task)
         return ESRCH;
     if (nicxi_caller())
-        nicxi_call(READY, call, (const void *)(uintptr_t)task->begins);
+        nicxi_call(READY, call, task->function);
     if (task->is_detached || task->is_joined)
         return EINVAL;
     task->is_detached = true;
@@ -228,7 +230,7 @@ void nicxi_exit_thread(void *result, const char *call, const void *at)
     struct task *task = &nicxi_tasks[nicxi_number(self)];
     task->result = result;
     destroy_values(task);
-    nicxi_call(READY, call, (const void *)(uintptr_t)task->begins);
+    nicxi_call(READY, call, task->function);
     nicxi_end_thread();
     abort();
 }

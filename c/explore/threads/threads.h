@@ -12,8 +12,16 @@ struct keys {
 extern struct keys nicxi_keys; /* they go back with the driver's memory */
 
 int nicxi_make_key(pthread_key_t *key, void (*destructor)(void *));
-int nicxi_create(pthread_t *told, void *(*function)(void *), void *argument, size_t room, bool is_detached,
-                 const char *call, const void *at);
+/* A thread that begins at `function`, or by it at another function of the driver's, which is `named`. */
+struct creation {
+    void *(*function)(void *);
+    void *argument;
+    const void *named;
+    size_t room;
+    bool is_detached;
+};
+
+int nicxi_create(pthread_t *told, const struct creation *creation, const char *call, const void *at);
 int nicxi_join(pthread_t number, void **result, const char *call, const void *at);
 void nicxi_exit_thread(void *result, const char *call, const void *at) __attribute__((noreturn));
 

@@ -20,7 +20,7 @@ static inline bool is_weak_here(void)
 /* A plain access of what the thread itself stored atomically has that store reach memory first. */
 static inline void access(const void *at, size_t length, unsigned how, const void *call)
 {
-    if (nicxi_memory_is_point && nicxi_is_in_thread())
+    if ((nicxi_memory_is_point || nicxi.handlers) && nicxi_is_in_thread())
         nicxi_memory_points((uintptr_t)at, length, how, call);
     if (is_weak_here())
         nicxi_land_own((uintptr_t)at, length);

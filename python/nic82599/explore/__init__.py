@@ -11,8 +11,10 @@ the driver's memory, and code between two points isn't interrupted.
 
 from __future__ import annotations
 
+import itertools
 import os
 import re
+import time
 from collections.abc import Callable, Iterator
 from contextlib import contextmanager
 from dataclasses import dataclass, field, replace
@@ -27,6 +29,7 @@ from .engine import POLLS, Choose, Result, Run, Thread, place_of_call
 from .jobs import Found, Over, searched
 from .kit import TCP, UDP, Flow, Mailbox, frame_number, numbered_frame
 from .lenient import Parting, following
+from .turn import Turn, turn_of
 from .script import Script, name_of, number_of, offset_name_of
 from .shrink import Shrinking, cut
 from .strategy import Exhaustive, by_chance, by_list, by_priority
@@ -533,6 +536,8 @@ def lines_of(result: Result) -> list[str]:
     begin = len(result.points) - result.cycle if result.cycle else None
     for number, (name, words) in enumerate(result.points):
         place = result.places[number] if number < len(result.places) else ""
+        if result.turn and number == (result.turn.point or 0):
+            lines.append(result.turn.line)
         if number == begin:
             lines.append(f"{'cycle':<24} # from here on over and over:")
         lines.append(f"{name:<24} # {words}{f' at {place}' if place else ''}")
@@ -666,6 +671,23 @@ class Search:
         finally:
             self.coverage = coverage
 
+    def places(self, result: Result) -> list[str]:
+        """The line of each of its points; none where it doesn't come out the same."""
+        coverage, self.coverage = self.coverage, Coverage()
+        try:
+            made = self.run(by_list(result.actors, bool(result.cycle), result.cycle), result.without, True)
+            return made.places if made.points == result.points else []
+        finally:
+            self.coverage = coverage
+
+    def turn(self, result: Result) -> Turn | None:
+        """Where it goes wrong, as far as is known."""
+        coverage, self.coverage = self.coverage, Coverage()
+        try:
+            return turn_of(self, result)
+        finally:
+            self.coverage = coverage
+
 
 @dataclass
 class _Plan:
@@ -678,6 +700,7 @@ class _Plan:
     preemptions: int
     jobs: int
     shard: tuple[int, int] = (1, 1)
+    seconds: float | None = None
 
     @property
     def shares(self) -> int:
@@ -695,7 +718,7 @@ class _Plan:
     def by_runs(self, searching: Search, mine: int, is_over: Over) -> Found | None:
         """The first runs, by which the usual length is known, are made by each process."""
         length = 1
-        for number in range(self.runs or 0):
+        for number in itertools.count() if self.runs is None else range(self.runs):
             is_mine = number % self.shares == mine
             if number >= FIRST and not is_mine:
                 continue
@@ -731,11 +754,17 @@ class _Plan:
 
     def search(self, searching: Search) -> Found | None:
         share = self.exhaustive if self.strategy == "exhaustive" else self.by_runs
+        end = None if self.seconds is None else time.monotonic() + self.seconds
+
+        def is_late() -> bool:
+            return end is not None and time.monotonic() >= end
+
         if self.jobs == 1:
-            return share(searching, self.first_share, lambda _rank: False)
+            return share(searching, self.first_share, lambda _rank: is_late())
 
         def work(mine: int, is_over: Over) -> tuple[Found | None, object]:
-            return share(searching, self.first_share + mine, is_over), searching.coverage
+            found = share(searching, self.first_share + mine, lambda rank: is_late() or is_over(rank))
+            return found, searching.coverage
 
         what = "in a part of the exhaustive search:" if self.strategy == "exhaustive" else f"in seed {self.seed}, run"
         found, seen = searched(self.jobs, work, what)
@@ -765,9 +794,13 @@ def check_number(name: str, value: object) -> None:
         raise BadWord(f"{name}: {value!r} is no whole number of {least:,} to {most:,}")
 
 
+def check_seconds(name: str, seconds: object, most: int) -> None:
+    if not isinstance(seconds, (int, float)) or isinstance(seconds, bool) or not 0 < seconds <= most:
+        raise BadWord(f"{name}: {seconds!r} is no number of seconds above 0 and up to {most:,}")
+
+
 def check_hang(hang: object) -> None:
-    if not isinstance(hang, (int, float)) or isinstance(hang, bool) or not 0 < hang <= 86_400:
-        raise BadWord(f"hang: {hang!r} is no number of seconds above 0 and up to 86,400")
+    check_seconds("hang", hang, 86_400)
 
 
 def check_out(out: object) -> None:
@@ -788,10 +821,13 @@ def _checked(plan: _Plan) -> _Plan:
     if plan.strategy not in STRATEGIES:
         raise BadWord(f"strategy: {plan.strategy!r} is none of {', '.join(STRATEGIES)}")
     for name in RANGES:
-        may_be_none = name == "depth" or (name == "runs" and plan.strategy == "exhaustive")
+        has_end = plan.strategy == "exhaustive" or plan.seconds is not None
+        may_be_none = name == "depth" or (name == "runs" and has_end)
         if getattr(plan, name) is not None or not may_be_none:
             check_number(name, getattr(plan, name))
     check_shard(plan.shard)
+    if plan.seconds is not None:
+        check_seconds("seconds", plan.seconds, 1_000_000_000)
     return plan
 
 
@@ -813,15 +849,16 @@ def write_files(scenario: Scenario, result: Result, told: str, out: Path, hang: 
 def search(
     scenario: Scenario, runs: int | None = 1_000, *, seed: int = 1, strategy: str = "mixed", depth: int | None = None,
     preemptions: int = 2, hang: float = 10, out: str | Path | None = None, shrink: bool = True, jobs: int = 1,
-    strict: bool = False, memory: str | None = None, shard: tuple[int, int] = (1, 1),
+    strict: bool = False, memory: str | None = None, shard: tuple[int, int] = (1, 1), seconds: float | None = None,
 ) -> Report:  # fmt: skip
     """Makes so many schedules; Failure at the first that fails, shrunk, and in the folder `out` as NAME.schedule, with
     the device's side of it as NAME.nic. The exhaustive search makes all schedules with at most so many preemptions
-    where `runs` is None. So many processes share the work, and the failure is the same however many they are. Of N
+    where `runs` is None. With `seconds` it ends after so many by the clock, and `runs` may be None with any strategy.
+    So many processes share the work, and the failure is the same however many they are. Of N
     machines that share a search the K-th has the `shard` (K, N); each makes the first 16 schedules, from which it
     learns how long they are. BadWord where a word can't be taken. Where nothing fails: what never ran is in the report,
     and `strict` raises Vacuous. `memory` is strong or weak whatever the scenario says; None: as it says."""
-    plan = _checked(_Plan(runs, seed, strategy, depth, preemptions, jobs, shard))
+    plan = _checked(_Plan(runs, seed, strategy, depth, preemptions, jobs, shard, seconds))
     check_hang(hang)
     if memory not in (None, *KINDS):
         raise BadWord(f"memory: {memory!r} is none of {', '.join(KINDS)}")
@@ -838,6 +875,7 @@ def search(
         result = found.result
         if shrink and result.points and result.outcome != "hang":
             result = searching.shrink(result)
+            result.turn, result.places = searching.turn(result), searching.places(result)
     path = write_files(scenario, result, found.told, Path(out), hang) if out is not None else None
     raise Failure(result, found.told, path)
 

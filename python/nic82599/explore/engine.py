@@ -20,8 +20,11 @@ from .coverage import Coverage
 from .weak import OLDER, STORES, WeakMemory
 
 if TYPE_CHECKING:
+    from types import FrameType
+
     from . import Scenario
     from .lenient import Parting
+    from .turn import Turn
 
 POLLS = 8
 # The first words of steps of the driver's own, and others.
@@ -49,6 +52,7 @@ class Result:
     places: list[str] = field(default_factory=list, compare=False)  # the line of each point, where it is told
 
     parting: Parting | None = field(default=None, compare=False)  # of a lenient replay
+    turn: Turn | None = field(default=None, compare=False)  # where a failure that a search found goes wrong
 
     @property
     def actors(self) -> list[str]:
@@ -114,9 +118,10 @@ class Actor:
     last: int = 0
 
 
-def place_of_call() -> str:
-    """Where the driver called: "race.py:31"; of helpers "card.py:110 < race.py:42"."""
-    frame, found = sys._getframe(1), []
+def place_of_call(frame: FrameType | None = None) -> str:
+    """Where the driver called, in this thread or in that of a frame: "race.py:31"; of helpers "card.py:110 <
+    race.py:42"."""
+    frame, found = frame or sys._getframe(1), []
     while frame is not None and frame.f_code.co_filename.startswith(OWN_FILES):
         frame = frame.f_back
     while frame is not None and not frame.f_code.co_filename.startswith(OWN_FILES) and len(found) < MOST_CALLS:
@@ -571,7 +576,14 @@ class Run:
             self.failed("end", words)
         for one in left:
             if not one.is_service:
-                self.failed("deadlock", f"{one.name} waits, and nobody can act")
+                self.failed("deadlock", self._waits(one))
+
+    def _waits(self, one: Thread) -> str:
+        """One that waits for somebody to act, who never does. A delay is often meant, which nobody ends."""
+        frame = sys._current_frames().get(one.runs.ident or 0) if one.runs else None
+        place = place_of_call(frame) if frame else ""
+        words = f"{one.name} waits{f' at {place}' if place else ''}, and nobody can act"
+        return words + ("; if that is a delay, call pause there" if one.state == "waiting" else "")
 
     def make(self) -> Result:
         """Makes the schedule."""

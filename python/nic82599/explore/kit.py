@@ -4,6 +4,7 @@ from __future__ import annotations
 
 import struct
 from dataclasses import dataclass
+from ipaddress import IPv4Address
 from typing import TYPE_CHECKING
 
 from .. import Nic, address_of, rss_hash
@@ -70,13 +71,18 @@ def _peek(nic: Nic, name: str) -> int:
 
 @dataclass(frozen=True)
 class Flow:
-    """A flow over IPv4: of addresses and, by TCP or UDP, of ports."""
+    """A flow over IPv4: of addresses, as numbers or as text ("10.0.0.1"), and, by TCP or UDP, of ports. ValueError for
+    a text that is no address."""
 
-    source: int
-    destination: int
+    source: int | str
+    destination: int | str
     source_port: int = 0
     destination_port: int = 0
     protocol: int = TCP
+
+    def __post_init__(self) -> None:
+        for name in ("source", "destination"):
+            object.__setattr__(self, name, int(IPv4Address(getattr(self, name))))
 
     def _transport(self, payload: bytes) -> bytes:
         ports = struct.pack(">HH", self.source_port, self.destination_port)
@@ -110,13 +116,13 @@ class Flow:
         return addresses if mrqc >> 17 & 1 else b""
 
     def rss(self, nic: Nic) -> tuple[int, int]:
-        """Its hash, 0 where none is made, and the queue of its frames, by MRQC, RSSRK and RETA as they are now: if bits
-        3:0 of MRQC aren't 1 the queue is 0."""
+        """Its hash, 0 where none is made, and the queue of its frames, by MRQC, RSSRK and RETA as they are now: 0 if
+        none is made or bits 3:0 of MRQC aren't 1."""
         key = b"".join(_peek(nic, f"RSSRK[{k}]").to_bytes(4, "little") for k in range(10))
         data = self._hashed(nic)
         found = rss_hash(key, data) if data else 0
         entry = found & 127
-        if _peek(nic, "MRQC") & 15 != 1:
+        if _peek(nic, "MRQC") & 15 != 1 or not data:
             return found, 0
         return found, _peek(nic, f"RETA[{entry // 4}]") >> 8 * (entry % 4) & 15
 

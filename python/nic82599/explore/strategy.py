@@ -73,6 +73,12 @@ def by_list(names: Sequence[str], is_strict: bool, cycle: int = 0, is_fair: bool
     return choose
 
 
+def begun(names: Sequence[str], number: int) -> Choose:
+    """A schedule that begins with these actors, to the letter, and goes on by chance."""
+    first, rest = by_list(names, True), by_chance(0, number)
+    return lambda run, can: (first if len(run.result.points) < len(names) else rest)(run, can)
+
+
 @dataclass
 class _Node:
     """A point: who can act, as it was first and without steps that had nothing to do, and which is made."""

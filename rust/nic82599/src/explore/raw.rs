@@ -58,6 +58,10 @@ impl Unmade for c_int {
     const UNMADE: c_int = 0;
 }
 
+impl Unmade for *mut c_void {
+    const UNMADE: *mut c_void = std::ptr::null_mut();
+}
+
 impl Unmade for u8 {
     const UNMADE: u8 = status::DONE;
 }

@@ -9,6 +9,7 @@ from __future__ import annotations
 import ast
 import json
 import re
+import shutil
 import subprocess
 import sys
 import xml.etree.ElementTree
@@ -19,6 +20,7 @@ from typing import Any
 HERE = Path(__file__).resolve().parent
 C = HERE.parent
 sys.path.insert(0, str(C))
+from drive.planted import Unplanted, sample  # noqa: E402
 from explore.check import STRICT, Wrong, ran, sanitized_engine, told  # noqa: E402
 
 
@@ -80,7 +82,7 @@ ADAPTERS = {
     '.name = "a", .close = my_close, .receive = my_receive, .slots = 12': "its slots aren't 8, 16, .. 64",
     '.name = "a", .close = my_close, .receive = my_receive, .frame = 9': "its frame isn't 1,514 to 9,724",
     '.name = "a", .close = my_close, .receive = my_receive, .threads = 1': "or it has no thread",
-    '.name = "a", .close = my_close, .receive = my_receive, .can = 64': "its can has bits that enum nicd_can hasn't",
+    '.name = "a", .close = my_close, .receive = my_receive, .can = 512': "its can has bits that enum nicd_can hasn't",
 }
 
 
@@ -126,6 +128,14 @@ def expect(row: dict[str, Any], cause: str, what: str) -> None:
         raise Wrong(f"{what}: row {row['name']} is {row['state']} by \"{row['cause']}\", and not by \"{cause}\"")
 
 
+def none_failed(rows: dict[str, dict[str, Any]]) -> list[dict[str, Any]]:
+    """The rows of a card with so few schedules that some don't come to what they try."""
+    for row in rows.values():
+        if row["state"] == "failed":
+            raise Wrong(f"row {row['name']} is failed by \"{row['cause']}\"")
+    return list(rows.values())
+
+
 def check_right(kit: Kit, runs: int) -> str:
     """The right driver passes each row that applies, by calls and by threads of its own."""
     said = []
@@ -135,8 +145,8 @@ def check_right(kit: Kit, runs: int) -> str:
         states = [row["state"] for row in rows.values()]
         for row in rows.values():
             for name, count in row["reached"].items():
-                if not count and memory == "strong":
-                    raise Wrong(f"{row['name']} never reached: {name}")
+                if not count and row["state"] == "passed":
+                    raise Wrong(f"{row['name']} passed, and never reached: {name}")
         said.append(f"{states.count('passed')} of {len(states)} rows")
     return f"a right driver passes {said[0]}, with threads of its own {said[1]}, over weak memory {said[2]}"
 
@@ -150,6 +160,41 @@ def check_bugs(kit: Kit, runs: int, each: int = 1) -> str:
         schedule = kit.folder / f"card-{program.name}" / f"{bug.row}.schedule"
         ran([program, "--row", bug.row, "--memory", bug.memory, "--replay", schedule], 1)
     return f"{len(BUGS[::each])} bugs, each found in the row that names it"
+
+
+def check_planted(kit: Kit, runs: int, count: int | None) -> str:
+    """Each fault of planted.txt that a row names, or so many of them, fails in that row."""
+    try:
+        planted = [(fault, fault.source()) for fault in sample(count)]
+    except Unplanted as wrong:
+        raise Wrong(str(wrong)) from wrong
+    for fault, text in planted:
+        source = kit.folder / f"planted_{fault.name.lower()}{Path(fault.driver).suffix}"
+        source.write_text(text)
+        words = ["--rows", fault.row, "--runs", runs, "--every", runs, "--memory", fault.memory]
+        expect(kit.card(source, 1, *words)[fault.row], fault.cause, f"{fault.name} in {fault.driver}")
+    return f"{len(planted)} planted faults, each found in the row that names it"
+
+
+def check_pages_driver(kit: Kit, runs: int) -> str:
+    """The other driver of C that faults are planted in is right."""
+    rows = none_failed(kit.card(kit.build(HERE / "corpus/pages.c"), None, "--runs", runs, "--every", runs))
+    return f"corpus/pages.c passes {sum(row['state'] == 'passed' for row in rows)} rows"
+
+
+def check_kept(kit: Kit, each: int = 1) -> str:
+    """Each setting that an event makes the driver forget fails in the row of both, by words that name them."""
+    own = replace(kit, flags=["-O0"])
+    listed = nicdrive(kit.folder, [own.build(HERE / "corpus/driver.c"), "--list", "--rows", "kept"], 0)
+    pairs = re.findall(r"^((\w+)-then-(\w+)) .*; then ", listed, re.MULTILINE)
+    for row, setting, event in pairs[::each]:
+        by = "OTHER_MTU" if event == "mtu" else event.upper()
+        wrong = own.build(HERE / "corpus/driver.c", f"LOSES={setting.upper()}", f"BY={by}")
+        rows = own.card(wrong, 1, "--rows", row, "--runs", 500)
+        expect(rows[row], KEPT[setting], f"{setting} lost by {event}")
+    if len(pairs) != 28:
+        raise Wrong(f"there are {len(pairs)} rows of a setting and an event:\n{listed}")
+    return f"{len(pairs[::each])} of {len(pairs)} settings lost by an event"
 
 
 def check_faults(kit: Kit, each: int = 1) -> str:
@@ -175,7 +220,7 @@ def check_words(kit: Kit) -> str:
         folder = kit.folder / "flags"
         nicdrive(folder, [source, *words, "--rows", "receive-one", "--runs", 20, "--no-pages", *PATIENT], 1)
         expect(rows_of(folder)["receive-one"], FAULTS["NO_LENGTH"][1], " ".join(words))
-    for words, wanted in ((["--rows", "interrupt"], 8), (["--rows", "suspend,receive-wra"], 3), ([], 119)):
+    for words, wanted in ((["--rows", "interrupt"], 8), (["--rows", "suspend,receive-wra"], 4), ([], 158)):
         lines = nicdrive(kit.folder, ["--list", *words], 0).splitlines()
         if len(lines) != wanted or "not applicable" in "".join(lines):
             raise Wrong(f"nicdrive --list {' '.join(words)} tells {len(lines)} rows, and not {wanted}")
@@ -213,7 +258,7 @@ def check_aliases(kit: Kit) -> str:
     """A driver that writes registers at their other addresses passes as before, and what it writes too late is named
     by the register, whichever address it takes."""
     driver, words = HERE / "corpus/driver.c", ("--runs", 10, "--every", 10)
-    states = [row["state"] for row in kit.card(kit.build(driver, "ALIASES"), 0, *words).values()]
+    states = [row["state"] for row in none_failed(kit.card(kit.build(driver, "ALIASES"), None, *words))]
     here = driver.read_text().replace('"bugs.h"', f'"{HERE}/corpus/bugs.h"')
     enable = "nicx_write32(NIC_RXCTRL, NIC_RXCTRL_RXEN);"
     for address, name in LATE.items():
@@ -223,6 +268,236 @@ def check_aliases(kit: Kit) -> str:
         expect(row, f"{name} is set up after RXCTRL.RXEN", address)
     return f"registers' other addresses: {states.count('passed')} rows passed, {len(LATE)} late writes named"
 
+
+# Of corpus/bugs.h, found too where the driver's memory is in place; and what pointers do that they may not.
+BUGS_IN_PLACE = ("TAIL_BEFORE_DESCRIPTOR", "BUFFER_AGAIN_BEFORE_DD", "RECLAIM_BY_HEAD", "MISSING_WMB")
+FAULTS_OF_POINTERS = ("STORE_BEHIND_A_PIECE", "STORE_GIVEN_BACK", "STORE_IN_OPEN", "POINTER_TO_NOTHING")
+
+
+def check_in_place(kit: Kit, runs: int, each: int = 1) -> str:
+    """The right driver passes each row that applies with its memory in place too; bugs are found, and stores where no
+    memory is."""
+    driver, some = HERE / "corpus/driver.c", ("--runs", 2000)
+    rows = none_failed(kit.card(kit.build(driver, "IN_PLACE"), None, "--runs", runs, "--every", runs))
+    for bug in (bug for bug in BUGS if bug.name in BUGS_IN_PLACE[::each]):
+        program = kit.build(driver, "IN_PLACE", f"BUG={bug.name}")
+        expect(kit.card(program, 1, "--rows", bug.row, *some, "--memory", bug.memory)[bug.row], bug.cause, bug.name)
+    for mode in FAULTS_OF_POINTERS[::each]:
+        name, cause = FAULTS[mode]
+        program = kit.build(HERE / "tests/faulty.c", f"MODE={mode}")
+        expect(kit.card(program, 1, "--rows", name, "--runs", 50, "--every", 50)[name], cause, mode)
+    passed, tried = sum(row["state"] == "passed" for row in rows), len(FAULTS_OF_POINTERS[::each])
+    return f"in place {passed} rows passed, {len(BUGS_IN_PLACE[::each])} bugs and {tried} stray pointers found"
+
+
+ADAPTER_FOLDER = C / "examples/adapter"
+# Changes of the example's driver, how it is compiled, and what its run says then.
+MISTAKES: list[tuple[str, str, list[str], str]] = [
+    ("    os_write32(RXCTRL, 1);\n", "", [], r"RXCTRL\.RXEN 0: receiving is off"),
+    ("    os_write32(RDT0, slot);\n", "", [], r"rx 0: RDH\[0\] 63, RDT\[0\] 63: head and tail meet"),
+]
+SANITIZER_SAYS = r"use-after-poison .*\nWRITE of size (.*\n)*? +#\d+ .* in nicd_rx_step"
+MISTAKES_SANITIZED: list[tuple[str, str, list[str], str]] = [
+    ("", "", ["-DROOM=1024"], SANITIZER_SAYS),
+    ("post(slot, fresh);", "post(slot, fresh); put_back(&rx.pool, fresh);", [], SANITIZER_SAYS),
+]
+
+
+def adapter(kit: Kit, old: str = "", new: str = "", *flags: str) -> Path:
+    """The program of examples/adapter, with a change of its driver."""
+    folder, program = kit.folder / "adapter", kit.folder / "adapter-program"
+    shutil.copytree(ADAPTER_FOLDER, folder, dirs_exist_ok=True)
+    text = (folder / "driver.c").read_text()
+    if old not in text:
+        raise Wrong(f"c/examples/adapter/driver.c has no {old!r}")
+    (folder / "driver.c").write_text(text.replace(old, new) if old else text)
+    archives = [kit.engine / f"libnic82599{part}.a" for part in ("_drive", "_explore")]
+    words = [kit.compiler, *STRICT, *kit.flags, *flags, f"-I{C}/include", folder / "driver.c", folder / "glue.c"]
+    ran([*words, *archives, C / "out/libnic82599.a", "-lpthread", "-o", program])
+    return program
+
+
+def check_adapter(kit: Kit, sanitized: list[str] | None) -> str:
+    """The example with one adapter for both: it runs, records and says why nothing comes, and has its card; a
+    sanitizer finds what the device writes where no buffer is."""
+    if ran([adapter(kit)]) != (ADAPTER_FOLDER / "adapter.out").read_text():
+        raise Wrong("examples/adapter prints something else than adapter.out")
+    rows = none_failed(kit.card(kit.folder / "adapter-program", None, "--runs", 2, "--every", 2))
+    for old, new, flags, wanted in MISTAKES:
+        told(ran([adapter(kit, old, new, *flags)], 1), wanted, f"examples/adapter with {new or flags}")
+    if sanitized:
+        own = replace(kit, flags=sanitized)
+        ran([adapter(own), "500"])
+        for old, new, flags, wanted in MISTAKES_SANITIZED:
+            told(ran([adapter(own, old, new, *flags), "500"], 1), wanted, f"examples/adapter with {new or flags}")
+    passed = sum(row["state"] == "passed" for row in rows)
+    return f"examples/adapter runs, and passes {passed} rows" + (", sanitized too" if sanitized else "")
+
+
+# Rows that a driver which does nothing comes through without a failure, and what is said of it there.
+IDLE = {
+    "setup-transmit-order": "TXDCTL.ENABLE was never written",
+    "setup-tail-order": "RDT was never moved",
+    "setup-head-order": "neither RDH nor TDH was written",
+    "setup-reception-last": "RXCTRL.RXEN was never written",
+    "setup-masked-before-reset": "CTRL.RST was never written",
+    "setup-masked-after-reset": "CTRL.RST was never written",
+    "setup-ring-values": "RDLEN was never written; RDT was never moved",
+    "setup-buffer-values": "SRRCTL was never written",
+    "setup-address-values": "RAH was never written",
+    "setup-thresholds": "TXDCTL.ENABLE was never written",
+    "setup-alignment": "no register was accessed",
+    "setup-moderation": "EITR was never written",
+    "setup-hash": "MRQC never asked for a hash",
+    "interrupt-rearm-alone": "all queues have one vector",
+    "open-amid-frames": "no frame came to queue 0; no frame was on its way in during open",
+    "close-amid-frames": "no frame came to queue 0; no frame was on its way in during close",
+    "close-amid-sends": "no frame went out by queue 0; no frame was on its way out during close",
+    "close-amid-all": "no message came for queue 0",
+    "memory-refused": "memory was never refused; no frame came to queue 0",
+    "suspend-quiet": "no frame came to queue 0; no frame was on its way in during suspend",
+    "reset-amid-receive": "no frame came to queue 0; no frame was on its way in during reset",
+    "mtu-shrinks": "no frame was dropped for its length",
+    "function-close": "no frame went out by queue 0",
+}
+
+
+@dataclass(frozen=True)
+class Edit:
+    """A change of corpus/driver.c with which nothing fails in some rows, and they don't come to what they try: what is
+    said of each of them. With the flag of nicd_can, if there is one, they aren't applicable."""
+
+    texts: dict[str, str]  # what stands in the driver, and in its place
+    rows: dict[str, str]
+    can: str = ""
+    defines: tuple[str, ...] = ()
+
+
+TAKES_RSS = "    driver.rss = *wanted;\n"
+NO_RSS = {"        .rss = rss,\n": "", "driver.has_rss = driver.setup.queues > 1;": "driver.has_rss = false;"}
+EDITS = {
+    "rings are longer": Edit(
+        {"driver.setup = *setup;": "driver.setup = *setup; driver.setup.slots = 32;"},
+        {
+            "receive-burst": "not reached: the receive ring was never full",
+            "receive-wrap": "not reached: the receive ring never wrapped",
+            "send-wrap": "not reached: the transmit ring never wrapped",
+            "interrupt-late": "not reached: no handler was called with a full ring",
+        },
+    ),
+    "all flows go to queue 0": Edit(
+        {TAKES_RSS: TAKES_RSS + "    memset(driver.rss.table, 0, sizeof driver.rss.table);\n"},
+        {
+            "two-queues": "not reached: no frame came to queue 1",
+            "interrupt-two-queues": "not reached: no frame came to queue 1; no message came for queue 1",
+        },
+    ),
+    "no rss": Edit(NO_RSS, dict.fromkeys(("two-queues", "interrupt-two-queues"), "all frames came to queue 0")),
+    "mtu does nothing": Edit(
+        {"static bool mtu(uint32_t frame)\n{": "static bool mtu(uint32_t frame)\n{ if (frame) return true;",
+         "        .send = send,\n": ""},
+        {"mtu-grows": "not reached: the longest frame was never handed up"},
+    ),
+    "one vector": Edit(
+        {"low = 0x80 | 2 * pair, high = low + 1": "low = 0x80, high = low",
+         "    return UINT32_C(1) << vector;": "    return own_causes();"},
+        {"interrupt-rearm-alone": "not reached: all queues have one vector"},
+        "NICD_ONE_VECTOR",
+    ),
+    "large buffers": Edit(
+        {"PART = 2048": "PART = 6144"},
+        {"resize-amid-chains": "not reached: no frame came in several slots"},
+        "NICD_ONE_BUFFER",
+    ),
+    "no intervals": Edit(
+        {"    set_intervals();\n": ""},
+        {"setup-moderation": "not reached: EITR was never written"},
+        "NICD_NO_MODERATION",
+    ),
+    "heads are left": Edit(
+        {"    put(NIC_RDH(queue), 0);\n": "", "    put(NIC_TDH(queue), 0);\n": ""},
+        {"setup-head-order": "not reached: neither RDH nor TDH was written"},
+        "NICD_NO_HEADS",
+    ),
+    "no reset": Edit(
+        {"    nicx_write32(NIC_CTRL, NIC_CTRL_RST);\n": ""},
+        {"setup-masked-before-reset": "not reached: CTRL.RST was never written"},
+        "NICD_SHARED_DEVICE",
+    ),
+    "threads without messages": Edit(
+        {"    nicx_write32(NIC_EIMS, own_causes() | other_causes);\n": "",
+         "        poll(number, BUG": "        for (; BUG == NONE; nicx_wait())\n"
+         "            if (number < driver.setup.queues) deliver_all(number, (uint16_t)number);\n"
+         "    if (BUG != NONE)\n        poll(number, BUG"},
+        {"interrupt-receive": "not reached: no message came for queue 0"},
+        defines=("THREADS",),
+    ),
+}  # fmt: skip
+
+
+def edited(kit: Kit, name: str, edit: Edit, *more: tuple[str, str]) -> Path:
+    """The program of a driver that was changed so."""
+    text = (HERE / "corpus/driver.c").read_text().replace('"bugs.h"', f'"{HERE}/corpus/bugs.h"')
+    for old, new in (*edit.texts.items(), *more):
+        if old not in text:
+            raise Wrong(f"{name}: corpus/driver.c has no {old.strip()}")
+        text = text.replace(old, new)
+    source = kit.folder / f"{name.replace(' ', '_')}{len(more)}.c"
+    source.write_text(text)
+    return kit.build(source, *edit.defines)
+
+
+def check_edit(kit: Kit, name: str, edit: Edit) -> None:
+    rows = kit.card(edited(kit, name, edit), None, "--rows", ",".join(edit.rows), "--runs", 60, "--every", 20)
+    for row, wanted in edit.rows.items():
+        said = rows[row]["cause"] or rows[row]["lack"]
+        state = "not reached" if wanted.startswith("not reached") else "not applicable"
+        if rows[row]["state"] != state or wanted not in said:
+            raise Wrong(f"{name}: row {row} is {rows[row]['state']} by \"{said}\"; wanted: {state}: {wanted}")
+    if edit.can:
+        program = edited(kit, name, edit, (".can = ", f".can = {edit.can} | "))
+        for line in nicdrive(kit.folder, [program, "--list", "--rows", ",".join(edit.rows)], 0).splitlines():
+            if f"({edit.can})" not in line:
+                raise Wrong(f"{name}: with {edit.can} the list has: {line}")
+
+
+def check_not_reached_files(card: Path) -> None:
+    """What JUnit has of rows that weren't reached, and two cards of which the former says that they passed."""
+    errors = xml.etree.ElementTree.parse(card / "card.xml").getroot().get("errors")
+    if errors != str(len(IDLE)):
+        raise Wrong(f"card.xml of an idle driver counts {errors} errors")
+    before = card.parent / "card-before.json"
+    data = json.loads((card / "card.json").read_text())
+    for row in data["rows"]:
+        row.update(state="passed", cause="")
+    before.write_text(json.dumps(data))
+    said = nicdrive(card, ["--compare", before, card], 1)
+    if "no longer reached:\n  setup-transmit-order: not reached: TXDCTL" not in said:
+        raise Wrong(f"--compare doesn't tell what is no longer reached:\n{said}")
+
+
+def check_reached(kit: Kit, each: int = 1) -> str:
+    """A row that doesn't come to what it tries isn't passed, and says what never came up."""
+    own = replace(kit, flags=["-O0", "-Wno-unused-function", "-Wno-unused-const-variable"])
+    rows = own.card(own.build(HERE / "tests/idle.c"), 1, "--rows", ",".join(IDLE), "--runs", 20, "--every", 20)
+    for name, wanted in IDLE.items():
+        if rows[name]["state"] != "not reached" or wanted not in rows[name]["cause"]:
+            raise Wrong(f"an idle driver: row {name} is {rows[name]['state']} by \"{rows[name]['cause']}\"")
+    check_not_reached_files(own.folder / "card-idle")
+    for name, edit in list(EDITS.items())[::each]:
+        check_edit(own, name, edit)
+    return f"{len(IDLE)} rows without traffic and {len(list(EDITS)[::each])} drivers that don't come to what is tried"
+
+
+# What is said of a setting that was lost.
+KEPT = {
+    "filter": "came in, and the filter doesn't say so \\(all frames were let in, and no longer are; then ",
+    "list": "didn't come in, and the filter says so|came in, and the filter doesn't say so",
+    "promiscuous": "didn't come in, and the filter says so \\(all frames are let in; then ",
+    "mtu": "of 4096 bytes didn't come in, and 4096 bytes were agreed|send is refused in queue 0 for ever",
+    "rss": "came by queue \\d, and is to come by \\d",
+    "rings": "came to a ring of 128 bytes, and 16 slots were asked for|was never handed up",
+}
 
 # What the command does of pages, with a failed row, a toolchain, and the programs of ./nicbench that are there.
 PAGES = """import sys
@@ -283,6 +558,10 @@ def check_files(kit: Kit) -> str:
     found = re.search(r'href="(setup-crc\.html)#p(\d+)"', page)
     if not found or '"actor"' not in (before / found[1]).read_text():
         raise Wrong("card.html doesn't lead to the page of the schedule of setup-crc, at a point of it")
+    lines = (before / "setup-crc.nic").read_text().splitlines()
+    deep = [line for line in lines if re.search(r"small\.c:\d+ < .*(actors|main)\.c:", line)]
+    if deep or not any("at small.c:" in line for line in lines):
+        raise Wrong(f"the stack of a step doesn't end at the adapter: {deep[:1] or lines[:9]}")
     said = nicdrive(kit.folder, ["--compare", before, after], 1)
     wanted_lines = ("fails now:\n  receive-one: ", "passes now:\n  setup-crc: it failed by", "now:\n  send-one: passed")
     for wanted in wanted_lines:
@@ -316,8 +595,8 @@ def check_sanitized(kit: Kit, flags: list[str], engine: Path) -> str:
     folder.mkdir(exist_ok=True)
     made = sanitized_engine(engine, kit.compiler, flags, "drive", "explore")
     own = replace(kit, folder=folder, flags=flags, engine=made[0].parent)
-    rows = own.card(own.build(HERE / "corpus/driver.c"), 0, "--runs", 5, "--every", 5)
-    return f"sanitized, {sum(row['state'] == 'passed' for row in rows.values())} rows; {check_bugs(own, 2000, 12)}"
+    rows = none_failed(own.card(own.build(HERE / "corpus/driver.c"), None, "--runs", 5, "--every", 5))
+    return f"sanitized, {sum(row['state'] == 'passed' for row in rows)} rows; {check_bugs(own, 2000, 14)}"
 
 
 def check_all(kit: Kit, full: bool) -> list[str]:
@@ -330,15 +609,21 @@ def check_all(kit: Kit, full: bool) -> list[str]:
         check_pages(),
         check_files(kit),
         check_faults(kit, few),
+        check_reached(kit, 1 if full else 5),
+        check_kept(kit, 1 if full else 14),
         check_bugs(kit, 2000, few),
+        check_pages_driver(kit, 100 if full else 3),
+        check_planted(kit, 2000, None if full else 6),
         check_right(kit, 500 if full else 40),
+        check_in_place(kit, 100, 1) if full else check_in_place(kit, 2, 2),
     ]
 
 
 def main() -> int:
     folder = C / "out/drive-check"
     folder.mkdir(parents=True, exist_ok=True)
-    for said in check_all(Kit(folder, "gcc", ["-O2"]), "--full" in sys.argv[1:]):
+    kit = Kit(folder, "gcc", ["-O2"])
+    for said in [*check_all(kit, "--full" in sys.argv[1:]), check_adapter(kit, None)]:
         print(f"c/drive/check.py: {said}", flush=True)
     return 0
 

@@ -75,10 +75,20 @@ typedef struct nicd_rss {
 } nicd_rss;
 
 enum nicd_can {
-    NICD_SHARED_SEND = 1,  /* several threads may call `send` for one queue at a time */
-    NICD_FUNCTIONS = 2,    /* `open` takes the port of a virtual function */
-    NICD_HOST = 8,         /* `open` takes functions above 0 */
-    NICD_SHARED_DEVICE = 4 /* `open` and `close` leave what they aren't asked for to others: they reset no device */
+    NICD_SHARED_SEND = 1,   /* several threads may call `send` for one queue at a time */
+    NICD_FUNCTIONS = 2,     /* `open` takes the port of a virtual function */
+    NICD_HOST = 8,          /* `open` takes functions above 0 */
+    NICD_SHARED_DEVICE = 4, /* `open` and `close` leave what they aren't asked for to others: they reset no device */
+
+    /* What it never does, by design. Rows that must come to it aren't applicable; without the bit they are reported as
+       not reached. */
+    NICD_NO_MODERATION = 16, /* it writes no interval into EITR */
+    NICD_NO_HEADS = 32,      /* it writes neither RDH nor TDH */
+    NICD_ONE_VECTOR = 64,    /* all queues have one vector */
+    NICD_ONE_BUFFER = 128,   /* a frame has one descriptor, however long it is */
+    NICD_NO_ADDRESS = 256,   /* it writes no receive address: all frames come in, or its host sets it */
+
+    NICD_CAN = 511 /* all of them */
 };
 
 /* A driver: its functions, null where it has none. What a missing one would be tried by isn't applicable, and the card
@@ -153,6 +163,15 @@ typedef struct nicd_driver {
 uint64_t nicd_dma_alloc(size_t bytes);
 /* Gives it back: by its first address. The device must not touch it any more. */
 void nicd_dma_free(uint64_t bus);
+
+/* Where byte `bus` of nicd_dma_alloc's memory lies in this process, for a driver that works in its memory by pointers:
+   until nicd_dma_free, and what one nicd_dma_alloc gave in one piece. What the device writes is there at once. What the
+   driver stores reaches the device at the driver's next call of nic82599_explore.h, a barrier too: before that call
+   each run of bytes that changed is written at a point of its own, as by nicx_dma_write. Loads are no points, so a loop
+   that waits for memory alone calls nicx_pause. A store behind the end of a piece, or into one that was given back,
+   fails the schedule at that call; with -fsanitize=address it is reported where it is made. Null, and the schedule
+   fails, where nicd_dma_alloc gave no such byte. This is no point. */
+void *nicd_dma_pointer(uint64_t bus);
 
 /* Memory of the driver's own, as calloc: null where it is refused. */
 void *nicd_alloc(size_t bytes);

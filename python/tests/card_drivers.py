@@ -106,13 +106,13 @@ class Both(Driver):
         self.set_up_device()
         self.start_receive()
         self.start_transmit()
-        self.write32("RXCTRL", 1)
         if self.interrupts:
             self.write32("GPIE", 1 << 31 | 1 << 30 | 1 << 5 | 1 << 4)
             self.write32("IVAR[0]", 0x8080)
             self.write32("EIAC", CAUSE)
             self.write32("EIAM", CAUSE)
             self.write32("EIMS", CAUSE)
+        self.write32("RXCTRL", 1)
 
     def give(self) -> None:
         self.rx.give()

@@ -18,7 +18,7 @@ from xml.etree import ElementTree
 
 import card_drivers as drivers
 from nic82599 import places
-from nic82599.drive import Driver
+from nic82599.drive import Can, Driver
 from nic82599.drive.calls import CARD, OPTIONAL, Refused
 from nic82599.drive.row import checked, driver_of, load, program
 
@@ -35,6 +35,9 @@ LACKS = {
     "mailbox_send": {"no mailbox_send and mailbox_receive"},
     "mailbox_receive": {"no mailbox_send and mailbox_receive"},
 }
+
+# Of a driver that has Can.SHARED_DEVICE.
+NO_RESET = "no reset of the device (NICD_SHARED_DEVICE)"
 
 # Of each class of card_drivers.py: the row that fails, and by what words.
 WRONG = {
@@ -134,11 +137,18 @@ class Cards(unittest.TestCase):
 
     def test_what_is_left_out_is_told(self) -> None:
         everything = {lack for lack in rows_of(drivers.Everything).values()}
-        self.assertEqual(everything, {"-"})
+        self.assertEqual(everything, {"-", NO_RESET})
         for name in OPTIONAL:
             kept = {key: value for key, value in vars(drivers.Everything).items() if key != name}
-            lacks = set(rows_of(type("Without", (Driver,), kept)).values()) - {"-"}
+            lacks = set(rows_of(type("Without", (Driver,), kept)).values()) - {"-", NO_RESET}
             self.assertEqual(lacks, LACKS.get(name, {f"no {name}"}), name)
+
+
+    def test_what_a_driver_never_does_is_told(self) -> None:
+        for flag in (Can.NO_MODERATION, Can.NO_HEADS, Can.ONE_VECTOR, Can.ONE_BUFFER, Can.NO_ADDRESS):
+            kept = dict(vars(drivers.Everything)) | {"can": drivers.Everything.can | flag}
+            lacks = set(rows_of(type("Never", (Driver,), kept)).values()) - {"-", NO_RESET}
+            self.assertRegex(", ".join(lacks), rf"^[a-z ]+ \(NICD_{flag.name}\)$")
 
 
 class Refusals(unittest.TestCase):

@@ -11,8 +11,11 @@ of JUnit; of each failed row its schedule, as text and as a page, and its run, a
 nicview. Each row is searched in a process of its own: one of a driver that crashes or hangs fails, and the others go
 on.
 
-Exit status: 0 each row that applies passed; 1 one failed, or with --compare one that passed no longer does; 2 the
-driver or the words can't be taken, and one line says why.
+A row in which nothing failed passes if it came to what it tries: frames on each queue, a reset while some were on their
+way. Otherwise it is "not reached", with what never came up.
+
+Exit status: 0 each row that applies passed; 1 one failed or wasn't reached, or with --compare one that passed no longer
+does; 2 the driver or the words can't be taken, and one line says why.
 """
 
 from __future__ import annotations
@@ -31,7 +34,7 @@ from nic82599.tools.tool import add_version, printable_output
 
 from . import page, report, where
 from .build import build
-from .rows import FAILED, Budget, Refused, Row, Runner, listed, make_all, name_of
+from .rows import FAILED, NOT_REACHED, Budget, Refused, Row, Runner, listed, make_all, name_of
 
 ALL_PASSED, ONE_FAILED, REFUSED = 0, 1, 2
 NICBENCH = where.programs()
@@ -166,7 +169,7 @@ def make(given: argparse.Namespace) -> int:
     (folder / "card.html").write_text(page.page(card))
     print(report.summary(card))
     print(f"the card is {folder / 'card.html'}, as text card.txt, for a gate card.xml")
-    return ONE_FAILED if card.count(FAILED) else ALL_PASSED
+    return ONE_FAILED if card.count(FAILED) or card.count(NOT_REACHED) else ALL_PASSED
 
 
 def command() -> int:

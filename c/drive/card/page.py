@@ -4,10 +4,15 @@ from __future__ import annotations
 
 from html import escape
 
-from .report import Card, extent, missed
-from .rows import FAILED, NOT_APPLICABLE, PASSED, Row
+from .report import Card, counts, extent
+from .rows import FAILED, NOT_APPLICABLE, NOT_REACHED, PASSED, Row
 
-MARKS = {PASSED: ("ok", "pass"), FAILED: ("fail", "fail"), NOT_APPLICABLE: ("n/a", "none")}
+MARKS = {
+    PASSED: ("ok", "pass"),
+    FAILED: ("fail", "fail"),
+    NOT_REACHED: ("??", "fail"),
+    NOT_APPLICABLE: ("n/a", "none"),
+}
 
 STYLE = """
 :root { color-scheme: light dark; --ink: #1b1f24; --dim: #59636e; --paper: #fff; --line: #d1d9e0; --box: #f6f8fa;
@@ -40,7 +45,7 @@ pre { background: var(--box); border: 1px solid var(--line); border-radius: .4re
 
 
 def bar(card: Card) -> str:
-    parts = [(state, card.count(state)) for state in (PASSED, FAILED, NOT_APPLICABLE)]
+    parts = [(state, card.count(state)) for state in MARKS]
     spans = "".join(
         f'<span class="{MARKS[state][1]}" style="flex: {count}" title="{count} {state}"></span>'
         for state, count in parts
@@ -66,7 +71,6 @@ def reached(row: Row) -> str:
     if row.delivered or row.sent:
         parts.append(f"{row.delivered:,} frames handed up, {row.sent:,} sent")
     parts += [f"reached: {name}" for name, count in row.reached.items() if count]
-    parts += [f"never reached: {name}" for name in missed(row)]
     return "; ".join(parts)
 
 
@@ -75,6 +79,8 @@ def result(row: Row) -> str:
         return f'<p class="dim">not applicable: {escape(row.lack)}</p>'
     if row.state == FAILED:
         return failure(row) + f'<p class="dim">found in {escape(extent(row))}</p>'
+    if row.state == NOT_REACHED:
+        return failure(row) + f'<p class="dim">nothing failed in {escape(extent(row))}</p>'
     return f'<p class="dim">{escape(extent(row))}{escape(". " + reached(row) if reached(row) else "")}</p>'
 
 
@@ -117,7 +123,7 @@ def coverage(card: Card) -> str:
 def family_of(card: Card, family: str) -> str:
     """The rows of a family that passed: those that failed stand on top of the page, and the others are folded away."""
     rows = card.of(family)
-    failed = [row for row in rows if row.state == FAILED]
+    failed = [row for row in rows if row.state in (FAILED, NOT_REACHED)]
     others = [row for row in rows if row.state == NOT_APPLICABLE]
     above = f'<p class="fail">failed: {links(failed)}</p>' if failed else ""
     passed = "".join(one(row) for row in rows if row.state == PASSED)
@@ -132,14 +138,13 @@ def links(rows: list[Row]) -> str:
 
 def page(card: Card) -> str:
     families = "".join(family_of(card, family) for family in card.families())
-    failed = [row for row in card.rows if row.state == FAILED]
+    failed = [row for row in card.rows if row.state in (FAILED, NOT_REACHED)]
     first = f"<h2>failed</h2>{''.join(map(one, failed))}" if failed else ""
     return (
         '<!doctype html><html lang="en"><head><meta charset="utf-8">'
         '<meta name="viewport" content="width=device-width, initial-scale=1">'
         f"<title>{escape(card.driver)}: report card</title><style>{STYLE}</style></head><body>"
-        f"<h1>{escape(card.driver)}</h1><p>{card.count(PASSED)} passed, {card.count(FAILED)} failed, "
-        f"{card.count(NOT_APPLICABLE)} not applicable, in {card.seconds:.0f} s with seed {card.budget.seed}</p>"
+        f"<h1>{escape(card.driver)}</h1><p>{counts(card)}, in {card.seconds:.0f} s with seed {card.budget.seed}</p>"
         f"{bar(card)}{f'<p>failed: {links(failed)}</p>' if failed else ''}{first}{families}{coverage(card)}"
         "</body></html>\n"
     )

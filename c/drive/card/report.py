@@ -12,9 +12,11 @@ from nic82599.tools.printable import shortened
 from nic82599.tools.regs import function_register, register_at
 from nic82599.tools.tables import TABLE
 
-from .rows import FAILED, NOT_APPLICABLE, PASSED, Budget, Refused, Row
+from .rows import FAILED, NOT_APPLICABLE, NOT_REACHED, PASSED, Budget, Refused, Row
 
 ANY = 1000  # preemptions: all schedules whatever
+# What became of a row that passed, where that is worse.
+WORSE = ("fails now", "no longer reached", "no longer applicable")
 
 # What the device can answer to a step of its own or of the link.
 REPLIES = [
@@ -110,25 +112,27 @@ def extent(row: Row) -> str:
     return text
 
 
-def missed(row: Row) -> list[str]:
-    """What a row should have come to, and didn't."""
-    return [name for name, count in row.reached.items() if not count]
-
-
 def line(row: Row) -> str:
     if row.state == NOT_APPLICABLE:
         return f"  -     {row.name:26} not applicable: {row.lack}"
     if row.state == FAILED:
         return f"  FAIL  {row.name:26} {row.cause}"
-    never = "".join(f"; never reached: {one}" for one in missed(row))
-    return f"  ok    {row.name:26} {extent(row)}{never}"
+    if row.state == NOT_REACHED:
+        return f"  ??    {row.name:26} {row.cause}"
+    return f"  ok    {row.name:26} {extent(row)}"
+
+
+def counts(card: Card) -> str:
+    """How many rows have which outcome; of those that weren't reached where there are some."""
+    vacuous = f"{card.count(NOT_REACHED)} not reached, " if card.count(NOT_REACHED) else ""
+    return (
+        f"{card.count(PASSED)} passed, {card.count(FAILED)} failed, {vacuous}"
+        f"{card.count(NOT_APPLICABLE)} not applicable"
+    )
 
 
 def summary(card: Card) -> str:
-    return (
-        f"{card.driver}: {card.count(PASSED)} passed, {card.count(FAILED)} failed, "
-        f"{card.count(NOT_APPLICABLE)} not applicable, {card.seconds:.0f} s, of the processor {card.processor:.0f} s"
-    )
+    return f"{card.driver}: {counts(card)}, {card.seconds:.0f} s, of the processor {card.processor:.0f} s"
 
 
 def text(card: Card) -> str:
@@ -153,8 +157,9 @@ def text(card: Card) -> str:
 
 
 def write_junit(card: Card, path: Path) -> None:
-    suite = ElementTree.Element("testsuite", name=card.driver, tests=str(len(card.rows)), errors="0")
+    suite = ElementTree.Element("testsuite", name=card.driver, tests=str(len(card.rows)))
     suite.set("failures", str(card.count(FAILED)))
+    suite.set("errors", str(card.count(NOT_REACHED)))
     suite.set("skipped", str(card.count(NOT_APPLICABLE)))
     suite.set("time", f"{card.seconds:.3f}")
     for row in card.rows:
@@ -166,6 +171,9 @@ def write_junit(card: Card, path: Path) -> None:
         elif row.state == FAILED:
             kind, _, message = row.cause.partition(": ")
             ElementTree.SubElement(case, "failure", type=kind, message=message or row.cause).text = row.schedule
+        elif row.state == NOT_REACHED:
+            kind, _, message = row.cause.partition(": ")
+            ElementTree.SubElement(case, "error", type=kind, message=message)
         else:
             ElementTree.SubElement(case, "system-out").text = extent(row)
     ElementTree.indent(suite)
@@ -178,9 +186,11 @@ def compare(old: Card, new: Card) -> tuple[str, bool]:
     after = {row.name: row for row in new.rows}
     kinds: dict[str, list[str]] = {
         "fails now": [],
+        "no longer reached": [],
         "passes now": [],
         "fails as before": [],
         "fails otherwise": [],
+        "not reached now": [],
         "no longer applicable": [],
         "applicable now": [],
         "new": [],
@@ -193,17 +203,22 @@ def compare(old: Card, new: Card) -> tuple[str, bool]:
         elif row.state == former.state == FAILED:
             kind = "fails as before" if row.cause == former.cause else "fails otherwise"
             kinds[kind].append(f"{name}: {row.cause}")
+        elif row.state == NOT_REACHED and former.state == PASSED:
+            kinds["no longer reached"].append(f"{name}: {row.cause}")
         elif row.state == former.state:
             continue
         elif row.state == FAILED:
             kinds["fails now"].append(f"{name}: {row.cause}")
+        elif row.state == NOT_REACHED:
+            kinds["not reached now"].append(f"{name}: {row.cause}")
         elif row.state == NOT_APPLICABLE:
             kinds["no longer applicable"].append(f"{name}: {row.lack}")
         elif former.state == NOT_APPLICABLE:
             kinds["applicable now"].append(f"{name}: {row.state}")
         else:
-            kinds["passes now"].append(f"{name}: it failed by {former.cause}")
+            was = "it failed by " if former.state == FAILED else "it was "
+            kinds["passes now"].append(f"{name}: {was}{former.cause}")
     lines = [f"before: {summary(old)}", f"now:    {summary(new)}"]
     for kind, rows in kinds.items():
         lines += [f"{kind}:"] + [f"  {row}" for row in rows] if rows else []
-    return "\n".join(lines) + "\n", bool(kinds["fails now"] or kinds["no longer applicable"])
+    return "\n".join(lines) + "\n", any(kinds[kind] for kind in WORSE)

@@ -15,7 +15,7 @@ from nic82599.tools.printable import printable
 from .processes import TooLong, end_all, ran
 
 LIST_SECONDS = 120
-PASSED, FAILED, NOT_APPLICABLE = "passed", "failed", "not applicable"
+PASSED, FAILED, NOT_REACHED, NOT_APPLICABLE = "passed", "failed", "not reached", "not applicable"
 
 
 class Refused(Exception):
@@ -45,6 +45,7 @@ class Row:
     title: str
     rule: str
     source: str
+    reaches: str = ""  # what it must come to
     state: str = ""
     schedules: int = 0
     distinct: str = ""
@@ -57,7 +58,9 @@ class Row:
     again: str = ""
     page: str = ""  # of its schedule, at the point where it goes wrong
     run: str = ""  # and of the machine, step by step
-    reached: dict[str, int] = field(default_factory=dict)
+    reached: dict[str, int] = field(default_factory=dict)  # what it must come to: how often it did
+    never: dict[str, str] = field(default_factory=dict)  # the same: what is said where it never did
+    excuses: list[str] = field(default_factory=list)  # why the driver can't come to it
     notes: list[str] = field(default_factory=list)
     delivered: int = 0
     sent: int = 0
@@ -79,9 +82,9 @@ def listed(program: Path) -> list[Row]:
     if made.status:
         raise Refused((made.errors.strip() or f"{program} --list ends with status {made.status}").splitlines()[0])
     lines = [line.split("\t") for line in made.printed.splitlines()]
-    if not lines or any(len(line) != 6 for line in lines):
+    if not lines or any(len(line) != 7 for line in lines):
         raise Refused(f"{program} --list tells no scenarios: does its main call nicd_main?")
-    return [Row(line[0], line[1], "" if line[2] == "-" else line[2], *line[3:]) for line in lines]
+    return [Row(line[0], line[1], "" if line[2] == "-" else line[2], *line[3:6], reaches=line[6]) for line in lines]
 
 
 def name_of(program: Path) -> str:
@@ -142,7 +145,7 @@ class Runner:
         if self.search(row, by_chance, 60 + 3 * budget.seconds):
             if not self.search(row, [*every, "--preemptions", 1], 60 + 3 * budget.every_seconds):
                 return row
-            row.state = PASSED
+            judge_reached(row)
         return row
 
     def read_junit(self, row: Row) -> None:
@@ -174,11 +177,15 @@ class Runner:
         path = self.folder / f"{row.name}.seen"
         if not path.exists():
             return
+        excuses: list[str] = []
         for line in path.read_text().splitlines():
             kind, *rest = line.split()
             if kind == "reached":
-                name = " ".join(rest[1:])
+                name, _, never = " ".join(rest[1:]).partition(" | ")
                 row.reached[name] = row.reached.get(name, 0) + int(rest[0])
+                row.never[name] = never
+            elif kind == "excused":
+                excuses.append(" ".join(rest))
             elif kind == "reply":
                 name = " ".join(rest[1:])
                 row.replies[name] = row.replies.get(name, 0) + int(rest[0])
@@ -189,6 +196,7 @@ class Runner:
             else:
                 name = f"{kind} {rest[0]}"
                 row.registers[name] = row.registers.get(name, 0) + int(rest[1])
+        row.excuses = list(dict.fromkeys(excuses))
         path.unlink()
 
 
@@ -200,6 +208,21 @@ def page_of(path: Path) -> str:
     turn = re.search(r'"turn":(\d+),', text)
     points = len(re.findall(r'^\{"actor":', text, re.M))
     return f"{path.name}#p{int(turn[1]) if turn else max(points - 1, 0)}"
+
+
+def missed(row: Row) -> list[str]:
+    """What a row must come to, and never did, in words."""
+    return [row.never.get(name, f"never: {name}") for name, count in row.reached.items() if not count]
+
+
+def judge_reached(row: Row) -> None:
+    """Of a row in which nothing failed: it passes where it came to all that it must come to."""
+    if not missed(row):
+        row.state = PASSED
+    elif row.excuses:
+        row.state, row.lack = NOT_APPLICABLE, "; ".join(row.excuses)
+    else:
+        row.state, row.cause = NOT_REACHED, f"not reached: {'; '.join(missed(row))}"
 
 
 def fail(row: Row, cause: str) -> None:

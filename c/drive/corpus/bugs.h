@@ -94,3 +94,18 @@ WRONG(MISSING_WMB, "send-one", "fault: queue 0: legacy",
       "The write of a tail overtakes the store of the descriptor behind it", "weak")
 WRONG(MISSING_RMB, "receive-one", "frame 0 is handed up with other bytes", "The bytes of a frame are read before DD",
       "weak")
+WRONG(VECTORS_AFTER_RECEPTION, "open-amid-interrupts",
+      "frame \\d lies in slot \\d of queue 0, and was never handed up: its cause 0 is not raised, and enabled",
+      "IVAR names the vectors once reception is on, and what came before raised no cause")
+WRONG(CAUSES_RAISED_TOO_EARLY, "open-amid-interrupts", "frame \\d lies in slot \\d of queue 0, and was never handed up",
+      "EICS raises the causes for what came before, and EICR is cleared after it")
+WRONG(CAUSES_ENABLED_FIRST, "setup-vector-order", "EIMS enables the causes 0x0001 of queues, and the byte of IVAR",
+      "EIMS enables the causes before IVAR names their vectors")
+WRONG(FILTER_BY_RESTART, "filter-amid-traffic", "is handed up before|was never handed up|didn't come in",
+      "A filter is changed by a restart, which loses frames that it lets in")
+WRONG(FILTER_CLEARED_FIRST, "list-amid-traffic", "to its own address didn't come in",
+      "All addresses are cleared before the new ones are written")
+WRONG(FILTER_BY_STOP, "promiscuous-amid-traffic", "to its own address didn't come in",
+      "Reception is off while the filter is changed")
+WRONG(RETA_CHANGED_BY_HALF, "rss-changed", "came by queue \\d, and is to come by \\d",
+      "Of another table only the first half is written")

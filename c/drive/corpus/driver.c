@@ -6,6 +6,9 @@
 #include <string.h>
 
 #include "nic82599_drive.h"
+#ifdef IN_PLACE
+#include "in_place.h"
+#endif
 #ifdef ALIASES
 #include "../tests/aliases.h" /* registers are written at another of their addresses, where they have one */
 #endif
@@ -21,6 +24,15 @@ enum bug {
 #define BUG NONE
 #endif
 
+/* With -DLOSES=FILTER -DBY=RESET, of these, the setting is what it was at open once the event has been. */
+enum setting { NO_SETTING, FILTER, LIST, PROMISCUOUS, MTU, RSS, RINGS };
+enum event { NO_EVENT, RESET, SUSPEND, RESIZE, OTHER_MTU, LINK };
+
+#ifndef LOSES
+#define LOSES NO_SETTING
+#define BY NO_EVENT
+#endif
+
 enum { PART = 2048, MOST_SLOTS = 64, ENABLE = 1 << 25, OTHER_VECTOR = 8, INTERVAL = 50, BUDGET = 4 };
 
 /* With -DTHREADS, and of these bugs, the driver has threads of its own, which take the frames. */
@@ -31,6 +43,7 @@ enum { PART = 2048, MOST_SLOTS = 64, ENABLE = 1 << 25, OTHER_VECTOR = 8, INTERVA
 #endif
 #define HAS_WATCHDOG (BUG == TRANSMIT_WATCHDOG)
 #define WRITES_HEAD (BUG == WRITTEN_HEAD_STALE)
+#define VECTORS_LAST (BUG == VECTORS_AFTER_RECEPTION || BUG == CAUSES_RAISED_TOO_EARLY)
 
 struct ring {
     uint64_t bus;
@@ -49,10 +62,14 @@ struct transmit {
     nicx_mutex lock;
 };
 
-static struct {
-    nicd_setup setup;
+struct rings {
     struct ring rx[NICD_QUEUES];
     struct transmit tx[NICD_QUEUES];
+};
+
+static struct {
+    nicd_setup setup;
+    struct rings rings;
     nicd_filter filter;
     nicd_rss rss;
     bool has_rss, link_is_up;
@@ -115,23 +132,28 @@ static void give_ring(struct ring *ring)
     ring->bus = 0;
 }
 
-static void give_all(void)
+static void give_rings(struct rings *rings)
 {
     for (unsigned queue = 0; queue < NICD_QUEUES; queue++) {
-        give_ring(&driver.rx[queue]);
-        give_ring(&driver.tx[queue].ring);
-        if (driver.tx[queue].head)
-            nicd_dma_free(driver.tx[queue].head);
-        driver.tx[queue].head = 0;
+        give_ring(&rings->rx[queue]);
+        give_ring(&rings->tx[queue].ring);
+        if (rings->tx[queue].head)
+            nicd_dma_free(rings->tx[queue].head);
+        rings->tx[queue].head = 0;
     }
+}
+
+static void give_all(void)
+{
+    give_rings(&driver.rings);
 }
 
 static bool take_all(void)
 {
     for (unsigned queue = 0; queue < driver.setup.queues; queue++) {
-        if (!take_ring(&driver.rx[queue]) || !take_ring(&driver.tx[queue].ring))
+        if (!take_ring(&driver.rings.rx[queue]) || !take_ring(&driver.rings.tx[queue].ring))
             return false;
-        if (WRITES_HEAD && !(driver.tx[queue].head = nicd_dma_alloc(4)))
+        if (WRITES_HEAD && !(driver.rings.tx[queue].head = nicd_dma_alloc(4)))
             return false;
     }
     return true;
@@ -152,7 +174,7 @@ static void post(struct ring *ring, unsigned slot)
 
 static void start_receive(unsigned queue)
 {
-    struct ring *ring = &driver.rx[queue];
+    struct ring *ring = &driver.rings.rx[queue];
     ring->next = 0;
     for (unsigned slot = 0; slot < driver.setup.slots; slot++)
         post(ring, slot);
@@ -173,7 +195,7 @@ static void start_receive(unsigned queue)
 
 static void start_transmit(unsigned queue)
 {
-    struct transmit *tx = &driver.tx[queue];
+    struct transmit *tx = &driver.rings.tx[queue];
     tx->ring.next = tx->clean = 0;
     tx->frames = tx->count = 0;
     put(NIC_TDBAL(queue), (uint32_t)tx->ring.bus);
@@ -279,6 +301,10 @@ static void set_interrupts(void)
     unsigned vf = driver.setup.port - 1u;
     if (!driver.setup.interrupts)
         return;
+    if (BUG == CAUSES_RAISED_TOO_EARLY) /* so that what came before is looked at */
+        nicx_write32(NIC_EICS, own_causes());
+    if (BUG == CAUSES_ENABLED_FIRST && !driver.setup.port)
+        nicx_write32(NIC_EIMS, own_causes() | other_causes);
     set_vectors();
     if (driver.setup.port) {
         nicx_vf_write32((uint8_t)vf, NIC_VTEIAC, own_causes());
@@ -293,6 +319,8 @@ static void set_interrupts(void)
     set_intervals();
     nicx_write32(NIC_EIAC, clears ? own_causes() : 0);
     nicx_write32(NIC_EIAM, own_causes());
+    if (BUG == CAUSES_RAISED_TOO_EARLY)
+        nicx_write32(NIC_EICR, 0x7FFFFFFF);
     nicx_write32(NIC_EIMS, own_causes() | other_causes);
 }
 
@@ -326,17 +354,47 @@ static void set_up_device(void)
     nicx_write32(NIC_DMATXCTL, nicx_read32(NIC_DMATXCTL) | NIC_DMATXCTL_TE);
 }
 
+static void spread_over_queues(void)
+{
+    for (unsigned k = 0; k < sizeof driver.rss.key; k++)
+        driver.rss.key[k] = (uint8_t)(k * 47 + 13);
+    for (unsigned k = 0; k < sizeof driver.rss.table; k++)
+        driver.rss.table[k] = (uint8_t)(k % driver.setup.queues);
+    driver.rss.types = 1u << NIC_RSS_TCP_IPV4 | 1u << NIC_RSS_IPV4 | 1u << NIC_RSS_TCP_IPV6 | 1u << NIC_RSS_IPV6 |
+                       1u << NIC_RSS_UDP_IPV4 | 1u << NIC_RSS_UDP_IPV6;
+    driver.has_rss = driver.setup.queues > 1;
+}
+
+/* What the event makes the driver forget. */
+static void lose(enum event event)
+{
+    static const nicd_filter at_open = {.broadcast = true};
+    if (event != BY)
+        return;
+    if (LOSES == FILTER || LOSES == LIST || LOSES == PROMISCUOUS)
+        driver.filter = at_open;
+    if (LOSES == MTU)
+        driver.setup.frame = 1514;
+    if (LOSES == RSS)
+        spread_over_queues();
+    if (LOSES == RINGS)
+        driver.setup.slots = 8;
+}
+
 static void start_all(void)
 {
     if (!driver.setup.port)
         set_up_device();
+    if (!VECTORS_LAST)
+        set_interrupts(); /* what comes as soon as reception is on has a vector */
     for (unsigned queue = 0; queue < driver.setup.queues; queue++) {
         start_receive(queue);
         start_transmit(queue);
     }
     if (!driver.setup.port)
         nicx_write32(NIC_RXCTRL, NIC_RXCTRL_RXEN);
-    set_interrupts();
+    if (VECTORS_LAST)
+        set_interrupts();
 }
 
 static void stop_queues(void)
@@ -363,17 +421,6 @@ static void look_at_link(void)
 
 static void rest_threads(void);
 static void wake_threads(void);
-
-static void spread_over_queues(void)
-{
-    for (unsigned k = 0; k < sizeof driver.rss.key; k++)
-        driver.rss.key[k] = (uint8_t)(k * 47 + 13);
-    for (unsigned k = 0; k < sizeof driver.rss.table; k++)
-        driver.rss.table[k] = (uint8_t)(k % driver.setup.queues);
-    driver.rss.types = 1u << NIC_RSS_TCP_IPV4 | 1u << NIC_RSS_IPV4 | 1u << NIC_RSS_TCP_IPV6 | 1u << NIC_RSS_IPV6 |
-                       1u << NIC_RSS_UDP_IPV4 | 1u << NIC_RSS_UDP_IPV6;
-    driver.has_rss = driver.setup.queues > 1;
-}
 
 static bool open_driver(const nicd_setup *setup)
 {
@@ -449,7 +496,7 @@ static void append(const struct ring *ring, unsigned slot, uint32_t length, nicd
 
 static void give_back(unsigned queue, unsigned slot)
 {
-    struct ring *ring = &driver.rx[queue];
+    struct ring *ring = &driver.rings.rx[queue];
     unsigned tail = BUG == TAIL_MEETS_HEAD ? after(slot) : slot;
     if (BUG == TAIL_BEFORE_DESCRIPTOR) { /* of the slot before, which the tail hands over */
         put(NIC_RDT(queue), slot);
@@ -464,7 +511,7 @@ static void give_back(unsigned queue, unsigned slot)
 /* Of each part as it comes: what is there of a frame is kept until its end has come. */
 static bool receive_by_parts(unsigned queue, nicd_frame *frame)
 {
-    struct ring *ring = &driver.rx[queue];
+    struct ring *ring = &driver.rings.rx[queue];
     for (;;) {
         uint64_t second = look(ring, ring->next);
         if (!(second & NIC_RXWB_DD))
@@ -482,7 +529,7 @@ static bool receive_by_parts(unsigned queue, nicd_frame *frame)
 
 static bool take_frame(unsigned queue, nicd_frame *frame)
 {
-    struct ring *ring = &driver.rx[queue];
+    struct ring *ring = &driver.rings.rx[queue];
     unsigned last = 0;
     if (BUG == RING_RESIZE_JUMBO)
         return receive_by_parts(queue, frame);
@@ -529,7 +576,7 @@ static unsigned used(const struct transmit *tx)
 
 static bool is_out(unsigned queue, unsigned slot)
 {
-    struct transmit *tx = &driver.tx[queue];
+    struct transmit *tx = &driver.rings.tx[queue];
     if (BUG == BUFFER_AGAIN_BEFORE_DD)
         return true;
     if (BUG == HEAD_CACHED_OVER_A_WRAP)
@@ -549,7 +596,7 @@ static bool is_out(unsigned queue, unsigned slot)
 
 static void clean(unsigned queue)
 {
-    struct transmit *tx = &driver.tx[queue];
+    struct transmit *tx = &driver.rings.tx[queue];
     while (tx->frames && is_out(queue, tx->last[tx->clean])) {
         uint16_t next = (uint16_t)after(tx->last[tx->clean]);
         if (BUG == DOUBLE_CLEANER)
@@ -563,7 +610,7 @@ static void clean(unsigned queue)
 
 static void fill(unsigned queue, const uint8_t *bytes, uint32_t length)
 {
-    struct transmit *tx = &driver.tx[queue];
+    struct transmit *tx = &driver.rings.tx[queue];
     unsigned first = tx->ring.next, slot = first;
     for (uint32_t at = 0; at < length; at += PART) {
         uint32_t part = length - at < PART ? length - at : PART;
@@ -588,7 +635,7 @@ static void fill(unsigned queue, const uint8_t *bytes, uint32_t length)
 
 static bool send_locked(uint16_t queue, const uint8_t *bytes, uint32_t length)
 {
-    struct transmit *tx = &driver.tx[queue];
+    struct transmit *tx = &driver.rings.tx[queue];
     uint32_t parts = (length + PART - 1) / PART;
     if (length > driver.setup.frame || length < 60)
         return false;
@@ -605,9 +652,9 @@ static bool send(uint16_t queue, const uint8_t *bytes, uint32_t length)
         return send_locked(queue, bytes, length);
     if (BUG == LOCK_ORDER)
         nicx_lock(&driver.other);
-    nicx_lock(BUG == LOCK_ORDER ? &driver.counters : &driver.tx[queue].lock);
+    nicx_lock(BUG == LOCK_ORDER ? &driver.counters : &driver.rings.tx[queue].lock);
     bool is_taken = send_locked(queue, bytes, length);
-    nicx_unlock(BUG == LOCK_ORDER ? &driver.counters : &driver.tx[queue].lock);
+    nicx_unlock(BUG == LOCK_ORDER ? &driver.counters : &driver.rings.tx[queue].lock);
     if (BUG == LOCK_ORDER)
         nicx_unlock(&driver.other);
     return is_taken;
@@ -615,7 +662,7 @@ static bool send(uint16_t queue, const uint8_t *bytes, uint32_t length)
 
 static uint32_t reclaim(uint16_t queue)
 {
-    struct transmit *tx = &driver.tx[queue];
+    struct transmit *tx = &driver.rings.tx[queue];
     if (BUG != DOUBLE_CLEANER)
         nicx_lock(&tx->lock);
     uint32_t before = tx->frames;
@@ -633,6 +680,15 @@ static void handle_other(void)
     uint32_t causes = nicx_read32(NIC_EICR);
     if (causes & NIC_EICR_LSC)
         look_at_link();
+    if (causes & NIC_EICR_LSC && BY == LINK && driver.link_is_up) {
+        lose(LINK);
+        set_filter();
+        set_lengths();
+        if (driver.has_rss)
+            set_rss();
+        for (unsigned queue = 0; queue < driver.setup.queues && LOSES == RINGS; queue++)
+            start_receive(queue);
+    }
 }
 
 static uint32_t interrupt(uint8_t vector)
@@ -678,16 +734,35 @@ static void rearm(uint16_t queue)
 
 /* --- beside it --- */
 
+static bool start_anew(bool takes_memory);
+
+static void forget_addresses(void)
+{
+    for (unsigned k = 0; k < 5; k++)
+        set_address(k, driver.setup.address, false);
+}
+
 static bool filter(const nicd_filter *wanted)
 {
     driver.filter = *wanted;
+    if (BUG == FILTER_BY_RESTART)
+        return start_anew(false);
+    if (BUG == FILTER_BY_STOP)
+        nicx_write32(NIC_RXCTRL, 0);
+    if (BUG == FILTER_CLEARED_FIRST)
+        forget_addresses();
     set_filter();
+    if (BUG == FILTER_BY_STOP)
+        nicx_write32(NIC_RXCTRL, NIC_RXCTRL_RXEN);
     return true;
 }
 
 static bool rss(const nicd_rss *wanted)
 {
-    driver.rss = *wanted;
+    if (BUG == RETA_CHANGED_BY_HALF && driver.has_rss)
+        memcpy(driver.rss.table, wanted->table, sizeof wanted->table / 2);
+    else
+        driver.rss = *wanted;
     driver.has_rss = true;
     set_rss();
     return true;
@@ -718,6 +793,7 @@ static bool mtu(uint32_t frame)
 {
     rest_threads();
     driver.setup.frame = frame;
+    lose(OTHER_MTU);
     return start_anew(false);
 }
 
@@ -735,17 +811,40 @@ static void move_rings(void)
     }
 }
 
+/* Rings of so many slots take the place of those there are, which go to `old`; without memory for them these stay. */
+static bool change_rings(uint16_t slots, struct rings *old)
+{
+    uint16_t before = driver.setup.slots;
+    *old = driver.rings;
+    memset(&driver.rings, 0, sizeof driver.rings);
+    driver.setup.slots = slots;
+    if (take_all())
+        return true;
+    give_all();
+    driver.rings = *old;
+    driver.setup.slots = before;
+    return false;
+}
+
 static bool resize(uint16_t slots)
 {
+    static struct rings old;
     rest_threads();
-    if (BUG != RING_RESIZE_JUMBO)
-        driver.partial.length = 0;
-    driver.setup.slots = slots;
     if (BUG == ENABLE_NOT_POLLED) {
+        driver.setup.slots = slots;
         move_rings();
         return true;
     }
-    return start_anew(true);
+    if (!change_rings(slots, &old)) {
+        wake_threads();
+        return false;
+    }
+    if (BUG != RING_RESIZE_JUMBO)
+        driver.partial.length = 0;
+    lose(RESIZE);
+    bool is_done = start_anew(false);
+    give_rings(&old);
+    return is_done;
 }
 
 static bool reset(void)
@@ -753,6 +852,7 @@ static bool reset(void)
     if (BUG == LINK_CHANGE_LOST && !driver.setup.port)
         look_at_link();
     driver.partial.length = 0;
+    lose(RESET);
     return start_anew(BUG == MEMORY_LOST_BY_RESET);
 }
 
@@ -767,6 +867,7 @@ static bool suspend(void)
 
 static bool resume(void)
 {
+    lose(SUSPEND);
     start_all();
     wake_threads();
     if (!driver.setup.port)
@@ -956,7 +1057,7 @@ static void moderate(void)
 /* Resets a queue whose head doesn't move. What went out before it is off is taken back first: too early. */
 static void watch(void)
 {
-    struct transmit *tx = &driver.tx[0];
+    struct transmit *tx = &driver.rings.tx[0];
     for (unsigned tick = 0; tick < 2; tick++) {
         uint32_t head = get(NIC_TDH(0));
         nicx_pause();

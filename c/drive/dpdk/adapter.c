@@ -168,6 +168,7 @@ int main(int argc, char **argv)
 {
     static const nicd_driver card = {
         .name = "dpdk-ixgbe",
+        .can = NICD_NO_ADDRESS,
         .slots = 64,
         .open = open_driver,
         .close = close_driver,

@@ -29,66 +29,86 @@ static void next_life(void)
 }
 
 /* From here on this thread makes that call of the driver, for the words of a failure. */
-static void begin_call(const char *name)
+static void begin_call(enum call call)
 {
-    nicd.doing = name;
+    nicd.doing = (uint8_t)call;
     nicd.doer = nicxi.self;
+    if (nicxi.self && call == nicd.reached->call)
+        nicd.era = DURING;
+    nicd_reach_call();
 }
 
 static void end_call(bool is_done)
 {
-    const char *name = nicd.doing;
-    nicd.doing = NULL;
+    enum call call = nicd.doing;
+    nicd.doing = NO_CALL;
+    if (nicd.era == DURING && call == nicd.reached->call)
+        nicd.era = AFTER;
     if (!is_done)
-        nicd_failed("%s answered false", name);
+        nicd_failed("%s answered false", nicd_call_name(call));
+    if (nicd.reached->call == call)
+        nicd_reach(CALLED);
 }
 
 bool nicd_open(void)
 {
     nicd.is_ended = false;
-    begin_call("open");
+    begin_call(CALL_OPEN);
     bool is_open = nicd.driver->open(&nicd.setup);
     end_call(true);
     if (!is_open)
         return false;
     next_life();
     nicd.is_open = nicd.is_running = true;
+    nicd_reach(WAS_OPENED);
+    if (nicd.was_ended)
+        nicd_reach(WAS_REOPENED);
     return true;
 }
 
 void nicd_close(void)
 {
     next_life();
-    begin_call("close");
+    begin_call(CALL_CLOSE);
     nicd.driver->close();
     end_call(true);
     nicd.is_open = nicd.is_running = false;
-    nicd.is_ended = true;
+    nicd.is_ended = nicd.was_ended = true;
+    nicd_reach(WAS_CLOSED);
 }
 
 void nicd_reset(void)
 {
-    begin_call("reset");
+    begin_call(CALL_RESET);
     end_call(nicd.driver->reset());
+}
+
+bool nicd_try_to_resize(uint16_t slots)
+{
+    begin_call(CALL_RESIZE);
+    bool is_done = nicd.driver->resize(slots);
+    end_call(true);
+    if (is_done)
+        nicd.setup.slots = slots;
+    return is_done;
 }
 
 void nicd_resize(uint16_t slots)
 {
-    begin_call("resize");
-    end_call(nicd.driver->resize(slots));
-    nicd.setup.slots = slots;
+    if (!nicd_try_to_resize(slots))
+        nicd_failed("resize answered false");
 }
 
 void nicd_mtu(uint32_t frame)
 {
-    begin_call("mtu");
+    begin_call(CALL_MTU);
     end_call(nicd.driver->mtu(frame));
     nicd.setup.frame = frame;
 }
 
 void nicd_suspend(void)
 {
-    begin_call("suspend");
+    begin_call(CALL_SUSPEND);
     end_call(nicd.driver->suspend());
     nicd.is_asleep = true;
 }
@@ -96,8 +116,20 @@ void nicd_suspend(void)
 void nicd_resume(void)
 {
     nicd.is_asleep = false;
-    begin_call("resume");
+    begin_call(CALL_RESUME);
     end_call(nicd.driver->resume());
+}
+
+void nicd_set_filter(const nicd_filter *filter)
+{
+    begin_call(CALL_FILTER);
+    end_call(nicd.driver->filter(filter));
+}
+
+void nicd_set_rss(const nicd_rss *rss)
+{
+    begin_call(CALL_RSS);
+    end_call(nicd.driver->rss(rss));
 }
 
 static bool is_quiet(void *unused)
@@ -116,14 +148,26 @@ void nicd_hold(void)
     nicx_wait_until(is_quiet, NULL);
 }
 
+void nicd_let_come(uint16_t count)
+{
+    nicxi.frame_count = (uint16_t)(nicxi.frame_count + count);
+    nicd.late = (uint16_t)(nicd.late - count);
+}
+
 void nicd_go_on(void)
 {
     next_life();
-    nicxi.frame_count = (uint16_t)(nicxi.frame_count + nicd.late);
-    nicd.late = 0;
+    nicd_let_come(nicd.late);
     nicd.is_running = nicd.is_open;
     for (unsigned k = 0; k < NICD_QUEUES; k++)
         nicd.pollers[k].scheduled = true;
+}
+
+uint16_t nicd_let_one_come(void)
+{
+    nicd_let_come(1);
+    nicd.events++;
+    return (uint16_t)(nicxi.frame_count - 1);
 }
 
 /* --- receiving --- */
@@ -217,14 +261,28 @@ static void serve(void *given)
     }
 }
 
+static bool is_not_opening(void *unused)
+{
+    (void)unused;
+    return nicd.doing != CALL_OPEN;
+}
+
+/* A message that comes while the driver opens has its handler called once open has returned. */
 static void handle(void *given)
 {
+    if (!is_not_opening(NULL))
+        nicx_wait_until(is_not_opening, NULL);
     if (!nicd.is_open || nicd.is_asleep)
         return;
+    if (nicd_peek(NIC_RDH(nicd.base)) == nicd_peek(NIC_RDT(nicd.base)))
+        nicd_reach(LATE_CALL);
     uint32_t queues = nicd.driver->interrupt((uint8_t)number_of(given));
     for (unsigned k = 0; k < nicd.setup.queues; k++)
-        if (queues >> k & 1)
+        if (queues >> k & 1) {
+            if (nicd.pollers[k].busy)
+                nicd_reach(AGAIN_CALL);
             nicd.pollers[k].scheduled = true;
+        }
 }
 
 /* --- vectors that something has: all of them where the driver isn't open yet --- */
@@ -330,6 +388,8 @@ bool nicd_send(uint16_t queue, uint32_t length)
     uint32_t life = nicd.life;
     nicd_make_sent(number, length, bytes);
     nicd.calls++;
+    if (++nicd.sending[queue] > 1)
+        nicd_reach(OVERLAPS);
     if (!is_shared)
         nicx_lock(&poller->lock);
     bool is_taken = nicd.driver->send(queue, bytes, length);
@@ -344,6 +404,7 @@ bool nicd_send(uint16_t queue, uint32_t length)
     if (!is_shared)
         nicx_unlock(&poller->lock);
     nicd.calls--;
+    nicd.sending[queue]--;
     nicd.is_refused[queue] = !is_taken;
     memset(bytes, 0xA5, length);
     return is_taken;
@@ -531,9 +592,12 @@ static void set_up(void)
 
 static void forget(void)
 {
-    nicd.is_open = nicd.is_running = nicd.is_ended = nicd.is_asleep = false;
-    nicd.doing = NULL;
+    nicd.is_open = nicd.is_running = nicd.is_ended = nicd.was_ended = nicd.is_asleep = false;
+    nicd.doing = NO_CALL;
+    nicd.era = BEFORE;
+    nicd.links = 0;
     nicd.life = nicd.cards = nicd.calls = nicd.events = 0;
+    memset(nicd.sending, 0, sizeof nicd.sending);
     nicd.by_card = false;
     sender_count = 0;
     memset(nicd.pollers, 0, sizeof nicd.pollers);

@@ -3,6 +3,8 @@
 #ifndef NICD_DRIVE_H
 #define NICD_DRIVE_H
 
+#include <stdio.h>
+
 #include "../../explore/engine/engine.h"
 #include "../../explore/engine/names.h"
 #include "nic82599_drive.h"
@@ -12,8 +14,8 @@ enum {
     OTHERS = 248, /* from this block on they are of others, for whom the card acts */
     FIFO = 256,   /* frames that may wait in the device */
     MOST_PIECES = 128,
-    MOST_OUT = 160, /* frames that are sent in a schedule */
-    MOST_REACHED = 8,
+    MOST_OUT = 160,   /* frames that are sent in a schedule */
+    MOST_REACHES = 8, /* of a row */
     MOST_THREAD = 4,
     DEVICE_QUEUES = 128,
     WORDS = 240
@@ -55,6 +57,87 @@ enum ways {
     OFTEN = 128     /* and a second time for each message, at one of the next points */
 };
 
+/* What a row must come to in some of its schedules, as the device and the card see it: one that doesn't shows nothing,
+   and isn't passed. reach.c has the words of each. */
+enum reach {
+    NO_REACH,
+    WAS_OPENED,
+    WAS_REOPENED,
+    WAS_CLOSED,
+    CALLED,   /* the row's call returned */
+    ACCESSED, /* the driver reached a register */
+    WRITES_TXDCTL,
+    WRITES_RDT,
+    WRITES_HEAD,
+    WRITES_RXEN,
+    WRITES_RESET,
+    WRITES_RING,
+    WRITES_SRRCTL,
+    WRITES_ADDRESS,
+    WRITES_EITR,
+    WRITES_EIMS,
+    HASHES,   /* MRQC has a mode once the driver is open, and was asked for flows over its queues */
+    LOOKED,   /* receive was called, and no frame was there */
+    TAKEN,    /* each queue: a frame came to it, and was handed up */
+    TAKEN_0,  /* the same of queue 0 alone */
+    SENT,     /* each queue: a frame went out, where the driver has send */
+    MESSAGES, /* each queue: its vector sent a message, where the driver has interrupt */
+    FULL,     /* the device has no slot of receive queue 0 left */
+    WRAPS,    /* a frame came to slot 0 of queue 0 a second time */
+    SENT_WRAPS,
+    LONG, /* the longest frame of the row was handed up */
+    SENT_LONG,
+    CHAIN, /* a frame came in several slots */
+    SENT_CHAIN,
+    SEND_REFUSED, /* send was refused, and the ring has no room */
+    OVERLAPS,     /* two calls of send for one queue at a time */
+    DESCRIPTOR,
+    WRITTEN_BACK,
+    POLLED, /* a frame came while its queue was polled */
+    SPURIOUS,
+    LATE_CALL,  /* a handler was called with a full ring */
+    AGAIN_CALL, /* a handler was called while its queue was polled */
+    OWN_VECTORS,
+    KEPT_OUT,  /* a frame was dropped by the filter */
+    TOO_LONG,  /* a frame was dropped for its length */
+    AMID_IN,   /* the row's call ran, and a frame was on its way in */
+    AMID_OUT,  /* the same of frames that are sent, where the driver has send */
+    AMID_LINK, /* the link changed during it */
+    ASLEEP_FRAME,
+    ASLEEP_LINK,
+    LINK_DOWN,
+    LINK_UP,
+    CAME_AFTER, /* a frame came after what the row tries, and was judged */
+    MET_FAULT,
+    NO_MEMORY,
+    MAIL_GIVEN, /* the other side took a message of the driver's */
+    MAIL_TAKEN, /* the driver took one of the other side, as a host of function 0 */
+    MAIL_TAKEN_1,
+    IS_READY,
+    REACHES
+};
+
+/* The calls of a driver during which something may be under way. */
+enum call {
+    NO_CALL,
+    CALL_OPEN,
+    CALL_CLOSE,
+    CALL_RESET,
+    CALL_RESIZE,
+    CALL_MTU,
+    CALL_SUSPEND,
+    CALL_RESUME,
+    CALL_FILTER,
+    CALL_RSS,
+    CALLS
+};
+
+struct reached {
+    const char *row;
+    uint8_t reaches[MOST_REACHES]; /* enum reach, ended by NO_REACH */
+    uint8_t call;                  /* which one AMID_IN and its like speak of */
+};
+
 struct scenario {
     const char *name;
     const char *title;  /* what is tried, in some words */
@@ -75,7 +158,7 @@ struct scenario {
     uint8_t type;             /* enum nic_rss_type, of the flows that come */
     const char *(*end)(void); /* judges more, or null */
     void (*see)(const struct step *step, bool is_drivers); /* hears of each step, or null */
-    const char *reaches[MOST_REACHED];                     /* what should come up in some schedule */
+    const struct reached *reached;                         /* of a row that isn't in the table */
 };
 
 /* A row of a family's table; by name behind it what else a scenario has. */
@@ -92,6 +175,9 @@ struct family {
 
 extern const struct family nicd_families[];
 
+/* What each row must come to: scenarios/reaches.c. It ends with an entry without a row. */
+extern const struct reached nicd_reaches[];
+
 /* --- frames that come --- */
 
 enum to { TO_OWN, TO_OTHER, TO_BROADCAST, TO_MULTICAST, TO_SECOND };
@@ -105,6 +191,9 @@ struct come {
 
 enum frame_state { ON_ITS_WAY, WAITS, IS_WRITTEN, IS_DELIVERED, IS_DROPPED, IS_LOST };
 
+/* When a frame came, or was written: of the row's call, which a task of the scenario makes. */
+enum era { BEFORE, DURING, AFTER };
+
 enum lost { BY_A_FAULT, BY_A_QUEUE, BY_A_RESET };
 
 struct frame_now {
@@ -113,6 +202,7 @@ struct frame_now {
     uint8_t queue; /* the device's, of one that was written */
     uint16_t slot; /* and the last one that it was written to */
     uint32_t life; /* how often the driver was interrupted as it arrived */
+    uint8_t era, written_era;
 };
 
 /* --- what is known of the schedule --- */
@@ -121,7 +211,8 @@ struct piece {
     uint64_t bus;
     uint32_t first, blocks; /* 0 blocks: it isn't taken */
     uint32_t bytes;
-    char by[24]; /* the call or the thread that asked for it */
+    char by[24];      /* the call or the thread that asked for it */
+    bool is_in_place; /* the driver has a pointer to it */
 };
 
 struct poller {
@@ -144,19 +235,24 @@ struct went {
 struct drive {
     const nicd_driver *driver;
     const struct scenario *scenario;
-    nicd_setup setup;  /* as open was asked */
-    uint16_t base;     /* the device's queue that is the port's queue 0 */
-    bool is_open;      /* from open's return to close's call */
-    bool is_running;   /* frames may be taken and sent */
-    bool is_ended;     /* close has returned */
-    bool is_asleep;    /* from suspend's return to resume's call */
-    const char *doing; /* the call that `doer` makes: open, reset and its like */
-    const void *doer;  /* a thread, or null for none */
-    uint32_t life;     /* how often all was interrupted: close, reset, resize */
-    uint32_t events;   /* steps of the device, and what else may make a call succeed that failed */
-    uint32_t calls;    /* of send and reclaim that are being made */
-    uint32_t cards;    /* bit k: task k is the card's own, and acts for others than the driver */
-    bool by_card;      /* outside of tasks: the card acts */
+    nicd_setup setup;              /* as open was asked */
+    uint16_t base;                 /* the device's queue that is the port's queue 0 */
+    bool is_open;                  /* from open's return to close's call */
+    bool is_running;               /* frames may be taken and sent */
+    bool is_ended;                 /* close has returned */
+    bool was_ended;                /* it has once */
+    bool is_asleep;                /* from suspend's return to resume's call */
+    uint8_t doing;                 /* enum call: what `doer` calls */
+    const void *doer;              /* a thread, or null for none */
+    uint8_t era;                   /* enum era, of the row's call */
+    uint32_t links;                /* changes of the link so far */
+    uint32_t life;                 /* how often all was interrupted: close, reset, resize */
+    uint32_t events;               /* steps of the device, and what else may make a call succeed that failed */
+    uint32_t calls;                /* of send and reclaim that are being made */
+    uint32_t sending[NICD_QUEUES]; /* of send alone, for a queue */
+    uint32_t cards;                /* bit k: task k is the card's own, and acts for others than the driver */
+    bool by_card;                  /* outside of tasks: the card acts */
+    const struct reached *reached; /* what the row must come to */
     const char *fault;
     char words[WORDS];
 
@@ -164,6 +260,8 @@ struct drive {
     const struct piece *newest;
     uint32_t taken, own_taken;    /* pieces that are taken; of nicd_alloc */
     uint32_t allocations, refuse; /* how many were asked for; the one that is refused, from 1 on */
+    uint32_t beyond;              /* memory in place lies below this block; 0: there is none */
+    bool holds_back;              /* what transmitting writes back isn't there for the driver yet */
     size_t own_used;
 
     struct come coming[NICX_FRAMES];
@@ -199,8 +297,11 @@ void nicd_failed(const char *form, ...);
 /* A reason for failing that is kept for the next look; it never leaves the caller. */
 void nicd_note(const char *form, ...);
 
-/* Counts that something of the scenario's `reaches` came up. */
-void nicd_reach(unsigned number);
+/* Counts that something came up; of a queue or a function, where it counts for each. */
+void nicd_reach(enum reach reach);
+void nicd_reach_of(enum reach reach, unsigned number);
+/* The name of a call. */
+const char *nicd_call_name(enum call call);
 
 /* --- parts --- */
 
@@ -215,8 +316,32 @@ const char *nicd_memory_near(uint64_t bus);
 /* Whether a bus address lies in a piece of the driver's. */
 bool nicd_memory_has(uint64_t bus);
 
+/* Memory in place (in_place.c): a schedule begins, a piece is given or given back, a step was made. */
+void nicd_in_place_begin(void);
+void nicd_in_place_end(const struct piece *piece);
+void nicd_in_place_see(const struct step *step);
+/* Whether the driver has a pointer to this byte; and what of these the device wrote is there for it. */
+bool nicd_in_place_has(uint64_t bus);
+void nicd_in_place_copy(uint64_t bus, uint64_t bytes);
+/* What the driver stored by pointers since is written to the device's memory: each run of bytes at a point. */
+void nicd_publish(void);
+
 void nicd_watch_begin(void);
 void nicd_watch(void *unused, uint16_t actor, const struct step *step);
+/* The row's entry: what it must come to. */
+const struct reached *nicd_reached(const struct scenario *it);
+/* Whether an entry has this. */
+bool nicd_must_reach(const struct reached *entry, enum reach reach);
+void nicd_reach_begin(void);
+bool nicd_reach_open(void);
+/* By each step, before and after the card has counted it; and as a call of the driver begins. */
+void nicd_reach_step(const struct step *step, bool is_drivers);
+void nicd_reach_call(void);
+void nicd_reach_delivered(uint16_t queue, uint16_t number);
+void nicd_reach_write(FILE *file);
+/* Prints what a row must come to. */
+void nicd_reach_tell(const struct scenario *it);
+
 /* What all searches of the process saw, written to a file. */
 bool nicd_coverage_open(void);
 bool nicd_coverage_write(const char *path);
@@ -251,6 +376,16 @@ void nicd_come_plain(uint32_t count, uint32_t length);
 void nicd_come_late(uint32_t count, uint32_t length);
 /* One of each of so many flows of a type. */
 void nicd_come_flows(uint8_t type, uint16_t count);
+/* What other families use too. Whether a filter lets a frame in, and whose it is; the queue of a flow by the key and
+   table that were asked for last (null, or what is wrong); another key and table. */
+bool nicd_is_wanted(const nicd_filter *filter, const struct come *come);
+const char *nicd_whose(const struct come *come);
+const char *nicd_judge_queue(uint16_t number);
+void nicd_spread_otherwise(void);
+/* The rows that are made of tables (kept.c). */
+void nicd_make_rows(void);
+/* Has the driver spread flows over its queues, if it has rss; the host of a function has done so. */
+void nicd_spread_flows(void);
 /* Threads that take frames, one a queue, and handlers of the vectors in use. */
 void nicd_take_frames(void);
 /* A thread that sends so many frames by a queue and waits until they went out. */
@@ -268,11 +403,19 @@ void nicd_close(void);
 void nicd_reset(void);
 void nicd_resize(uint16_t slots);
 void nicd_mtu(uint32_t frame);
+void nicd_set_filter(const nicd_filter *filter);
+void nicd_set_rss(const nicd_rss *rss);
 void nicd_suspend(void);
 void nicd_resume(void);
+/* Answers whether the driver did it. */
+bool nicd_try_to_resize(uint16_t slots);
+/* So many of the late frames may come from now on. */
+void nicd_let_come(uint16_t count);
 /* Interrupts the flow: no receive, send or reclaim runs when it returns, nor before nicd_go_on. */
 void nicd_hold(void);
 void nicd_go_on(void);
+/* One of the late frames comes now, where some are left: its number. */
+uint16_t nicd_let_one_come(void);
 /* Sends one frame of this length, if it is taken. */
 bool nicd_send(uint16_t queue, uint32_t length);
 uint32_t nicd_reclaim(uint16_t queue);

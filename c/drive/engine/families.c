@@ -3,6 +3,7 @@
 
 #include "drive.h"
 
+extern struct scenario nicd_kept[];
 extern const struct scenario nicd_setup_rows[], nicd_rings[], nicd_frames[], nicd_descriptors[], nicd_write_back[],
     nicd_interrupts[], nicd_rss_rows[], nicd_filters[], nicd_life[], nicd_link[], nicd_resets[], nicd_changes[],
     nicd_functions[], nicd_hosts[], nicd_neighbours[];
@@ -20,6 +21,7 @@ const struct family nicd_families[] = {
     {"link", nicd_link},
     {"reset", nicd_resets},
     {"changes", nicd_changes},
+    {"kept", nicd_kept},
     {"function", nicd_functions},
     {"host", nicd_hosts},
     {"neighbour", nicd_neighbours},

@@ -97,6 +97,7 @@ static bool take_next(uint16_t queue, const uint8_t *bytes, uint32_t length)
             nicd.next[queue] = (uint16_t)(at + 1);
             nicd.delivered++;
             nicd_delivered_one();
+            nicd_reach_delivered(queue, number);
             return true;
         }
         if (!is_lossy() || nicd.frames[number].life == nicd.life)

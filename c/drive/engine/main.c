@@ -16,11 +16,24 @@ struct drive nicd;
 
 /* --- the device, before the driver comes --- */
 
+/* The host spreads the flows of each pool over its two queues. */
+static void spread_in_pools(void)
+{
+    for (unsigned k = 0; k < 10; k++)
+        nicx_write32(NIC_RSSRK(k), UINT32_C(0x6D5A56DA) * (2 * k + 1));
+    for (unsigned k = 0; k < 32; k++)
+        nicx_write32(NIC_RETA(k), UINT32_C(0x01000100));
+    nicx_write32(NIC_MRQC, NIC_MRQC_MRQE_IS(11) | NIC_MRQC_TCPIPV4);
+}
+
 void nicd_set_up_host(unsigned function, bool is_ready)
 {
     nicx_write32(NIC_GCR_EXT, NIC_GCR_EXT_VT_MODE_IS(3));
     nicx_write32(NIC_VT_CTL, NIC_VT_CTL_VT_ENA);
-    nicx_write32(NIC_MRQC, NIC_MRQC_MRQE_IS(8));
+    if (nicd.scenario->setup.queues > 1)
+        spread_in_pools();
+    else
+        nicx_write32(NIC_MRQC, NIC_MRQC_MRQE_IS(8));
     nicx_write32(NIC_FCTRL, NIC_FCTRL_BAM);
     nicx_write32(NIC_RAL(0), 0x00000002);
     nicx_write32(NIC_RAH(0), NIC_RAH_AV | 0x0100);
@@ -38,6 +51,7 @@ const char *nicd_bring_up(void)
 {
     unsigned port = nicd.scenario->setup.port;
     nicxi.watch = nicd_watch;
+    nicxi.publish = nicd_publish;
     nicd.by_card = true;
     if (port)
         nicd_set_up_host(port - 1, true);
@@ -78,6 +92,29 @@ struct need {
     const char *name;
 };
 
+/* What a driver never does by design, as its adapter says: a row that must come to it isn't applicable. */
+static const char *never_of(const struct scenario *it)
+{
+    static const struct {
+        uint32_t can;
+        uint8_t reach;
+        const char *name;
+    } nevers[] = {
+        {NICD_SHARED_DEVICE, WRITES_RESET, "no reset of the device (NICD_SHARED_DEVICE)"},
+        {NICD_NO_MODERATION, WRITES_EITR, "no interval of interrupts (NICD_NO_MODERATION)"},
+        {NICD_NO_HEADS, WRITES_HEAD, "no write of heads (NICD_NO_HEADS)"},
+        {NICD_NO_ADDRESS, WRITES_ADDRESS, "no write of its address (NICD_NO_ADDRESS)"},
+        {NICD_ONE_VECTOR, OWN_VECTORS, "one vector for all queues (NICD_ONE_VECTOR)"},
+        {NICD_ONE_BUFFER, CHAIN, "one buffer for each frame (NICD_ONE_BUFFER)"},
+        {NICD_ONE_BUFFER, SENT_CHAIN, "one buffer for each frame (NICD_ONE_BUFFER)"},
+    };
+    const struct reached *entry = nicd_reached(it);
+    for (unsigned k = 0; k < sizeof nevers / sizeof *nevers; k++)
+        if (nicd.driver->can & nevers[k].can && nicd_must_reach(entry, nevers[k].reach))
+            return nevers[k].name;
+    return NULL;
+}
+
 /* What it lacks, or null. */
 static const char *lack_of(const struct scenario *it)
 {
@@ -111,7 +148,7 @@ static const char *lack_of(const struct scenario *it)
         return "longer rings, of which four queues have no room";
     if (it->setup.frame > 1514 && it->setup.frame > d->frame)
         return "shorter frames";
-    return NULL;
+    return never_of(it);
 }
 
 static void list(void)
@@ -119,7 +156,9 @@ static void list(void)
     EACH(family, it)
     {
         const char *lack = lack_of(it);
-        printf("%s\t%s\t%s\t%s\t%s\t%s\n", it->name, family->name, lack ? lack : "-", it->title, it->rule, it->source);
+        printf("%s\t%s\t%s\t%s\t%s\t%s\t", it->name, family->name, lack ? lack : "-", it->title, it->rule, it->source);
+        nicd_reach_tell(it);
+        printf("\n");
     }
 }
 
@@ -130,6 +169,21 @@ static const struct scenario *find(const char *name)
         if (!strcmp(it->name, name))
             return it;
     }
+    return NULL;
+}
+
+/* Null, or the row that doesn't say what it must come to, or the entry that is of no row. */
+static const char *unsaid(void)
+{
+    EACH(family, it)
+    {
+        const struct reached *entry = nicd_reached(it);
+        if (!entry || !entry->reaches[0])
+            return it->name;
+    }
+    for (const struct reached *entry = nicd_reaches; entry->row; entry++)
+        if (!find(entry->row))
+            return entry->row;
     return NULL;
 }
 
@@ -184,6 +238,7 @@ static int row(int argc, char **argv)
         fprintf(stderr, "%s: there is no scenario %s: --list has them\n", argv[0], argv[2]);
         return REFUSED;
     }
+    nicd.reached = nicd_reached(nicd.scenario);
     const char *lack = lack_of(nicd.scenario);
     if (lack) {
         printf("%s: not applicable: the driver has %s\n", argv[2], lack);
@@ -218,7 +273,7 @@ static const char *fault_of(const nicd_driver *d)
         return "its frame isn't 1,514 to 9,724";
     if (d->threads > MOST_THREAD || (d->threads && !d->thread))
         return "its threads are above 4, or it has no thread";
-    if (d->can & ~(uint32_t)(NICD_SHARED_SEND | NICD_FUNCTIONS | NICD_HOST | NICD_SHARED_DEVICE))
+    if (d->can & ~(uint32_t)NICD_CAN)
         return "its can has bits that enum nicd_can hasn't";
     return NULL;
 }
@@ -231,9 +286,14 @@ int nicd_main(int argc, char **argv, const nicd_driver *driver)
 {
     const char *fault = fault_of(driver);
     nicd.driver = driver;
+    nicd_make_rows();
     nicxi_for_threads = "use the adapter's threads and locks (docs/report-card.md)";
     if (fault) {
         fprintf(stderr, "%s: the driver can't be taken: %s\n", argv[0], fault);
+        return REFUSED;
+    }
+    if (unsaid()) {
+        fprintf(stderr, "%s: scenarios/reaches.c: row and entry %s don't match\n", argv[0], unsaid());
         return REFUSED;
     }
     if (argc == 2 && !strcmp(argv[1], "--list")) {

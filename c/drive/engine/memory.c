@@ -18,6 +18,7 @@ void nicd_memory_begin(void)
     nicd.taken = nicd.own_taken = nicd.allocations = nicd.refuse = 0;
     nicd.own_used = 0;
     nicd.newest = NULL;
+    nicd_in_place_begin();
 }
 
 static bool is_refused(void)
@@ -56,7 +57,9 @@ static struct piece *place(uint32_t blocks)
 
 static void name_asker(struct piece *piece)
 {
-    const char *name = nicd.doing && nicd.doer == nicxi.self ? nicd.doing : nicxi.self ? nicxi.self->name : "the card";
+    const char *name = nicd.doing && nicd.doer == nicxi.self ? nicd_call_name(nicd.doing)
+                       : nicxi.self                          ? nicxi.self->name
+                                                             : "the card";
     snprintf(piece->by, sizeof piece->by, "%s", name);
 }
 
@@ -74,6 +77,7 @@ uint64_t nicd_dma_alloc(size_t bytes)
     nicd.taken++;
     piece->bus = (uint64_t)(piece->first + blocks) * NIC_BLOCK_BYTES - rounded;
     piece->bytes = (uint32_t)bytes;
+    piece->is_in_place = false;
     name_asker(piece);
     nicd.newest = piece;
     uint64_t bus = piece->bus;
@@ -93,9 +97,11 @@ void nicd_dma_free(uint64_t bus)
         return;
     }
     uint32_t first = piece->first, blocks = piece->blocks;
+    nicxi_publish(); /* while it is lent */
     piece->bus = 0;
     for (uint32_t k = 0; k < blocks; k++)
         nicx_take(first + k);
+    nicd_in_place_end(piece);
     piece->blocks = 0;
     nicd.taken--;
 }

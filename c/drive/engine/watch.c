@@ -14,7 +14,6 @@ struct seen {
     uint32_t registers[2][REGISTERS]; /* reads, writes */
     uint32_t offsets[2][OFFSETS];
     uint32_t replies[KINDS][STATUSES][REASONS];
-    uint32_t reached[MOST_REACHED];
     uint32_t delivered, sent;
 };
 
@@ -26,13 +25,7 @@ bool nicd_coverage_open(void)
 {
     void *memory = mmap(NULL, sizeof *seen, PROT_READ | PROT_WRITE, MAP_SHARED | MAP_ANONYMOUS, -1, 0);
     seen = memory == MAP_FAILED ? NULL : memory;
-    return seen != NULL;
-}
-
-void nicd_reach(unsigned number)
-{
-    if (number < MOST_REACHED)
-        seen->reached[number]++;
+    return seen != NULL && nicd_reach_open();
 }
 
 static void cover(const struct step *step, bool is_drivers)
@@ -84,8 +77,7 @@ bool nicd_coverage_write(const char *path)
     write_table(file, "vf_write", seen->offsets[1], OFFSETS);
     for (unsigned kind = STEP_RX; kind < KINDS; kind++)
         write_replies(file, kind);
-    for (unsigned k = 0; k < MOST_REACHED && nicd.scenario->reaches[k]; k++)
-        fprintf(file, "reached %" PRIu32 " %s\n", seen->reached[k], nicd.scenario->reaches[k]);
+    nicd_reach_write(file);
     fprintf(file, "delivered %" PRIu32 "\nsent %" PRIu32 "\n", seen->delivered, seen->sent);
     return fclose(file) == 0;
 }
@@ -101,6 +93,7 @@ static void see_arrival(const struct step *step)
 {
     struct frame_now *frame = &nicd.frames[step->of];
     frame->life = nicd.life;
+    frame->era = nicd.era;
     frame->state = step->status == NIC_DONE ? WAITS : IS_DROPPED;
     frame->why = step->told.why;
     if (step->status == NIC_DONE)
@@ -133,6 +126,7 @@ static void see_written(const struct step *step)
     uint16_t number = nicd.waiting[nicd.oldest];
     nicd.frames[number].queue = (uint8_t)step->told.queue;
     nicd.frames[number].slot = step->told.slot;
+    nicd.frames[number].written_era = nicd.era;
     leave(IS_WRITTEN);
     if (queue < NICD_QUEUES)
         nicd.written[queue][nicd.written_count[queue]++] = number;
@@ -197,9 +191,11 @@ static void see_sent(const struct step *step)
 
 /* --- each step --- */
 
-/* Whether an access is the driver's: not one of a thread that acts for another. */
+/* Whether an access is the driver's: not one of a thread that acts for another. A value that is chosen is no access. */
 static bool is_drivers(uint16_t actor)
 {
+    if (nicxi_is_value(actor))
+        return false;
     if (actor == NOBODY)
         return !nicd.by_card;
     const struct actor *it = &nicxi.actors[actor];
@@ -225,6 +221,15 @@ static void judge_memory(const struct step *step)
                  (unsigned long long)step->bus, nicd_memory_near(step->bus));
 }
 
+/* Of a transmit slot: both halves are 0, so the tail was moved over a slot that the driver hadn't written. */
+static bool is_unwritten(uint64_t slot)
+{
+    uint64_t first = 0, second = 0;
+    bool is_lent =
+        nic_get64(nicx_device(), slot, &first) == NIC_DONE && nic_get64(nicx_device(), slot + 8, &second) == NIC_DONE;
+    return is_lent && !first && !second;
+}
+
 /* Behind the explorer's words of a fault: the slot, and what of it, the descriptor or its buffer. */
 static void tell_fault(const struct step *step)
 {
@@ -236,8 +241,10 @@ static void tell_fault(const struct step *step)
     struct nicd_ring ring = nicd_ring_of(nicx_device(), sends, queue);
     uint64_t length = (uint64_t)NIC_DESC_BYTES * ring.slots;
     bool is_buffer = step->told.why == NIC_FAULT_NOT_LENT && step->told.bus - ring.base >= length;
-    snprintf(nicxi.result.words + used, sizeof nicxi.result.words - used, " (%s slot %u, its %s)",
-             sends ? "transmit" : "receive", (unsigned)ring.head, is_buffer ? "buffer" : "descriptor");
+    bool is_new = sends && step->told.why == NIC_FAULT_LEGACY && is_unwritten(ring.base + NIC_DESC_BYTES * ring.head);
+    snprintf(nicxi.result.words + used, sizeof nicxi.result.words - used, " (%s slot %u, its %s%s)",
+             sends ? "transmit" : "receive", (unsigned)ring.head, is_buffer ? "buffer" : "descriptor",
+             is_new ? ": all 0, the tail was moved over it before it was written" : "");
 }
 
 /* A write that the device drops since the queue is on. */
@@ -306,8 +313,11 @@ void nicd_watch(void *unused, uint16_t actor, const struct step *made)
     bool is_of_driver = step->kind < STEP_RX && is_drivers(actor);
     cover(made, is_of_driver);
     nicd.events += step->kind >= STEP_RX;
+    nicd_in_place_see(made);
+    nicd.links += step->kind == STEP_LINK;
     tell_fault(step);
     judge_sleep(step, is_of_driver);
+    nicd_reach_step(step, is_of_driver);
     if (is_of_driver) {
         judge_ended(actor, step);
         judge_lent(step);
@@ -334,6 +344,7 @@ void nicd_watch_begin(void)
     memset(nicd.went, 0, sizeof nicd.went);
     nicd.count = nicd.late = nicd.oldest = nicd.let_in = 0;
     nicd.partial = -1;
+    nicd_reach_begin();
 }
 
 void nicd_delivered_one(void)

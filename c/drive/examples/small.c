@@ -80,9 +80,9 @@ static bool my_open(const nicd_setup *setup)
         post(slot);
     }
     start_queue();
-    nicx_write32(NIC_RXCTRL, NIC_RXCTRL_RXEN);
     if (setup->interrupts)
         start_interrupts();
+    nicx_write32(NIC_RXCTRL, NIC_RXCTRL_RXEN);
     return true;
 }
 
@@ -108,6 +108,7 @@ int main(int argc, char **argv)
 {
     static const nicd_driver card = {
         .name = "small",
+        .can = NICD_NO_ADDRESS | NICD_NO_HEADS | NICD_NO_MODERATION,
         .open = my_open,
         .close = my_close,
         .receive = my_receive,

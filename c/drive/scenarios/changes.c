@@ -1,6 +1,8 @@
 /* Link, reset, faults, other lengths and other rings, amid traffic. */
 #include "../engine/drive.h"
 
+enum { MOST_REFUSED = 6 }; /* one of so many requests for memory, from the first one on */
+
 /* --- the link --- */
 
 static const char *judge_link(void)
@@ -19,6 +21,20 @@ static void reset_once(void)
 }
 
 /* --- resets --- */
+
+/* A part of the first frame was written, or all of it. */
+static bool is_begun(void *unused)
+{
+    (void)unused;
+    return nicd.partial >= 0 || nicd.frames[0].state >= IS_WRITTEN;
+}
+
+static void reset_amid_frame(void)
+{
+    nicx_wait_until(is_begun, NULL);
+    nicx_pause(); /* the driver looks at it */
+    reset_once();
+}
 
 static void reset_twice(void)
 {
@@ -83,7 +99,7 @@ static void break_and_reset(bool transmit)
     nicd.is_running = true; /* a call may fail now: the memory is the card's fault */
     nicx_wait_until(is_over, &transmit);
     if (is_off(transmit))
-        nicd_reach(0);
+        nicd_reach(MET_FAULT);
     nicd_hold();
     nicx_lend(block);
     nic_dma_write(nicx_device(), (uint64_t)block * NIC_BLOCK_BYTES, kept, sizeof kept);
@@ -124,7 +140,7 @@ static void break_send(void)
     nicx_take(block);
     nicx_wait_until(is_over, &transmit);
     if (is_off(transmit))
-        nicd_reach(0);
+        nicd_reach(MET_FAULT);
     nicx_lend(block);
     nic_dma_write(nicx_device(), (uint64_t)block * NIC_BLOCK_BYTES, kept, sizeof kept);
     nicd_reset();
@@ -184,6 +200,23 @@ static void make_rings_longer(void)
     nicd_go_on();
 }
 
+/* One of its requests for memory is refused: then it answers false, and the rings are what they were. */
+static void refuse_one(void)
+{
+    uint32_t before = nicd_memory_taken();
+    nicd_hold();
+    nicd.allocations = 0;
+    nicd.refuse = 1 + nicx_choose(MOST_REFUSED);
+    bool is_done = nicd_try_to_resize(16);
+    nicd.refuse = 0;
+    if (!is_done)
+        nicd_reach(NO_MEMORY);
+    if (!is_done && nicd_memory_taken() != before)
+        nicd_failed("resize was refused memory: %u pieces are taken after it, and %u were before",
+                    (unsigned)nicd_memory_taken(), (unsigned)before);
+    nicd_go_on();
+}
+
 static const char *judge_rings(void)
 {
     uint32_t length = nicd_peek(NIC_RDLEN(nicd.base));
@@ -222,17 +255,19 @@ const struct scenario nicd_resets[] = {
         .takes = true, .sends = 3, .comes = 4, .late = 2),
     ROW("reset-twice", "two resets, and traffic after them", reset_rule, "Software Reset", RECEIVES | RESET,
         .ways = LOSSY | DROPS, .control = reset_twice, .takes = true, .comes = 3, .late = 2, .see = nicd_see_held),
+    ROW("reset-amid-chains", "a reset during frames of several buffers",
+        "A frame whose end was lost by a reset is thrown away", "Software Reset", RECEIVES | RESET,
+        .ways = LOSSY | DROPS, .setup = {.frame = 5000}, .control = reset_amid_frame, .takes = true, .comes = 2,
+        .late = 2, .length = 5000),
     ROW("reset-memory", "three resets and a close, and nothing is left",
         "A reset that takes memory gives back what it had", "reset of the adapter", RESET, .ways = LOSSY | DROPS,
         .control = reset_and_count, .takes = true, .comes = 2),
     ROW("fault-receive", "a receive queue met a fault, and is reset",
         "A queue that met a fault is off until software sets it up anew", "reset of the adapter", PULLS | RESET,
-        .ways = LOSSY | DROPS | FAULTY, .control = break_receive, .comes = 1, .late = 2, .end = judge_recovery,
-        .reaches = {"the queue met the fault"}),
+        .ways = LOSSY | DROPS | FAULTY, .control = break_receive, .comes = 1, .late = 2, .end = judge_recovery),
     ROW("fault-send", "a transmit queue met a fault, and is reset",
         "A queue that met a fault is off until software sets it up anew", "reset of the adapter", SENDS | RESET,
-        .ways = LOSSY | DROPS | FAULTY, .control = break_send, .end = judge_recovery,
-        .reaches = {"the queue met the fault"}),
+        .ways = LOSSY | DROPS | FAULTY, .control = break_send, .end = judge_recovery),
     {0}};
 
 const struct scenario nicd_changes[] = {
@@ -248,4 +283,8 @@ const struct scenario nicd_changes[] = {
         "A frame whose end was lost with its ring is thrown away", "Dynamic Disabling of Receive Queues",
         RECEIVES | RESIZE, .ways = LOSSY | DROPS, .setup = {.frame = 5000}, .control = make_rings_longer, .takes = true,
         .comes = 2, .late = 2, .length = 5000, .end = judge_rings, .see = nicd_see_held),
+    ROW("resize-refused", "other rings, for which there is no memory",
+        "A call that answers false leaves all as it was: frames go on by the rings that were there",
+        "resize of the adapter", RECEIVES | RESIZE, .ways = LOSSY | DROPS, .control = refuse_one, .takes = true,
+        .sends = 3, .comes = 3, .late = 3, .see = nicd_see_held),
     {0}};

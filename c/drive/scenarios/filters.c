@@ -5,15 +5,30 @@
 
 static nicd_filter now;
 
-static bool is_wanted(const struct come *come)
+/* Whether an address of its list is a multicast one: frames come to one of each kind at most. */
+static bool has(const nicd_filter *filter, bool is_multicast)
+{
+    for (uint32_t k = 0; k < filter->count; k++)
+        if ((filter->address[k][0] & 1) == is_multicast)
+            return true;
+    return false;
+}
+
+bool nicd_is_wanted(const nicd_filter *filter, const struct come *come)
 {
     switch (come->to) {
     case TO_OWN: return true;
-    case TO_BROADCAST: return now.broadcast;
-    case TO_MULTICAST: return now.all_multicast || (now.count && now.address[0][0] & 1);
-    case TO_SECOND: return now.all_unicast || (now.count && !(now.address[0][0] & 1));
-    default: return now.all_unicast;
+    case TO_BROADCAST: return filter->broadcast;
+    case TO_MULTICAST: return filter->all_multicast || has(filter, true);
+    case TO_SECOND: return filter->all_unicast || has(filter, false);
+    default: return filter->all_unicast;
     }
+}
+
+const char *nicd_whose(const struct come *come)
+{
+    static const char *const whose[] = {"its own", "another", "the broadcast", "a multicast", "a second"};
+    return whose[come->to];
 }
 
 static const char *judge(void)
@@ -21,10 +36,9 @@ static const char *judge(void)
     for (uint16_t k = 0; k < nicd.count; k++) {
         const struct frame_now *frame = &nicd.frames[k];
         bool came = frame->state == IS_DELIVERED;
-        if (came == is_wanted(&nicd.coming[k]) && (came || frame->why == NIC_WHY_FILTER))
+        if (came == nicd_is_wanted(&now, &nicd.coming[k]) && (came || frame->why == NIC_WHY_FILTER))
             continue;
-        static const char *const whose[] = {"its own", "another", "the broadcast", "a multicast", "a second"};
-        nicd_note("a frame to %s address %s", whose[nicd.coming[k].to],
+        nicd_note("a frame to %s address %s", nicd_whose(&nicd.coming[k]),
                   came ? "came in, and the filter doesn't say so" : "didn't come in, and the filter says so");
         return nicd.fault;
     }
@@ -44,8 +58,7 @@ static void come_to_all(void)
 static void set(const nicd_filter *filter)
 {
     now = *filter;
-    if (!nicd.driver->filter(&now))
-        nicd_note("filter answered false");
+    nicd_set_filter(&now);
     come_to_all();
 }
 
@@ -90,9 +103,18 @@ static void let_in_and_out(void)
 {
     static const nicd_filter all = {
         .all_unicast = true, .all_multicast = true, .broadcast = true, .count = 1, .address = {{2, 0, 0, 0, 0, 0x22}}};
-    if (!nicd.driver->filter(&all))
-        nicd_note("filter answered false");
+    nicd_set_filter(&all);
     let_own_in();
+}
+
+/* Two multicast addresses, and then a unicast one in their place. */
+static void let_multicast_out(void)
+{
+    static const nicd_filter two = {.count = 2, .address = {{1, 0, 0x5E, 0, 0, 0x11}, {1, 0, 0x5E, 0, 0, 0x22}}},
+                             other = {.count = 1, .address = {{2, 0, 0, 0, 0, 0x22}}};
+    if (!nicd.driver->filter(&two))
+        nicd_note("filter answered false");
+    set(&other);
 }
 
 /* Broadcast frames come in by BAM: on the card MPE alone doesn't let them in. */
@@ -121,4 +143,8 @@ const struct scenario nicd_filters[] = {
                "Each of 128 receive addresses counts where its AV is 1", "Receive Address"),
     FILTER_ROW("filter-no-longer", "all were let in, and no longer are", let_in_and_out,
                "What isn't wanted any more is taken out of the filters", "filter of the adapter"),
+    FILTER_ROW("filter-multicast-no-longer", "multicast addresses were let in, and no longer are", let_multicast_out,
+               "What is no longer wanted is taken out of the table, and a receive address that held it is the next "
+               "one's",
+               "Multicast Table Array"),
     {0}};

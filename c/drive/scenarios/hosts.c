@@ -86,6 +86,7 @@ static void function_withdraws(void)
         answer = nicx_vf_read32(0, NIC_VFMBMEM(0));
     }
     mail.read[0]++;
+    nicd_reach(MAIL_GIVEN);
 }
 
 static void function_reads_one(uint32_t k)
@@ -95,6 +96,7 @@ static void function_reads_one(uint32_t k)
         nicd_failed("message %u of the host is read as 0x%08x 0x%08x by the function", (unsigned)k, (unsigned)first,
                     (unsigned)second);
     mail.read[0]++;
+    nicd_reach(MAIL_GIVEN);
     nicx_vf_write32(0, NIC_VFMAILBOX, NIC_PVFMAILBOX_ACK);
 }
 
@@ -134,6 +136,7 @@ static bool take(uint8_t vf, uint32_t *number)
         nicd_failed("a message of function %u is taken as 0x%08x 0x%08x: it was mixed or overwritten", vf,
                     (unsigned)words[0], (unsigned)words[1]);
     mail.taken[vf]++;
+    nicd_reach(vf ? MAIL_TAKEN_1 : MAIL_TAKEN);
     return true;
 }
 
@@ -190,17 +193,25 @@ static void tell_and_serve(void *unused)
     }
 }
 
+/* The device is ready for functions for as long as it has a host. */
+static const char *judge_ready(void)
+{
+    return nicd_peek(NIC_CTRL_EXT) & NIC_CTRL_EXT_PFRSTD
+               ? NULL
+               : "CTRL_EXT.PFRSTD is 0: to its functions the host isn't there";
+}
+
 static const char *judge(void)
 {
     for (unsigned vf = 0; vf < FUNCTIONS_THERE; vf++)
         if (mail.taken[vf] < mail.given[vf])
             return "a message of a function was put into the mailbox, and the host's driver never took it";
-    return NULL;
+    return judge_ready();
 }
 
 static const char *judge_answer(void)
 {
-    return mail.read[0] ? NULL : "the function waits for the answer to its request, and none comes";
+    return mail.read[0] ? judge_ready() : "the function waits for the answer to its request, and none comes";
 }
 
 static void begin(void (*function)(void), const char *name)
@@ -245,7 +256,7 @@ const struct scenario nicd_hosts[] = {
              take_from_two, judge),
     HOST_ROW("host-sends-messages", "two messages to a function",
              "A side takes the mailbox before it writes, and writes the next message once the last one is read",
-             tell_one, NULL),
+             tell_one, judge_ready),
     HOST_ROW("host-collides", "both sides send at once",
              "VFU and PFU are never both 1: who comes second tries again, and a request that waits isn't overwritten",
              collide, judge),

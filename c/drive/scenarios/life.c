@@ -45,9 +45,25 @@ static void open_and_close(void)
     see_nothing_left();
 }
 
+static void open_alone(void)
+{
+    nicx_check(nicd_open(), "open answered false");
+}
+
 static void open_with_frames(void)
 {
     nicx_check(nicd_open(), "open answered false");
+    nicd_go_on();
+}
+
+enum { ONCE_RECEPTION_IS_ON = 3 };
+
+/* The first frames come as soon as reception is on: what the driver does from then on is beside them. */
+static void see_reception(const struct step *step, bool is_drivers)
+{
+    if (is_drivers && step->kind == STEP_WRITE && step->address == NIC_RXCTRL && step->word & NIC_RXCTRL_RXEN &&
+        nicd.late >= ONCE_RECEPTION_IS_ON)
+        nicd_let_come(ONCE_RECEPTION_IS_ON);
 }
 
 static void close_all(void)
@@ -55,6 +71,12 @@ static void close_all(void)
     nicd_hold();
     nicd_close();
     see_nothing_left();
+}
+
+static void come_by_two(void)
+{
+    nicd_take_frames();
+    nicd_come_flows(NIC_RSS_TCP_IPV4, 4);
 }
 
 static void send_two(void)
@@ -69,17 +91,26 @@ static bool all_went(void *unused)
     return nicd.went[0] == nicd.accepted[0];
 }
 
+static bool is_taken(void *number)
+{
+    return nicd.frames[*(const uint16_t *)number].state == IS_DELIVERED;
+}
+
+/* Each life takes a frame, so that its ring stands elsewhere than a new one. */
 static void three_lives(void)
 {
     for (unsigned life = 0; life < 3; life++) {
         nicx_check(nicd_open(), "open answered false");
         send_two();
         nicx_wait_until(all_went, NULL);
+        uint16_t number = nicd_let_one_come();
+        nicx_wait_until(is_taken, &number);
         nicd_hold();
         nicd_close();
         see_nothing_left();
     }
     nicx_check(nicd_open(), "open answered false");
+    nicd_let_one_come();
 }
 
 /* Each of open's requests for memory is refused once; then none is. */
@@ -97,7 +128,8 @@ static void refuse_each(void)
     }
     nicx_check(is_open, "open answers false, and no memory was refused");
     if (refused > 1)
-        nicd_reach(0);
+        nicd_reach(NO_MEMORY);
+    nicd_go_on();
 }
 
 static void rest_and_go_on(void)
@@ -128,7 +160,13 @@ const struct scenario nicd_life[] = {
         "What close leaves is as it was before open: queues off, causes masked, memory given back",
         "close of the adapter", 0, .ways = OPENS, .control = open_and_close),
     ROW("open-amid-frames", "frames come while it opens", "RXEN is set once all else is", "Receive Initialization",
-        RECEIVES, .ways = OPENS | LOSSY | DROPS, .control = open_with_frames, .takes = true, .comes = 3),
+        RECEIVES, .ways = OPENS | LOSSY | DROPS, .control = open_with_frames, .takes = true, .comes = 3, .late = 2),
+    ROW("open-amid-interrupts", "the same with interrupts: each frame that it let in is handed up",
+        "A frame that comes once reception is on raises its cause, so vectors are there before, or EICS raises the "
+        "causes "
+        "once all is",
+        "Interrupt Causes", RECEIVES | INTERRUPTS, .ways = OPENS | DROPS, .setup = {.interrupts = true},
+        .control = open_alone, .takes = true, .late = ONCE_RECEPTION_IS_ON, .see = see_reception),
     ROW("close-amid-frames", "frames come while it closes", stop_rule, "Dynamic Disabling of Receive Queues", RECEIVES,
         .ways = LOSSY | DROPS, .control = close_all, .takes = true, .comes = 5),
     ROW("close-amid-sends", "frames are on their way out while it closes", stop_rule,
@@ -136,13 +174,17 @@ const struct scenario nicd_life[] = {
     ROW("close-amid-all", "both, with interrupts", stop_rule, "Dynamic Disabling of Receive Queues",
         RECEIVES | SENDS | INTERRUPTS, .ways = LOSSY | DROPS, .setup = {.interrupts = true}, .control = close_all,
         .takes = true, .sends = 3, .comes = 3),
+    ROW("close-two-queues", "a driver of two queues closes while frames of both come", stop_rule,
+        "Dynamic Disabling of Receive Queues", RECEIVES, .ways = LOSSY | DROPS, .setup = {.queues = 2},
+        .control = close_all, .begin = come_by_two, .sends = 3),
     ROW("restart", "three lives, then a fourth that goes on",
         "What an earlier life left, in rings, heads and causes, isn't taken for news", "open of the adapter", RECEIVES,
-        .ways = OPENS | LOSSY | DROPS, .control = three_lives, .takes = true, .comes = 4, .see = nicd_see_held),
+        .ways = OPENS | LOSSY | DROPS, .control = three_lives, .takes = true, .comes = 4, .late = 4,
+        .see = nicd_see_held),
     ROW("memory-refused", "each request for memory is refused once",
         "An open that is refused memory leaves nothing behind, and the next one succeeds", "open of the adapter",
         RECEIVES, .ways = OPENS | LOSSY | DROPS, .points = 60000, .control = refuse_each, .takes = true, .comes = 2,
-        .reaches = {"memory was refused"}),
+        .late = 2),
     ROW("suspend", "suspend and resume amid traffic", stop_rule, "suspend of the adapter", RECEIVES | SENDS | SUSPEND,
         .ways = LOSSY | DROPS, .control = rest_and_go_on, .takes = true, .sends = 3, .comes = 3, .late = 2,
         .see = nicd_see_held),

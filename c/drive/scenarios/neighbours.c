@@ -93,7 +93,8 @@ static const char rule[] =
 
 const struct scenario nicd_neighbours[] = {
     ROW("neighbour-traffic", "traffic beside another's queue", rule, "open of the adapter", RECEIVES | PHYSICAL,
-        .ways = NEIGHBOUR, .begin = move_in, .takes = true, .sends = 10, .comes = 10, .end = judge, .see = see),
+        .ways = NEIGHBOUR, .begin = move_in, .takes = true, .rings = 1, .sends = 2, .comes = 2, .end = judge,
+        .see = see),
     ROW("neighbour-interrupts", "the same with interrupts", rule, "open of the adapter",
         RECEIVES | PHYSICAL | INTERRUPTS, .ways = NEIGHBOUR, .setup = {.interrupts = true}, .begin = move_in,
         .takes = true, .sends = 10, .comes = 10, .end = judge, .see = see),

@@ -3,12 +3,13 @@
 
 #include "../engine/drive.h"
 
-enum { FLOWS = 10, MOST_FLOWS = 64, OF_EACH = 3 };
+enum { FLOWS = 10, MOST_FLOWS = 64, OF_EACH = 3, LATE_FLOWS = 4 };
 
-static nicd_rss wanted;
+static nicd_rss wanted, before; /* as was asked for last, and before that */
 
 static void choose(uint32_t types, unsigned shift)
 {
+    before = wanted;
     for (unsigned k = 0; k < sizeof wanted.key; k++)
         wanted.key[k] = (uint8_t)(k * 59 + 7 + shift);
     for (unsigned k = 0; k < sizeof wanted.table; k++)
@@ -56,19 +57,39 @@ static const char *entry_of(const struct come *come, uint16_t number)
     return words;
 }
 
+const char *nicd_judge_queue(uint16_t number)
+{
+    unsigned queue = queue_of(&nicd.coming[number], number);
+    if (nicd.frames[number].state != IS_DELIVERED || nicd.frames[number].queue == queue)
+        return NULL;
+    nicd_note("frame %u came by queue %u, and is to come by %u: %s", number, nicd.frames[number].queue, queue,
+              entry_of(&nicd.coming[number], number));
+    return nicd.fault;
+}
+
 static const char *judge_queues(void)
 {
-    for (uint16_t k = 0; k < nicd.count; k++) {
-        unsigned queue = queue_of(&nicd.coming[k], k);
-        if (nicd.frames[k].state == IS_DELIVERED && nicd.frames[k].queue != queue) {
-            nicd_note("frame %u came by queue %u, and is to come by %u: %s", k, nicd.frames[k].queue, queue,
-                      entry_of(&nicd.coming[k], k));
+    for (uint16_t k = 0; k < nicd.count; k++)
+        if (nicd_judge_queue(k))
             return nicd.fault;
-        }
-        if (queue < MOST_REACHED && nicd.frames[k].state == IS_DELIVERED)
-            nicd_reach(queue);
-    }
     return NULL;
+}
+
+/* Of frames that came and were written before the change the old table counts, and after it the new one. */
+static const char *judge_changed(void)
+{
+    nicd_rss now = wanted;
+    for (uint16_t k = 0; k < nicd.count && !nicd.fault; k++) {
+        const struct frame_now *frame = &nicd.frames[k];
+        if (frame->state != IS_DELIVERED || frame->era != frame->written_era || frame->era == DURING)
+            continue;
+        wanted = frame->era == BEFORE && nicd.era == AFTER ? before : now;
+        if (frame->era == AFTER)
+            nicd_reach(CAME_AFTER);
+        nicd_judge_queue(k);
+    }
+    wanted = now;
+    return nicd.fault;
 }
 
 /* As many for each of four queues, so that none is full. */
@@ -85,8 +106,19 @@ static void come_to_each(uint8_t type)
 static void ask(uint32_t types)
 {
     choose(types, 0);
-    if (!nicd.driver->rss(&wanted))
-        nicd_note("rss answered false");
+    nicd_set_rss(&wanted);
+}
+
+void nicd_spread_otherwise(void)
+{
+    choose(1u << NIC_RSS_TCP_IPV4, 1);
+    nicd_set_rss(&wanted);
+}
+
+void nicd_spread_flows(void)
+{
+    if (nicd.driver->rss)
+        ask(1u << NIC_RSS_TCP_IPV4);
 }
 
 static void come_of_type(void)
@@ -99,11 +131,17 @@ static void come_of_type(void)
         nicd_come_flows(type, FLOWS);
 }
 
+static void come_before_and_after(void)
+{
+    come_of_type();
+    nicd_come_flows(nicd.scenario->type, LATE_FLOWS);
+    nicd.late = LATE_FLOWS;
+}
+
 static void change_table(void)
 {
     nicd_hold();
-    choose(1u << NIC_RSS_TCP_IPV4, 1);
-    nicx_check(nicd.driver->rss(&wanted), "rss answered false");
+    nicd_spread_otherwise();
     nicd_go_on();
 }
 
@@ -113,8 +151,7 @@ static const char rule[] =
 
 #define TYPE(row, what, of)                                                                                            \
     ROW(row, "flows of " what " over the queues", rule, "Receive Side Scaling", RECEIVES | RSS,                        \
-        .setup = {.queues = 2, .slots = 16}, .begin = come_of_type, .takes = true, .type = of, .end = judge_queues,    \
-        .reaches = {"queue 0", "queue 1"})
+        .setup = {.queues = 2, .slots = 16}, .begin = come_of_type, .takes = true, .type = of, .end = judge_queues)
 
 const struct scenario nicd_rss_rows[] = {
     TYPE("rss-tcp-ipv4", "TCP over IPv4", NIC_RSS_TCP_IPV4),
@@ -124,17 +161,15 @@ const struct scenario nicd_rss_rows[] = {
     TYPE("rss-udp-ipv6", "UDP over IPv6", NIC_RSS_UDP_IPV6),
     TYPE("rss-ipv6", "IPv6 without ports", NIC_RSS_IPV6),
     ROW("rss-none", "frames that aren't hashed", rule, "Receive Side Scaling", RECEIVES | RSS,
-        .setup = {.queues = 2, .slots = 16}, .begin = come_of_type, .takes = true, .end = judge_queues,
-        .reaches = {"queue 0"}),
+        .setup = {.queues = 2, .slots = 16}, .begin = come_of_type, .takes = true, .end = judge_queues),
     ROW("rss-four-queues", "flows of TCP over IPv4 over four queues", rule, "Receive Side Scaling", RECEIVES | RSS,
-        .setup = {.queues = 4}, .begin = come_of_type, .takes = true, .type = NIC_RSS_TCP_IPV4, .end = judge_queues,
-        .reaches = {"queue 0", "queue 1", "queue 2", "queue 3"}),
+        .setup = {.queues = 4}, .begin = come_of_type, .takes = true, .type = NIC_RSS_TCP_IPV4, .end = judge_queues),
     ROW("rss-four-vectors", "flows of UDP over IPv4 over four queues, with messages",
         "Queues 2 and 3 have their bytes in the second word of IVAR", "Interrupt Vector Allocation",
         RECEIVES | RSS | INTERRUPTS, .setup = {.queues = 4, .interrupts = true}, .begin = come_of_type, .takes = true,
-        .type = NIC_RSS_UDP_IPV4, .end = judge_queues, .reaches = {"queue 0", "queue 1", "queue 2", "queue 3"}),
+        .type = NIC_RSS_UDP_IPV4, .end = judge_queues),
     ROW("rss-changed", "another key and table while frames come",
         "A write of RETA takes effect at no particular frame: each is handed up by the queue that it came by",
         "Redirection Table", RECEIVES | RSS, .setup = {.queues = 2, .slots = 16}, .control = change_table,
-        .begin = come_of_type, .takes = true, .type = NIC_RSS_TCP_IPV4),
+        .begin = come_before_and_after, .takes = true, .type = NIC_RSS_TCP_IPV4, .end = judge_changed),
     {0}};

@@ -43,6 +43,7 @@ static void see_descriptor(const struct step *step, bool is_drivers)
     uint64_t second = second_of(step->told.queue, slot);
     if ((second & NIC_TXD_DTYP) != NIC_TXD_DTYP_IS(3))
         return;
+    nicd_reach(DESCRIPTOR);
     if (!frame.is_amid) {
         frame.is_amid = true;
         frame.length = 0;
@@ -80,6 +81,11 @@ static bool reaches(const struct step *step, uint64_t at, uint32_t length)
     return step->bus < at + length && at < step->bus + step->length;
 }
 
+static uint64_t place_of_head(void)
+{
+    return ((uint64_t)nicd_peek(NIC_TDWBAH(0)) << 32 | nicd_peek(NIC_TDWBAL(0))) & ~UINT64_C(3);
+}
+
 static void see_write_back(const struct step *step, bool is_drivers)
 {
     struct nicd_ring ring = nicd_ring_of(nicx_device(), true, 0);
@@ -90,23 +96,46 @@ static void see_write_back(const struct step *step, bool is_drivers)
     if (step->kind != STEP_PEEK)
         return;
     if (head & NIC_TDWBAL_HEAD_WB_EN)
-        was_read |= reaches(step, ((uint64_t)nicd_peek(NIC_TDWBAH(0)) << 32 | head) & ~UINT64_C(3), 4);
+        was_read |= reaches(step, place_of_head(), 4);
     for (unsigned slot = 0; slot < ring.slots; slot++)
         was_read |= reaches(step, ring.base + NIC_DESC_BYTES * slot + 12, 1) && second_of(0, slot) & NIC_TXWB_DD;
+}
+
+static bool have_gone(void *unused)
+{
+    (void)unused;
+    return nicd.went[0] == nicd.accepted[0];
+}
+
+/* What a driver reads by pointers isn't seen. So here all went out, and nothing is written back yet: reclaim can't know
+   it but by TDH. Then what was written back is there. */
+static void reclaim_in_place(void)
+{
+    struct nicd_ring ring = nicd_ring_of(nicx_device(), true, 0);
+    nicx_wait_until(have_gone, NULL);
+    was_read = nicd_reclaim(0) != 0;
+    nicd_in_place_copy(ring.base, (uint64_t)NIC_DESC_BYTES * ring.slots);
+    nicd_in_place_copy(place_of_head(), 4);
+    nicd.events++;
 }
 
 static void send_and_reclaim(void)
 {
     for (unsigned round = 0; round < 3; round++) {
         was_read = has_head = false;
+        nicd.holds_back = true; /* where the ring is in place */
         for (unsigned k = 0; k < 3; k++)
             nicd_send_surely(0, 60);
+        if (nicd_in_place_has(nicd_ring_of(nicx_device(), true, 0).base))
+            reclaim_in_place();
+        nicd.holds_back = false;
         nicd_wait_until_out(0);
         if (!was_read)
             nicd_failed(
                 "reclaim says that all of queue 0 went out, and neither DD of a slot was read nor a head that the "
                 "device wrote%s",
                 has_head ? ": TDH was, which on the card moves before the buffers are read" : "");
+        nicd_reach(WRITTEN_BACK);
     }
 }
 

@@ -1,12 +1,14 @@
 /* How a driver sets the controller up: order and values, also where the bench forgives what the card doesn't. */
 #include "../engine/drive.h"
 
+enum { OTHERS_ACT = 6 }; /* changes of the link, so that a queue that was asked to go on isn't the next to act */
+
 #define EITR_RESERVED UINT32_C(0x70007007)
 
 static struct {
     bool is_masked; /* EIMC was written with all causes, since the last reset */
     bool was_reset;
-    uint32_t causes; /* in EICR before the driver's access */
+    uint32_t highs[2]; /* queues of each side whose RDBAH or TDBAH was written */
 } seen;
 
 /* Whether an address is the register of a queue whose first one this is. */
@@ -81,6 +83,22 @@ static void see_masks(const struct step *step, bool is_drivers)
     seen.is_masked = false;
 }
 
+/* A queue's cause is enabled, and its vector isn't there yet, or is named afterwards. */
+static void see_vectors(const struct step *step, bool is_drivers)
+{
+    uint32_t enabled = nicd_peek(NIC_EIMS) & NIC_EICR_RTXQ;
+    bool names = step->address >= NIC_IVAR(0) && step->address <= NIC_IVAR(63) && step->address % 4 == 0;
+    if (!is_write(step, is_drivers) || !enabled)
+        return;
+    if (names)
+        nicd_note("IVAR(%u) is written while EIMS is 0x%08x: a frame that came before has no vector",
+                  (unsigned)(step->address - NIC_IVAR(0)) / 4, (unsigned)nicd_peek(NIC_EIMS));
+    for (unsigned queue = 0; queue < nicd.setup.queues && step->address == NIC_EIMS; queue++)
+        if (!(nicd_peek(NIC_IVAR(queue / 2)) >> 16 * (queue % 2) & 0x80))
+            nicd_note("EIMS enables the causes 0x%04x of queues, and the byte of IVAR for receive queue %u isn't valid",
+                      (unsigned)enabled, queue);
+}
+
 /* In the mode for MSI-X a read of EICR leaves the causes of queues on the card; the bench clears them. */
 static void see_cause_read(const struct step *step, bool is_drivers)
 {
@@ -93,12 +111,31 @@ static void see_cause_read(const struct step *step, bool is_drivers)
 
 /* --- values, each with the access --- */
 
+/* Nobody says what a reset leaves in the high half of a ring's address: on the bench it is 0. */
+static void see_high_half(const struct step *step)
+{
+    const struct {
+        uint32_t high, control;
+        const char *name;
+    } sides[2] = {{NIC_RDBAH(0), NIC_RXDCTL(0), "RDBAH"}, {NIC_TDBAH(0), NIC_TXDCTL(0), "TDBAH"}};
+    unsigned queue;
+    for (unsigned side = 0; side < 2; side++) {
+        if (is_of_queue(step->address, sides[side].high, &queue))
+            seen.highs[side] |= 1u << queue;
+        if (is_of_queue(step->address, sides[side].control, &queue) && step->word & NIC_RXDCTL_ENABLE &&
+            !(seen.highs[side] >> queue & 1))
+            nicd_note("queue %u is enabled, and %s(%u) wasn't written: the card has anything there, the bench 0", queue,
+                      sides[side].name, queue);
+    }
+}
+
 static void see_ring(const struct step *step, bool is_drivers)
 {
     unsigned queue;
     uint32_t address = step->address, word = step->word;
     if (!is_write(step, is_drivers))
         return;
+    see_high_half(step);
     if ((is_of_queue(address, NIC_RDBAL(0), &queue) || is_of_queue(address, NIC_TDBAL(0), &queue)) && word % 128)
         nicd_note("a ring begins at 0x%x, which is no multiple of 128", (unsigned)word);
     if ((is_of_queue(address, NIC_RDLEN(0), &queue) || is_of_queue(address, NIC_TDLEN(0), &queue)) &&
@@ -152,7 +189,6 @@ static void see_moderation(const struct step *step, bool is_drivers)
     for (unsigned vector = 0; vector < 16 && is_write(step, is_drivers); vector++) {
         if (step->address != NIC_EITR(vector))
             continue;
-        nicd_reach(0);
         eitr_vectors |= step->word & NIC_EITR_ITR_INTERVAL ? 1u << vector : 0;
         if (step->word & EITR_RESERVED)
             nicd_note(
@@ -187,6 +223,8 @@ static void check_mode(void)
 {
     nicx_check(nicd_peek(NIC_GPIE) & NIC_GPIE_MULTIPLE_MSIX,
                "GPIE.MULTIPLE_MSIX is 0: the card has no message for each vector then");
+    if (nicd_peek(NIC_EIAM) & NIC_EIAM_RTXQ && !(nicd_peek(NIC_GPIE) & NIC_GPIE_EIAME))
+        nicd_failed("EIAM is 0x%08x, and GPIE.EIAME is 0: no message masks its cause", (unsigned)nicd_peek(NIC_EIAM));
 }
 
 static void check_vectors(void)
@@ -259,7 +297,10 @@ static void check_loaded(void)
 
 static void check_hash(void)
 {
+    nicd_spread_flows();
     uint32_t mode = nicd_peek(NIC_MRQC);
+    if (mode & NIC_MRQC_MRQE)
+        nicd_reach(HASHES);
     nicx_check(!(mode & NIC_MRQC_MRQE) || nicd_peek(NIC_RXCSUM) & NIC_RXCSUM_PCSD,
                "RXCSUM.PCSD is 0: the descriptor has a checksum in place of the hash");
 }
@@ -281,6 +322,7 @@ static void open_and_check(void)
 static void forget(void)
 {
     seen.is_masked = seen.was_reset = false;
+    seen.highs[0] = seen.highs[1] = 0;
     eitr_vectors = 0;
 }
 
@@ -294,8 +336,10 @@ const struct scenario nicd_setup_rows[] = {
     SEES("setup-transmit-order", SENDS | PHYSICAL, "the device's transmit enable comes before a queue's",
          see_transmit_enable, "DMATXCTL.TE is set before TXDCTL.ENABLE of any queue; the bench takes any order",
          "Transmit Initialization"),
-    SEES("setup-tail-order", RECEIVES | PHYSICAL, "the tail moves once the queue is on", see_tail,
-         "RDT is bumped after RXDCTL.ENABLE reads 1; the bench takes any order", "Receive Initialization"),
+    ROW("setup-tail-order", "the tail moves once the queue is on",
+        "RDT is bumped after RXDCTL.ENABLE reads 1; the bench takes any order", "Receive Initialization",
+        RECEIVES | PHYSICAL, .ways = OPENS, .control = open_and_check, .begin = forget, .links = OTHERS_ACT,
+        .see = see_tail),
     SEES("setup-head-order", RECEIVES | PHYSICAL, "heads are written while their queue is off", see_head,
          "RDH and TDH are written before the enable: while the queue is on the bench keeps them as they are",
          "Receive Descriptor Head"),
@@ -309,9 +353,11 @@ const struct scenario nicd_setup_rows[] = {
            "Interrupts During Initialization", .queues = 1),
     CHECKS("setup-masked-polling", PULLS | PHYSICAL, "a driver that polls enables no cause", check_masks,
            "EIMS enables the causes that a handler is there for", "open of the adapter", .queues = 1),
-    SEES("setup-ring-values", RECEIVES | PHYSICAL, "where rings lie, how long they are, where tails are", see_ring,
-         "A ring begins at a multiple of 128 and has a multiple of 128 bytes; the bench drops the low bits",
-         "Receive Descriptor Base Address"),
+    SEES(
+        "setup-ring-values", RECEIVES | PHYSICAL, "where rings lie, how long they are, where tails are", see_ring,
+        "A ring begins at a multiple of 128 and has a multiple of 128 bytes; the bench drops the low bits. Both halves "
+        "of its address are written: what a reset leaves there is undefined",
+        "Receive Descriptor Base Address"),
     SEES("setup-buffer-values", RECEIVES | PHYSICAL, "the kind and size of receive buffers", see_buffers,
          "DESCTYPE 1 is the advanced descriptor with one buffer, BSIZEPACKET its size in KB", "Split Receive Control"),
     SEES("setup-address-values", PHYSICAL, "reserved bits of the receive addresses", see_address,
@@ -322,9 +368,9 @@ const struct scenario nicd_setup_rows[] = {
          "Transmit Descriptor Control"),
     SEES("setup-alignment", 0, "registers are words", see_alignment, "A register's address is a multiple of 4",
          "Register Conventions"),
-    CHECKS("setup-enables-polled", PHYSICAL, "open waits for its queues", check_enables,
-           "ENABLE becomes 1 some time after it is written, and software polls it", "Receive Descriptor Control",
-           .queues = 1),
+    ROW("setup-enables-polled", "open waits for its queues",
+        "ENABLE becomes 1 some time after it is written, and software polls it", "Receive Descriptor Control", PHYSICAL,
+        .ways = OPENS, .control = open_and_check, .begin = forget, .links = OTHERS_ACT, .opened = check_enables),
     CHECKS("setup-crc", RECEIVES | PHYSICAL, "both places agree on the check sequence", check_crc,
            "RDRXCTL.CRCSTRIP and HLREG0.RXCRCSTRP are set alike; RDRXCTL has no effect on the bench",
            "Receive DMA Control", .queues = 1),
@@ -332,15 +378,19 @@ const struct scenario nicd_setup_rows[] = {
            "RSCACKC and FCOE_WRFIX are set by software after each reset; RDRXCTL has no effect on the bench",
            "Receive DMA Control", .queues = 1),
     CHECKS("setup-gpie", INTERRUPTS | PHYSICAL, "the mode for MSI-X", check_mode,
-           "GPIE.MULTIPLE_MSIX is 1 for a message of each vector; the bench has them whatever GPIE is",
+           "GPIE.MULTIPLE_MSIX is 1 for a message of each vector; the bench has them whatever GPIE is. With MSI-X EIAM "
+           "masks as a message goes out where EIAME is 1",
            "General Purpose Interrupt Enable", .interrupts = true),
     CHECKS("setup-vectors", INTERRUPTS | RECEIVES | PHYSICAL, "each receive queue has a vector", check_vectors,
            "A byte of IVAR counts where its valid bit is 1", "Interrupt Vector Allocation", .interrupts = true),
+    ROW("setup-vector-order", "causes of queues are enabled once their vectors are there",
+        "IVAR names a queue's vector before EIMS enables its cause", "Interrupt Vector Allocation",
+        RECEIVES | INTERRUPTS | PHYSICAL, .ways = OPENS, .setup = {.interrupts = true}, .control = open_and_check,
+        .begin = forget, .see = see_vectors),
     ROW("setup-moderation", "what is written as the interval of a vector",
         "EITR has the interval in bits 11:3, for a vector; on the bench it has no effect",
         "Extended Interrupt Throttle", INTERRUPTS | PHYSICAL, .ways = OPENS, .setup = {.queues = 1, .interrupts = true},
-        .control = open_and_check, .begin = forget, .opened = check_moderation, .see = see_moderation,
-        .reaches = {"EITR was written"}),
+        .control = open_and_check, .begin = forget, .opened = check_moderation, .see = see_moderation),
     ROW("setup-cause-read", "causes of queues aren't taken by reads",
         "With MSI-X a queue's cause is cleared by EIAC or by a write of EICR; on the bench a read clears it too, "
         "unless GPIE.OCD is 1",
@@ -348,7 +398,7 @@ const struct scenario nicd_setup_rows[] = {
         .comes = 3, .see = see_cause_read),
     ROW("setup-tails-in-use", "tails stay within the ring, also over a wrap",
         "A tail is a slot of the ring; behind the last comes slot 0", "Receive Descriptor Tail", RECEIVES | PHYSICAL,
-        .takes = true, .sends = 10, .comes = 10, .see = see_ring),
+        .takes = true, .rings = 1, .sends = 2, .comes = 2, .see = see_ring),
     CHECKS("setup-long-frames", PHYSICAL, "the limit for longer frames", check_length,
            "Frames above 1,518 bytes on the wire want HLREG0.JUMBOEN, and MAXFRS counts the check sequence",
            "Maximum Frame Size", .frame = 4096),

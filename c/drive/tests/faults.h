@@ -19,5 +19,11 @@ WRONG(FROM_A_THREAD, "receive-one", "misuse: a thread that is no task makes a ca
 WRONG(THREAD_LEFT, "open-close", "thread0 acts for the driver, and close has returned")
 WRONG(LOCK_LEFT, "receive-wrap", "deadlock: receive0 waits for a lock, which receive0 holds")
 WRONG(MEMORY_LEFT, "open-close", "1 piece of DMA memory wasn't given back: \\d+ bytes at 0x\\w+, which open asked")
+WRONG(STORE_BEHIND_A_PIECE, "receive-one",
+      "memory: receive0 writes 0x\\w+, which isn't lent: 0 bytes behind the 128 at")
+WRONG(STORE_GIVEN_BACK, "receive-one", "memory: receive0 writes 0x\\w+, which isn't lent: ")
+WRONG(STORE_IN_OPEN, "receive-one",
+      "a pointer of the driver's writes 0x\\w+, which isn't lent: 0 bytes behind the 128 at")
+WRONG(POINTER_TO_NOTHING, "receive-one", "nicd_dma_pointer of 0x10, which isn't lent: no memory of nicd_dma_alloc lies")
 WRONG(LENDS_IN_PLACE, "open-close", "misuse: control calls nic_lend_memory")
 WRONG(STATE_LEFT, "receive-wrap", "misuse: begin doesn't make all of the driver's state anew")

@@ -50,6 +50,8 @@ static void fault_in_open(void)
         continue;
     while (MODE == WAIT_IN_OPEN && !(nicx_read32(NIC_EERD) & 2))
         nicx_wait();
+    if (MODE == STORE_IN_OPEN)
+        *((uint8_t *)nicd_dma_pointer(nicd_dma_alloc(128)) + 128) = 1;
     if (MODE == LENDS_IN_PLACE)
         nic_lend_memory(nicx_device(), 0x40000, memory, 4096);
 }
@@ -92,6 +94,21 @@ static void close_driver(void)
         nicd_dma_free(MODE == FREE_OTHERS ? 0x1000 : driver.ring);
 }
 
+static void store_where_nothing_is(void)
+{
+    uint8_t *ring = nicd_dma_pointer(driver.ring);
+    if (MODE == STORE_BEHIND_A_PIECE)
+        ring[NIC_DESC_BYTES * SLOTS] = 1;
+    if (MODE == STORE_GIVEN_BACK) {
+        uint64_t bus = nicd_dma_alloc(100);
+        uint8_t *piece = nicd_dma_pointer(bus);
+        nicd_dma_free(bus);
+        piece[0] = 1;
+    }
+    if (MODE == POINTER_TO_NOTHING)
+        nicd_dma_pointer(0x10);
+}
+
 static void fault_in_receive(void)
 {
     volatile int *nowhere = NULL;
@@ -104,6 +121,8 @@ static void fault_in_receive(void)
         continue;
     if (MODE == OUTSIDE_DMA)
         nicx_dma_write(driver.ring + NIC_DESC_BYTES * SLOTS, bytes, sizeof bytes);
+    if (MODE >= STORE_BEHIND_A_PIECE && MODE <= POINTER_TO_NOTHING)
+        store_where_nothing_is();
     if (MODE == OTHERS_DMA)
         nicx_lend(200);
     if (MODE == FROM_A_THREAD)

@@ -152,10 +152,10 @@ impl<const FAULT: u8> Both<FAULT> {
         set_up_device(platform);
         self.start_receive(platform);
         self.start_transmit(platform);
-        platform.write(RXCTRL, rxctrl::RXEN);
         if self.interrupts.get() {
             start_interrupts(platform);
         }
+        platform.write(RXCTRL, rxctrl::RXEN);
     }
 
     fn look(&self, platform: &Platform, second: u64) -> (bool, usize) {
@@ -313,6 +313,13 @@ const fn unless<T: Copy>(left_out: bool, function: T) -> Option<T> {
     }
 }
 
+/// The number behind those of functions: it lacks none, and says what it never does.
+const NEVER: usize = 17;
+const NEVER_DOES: Can =
+    Can::NO_MODERATION.and(Can::NO_HEADS).and(Can::ONE_VECTOR).and(Can::ONE_BUFFER).and(Can::NO_ADDRESS);
+const ALL_CAN: Can = Can::SHARED_SEND.and(Can::FUNCTIONS).and(Can::SHARED_DEVICE).and(Can::HOST);
+const NO_RESET: &str = "no reset of the device (NICD_SHARED_DEVICE)";
+
 /// What stands in the card's list for a function that is left out; no row asks for `rearm` alone.
 const LACKS: [&str; 17] = [
     "no receive",
@@ -336,7 +343,7 @@ const LACKS: [&str; 17] = [
 
 impl<const LEFT_OUT: u8> Driver for Without<LEFT_OUT> {
     const NAME: &'static str = "without";
-    const CAN: Can = Can::SHARED_SEND.and(Can::FUNCTIONS).and(Can::SHARED_DEVICE).and(Can::HOST);
+    const CAN: Can = if LEFT_OUT == NEVER as u8 { ALL_CAN.and(NEVER_DOES) } else { ALL_CAN };
     const QUEUES: u16 = MOST_QUEUES;
     const FRAME: u32 = MOST_FRAME as u32;
     const RECEIVE: Option<Receive<Self>> = unless(LEFT_OUT == 0, |_, _, _| None);
@@ -375,7 +382,7 @@ macro_rules! programs {
 }
 
 const FAULTY: [fn() -> ExitCode; 13] = programs!(Both: 0 1 2 3 4 5 6 7 8 9 10 11 12);
-const LACKING: [fn() -> ExitCode; 17] = programs!(Without: 0 1 2 3 4 5 6 7 8 9 10 11 12 13 14 15 16);
+const LACKING: [fn() -> ExitCode; NEVER + 1] = programs!(Without: 0 1 2 3 4 5 6 7 8 9 10 11 12 13 14 15 16 17);
 
 fn program(name: &str) -> ExitCode {
     let number = |from: &str| name.strip_prefix(from).and_then(|it| it.parse::<usize>().ok());
@@ -426,8 +433,18 @@ fn what_is_left_out_is_told(_folder: &Path) {
         let mut told: Vec<&str> = lines_of(&list).into_iter().map(|it| it[2]).filter(|it| *it != "-").collect();
         told.sort_unstable();
         told.dedup();
+        told.retain(|it| *it != NO_RESET);
         let wanted: Vec<&str> = Some(*lack).filter(|it| !it.is_empty()).into_iter().collect();
         assert_eq!(told, wanted, "without function {number}");
+    }
+}
+
+/// What a driver never does by design takes its rows off the card.
+fn what_it_never_does_is_told(_folder: &Path) {
+    let (status, list) = ran(&format!("without-{NEVER}"), &["--list"]);
+    assert_eq!(status, Some(0), "{list}");
+    for name in ["NO_MODERATION", "NO_HEADS", "ONE_VECTOR", "ONE_BUFFER", "NO_ADDRESS"] {
+        assert!(lines_of(&list).iter().any(|it| it[2].ends_with(&format!(" (NICD_{name})"))), "{name}: {list}");
     }
 }
 
@@ -467,7 +484,8 @@ fn main() -> ExitCode {
     }
     let folder: PathBuf = env::temp_dir().join(format!("nic82599-drive-{}", process::id()));
     std::fs::create_dir_all(&folder).expect("there is room");
-    let tests: [fn(&Path); 3] = [a_right_driver_passes, what_is_left_out_is_told, what_is_wrong_is_told];
+    let tests: [fn(&Path); 4] =
+        [a_right_driver_passes, what_is_left_out_is_told, what_it_never_does_is_told, what_is_wrong_is_told];
     for test in tests {
         test(&folder);
     }

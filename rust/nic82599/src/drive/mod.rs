@@ -55,6 +55,7 @@
 
 mod raw;
 
+use std::cell::Cell;
 use std::env;
 use std::fmt;
 use std::ops::{BitOr, Deref, DerefMut};
@@ -173,6 +174,16 @@ impl Can {
     pub const SHARED_DEVICE: Can = Can(4);
     /// `open` takes functions above 0.
     pub const HOST: Can = Can(8);
+    /// By design it writes no interval into EITR. Rows that must come to it aren't applicable, as with those below.
+    pub const NO_MODERATION: Can = Can(16);
+    /// By design it writes neither RDH nor TDH.
+    pub const NO_HEADS: Can = Can(32);
+    /// By design all queues have one vector.
+    pub const ONE_VECTOR: Can = Can(64);
+    /// By design a frame has one descriptor, however long it is.
+    pub const ONE_BUFFER: Can = Can(128);
+    /// By design it writes no receive address: all frames come in, or its host sets it.
+    pub const NO_ADDRESS: Can = Can(256);
 
     /// Both, for a constant, where `|` isn't.
     #[must_use]
@@ -281,6 +292,16 @@ impl Platform {
     /// Gives DMA memory back, by its first address. The device must not touch it any more.
     pub fn dma_free(&self, bus: u64) {
         raw::dma_free(bus);
+    }
+
+    /// The `bytes` bytes of [`dma_alloc`](Platform::dma_alloc)'s memory from a bus address on, in place: for a driver
+    /// that works in its memory without a call. What the device writes is there at once. What the driver stores reaches
+    /// the device at the driver's next call of the platform, a barrier too: before that call each run of bytes that
+    /// changed is written at a point of its own. Looking at a cell is no point, so a loop that waits for memory alone
+    /// calls [`pause`](Bus::pause). The schedule fails, and it is `None`, where the first or the last byte isn't of
+    /// such memory; so it does at the next call where something is stored that lies in no piece.
+    pub fn dma(&self, bus: u64, bytes: usize) -> Option<&[Cell<u8>]> {
+        raw::dma_cells(bus, bytes)
     }
 
     /// Memory of the driver's own with a value in it, as `Box::try_new`: `None` where a scenario refuses it. It is

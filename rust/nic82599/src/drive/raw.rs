@@ -94,6 +94,7 @@ extern "C" {
     fn nicd_main(argc: c_int, argv: *mut *mut c_char, driver: *const RawDriver) -> c_int;
     fn nicd_alloc(bytes: usize) -> *mut c_void;
     fn nicd_free(memory: *mut c_void);
+    fn nicd_dma_pointer(bus: u64) -> *mut c_void;
     fn nicd_deliver(queue: u16, bytes: *const u8, length: u32);
     fn nicd_failed(form: *const c_char, ...);
 }
@@ -306,6 +307,21 @@ pub(super) fn run<D: Driver>(words: Vec<String>) -> u8 {
 plain_calls! {
     nicd_dma_alloc as dma_alloc(bytes: usize) -> u64;
     nicd_dma_free as dma_free(bus: u64);
+}
+
+/// The memory is the card's for as long as the process runs: a piece that was given back is read as zeros.
+pub(super) fn dma_cells<'a>(bus: u64, bytes: usize) -> Option<&'a [Cell<u8>]> {
+    let last = bus.checked_add(u64::try_from(bytes).ok()?.checked_sub(1)?)?;
+    // SAFETY: it takes no pointer.
+    let first = at_point(|| unsafe { nicd_dma_pointer(bus) });
+    // SAFETY: the same.
+    let end = at_point(|| unsafe { nicd_dma_pointer(last) });
+    if first.is_null() || end.is_null() {
+        return None;
+    }
+    // SAFETY: the card has one array for all its memory, in which a byte's place is its bus address: so all bytes from
+    // the first to the last are there, and stay. The card and Rust write them on one thread, as cells.
+    Some(unsafe { slice::from_raw_parts(first.cast::<Cell<u8>>(), bytes) })
 }
 
 pub(super) fn deliver(queue: u16, bytes: &[u8]) {

@@ -1,0 +1,214 @@
+/* DMA memory that the driver reaches by pointers. The device has its memory to itself, as everywhere in a search: so it
+   goes back to the bring-up with the device, and a script of a failure has each store. The driver has a second one,
+   `here`, at the same offsets. What the device writes is copied to it in the step that writes it; what the driver
+   stored is found before its next call, by comparing `here` with `known`, and is written as by nicx_dma_write, at a
+   point. So nothing that the driver stored is later than its next call, and others may act before each store. */
+#include <string.h>
+
+#include "drive.h"
+
+enum { UNIT = 16, BYTES = BLOCKS * NIC_BLOCK_BYTES };
+
+/* What driver and device have agreed on of each byte, and what the driver sees. */
+static uint8_t here[BYTES] __attribute__((aligned(4096))), known[BYTES];
+/* Threads that are writing what they stored, by number; the last one stands for no thread. */
+static bool writes[MOST_THREADS + 1];
+
+/* Of -fsanitize=address, where the driver is built so. */
+void __asan_poison_memory_region(void const volatile *, size_t) __attribute__((weak));
+void __asan_unpoison_memory_region(void const volatile *, size_t) __attribute__((weak));
+
+static void hide(uint64_t from, uint64_t to)
+{
+    if (__asan_poison_memory_region)
+        __asan_poison_memory_region(here + from, (size_t)(to - from));
+}
+
+static void show(uint64_t from, uint64_t to)
+{
+    if (__asan_unpoison_memory_region)
+        __asan_unpoison_memory_region(here + from, (size_t)(to - from));
+}
+
+static uint64_t at_block(uint32_t block)
+{
+    return (uint64_t)block * NIC_BLOCK_BYTES;
+}
+
+/* The block after the last piece is looked at too, and is nobody's. */
+void nicd_in_place_begin(void)
+{
+    uint64_t end = nicd.beyond ? at_block(nicd.beyond + 1) : 0;
+    show(0, end);
+    memset(here, 0, end);
+    memset(known, 0, end);
+    memset(writes, 0, sizeof writes);
+    hide(0, BYTES);
+    nicd.beyond = 0;
+    nicd.holds_back = false;
+}
+
+/* --- a piece --- */
+
+/* What was written by calls before is there too. */
+static void begin_piece(struct piece *piece)
+{
+    piece->is_in_place = true;
+    nicxi.loads_unseen = true;
+    nicxi.is_changed = true;
+    if (nicd.beyond < piece->first + piece->blocks)
+        nicd.beyond = piece->first + piece->blocks;
+    show(piece->bus, piece->bus + piece->bytes);
+    if (nic_dma_read(&nicxi.device, piece->bus, here + piece->bus, piece->bytes) == NIC_DONE)
+        memcpy(known + piece->bus, here + piece->bus, piece->bytes);
+}
+
+static struct piece *piece_of(uint64_t bus)
+{
+    for (unsigned k = 0; k < MOST_PIECES; k++) {
+        struct piece *it = &nicd.pieces[k];
+        if (it->blocks && it->bus && bus >= it->bus && bus - it->bus < it->bytes)
+            return it;
+    }
+    return NULL;
+}
+
+bool nicd_in_place_has(uint64_t bus)
+{
+    const struct piece *it = piece_of(bus);
+    return it && it->is_in_place;
+}
+
+void *nicd_dma_pointer(uint64_t bus)
+{
+    struct piece *it = piece_of(bus);
+    if (it && !it->is_in_place)
+        begin_piece(it);
+    if (it)
+        return here + bus;
+    nicd_failed("nicd_dma_pointer of 0x%llx, which isn't lent: %s", (unsigned long long)bus, nicd_memory_near(bus));
+    return NULL;
+}
+
+void nicd_in_place_end(const struct piece *piece)
+{
+    uint64_t from = at_block(piece->first), end = from + at_block(piece->blocks);
+    if (!piece->is_in_place)
+        return;
+    show(from, end);
+    memset(here + from, 0, end - from);
+    memset(known + from, 0, end - from);
+    hide(from, end);
+}
+
+/* --- what the device and the driver's calls write --- */
+
+/* What of it lies in pieces in place. */
+void nicd_in_place_copy(uint64_t bus, uint64_t bytes)
+{
+    for (unsigned k = 0; k < MOST_PIECES; k++) {
+        const struct piece *it = &nicd.pieces[k];
+        uint64_t from = bus > it->bus ? bus : it->bus, end = it->bus + it->bytes;
+        end = bus + bytes < end ? bus + bytes : end;
+        if (!it->blocks || !it->bus || !it->is_in_place || from >= end)
+            continue;
+        if (nic_dma_read(&nicxi.device, from, known + from, (size_t)(end - from)) == NIC_DONE)
+            memcpy(here + from, known + from, (size_t)(end - from));
+    }
+}
+
+static unsigned number_of_self(void)
+{
+    return nicxi.self ? (unsigned)(nicxi.self - nicxi.threads) : MOST_THREADS;
+}
+
+void nicd_in_place_see(const struct step *step)
+{
+    if (!nicd.beyond)
+        return;
+    if (step->kind == STEP_RX && step->status == NIC_WROTE) {
+        nicd_in_place_copy(step->told.at, step->told.len);
+        nicd_in_place_copy(step->told.desc, NIC_DESC_BYTES);
+    } else if (step->kind == STEP_TX && step->told.back && !nicd.holds_back) {
+        nicd_in_place_copy(step->told.at, NIC_DESC_BYTES);
+    } else if (step->kind == STEP_POKE && step->status == NIC_DONE && !writes[number_of_self()]) {
+        nicd_in_place_copy(step->bus, step->length);
+    }
+}
+
+/* --- what the driver stores --- */
+
+/* What the driver has hidden from itself (ASAN_POISON_MEMORY_REGION) is compared and read too, by no function that the
+   sanitizer looks after. */
+__attribute__((no_sanitize("address"))) static bool is_alike(uint64_t at, uint64_t end)
+{
+    if (!__asan_poison_memory_region)
+        return !memcmp(here + at, known + at, (size_t)(end - at));
+    while (at < end && here[at] == known[at])
+        at++;
+    return at >= end;
+}
+
+__attribute__((no_sanitize("address"))) static const uint8_t *bytes_at(uint64_t bus, size_t length)
+{
+    static uint8_t room[NIC_BLOCK_BYTES];
+    if (!__asan_poison_memory_region)
+        return here + bus;
+    for (size_t k = 0; k < length; k++)
+        room[k] = ((const volatile uint8_t *)here)[bus + k];
+    return room;
+}
+
+static bool differs(uint64_t at, uint64_t end)
+{
+    return !is_alike(at, end - at < UNIT ? end : at + UNIT);
+}
+
+/* Units in a row, of one block. Another thread that runs before the store finds it too, and may make it first: none
+   goes on to its call before what was stored until then is the device's. */
+static uint64_t write_run(uint64_t from, uint64_t end)
+{
+    uint64_t to = from;
+    while (to < end && differs(to, end) && (to == from || to % NIC_BLOCK_BYTES))
+        to += UNIT;
+    to = to < end ? to : end;
+    uint8_t status = nicxi_write_from(from, bytes_at, (size_t)(to - from));
+    memcpy(known + from, bytes_at(from, (size_t)(to - from)), (size_t)(to - from));
+    if (status != NIC_DONE && nicxi.phase != LEAVING)
+        nicd_failed("a pointer of the driver's writes 0x%llx, which isn't lent: %s", (unsigned long long)from,
+                    nicd_memory_near(from));
+    return to;
+}
+
+static void write_changes(uint64_t from, uint64_t end)
+{
+    while (from < end && !is_alike(from, end)) {
+        while (!differs(from, end))
+            from += UNIT;
+        from = write_run(from, end);
+        if (nicxi.phase == LEAVING)
+            return;
+    }
+}
+
+/* Where a sanitizer looks after what isn't lent, this doesn't. */
+static void write_all(void)
+{
+    if (!__asan_poison_memory_region) {
+        write_changes(0, at_block(nicd.beyond + 1));
+        return;
+    }
+    for (unsigned k = 0; k < MOST_PIECES; k++)
+        if (nicd.pieces[k].blocks && nicd.pieces[k].is_in_place && nicd.pieces[k].bus)
+            write_changes(nicd.pieces[k].bus, nicd.pieces[k].bus + nicd.pieces[k].bytes);
+}
+
+void nicd_publish(void)
+{
+    unsigned self = number_of_self();
+    if (!nicd.beyond || writes[self])
+        return;
+    writes[self] = true;
+    write_all();
+    writes[self] = false;
+}

@@ -1,0 +1,408 @@
+/* What rows must come to, counted over all schedules of a process: a row that passes without it shows nothing. */
+#define _DEFAULT_SOURCE
+#include <inttypes.h>
+#include <stdio.h>
+#include <string.h>
+#include <sys/mman.h>
+
+#include "drive.h"
+
+enum { WIDTH = NICD_QUEUES, MOST_TEXT = 120 };
+
+/* In memory that the processes of a search share. Several may add at once: a count may miss one. */
+struct counts {
+    uint32_t reached[REACHES][WIDTH];
+    uint32_t came[WIDTH]; /* frames that the device wrote for each queue, handed up or not */
+};
+
+static struct counts *counts;
+
+/* Whether it counts for the row, or for each queue of the driver. */
+enum each { ONCE, QUEUES };
+
+/* What came up, and what is said where it never did. %u is the queue, %s the row's call. */
+static const struct {
+    const char *did, *never;
+    uint8_t each;
+} words[REACHES] = {
+    [WAS_OPENED] = {"open returned true", "open never returned true", ONCE},
+    [WAS_REOPENED] = {"open returned true after close", "open never returned true after close", ONCE},
+    [WAS_CLOSED] = {"close returned", "close never returned", ONCE},
+    [CALLED] = {"%s returned", "%s never returned", ONCE},
+    [ACCESSED] = {"a register was accessed", "no register was accessed", ONCE},
+    [WRITES_TXDCTL] = {"TXDCTL.ENABLE was written", "TXDCTL.ENABLE was never written", ONCE},
+    [WRITES_RDT] = {"RDT was moved", "RDT was never moved", ONCE},
+    [WRITES_HEAD] = {"RDH or TDH was written", "neither RDH nor TDH was written", ONCE},
+    [WRITES_RXEN] = {"RXCTRL.RXEN was written", "RXCTRL.RXEN was never written", ONCE},
+    [WRITES_RESET] = {"CTRL.RST was written", "CTRL.RST was never written", ONCE},
+    [WRITES_RING] = {"RDBAL and RDLEN were written", "RDLEN was never written", ONCE},
+    [WRITES_SRRCTL] = {"SRRCTL was written", "SRRCTL was never written", ONCE},
+    [WRITES_ADDRESS] = {"RAH was written", "RAH was never written", ONCE},
+    [WRITES_EITR] = {"EITR was written", "EITR was never written", ONCE},
+    [WRITES_EIMS] = {"EIMS enabled a queue's cause", "EIMS never enabled a queue's cause", ONCE},
+    [HASHES] = {"MRQC asked for a hash", "MRQC never asked for a hash", ONCE},
+    [LOOKED] = {"receive found no frame", "receive never returned", ONCE},
+    [TAKEN] = {"frames of queue %u were handed up", "no frame came to queue %u", QUEUES},
+    [TAKEN_0] = {"frames of queue %u were handed up", "no frame came to queue %u", ONCE},
+    [SENT] = {"frames went out by queue %u", "no frame went out by queue %u", QUEUES},
+    [MESSAGES] = {"messages came for queue %u", "no message came for queue %u", QUEUES},
+    [FULL] = {"the receive ring was full", "the receive ring was never full", ONCE},
+    [WRAPS] = {"the receive ring wrapped", "the receive ring never wrapped", ONCE},
+    [SENT_WRAPS] = {"the transmit ring wrapped", "the transmit ring never wrapped", ONCE},
+    [LONG] = {"the longest frame was handed up", "the longest frame was never handed up", ONCE},
+    [SENT_LONG] = {"the longest frame went out", "the longest frame never went out", ONCE},
+    [CHAIN] = {"a frame came in several slots", "no frame came in several slots", ONCE},
+    [SENT_CHAIN] = {"a frame went out from several slots", "no frame went out from several slots", ONCE},
+    [SEND_REFUSED] = {"send was refused for want of room", "send was never refused for want of room", ONCE},
+    [OVERLAPS] = {"two calls of send ran at a time", "no two calls of send ran at a time", ONCE},
+    [DESCRIPTOR] = {"a data descriptor was fetched", "no data descriptor was fetched", ONCE},
+    [WRITTEN_BACK] = {"what the device wrote back was read", "what the device writes back was never read", ONCE},
+    [POLLED] = {"a frame came during a poll", "no frame came during a poll", ONCE},
+    [SPURIOUS] = {"the handler was called for nothing", "the handler was never called for nothing", ONCE},
+    [LATE_CALL] = {"a handler was called with a full ring", "no handler was called with a full ring", ONCE},
+    [AGAIN_CALL] = {"a handler was called during a poll", "no handler was called during a poll", ONCE},
+    [OWN_VECTORS] = {"the queues have vectors of their own", "all queues have one vector", ONCE},
+    [KEPT_OUT] = {"a frame was kept out", "no frame was kept out", ONCE},
+    [TOO_LONG] = {"a frame was dropped for its length", "no frame was dropped for its length", ONCE},
+    [AMID_IN] = {"frames were on their way in during %s", "no frame was on its way in during %s", ONCE},
+    [AMID_OUT] = {"frames were on their way out during %s", "no frame was on its way out during %s", ONCE},
+    [AMID_LINK] = {"the link changed during %s", "the link never changed during %s", ONCE},
+    [ASLEEP_FRAME] = {"a frame came after suspend", "no frame came between suspend and resume", ONCE},
+    [ASLEEP_LINK] = {"the link changed after suspend", "the link never changed between suspend and resume", ONCE},
+    [LINK_DOWN] = {"the link went down", "the link never went down", ONCE},
+    [LINK_UP] = {"the link went up", "the link never went up", ONCE},
+    [CAME_AFTER] = {"frames came after it", "no frame came after it", ONCE},
+    [MET_FAULT] = {"the queue met the fault", "the queue never met the fault", ONCE},
+    [NO_MEMORY] = {"memory was refused", "memory was never refused", ONCE},
+    [MAIL_GIVEN] = {"the other side took the driver's messages", "the other side took no message of the driver", ONCE},
+    [MAIL_TAKEN] = {"the driver took messages", "the driver took no message", ONCE},
+    [MAIL_TAKEN_1] = {"the driver took messages of function 1", "the driver took no message of function 1", ONCE},
+    [IS_READY] = {"mailbox_ready returned true", "mailbox_ready never returned true", ONCE},
+};
+
+const char *nicd_call_name(enum call call)
+{
+    static const char *const names[CALLS] = {
+        [CALL_OPEN] = "open",     [CALL_CLOSE] = "close",   [CALL_RESET] = "reset",
+        [CALL_RESIZE] = "resize", [CALL_MTU] = "mtu",       [CALL_SUSPEND] = "suspend",
+        [CALL_RESUME] = "resume", [CALL_FILTER] = "filter", [CALL_RSS] = "rss"};
+    return names[call];
+}
+
+/* --- a row's entry --- */
+
+const struct reached *nicd_reached(const struct scenario *it)
+{
+    if (it->reached)
+        return it->reached;
+    for (const struct reached *entry = nicd_reaches; entry->row; entry++)
+        if (!strcmp(entry->row, it->name))
+            return entry;
+    return NULL;
+}
+
+bool nicd_must_reach(const struct reached *entry, enum reach reach)
+{
+    for (unsigned k = 0; entry && k < MOST_REACHES && entry->reaches[k]; k++)
+        if (entry->reaches[k] == reach)
+            return true;
+    return false;
+}
+
+/* --- counting --- */
+
+bool nicd_reach_open(void)
+{
+    void *memory = mmap(NULL, sizeof *counts, PROT_READ | PROT_WRITE, MAP_SHARED | MAP_ANONYMOUS, -1, 0);
+    counts = memory == MAP_FAILED ? NULL : memory;
+    return counts != NULL;
+}
+
+void nicd_reach_of(enum reach reach, unsigned number)
+{
+    if (number < WIDTH)
+        counts->reached[reach][number]++;
+}
+
+void nicd_reach(enum reach reach)
+{
+    nicd_reach_of(reach, 0);
+}
+
+/* What the schedule has come to so far that a later step completes. */
+static struct {
+    uint32_t firsts[2]; /* slots 0 of queue 0 that were written, and sent */
+} now;
+
+void nicd_reach_begin(void)
+{
+    memset(&now, 0, sizeof now);
+}
+
+static uint32_t longest_that_comes(void)
+{
+    uint32_t longest = 0;
+    for (uint16_t k = 0; k < nicd.count; k++)
+        if (nicd.coming[k].length > longest)
+            longest = nicd.coming[k].length;
+    return longest;
+}
+
+void nicd_reach_delivered(uint16_t queue, uint16_t number)
+{
+    nicd_reach_of(TAKEN, queue);
+    nicd_reach_of(TAKEN_0, queue);
+    if (nicd.coming[number].length == longest_that_comes())
+        nicd_reach(LONG);
+}
+
+/* --- during a call --- */
+
+/* Of frames of an earlier life some lie where they were lost. The card counts one as it holds the flow, and one more as
+   it closes. */
+static bool is_on_way_in(void)
+{
+    for (uint16_t k = 0; k < nicd.count; k++)
+        if (nicd.frames[k].state == WAITS ||
+            (nicd.frames[k].state == IS_WRITTEN && nicd.frames[k].life + 2 >= nicd.life))
+            return true;
+    return false;
+}
+
+static bool is_on_way_out(void)
+{
+    for (unsigned queue = nicd.base; queue < nicd.base + nicd.setup.queues; queue++)
+        if (nicd_peek(NIC_TXDCTL(queue)) & NIC_TXDCTL_ENABLE && nicd_peek(NIC_TDH(queue)) != nicd_peek(NIC_TDT(queue)))
+            return true;
+    return false;
+}
+
+static bool is_rows_call(void)
+{
+    return nicd.doing && nicd.reached->call == nicd.doing;
+}
+
+void nicd_reach_call(void)
+{
+    if (!is_rows_call())
+        return;
+    if (is_on_way_in())
+        nicd_reach(AMID_IN);
+    if (is_on_way_out())
+        nicd_reach(AMID_OUT);
+}
+
+static void see_call(const struct step *step)
+{
+    if (!is_rows_call())
+        return;
+    if (step->kind == STEP_ARRIVE || (step->kind == STEP_RX && step->status == NIC_WROTE))
+        nicd_reach(AMID_IN);
+    if (step->kind == STEP_LINK)
+        nicd_reach(AMID_LINK);
+}
+
+/* --- each step --- */
+
+static bool is_on(uint32_t address, uint32_t first)
+{
+    return address == first + 0x40 * ((address - first) / 0x40) && (address - first) / 0x40 < NICD_QUEUES;
+}
+
+static void see_write(uint32_t address, uint32_t word)
+{
+    if (is_on(address, NIC_TXDCTL(0)) && word & NIC_TXDCTL_ENABLE)
+        nicd_reach(WRITES_TXDCTL);
+    if (is_on(address, NIC_RDT(0)) && word)
+        nicd_reach(WRITES_RDT);
+    if (is_on(address, NIC_RDH(0)) || is_on(address, NIC_TDH(0)))
+        nicd_reach(WRITES_HEAD);
+    if (address == NIC_RXCTRL && word & NIC_RXCTRL_RXEN)
+        nicd_reach(WRITES_RXEN);
+    if (address == NIC_CTRL && word & (NIC_CTRL_RST | NIC_CTRL_LRST))
+        nicd_reach(WRITES_RESET);
+    if (is_on(address, NIC_RDLEN(0)))
+        nicd_reach(WRITES_RING);
+    if (is_on(address, NIC_SRRCTL(0)))
+        nicd_reach(WRITES_SRRCTL);
+    if (address >= NIC_RAH(0) && address <= NIC_RAH(127) && address % 8 == 4)
+        nicd_reach(WRITES_ADDRESS);
+    if (address >= NIC_EITR(0) && address <= NIC_EITR(15) && address % 4 == 0)
+        nicd_reach(WRITES_EITR);
+    if (address == NIC_EIMS && word & NIC_EICR_RTXQ)
+        nicd_reach(WRITES_EIMS);
+}
+
+static void see_received(const struct step *step)
+{
+    unsigned number = step->told.queue, queue = number - nicd.base;
+    if (step->status != NIC_WROTE || queue >= nicd.setup.queues)
+        return;
+    counts->came[queue]++;
+    if (!step->told.end)
+        nicd_reach(CHAIN);
+    if (!queue && !step->told.slot && ++now.firsts[0] > 1)
+        nicd_reach(WRAPS);
+    if (!queue && nicd_peek(NIC_RDH(number)) == nicd_peek(NIC_RDT(number)))
+        nicd_reach(FULL);
+    if (nicd.pollers[queue].busy)
+        nicd_reach(POLLED);
+}
+
+static uint32_t longest_that_was_sent(unsigned queue)
+{
+    uint32_t longest = 0;
+    for (uint32_t k = 0; k < nicd.accepted[queue] && k < MOST_OUT; k++)
+        if (nicd.sent[queue][k].length > longest)
+            longest = nicd.sent[queue][k].length;
+    return longest;
+}
+
+static void see_sent(const struct step *step)
+{
+    unsigned number = step->told.queue, queue = number - nicd.base;
+    if (queue >= nicd.setup.queues || (step->status != NIC_SENT && step->status != NIC_ADVANCED))
+        return;
+    if (step->status == NIC_ADVANCED)
+        nicd_reach(SENT_CHAIN);
+    if (!queue && nicd_peek(NIC_TDH(number)) == 1 && ++now.firsts[1] > 1)
+        nicd_reach(SENT_WRAPS);
+    if (step->status != NIC_SENT)
+        return;
+    nicd_reach_of(SENT, queue);
+    if (nicd.sent[queue][nicd.went[queue] % MOST_OUT].length == longest_that_was_sent(queue))
+        nicd_reach(SENT_LONG);
+}
+
+/* The queues that a byte of IVAR gives this vector: of a receive queue. */
+static void see_message(const struct step *step)
+{
+    unsigned port = nicd.setup.port;
+    if (step->status != NIC_MESSAGE || step->told.group != port)
+        return;
+    for (unsigned queue = 0; queue < nicd.setup.queues; queue++) {
+        uint32_t word = nicd_peek(port ? NIC_PVTIVAR(nicd.base / 2u) : NIC_IVAR(queue / 2)) >> 16 * (queue % 2);
+        bool is_of_receive = word & 0x80 && (word & 0x3F) == step->told.vector;
+        bool is_of_transmit = word & 0x8000 && (word >> 8 & 0x3F) == step->told.vector;
+        if (is_of_receive || (is_of_transmit && !nicd_must_reach(nicd.reached, TAKEN)))
+            nicd_reach_of(MESSAGES, queue);
+    }
+}
+
+static void see_arrival(const struct step *step)
+{
+    if (nicd.is_asleep)
+        nicd_reach(ASLEEP_FRAME);
+    if (step->status == NIC_DROPPED && step->told.why == NIC_WHY_FILTER)
+        nicd_reach(KEPT_OUT);
+    if (step->status == NIC_DROPPED && step->told.why == NIC_WHY_LONG)
+        nicd_reach(TOO_LONG);
+}
+
+static void see_link(void)
+{
+    nicd_reach(nicd_peek(NIC_LINKS) & NIC_LINKS_LINK_UP ? LINK_UP : LINK_DOWN);
+    if (nicd.is_asleep)
+        nicd_reach(ASLEEP_LINK);
+}
+
+void nicd_reach_step(const struct step *step, bool is_drivers)
+{
+    see_call(step);
+    switch (step->kind) {
+    case STEP_RX: see_received(step); break;
+    case STEP_TX: see_sent(step); break;
+    case STEP_INT: see_message(step); break;
+    case STEP_ARRIVE: see_arrival(step); break;
+    case STEP_LINK: see_link(); break;
+    default:
+        if (is_drivers && step->kind == STEP_WRITE)
+            see_write(step->address, step->word);
+        if (is_drivers && step->kind >= STEP_READ && step->kind <= STEP_VF_WRITE)
+            nicd_reach(ACCESSED);
+    }
+}
+
+/* --- what came out --- */
+
+/* Whether a driver can do it at all: what it has no function for isn't asked of it. */
+static bool is_asked(enum reach reach)
+{
+    const nicd_driver *d = nicd.driver;
+    bool takes = d->receive || d->threads;
+    bool has_messages = d->interrupt && (nicd.scenario->setup.interrupts || !d->receive);
+    switch (reach) {
+    case SENT:
+    case SENT_WRAPS:
+    case SENT_LONG:
+    case AMID_OUT: return d->send != NULL;
+    case MESSAGES: return has_messages;
+    case POLLED:
+    case AGAIN_CALL: return d->receive != NULL; /* its own threads poll where the card doesn't see it */
+    case TAKEN:
+    case TAKEN_0: return takes;
+    default: return true;
+    }
+}
+
+static unsigned width_of(enum reach reach)
+{
+    uint16_t queues = nicd.scenario->setup.queues;
+    return words[reach].each == QUEUES && queues ? queues : 1;
+}
+
+/* All frames came to queue 0, and the adapter has no function by which the card could ask for another. */
+static bool is_excused(enum reach reach, unsigned number)
+{
+    if (reach == HASHES)
+        return !nicd.driver->rss && !counts->reached[reach][0];
+    return (reach == TAKEN || reach == MESSAGES) && number && !nicd.driver->rss && !nicd.scenario->setup.port &&
+           counts->came[0] && !counts->came[number];
+}
+
+/* A text has the number, or the name of the row's call. */
+static const char *filled(char text[MOST_TEXT], const struct reached *entry, const char *form, unsigned number)
+{
+    const char *call = entry->call ? nicd_call_name(entry->call) : "a call", *at = strstr(form, "%s");
+    if (at)
+        snprintf(text, MOST_TEXT, "%.*s%s%s", (int)(at - form), form, call, at + 2);
+    else if ((at = strstr(form, "%u")) != NULL)
+        snprintf(text, MOST_TEXT, "%.*s%u%s", (int)(at - form), form, number, at + 2);
+    else
+        snprintf(text, MOST_TEXT, "%s", form);
+    return text;
+}
+
+static void write_one(FILE *file, enum reach reach, unsigned number)
+{
+    char did[MOST_TEXT], never[MOST_TEXT];
+    filled(did, nicd.reached, words[reach].did, number);
+    filled(never, nicd.reached, words[reach].never, number);
+    if (is_excused(reach, number))
+        fprintf(file, "excused all frames came to queue 0\n");
+    if (reach == TAKEN && counts->came[number] && !counts->reached[reach][number])
+        snprintf(never, sizeof never, "no frame of queue %u was handed up", number);
+    fprintf(file, "reached %" PRIu32 " %s | %s\n", counts->reached[reach][number], did, never);
+}
+
+void nicd_reach_tell(const struct scenario *it)
+{
+    const struct reached *entry = nicd_reached(it);
+    char text[MOST_TEXT];
+    for (unsigned k = 0; k < MOST_REACHES && entry->reaches[k]; k++) {
+        bool is_each = words[entry->reaches[k]].each == QUEUES && it->setup.queues > 1;
+        const char *form = words[entry->reaches[k]].did, *at = is_each ? strstr(form, "queue %u") : NULL;
+        if (at)
+            printf("%s%.*seach queue%s", k ? ", " : "", (int)(at - form), form, at + strlen("queue %u"));
+        else
+            printf("%s%s", k ? ", " : "", filled(text, entry, form, 0));
+    }
+}
+
+void nicd_reach_write(FILE *file)
+{
+    const uint8_t *reaches = nicd.reached->reaches;
+    for (unsigned k = 0; k < MOST_REACHES && reaches[k]; k++)
+        for (unsigned number = 0; is_asked(reaches[k]) && number < width_of(reaches[k]); number++)
+            write_one(file, reaches[k], number);
+}

@@ -4,7 +4,7 @@ python3 -m nic82599.drive python/examples/small.py -o /tmp/card
 """
 
 from nic82599.descriptors import received, rx_descriptor
-from nic82599.drive import Driver, Setup
+from nic82599.drive import Can, Driver, Setup
 
 ENABLE = 1 << 25
 CAUSE = 1
@@ -13,6 +13,7 @@ ALL_CAUSES = 0x7FFF_FFFF
 
 class Small(Driver):
     name = "small"
+    can = Can.NO_ADDRESS | Can.NO_HEADS | Can.NO_MODERATION
 
     def __init__(self) -> None:
         self.ring = 0
@@ -81,9 +82,9 @@ class Small(Driver):
             return False
         self.set_up_device()
         self.start_queue()
-        self.write32("RXCTRL", 1)
         if setup.interrupts:
             self.start_interrupts()
+        self.write32("RXCTRL", 1)
         return True
 
     def close(self) -> None:

@@ -7,7 +7,7 @@ use std::cell::{Cell, RefCell};
 use std::process::ExitCode;
 
 use nic82599::desc::Descriptor;
-use nic82599::drive::{self, Driver, Frame, Interrupt, Platform, Rearm, Receive, Setup};
+use nic82599::drive::{self, Can, Driver, Frame, Interrupt, Platform, Rearm, Receive, Setup};
 use nic82599::regs::*;
 
 const BUFFER: usize = 2048;
@@ -116,6 +116,7 @@ fn start_interrupts(platform: &Platform) {
 
 impl Driver for Small {
     const NAME: &'static str = "small";
+    const CAN: Can = Can::NO_ADDRESS.and(Can::NO_HEADS).and(Can::NO_MODERATION);
     const RECEIVE: Option<Receive<Small>> = Some(Small::receive);
     const INTERRUPT: Option<Interrupt<Small>> = Some(Small::interrupt);
     const REARM: Option<Rearm<Small>> = Some(Small::rearm);
@@ -132,10 +133,10 @@ impl Driver for Small {
         }
         set_up_device(platform);
         self.start_queue(platform);
-        platform.write(RXCTRL, rxctrl::RXEN);
         if setup.interrupts {
             start_interrupts(platform);
         }
+        platform.write(RXCTRL, rxctrl::RXEN);
         true
     }
 

@@ -1,0 +1,204 @@
+//! The one file between driver.rs and the bench. Called by itself the program runs the driver: 10,000 frames, or as
+//! many as its word says, come in and go out again, each byte compared. Called by nicdrive it gives the driver to the
+//! report card. The driver's memory is its own in both, and the device works in it in place.
+//!
+//!     cargo build --features drive --example adapter
+//!     target/debug/examples/adapter
+//!     ../../c/drive/nicdrive target/debug/examples/adapter -o /tmp/card
+
+mod driver;
+
+use std::cell::Cell;
+use std::env;
+use std::error::Error;
+use std::process::ExitCode;
+
+use driver::{Driver, Machine};
+use nic82599::drive::{self, Can, Frame, Interrupt, Platform, Rearm, Receive, Reclaim, Send, Setup};
+use nic82599::{Arrival, Event, InPlace, Nic, Sizes};
+
+const ADDRESS: [u8; 6] = [2, 0, 0, 0, 0, 1];
+const BLOCK: usize = 2048;
+const BLOCKS: usize = 1024;
+
+// --- a run ---
+
+/// A controller, and the memory that the driver takes pieces of; where it lies is its address on the bus.
+struct Bench<'a> {
+    nic: InPlace<'a>,
+    memory: &'a [Cell<u8>],
+    used: Cell<usize>,
+    last: Cell<u32>,
+    was_told: Cell<bool>,
+}
+
+impl Bench<'_> {
+    fn let_device_act(&self) {
+        for event in self.nic.steps(1).into_iter().flatten().flatten() {
+            match event {
+                Event::Message { .. } => self.was_told.set(true),
+                event if event.is_loss() => println!("{}: {event:#}", event.step()),
+                _ => {}
+            }
+        }
+    }
+}
+
+impl Machine for Bench<'_> {
+    /// A register that is read twice in a row is polled, so the device acts meanwhile.
+    fn read(&self, offset: u32) -> u32 {
+        if self.last.replace(offset) == offset {
+            self.let_device_act();
+        }
+        self.nic.read32(offset).unwrap_or(0)
+    }
+
+    fn write(&self, offset: u32, word: u32) {
+        if let Err(stray) = self.nic.write32(offset, word) {
+            println!("{stray}");
+        }
+    }
+
+    /// Whole blocks; the first one stays free, so that no address is 0.
+    fn dma_alloc(&self, bytes: usize) -> Option<u64> {
+        let (from, end) = (self.used.get(), self.used.get() + (bytes + BLOCK - 1) / BLOCK * BLOCK);
+        self.nic.lend_memory(from as u64, self.memory.get(from..end)?).ok()?;
+        self.used.set(end);
+        Some(from as u64)
+    }
+
+    fn dma_free(&self, bus: u64, bytes: usize) {
+        let _ = self.nic.memory().unlend(bus, (bytes + BLOCK - 1) / BLOCK * BLOCK);
+    }
+
+    fn dma(&self, bus: u64, bytes: usize) -> &[Cell<u8>] {
+        &self.memory[bus as usize..][..bytes]
+    }
+
+    /// The device sees each store at its next step.
+    fn wmb(&self) {}
+    fn rmb(&self) {}
+}
+
+/// 60 to 1,514 bytes that follow from the number.
+fn made(number: usize) -> Vec<u8> {
+    let mut frame: Vec<u8> = (0..60 + number * 37 % 1455).map(|k| (number * 31 + k * 7) as u8).collect();
+    frame[..6].copy_from_slice(&ADDRESS);
+    frame
+}
+
+/// All that came is sent back.
+fn poll(driver: &Driver, bench: &Bench<'_>, received: &mut usize) -> Result<(), Box<dyn Error>> {
+    while let Some(frame) = driver.receive(bench) {
+        if frame != made(*received) {
+            return Err(format!("frame {received}: what was received isn't what came").into());
+        }
+        *received += 1;
+        driver.send(bench, &frame);
+    }
+    driver.reclaim(bench);
+    driver.rearm(bench);
+    Ok(())
+}
+
+fn run(frames: usize) -> Result<(), Box<dyn Error>> {
+    let mut room = vec![0; BLOCKS * BLOCK];
+    let memory = Cell::from_mut(&mut room[..]).as_slice_of_cells();
+    let nic = Nic::open(Sizes { blocks: BLOCKS as u32, ..Sizes::default() })?.in_place();
+    let bench = Bench { nic, memory, used: Cell::new(BLOCK), last: Cell::new(u32::MAX), was_told: Cell::new(false) };
+    let (driver, mut given, mut received, mut returned) = (Driver::default(), 0, 0, 0);
+    if !driver.open(&bench, ADDRESS, 64, true) {
+        return Err("there is no memory for the driver".into());
+    }
+    while given < frames && returned == given {
+        for _ in 0..(1 + given % 7).min(frames - given) {
+            if let Arrival::Dropped(why) = bench.nic.arrive(&made(given))? {
+                println!("frame {given} is dropped: {why:#}");
+            }
+            given += 1;
+        }
+        bench.let_device_act();
+        while bench.was_told.take() {
+            poll(&driver, &bench, &mut received)?;
+            bench.let_device_act();
+        }
+        for frame in bench.nic.frames() {
+            if frame.data != made(returned) {
+                return Err(format!("frame {returned}: what was sent isn't what came").into());
+            }
+            returned += 1;
+        }
+    }
+    println!("{received} of {given} frames received, {returned} sent back");
+    let why = bench.nic.why();
+    driver.close(&bench);
+    if returned == given {
+        Ok(())
+    } else {
+        Err(why.into())
+    }
+}
+
+// --- the card ---
+
+impl Machine for Platform {
+    fn read(&self, offset: u32) -> u32 {
+        self.read32(offset)
+    }
+    fn write(&self, offset: u32, word: u32) {
+        self.write32(offset, word);
+    }
+    fn dma_alloc(&self, bytes: usize) -> Option<u64> {
+        Platform::dma_alloc(self, bytes)
+    }
+    fn dma_free(&self, bus: u64, _bytes: usize) {
+        Platform::dma_free(self, bus);
+    }
+    fn dma(&self, bus: u64, bytes: usize) -> &[Cell<u8>] {
+        Platform::dma(self, bus, bytes).unwrap_or(&[])
+    }
+    fn wmb(&self) {
+        self.bus().wmb();
+    }
+    fn rmb(&self) {
+        self.bus().rmb();
+    }
+}
+
+impl drive::Driver for Driver {
+    const NAME: &'static str = "adapter";
+    const CAN: Can = Can::NO_MODERATION;
+    const RECEIVE: Option<Receive<Driver>> =
+        Some(|driver, platform, _| driver.receive(platform).map(|bytes| Frame { bytes, ..Frame::default() }));
+    const SEND: Option<Send<Driver>> = Some(|driver, platform, _, frame| driver.send(platform, frame));
+    const RECLAIM: Option<Reclaim<Driver>> = Some(|driver, platform, _| driver.reclaim(platform) as u32);
+    const INTERRUPT: Option<Interrupt<Driver>> = Some(|_, _, _| 1); // queue 0 is to be polled
+    const REARM: Option<Rearm<Driver>> = Some(|driver, platform, _| driver.rearm(platform));
+
+    fn new() -> Driver {
+        Driver::default()
+    }
+    fn open(&self, platform: &Platform, setup: &Setup) -> bool {
+        Driver::open(self, platform, setup.address, usize::from(setup.slots), setup.interrupts)
+    }
+    fn close(&self, platform: &Platform) {
+        Driver::close(self, platform);
+    }
+}
+
+fn main() -> ExitCode {
+    let frames = match env::args().nth(1) {
+        None => 10_000,
+        Some(word) => match word.parse() {
+            Ok(frames) => frames,
+            Err(_) => return drive::main::<Driver>(),
+        },
+    };
+    match run(frames) {
+        Ok(()) => ExitCode::SUCCESS,
+        Err(fault) => {
+            println!("{fault}");
+            ExitCode::FAILURE
+        }
+    }
+}

@@ -3,8 +3,8 @@
 #include <inttypes.h>
 #include <string.h>
 
+#include "dma_memory.h"
 #include "inside.h"
-#include "memory.h"
 #include "verdict.h"
 
 #define BLOCKS 65536u

@@ -47,7 +47,7 @@ struct bus_hooks {
     /* a tail is to move there: nothing is copied yet, and the device hasn't seen it */
     void (*giving)(bool is_transmit, uint16_t queue, uint32_t tail);
     void (*tail)(bool is_transmit, uint16_t queue); /* a tail moved; what it gave away is sent */
-    /* for a run that has a memory.h of its own: a word on its way to the device, or read there, by the physical
+    /* for a run that has a dma_memory.h of its own: a word on its way to the device, or read there, by the physical
        function's address of the register; before a transmit step, or after a receive step wrote, and whether the
        device is to be asked (again), false where it would be idle; a queue's reset */
     uint32_t (*to_device)(unsigned int function, uint32_t address, uint32_t word);

@@ -1,5 +1,5 @@
 /* Memory with two copies, the driver's and the bench's. */
-#include "memory.h"
+#include "dma_memory.h"
 
 #include <inttypes.h>
 #include <string.h>

@@ -4,8 +4,8 @@
 #include <string.h>
 
 #include "bus.h"
+#include "dma_memory.h"
 #include "legacy_form.h"
-#include "memory.h"
 #include "verdict.h"
 
 /* the second address of the first 16 queues' SRRCTL */

@@ -1,5 +1,5 @@
 /* The device works in the driver's memory itself, so both always see the same. */
-#include "memory.h"
+#include "dma_memory.h"
 
 #include "inside.h"
 

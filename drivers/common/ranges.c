@@ -1,5 +1,5 @@
 /* Which bytes of this process are lent, by bus address. */
-#include "memory.h"
+#include "dma_memory.h"
 
 #include "inside.h"
 

@@ -1,8 +1,8 @@
 /* The steps of the device that a run asks for, and what they give: frames, messages. */
 #include <inttypes.h>
 
+#include "dma_memory.h"
 #include "inside.h"
-#include "memory.h"
 #include "verdict.h"
 
 #define FRAME_ROOM 65536 /* bytes: the device sends at most 65,531, by MAXFRS, and fills up to 60 */

@@ -6,8 +6,8 @@
 #include <string.h>
 #include <sys/mman.h>
 
+#include "dma_memory.h"
 #include "efi.h"
-#include "memory.h"
 
 #define PAGE 4096u
 #define LOW_BYTES (LOW_END - LOW_FIRST)

@@ -7,7 +7,7 @@
 #include <string.h>
 
 #include "bus.h"
-#include "memory.h"
+#include "dma_memory.h"
 #include "verdict.h"
 #include "vhost.h"
 

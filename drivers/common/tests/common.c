@@ -4,9 +4,9 @@
 
 #include "bus.h"
 #include "check.h"
+#include "dma_memory.h"
 #include "frames.h"
 #include "mailbox.h"
-#include "memory.h"
 #include "rss.h"
 #include "strays.h"
 #include "verdict.h"

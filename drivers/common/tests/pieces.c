@@ -7,9 +7,9 @@
 
 #include "bus.h"
 #include "check.h"
+#include "dma_memory.h"
 #include "function_host.h"
 #include "legacy.h"
-#include "memory.h"
 #include "pci_config.h"
 #include "trap.h"
 #include "verdict.h"

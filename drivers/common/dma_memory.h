@@ -4,8 +4,8 @@
      made equal where that is needed. Descriptors that a tail write gives away and the bytes that transmit descriptors
      point at go to the device, and what a step of the device tells that it wrote goes to the driver. What a driver
      changes without a tail write isn't seen. */
-#ifndef DRIVERS_MEMORY_H
-#define DRIVERS_MEMORY_H
+#ifndef DRIVERS_DMA_MEMORY_H
+#define DRIVERS_DMA_MEMORY_H
 
 #include <stdbool.h>
 #include <stddef.h>
@@ -21,7 +21,7 @@ void *memory_at(uint64_t bus, size_t length);
 
 /* ---- what the bus tells as it happens; in place nothing follows ---- */
 
-/* Copies; what isn't lent is refused, counted, and told on standard error. */
+/* Copies; what isn't lent is refused, counted, and reported on standard error. */
 void memory_to_device(uint64_t bus, size_t length);
 void memory_to_driver(uint64_t bus, size_t length);
 

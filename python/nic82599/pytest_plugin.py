@@ -1,8 +1,8 @@
 """The plugin of pytest: a failed test says why nothing happens, and a test that gives a scenario is searched.
 
 The report of a test that failed has a section for each controller that it made, or has by a fixture, in which
-something waits: what `nic.why()` tells. A controller that was closed before has one if the failure itself closed it, as
-at the end of a `with`. pytest's own option `-p no:nic82599` leaves the plugin out.
+something waits or by which a frame was dropped: what `nic.why()` tells. A controller that was closed before has one if
+the failure itself closed it, as at the end of a `with`. pytest's own option `-p no:nic82599` leaves the plugin out.
 
     @pytest.mark.nic_schedules(1000)
     def test_poll():

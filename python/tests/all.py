@@ -29,9 +29,11 @@ import ends  # noqa: E402
 import explorer  # noqa: E402
 import files_by_others  # noqa: E402
 import interrupted  # noqa: E402
+import making_frames  # noqa: E402
 import nic82599  # noqa: E402
 import nic82599.buffers  # noqa: E402
 import nic82599.descriptors  # noqa: E402
+import nic82599.frames  # noqa: E402
 import nic82599.tools.printable  # noqa: E402
 import packing  # noqa: E402
 import report_card  # noqa: E402
@@ -42,7 +44,8 @@ import why_nothing  # noqa: E402
 
 def texts() -> int:
     """How many examples the texts show, each of which gives what stands there."""
-    told = [doctest.testmod(it) for it in (nic82599, nic82599.buffers, nic82599.descriptors, nic82599.tools.printable)]
+    modules = (nic82599, nic82599.buffers, nic82599.descriptors, nic82599.frames, nic82599.tools.printable)
+    told = [doctest.testmod(it) for it in modules]
     told.append(doctest.testfile(str(PROMPT), module_relative=False))
     if any(it.failed for it in told):
         sys.exit(1)
@@ -83,6 +86,7 @@ def main() -> None:
     print(f"{units(interrupted)} tests of interrupted calls")
     print(f"{units(together)} tests of several threads")
     print(f"{units(descriptors_of_device)} tests of descriptors")
+    print(f"{units(making_frames)} tests of frames")
     print(f"{units(explorer)} tests of the explorer")
     print(f"{units(weak_memory)} tests of weak memory, values and timers")
     print(f"{units(report_card)} tests of the report card")

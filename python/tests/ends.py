@@ -15,8 +15,8 @@ from nic82599 import __version__, write_pcap
 ROOT = Path(__file__).resolve().parents[2]
 SCRIPT = str(ROOT / "examples/queue.nic")
 TOOLS = sorted(it.name for it in (ROOT / "tools").iterdir())
-# Status 1 is the answer of the two for captures, whatever they can't read or write.
-UNWRITTEN = {"pcap2nic": 1, "nic2pcap": 1}
+# Status 1 is the answer of those for frames, whatever they can't read or write.
+UNWRITTEN = {"pcap2nic": 1, "nic2pcap": 1, "nicframe": 1}
 FULL = "standard output can't be written (No space left on device)"
 
 
@@ -37,6 +37,7 @@ class Ends(unittest.TestCase):
         self.calls = [
             ("niclint", SCRIPT), ("niclint", SCRIPT, "--trace"), ("nicdebug", SCRIPT), ("nicview", SCRIPT),
             ("nicview", SCRIPT, "--text"), ("nicview", SCRIPT, "--svg", "3"), ("pcap2nic", str(capture)),
+            ("nicframe", "tcp", "10.0.0.1:1", "10.0.0.2:2", "--count", "500"),
         ]  # fmt: skip
 
     def test_full(self) -> None:

@@ -28,6 +28,18 @@ LONG_NUMBERS: list[tuple[str, list[str], int, str]] = [
     (f"#: nic vfs {DIGITS} fifo 64 blocks 256\n", ["nicview --text", "niclint", "nicdebug"], 2, ":1: it has no whole"),
     (HEAD + f"w 0x00000 {DIGITS} # done\n", ["nicview --text", "niclint", "nicview --script"], 2, ":2: this is no"),
     (HEAD + f"#: restore {DIGITS}\n", ["nicview --text"], 2, ":2: this is no line"),
+    (
+        "#: nic vfs 64 fifo 64 blocks 2\nrx # idle\n",
+        ["nicview --text", "nicview --script"],
+        2,
+        " can't be made again: A controller has 63 virtual functions at most. (64 virtual functions, 64 frames, ",
+    ),
+    (
+        "#: nic vfs 0 fifo 0 blocks 2\nrx # idle\n",
+        ["nicview --text", "nicview --script"],
+        2,
+        " can't be made again: From 1 to 4,096 frames may wait. (0 virtual functions, 0 frames, 2 blocks)",
+    ),
     (f"w RDT[0] {DIGITS}\n", ["niclint"], 2, ":1:10: refused Range: VALUE is at most 4294967295, and this is 999"),
     (f"w RDT[{DIGITS}] 1\n", ["niclint"], 2, ":1:3: refused Range: RDT has 128 registers"),
     (f"# a\n# b, by: nicbench run --vfs {DIGITS} --fifo 3\nrx\n", ["nicview --text"], 0, "line 3: rx"),

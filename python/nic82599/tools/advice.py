@@ -134,7 +134,8 @@ class Advice:
                     access.pc,
                     f"{name}: bits 0x{rest:08x} of the word are reserved; write 0 there, later cards may use them",
                 )
-            lost = word & ~row.mask & ~rest & 0xFFFF_FFFF
+            # (what reads 1 and stays so is written back by whoever changes another bit)
+            lost = word & ~row.mask & ~row.reset & ~rest & 0xFFFF_FFFF
             if row.kind in ("Rw", "Held") and lost:
                 why = {
                     "DLEN": "; a ring's length is a multiple of 128 bytes",

@@ -10,10 +10,12 @@ from __future__ import annotations
 from dataclasses import dataclass, field
 from pathlib import Path
 
-from .recording import Recording, parts
-from .script import Bench, Op
+from .. import BadFifo, TooManyVfs
+from .recording import Recording, named, parts
+from .script import Bench, Fault, Op
 
 INSTRUCTIONS, STRINGS, LONGEST, BLOCKS = 4_096, 1_024, 16_384, 256
+MOST_VFS, MOST_FIFO = 63, 4_096
 COLUMN = 28
 
 
@@ -41,11 +43,11 @@ class Made:
     def end(self, number: int, why: str) -> None:
         self.ended = self.ended or f"line {number} of the recording: {why}"
 
-    def add(self, text: str, reply: str, number: int) -> None:
+    def add(self, text: str, reply: str, number: int, name: str = "") -> None:
         if len(self.instructions) == INSTRUCTIONS:
             raise End(f"a script has {INSTRUCTIONS:,} instructions at most")
         self.instructions.append((len(self.lines), reply, number))
-        self.lines.append(f"{text:{COLUMN}} # {reply}")
+        self.lines.append(f"{text:{COLUMN}} # {reply}" + (f"  # {name}" if name else ""))
 
     def name(self, data: bytes) -> str:
         """The name of a string, which gets its line where it is the first with these bytes."""
@@ -105,7 +107,8 @@ def _add(made: Made, recording: Recording, event: int) -> None:
     text, *_ = parts(recording.lines[number - 1])
     if one.op in (Op.POKE, Op.ARRIVE):
         text = " ".join([*text.split()[:-1], made.name(recording.data[one.x])])
-    made.add(text, reply, number)
+    text, name = named(one, text)
+    made.add(text, reply, number, name)
 
 
 def _compared(made: Made, bench: Bench) -> None:
@@ -120,10 +123,19 @@ def _compared(made: Made, bench: Bench) -> None:
             return
 
 
+def _refuse_sizes(recording: Recording) -> None:
+    """Fault where no controller has the sizes of the recording, so that none can be asked for."""
+    fault = TooManyVfs if recording.vfs > MOST_VFS else None if 1 <= recording.fifo <= MOST_FIFO else BadFifo
+    if fault:
+        sizes = f"{recording.vfs} virtual functions, {recording.fifo} frames, {recording.blocks} blocks"
+        raise Fault(f"{recording.path} can't be made again: {fault.__doc__} ({sizes})")
+
+
 def script(recording: Recording) -> tuple[str, str]:
     """The script, and why it ends before the recording does, if that is so."""
     if recording.bad:
         raise recording.bad[0]
+    _refuse_sizes(recording)
     made = Made()
     for event in _history(recording, made):
         try:

@@ -222,7 +222,9 @@ def _svg_ring(ring: Ring, state: State) -> list[str]:
             f"M{_turn(start, 86)} A86 86 0 0 1 {_turn(end, 86)}",
             f"L{_turn(end, 52)} A52 52 0 0 0 {_turn(start, 52)} Z",
         )
-        parts.append(f'<path class="slot {shown}" d="{outer} {inner}"/>')
+        is_unread = shown in ("device", "driver") and state.said(ring, slot).form == "not read"
+        pale = ' fill-opacity="0.35"' if is_unread else ""
+        parts.append(f'<path class="slot {shown}"{pale} d="{outer} {inner}"/>')
         x, y = _point((start + end) / 2, 69)
         if count <= 32:
             parts.append(_svg_text(x, y + 4, str(slot), f"on-{shown}", "middle"))

@@ -294,6 +294,7 @@ def look(trace: Trace) -> Seen:
     arrived, sent = _account(trace, replay)
     asked = Watch(trace, sides).steps()
     _ask_memory(trace, replay, asked, sent)
+    _unread(trace)
     _lost(trace)
     _give_hashes(trace, replay, arrived)
     _collect(replay, sent)
@@ -355,6 +356,41 @@ def _last(numbers: set[int], number: int) -> int:
 
 def _bytes(answer: str) -> bytes | None:
     return bytes.fromhex(answer.removeprefix("bytes ")) if answer.startswith("bytes ") else None
+
+
+NOTHING = bytes(16)
+
+
+def _unread(trace: Trace) -> None:
+    """Of the program's own memory in place a recording has what the device read or wrote. Elsewhere, and in slots that
+    a tail gave to the device since, the program may have written what nobody knows yet: that isn't read."""
+    if not trace.in_place:
+        return
+    words, read = dict(trace.start), set(trace.read)
+    given: set[int] = set()
+    for step in trace.steps:
+        read |= step.written
+        new = {unit for unit in _given(words, step) if unit >> 11 in trace.in_place}
+        given = given - step.written | new
+        words.update({address: word for address, _, word in step.changes})
+        found = dict.fromkeys(sorted(new)) | dict(step.memory)
+        for unit, content in found.items():
+            is_silent = unit >> 11 in trace.in_place and unit not in read and content == NOTHING
+            if is_silent or unit in given:
+                found[unit] = None
+        step.memory = list(found.items())
+
+
+def _given(words: dict[int, int], step: Step) -> set[int]:
+    """The slots that a step gives to the device by a tail, with the registers before it."""
+    units: set[int] = set()
+    for address, old, new in step.changes:
+        register = REGISTERS[address]
+        if register.row.name in ("RDT", "TDT"):
+            ring = ring_of(words, register.row.name[0].lower() + "x", register.index)
+            count = (new - old) % ring.slots if max(old, new) < ring.slots else 0
+            units.update(ring.base + 16 * ((old + k) % ring.slots) for k in range(count))
+    return units
 
 
 def _lost(trace: Trace) -> None:

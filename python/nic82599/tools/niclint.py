@@ -102,7 +102,8 @@ def explain(path: str, run: Run, which: Callable[[Step], bool]) -> None:
         held = [reason.text for reason in reasons if reason.held]
         if held and which(step):
             where = f"{path}:{run.line(step.pc)}: step {step.number}"
-            print(f"{where}: {run.shown(step.pc)} -> {step.answer}: {'; '.join(held)}")
+            name = f" ({offset})" if (offset := run.offset(step.pc)) else ""
+            print(f"{where}: {run.shown(step.pc)}{name} -> {step.answer}: {'; '.join(held)}")
 
 
 def of_script(asked: argparse.Namespace, raw: bytes) -> int:

@@ -7,6 +7,7 @@ const start = new Map(run.start);
 const registers = new Map(Object.entries(run.registers).map(([address, names]) => [Number(address), names]));
 const TROUBLE = ["failed", "fault", "dropped", "refused"];
 let position = 0, playing = null;
+pinned = run.failed || null; // the ring that a finding names is in front until another is clicked
 
 // Elements and words.
 
@@ -44,6 +45,9 @@ function lentAfter(rows, [sign, first, last]) {
   return parts.filter(([a, b]) => a <= b);
 }
 const isLent = (rows, block) => rows.some(([first, last]) => first <= block && block <= last);
+// Where to scroll a list so that the first of its rows in sight is whole.
+const wholeRow = (rows, top, under = 0) =>
+  Math.max(0, ...[...rows].map((one) => one.offsetTop - under).filter((at) => at <= top));
 // What a recording of a virtual machine's card says of a ring: where the guest has it.
 const RING_OF_GUEST = /guest: the ring of ((?:rx|tx) \d+) is at (0x[0-9a-f]+)/g;
 // The machine after n steps.
@@ -187,6 +191,38 @@ function showInterrupts(state, before) {
   element("interrupts-part").hidden = !run.groups.length;
   element("interrupts").replaceChildren(...(parts.length ? parts : [faint("No cause, mask or vector is set.")]));
 }
+// The mailboxes that the run touches, by function: the registers of both sides, and the words that aren't 0.
+const boxes = new Map();
+const touched = new Set(run.steps.flatMap((step) => step[3].map(([address]) => address)));
+for (const [address, [name, kind]] of registers) {
+  const index = Number(/\[(\d+)\]$/.exec(name)?.[1] ?? 0), isWord = kind === "PFMBMEM";
+  const holds = touched.has(address) || (isWord && start.get(address));
+  if (!holds || !(isWord || kind === "PFMAILBOX" || kind === "PVFMAILBOX")) continue;
+  const v = isWord ? Math.floor(index / 16) : index, box = boxes.get(v) ?? { words: [] };
+  if (v >= run.vfs) continue;
+  if (isWord) box.words.push([index % 16, address]);
+  else box[kind] = address;
+  boxes.set(v, box);
+}
+function showMailboxes(state, before) {
+  const told = (kind, address) => {
+    if (address === undefined) return ["nothing"];
+    const [now, old] = [state, before].map(({ words }) => fields(kind, words.get(address) ?? 0));
+    return now.length || old.length ? litFields(old, now) : ["nothing"];
+  };
+  const word = ([x, address]) => {
+    const [now, old] = [state, before].map(({ words }) => words.get(address) ?? 0);
+    return now || old ? [`${x}: `, span(now === old ? "" : "lit", hex(now)), " "] : [];
+  };
+  const rows = [...boxes].sort(([a], [b]) => a - b).map(([v, box]) => {
+    const held = box.words.flatMap(word), cells = [`${v}`, told("PFMAILBOX", box.PFMAILBOX)];
+    cells.push(told("PVFMAILBOX", box.PVFMAILBOX), held.length ? held : ["all 0"]);
+    return make("tr", {}, ...cells.map((parts, k) => make("td", { className: k % 3 ? "" : "mono" }, ...parts)));
+  });
+  const titles = row(["Function", "PFMAILBOX", "VFMAILBOX", "Words"], "th");
+  element("mailboxes-part").hidden = !boxes.size;
+  element("mailboxes").replaceChildren(make("div", { className: "scroll" }, make("table", {}, titles, ...rows)));
+}
 // A frame in one line, which opens to its headers.
 function told([step, queue, slots, packet, rss], way, title = "") {
   const whose = queue !== null ? `queue ${queue}` : "queue not known";
@@ -234,7 +270,9 @@ function buildLines() {
     const [code, ...comment] = text.split("#"), pc = pcAt.get(n + 1);
     const rest = comment.length ? span("comment", "#" + comment.join("#")) : "";
     const isData = code.trimStart().startsWith("data ");
-    const said = span("said", span(isData ? "code data" : "code", cut(code.trimEnd(), 400)), rest);
+    const shown = code.trim() ? span(isData ? "code data" : "code", cut(code.trimEnd(), 400)) : "";
+    const offset = run.offsets[pc] && !rest ? span("comment", `# ${run.offsets[pc]}`) : rest;
+    const said = span("said", shown, offset);
     const line = make("li", { title: isData ? cut(text, 400) : "" }, span("number", `${run.before + n + 1}`), said);
     if (pc === undefined) {
       if (!code.trim() && comment.length) line.classList.add("remark");
@@ -273,7 +311,8 @@ function showLines(n) {
 function keepLine() {
   const box = element("lines"), top = lastLine ? lastLine.offsetTop : 0;
   const isSeen = top > box.scrollTop + 20 && top < box.scrollTop + box.clientHeight - 50;
-  if (!isSeen) box.scrollTop = Math.max(0, top - box.clientHeight / 2);
+  const most = box.scrollHeight - box.clientHeight;
+  if (!isSeen) box.scrollTop = wholeRow(box.children, Math.min(most, Math.max(0, top - box.clientHeight / 2)));
 }
 // A window of another size may break lines elsewhere, and put the script above all else: its line stays in sight.
 function resized() {
@@ -334,6 +373,7 @@ function show(n) {
   const when = position ? `after step ${at}` : "at the start";
   for (const one of document.querySelectorAll(".when")) one.textContent = when;
   showInterrupts(state, before);
+  showMailboxes(state, before);
   showFrames(state, before);
   showLines(position);
   showHits();

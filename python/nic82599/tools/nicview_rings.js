@@ -4,6 +4,8 @@
 
 const ON = 1 << 25, CIRCLE = 64;
 const WHOSE = { device: "the device's", done: "done", driver: "the driver's", nobody: "nobody's" };
+WHOSE["unread device"] = "the device's, not read";
+WHOSE["unread driver"] = "the driver's, not read";
 // The ring that was clicked, by its name, and the slot, by its ring's name and number.
 let pinned = null, picked = null;
 
@@ -39,7 +41,9 @@ function slotOf(state, ring, slot) {
   const behind = (from) => (from - ring.head + ring.slots) % ring.slots;
   const owner = ring.outside ? "nobody" : behind(slot) < behind(ring.tail) ? "device" : "driver";
   const form = said ? said[0] : unknown(state, address);
-  return { slot, said, form, owner, look: owner === "driver" && said && said[1] ? "done" : owner };
+  const isUnread = form === "not read" && !ring.outside;
+  const look = owner === "driver" && said && said[1] ? "done" : isUnread ? `unread ${owner}` : owner;
+  return { slot, said, form, owner, look };
 }
 // The slots of a ring that the step at a position wrote.
 function writtenSlots(ring, n) {
@@ -54,12 +58,21 @@ function factsOf(state, ring) {
 
 // A circle.
 
+// What fills a slot that isn't read: stripes in the colour of whose it is.
+function stripes(owner) {
+  const size = { width: 6, height: 6, patternUnits: "userSpaceOnUse", patternTransform: "rotate(45)" };
+  const made = drawn("pattern", { id: `unread-${owner}`, ...size });
+  made.append(drawn("rect", { width: 6, height: 6, class: "under" }), drawn("rect", { width: 2.5, height: 6, class: owner }));
+  return made;
+}
+
 function turn(angle, radius) {
   const at = (angle - 0.25) * 2 * Math.PI;
   return [116 + radius * Math.cos(at), 116 + radius * Math.sin(at)].map((one) => Number(one.toFixed(2)));
 }
 function circle(state, ring, written) {
   const svg = drawn("svg", { viewBox: "-40 8 312 212", role: "img", "aria-label": factsOf(state, ring) });
+  svg.append(stripes("device"), stripes("driver"));
   const middle = { "text-anchor": "middle" };
   for (let slot = 0; slot < ring.slots; slot++) {
     const { look } = slotOf(state, ring, slot), from = slot / ring.slots, to = (slot + 1) / ring.slots;
@@ -113,7 +126,11 @@ function strip(state, ring, written) {
   if (!ring.outside && ring.head < ring.tail) part(ring.head, ring.tail, "device");
   if (!ring.outside && ring.head > ring.tail)
     for (const [a, b] of [[ring.head, ring.slots], [0, ring.tail]]) part(a, b, "device");
-  for (const slot of held(state, ring)) if (slotOf(state, ring, slot).look === "done") part(slot, slot + 1, "done");
+  const isWhole = ring.slots <= CIRCLE && !ring.outside;
+  for (const slot of isWhole ? Array(ring.slots).keys() : held(state, ring)) {
+    const { look } = slotOf(state, ring, slot);
+    if (look === "done" || look.startsWith("unread")) part(slot, slot + 1, look);
+  }
   for (const slot of written) if (slot >= 0 && slot < ring.slots) part(slot, slot + 1, "written");
   if (ring.slots <= 32) bar.style.setProperty("--cell", `${100 / ring.slots}%`);
   const pointers = ["head", "tail"].map((which) => {
@@ -202,6 +219,7 @@ function line(state, ring, n, inFront) {
 function showRings(n, state) {
   const rings = ringsOf(state), queues = new Map();
   element("rings-part").hidden = !run.sides.length;
+  element("unread-key").hidden = !run.steps.some((step) => (step[4].m ?? []).some(([, content]) => content === null));
   if (!rings.length) {
     element("front").replaceChildren(faint("No ring has a length."));
     element("grid").replaceChildren();
@@ -217,5 +235,6 @@ function showRings(n, state) {
   element("grid").hidden = rings.length < 2;
   if (focused) element("grid").querySelector(`[data-ring="${focused}"]`)?.focus();
   const box = element("front").querySelector(".descriptors"), lit = box?.querySelector("tr.written");
-  if (lit) box.scrollTop = Math.max(0, lit.offsetTop - box.clientHeight / 2);
+  const [titles, ...rows] = box?.querySelectorAll("tr") ?? [];
+  if (lit) box.scrollTop = wholeRow(rows, Math.max(0, lit.offsetTop - box.clientHeight / 2), titles.offsetHeight);
 }

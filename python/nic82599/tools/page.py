@@ -194,6 +194,9 @@ class Data:
             "last": run.last,
             "finding": vars(run.finding) if run.finding else None,
             "comments": [run.comment(pc) for pc in range(len(run.line_of))],
+            "offsets": {pc: name for pc in range(len(run.line_of)) if (name := run.offset(pc))},
+            "vfs": run.vfs,
+            "failed": " ".join(map(str, run.failed_ring or ())),
             "notes": run.notes,
             "warnings": run.warnings,
         }

@@ -23,7 +23,7 @@ from nic82599 import BLOCK_BYTES, Nic, NicError, Snapshot
 from .advice import Advice
 from .library import MOST_BLOCKS, Library, instruction, played
 from .printable import shortened
-from .regs import ENABLE, REGISTERS, first
+from .regs import ENABLE, OFFSETS, REGISTERS, first, register_at
 from .run import Run, bench_of, of_script, of_trace
 from .script import HEAD, Bench, Fault, Instruction, Op, Script, read_bytes, text_of
 from .tool import MOST_STEPS, limit_of_script
@@ -85,9 +85,22 @@ class Recording:
 
 
 def parts(line: str) -> tuple[str, str]:
-    """What a line says, and its reply. Blocks that are lent in a row have a line that is a comment to a script."""
-    text, _, reply = (line[3:] if line.startswith("#: lend ") else line).partition("#")
-    return text.strip(), reply.strip()
+    """What a line says, and its reply; the name of a register may stand behind that. Blocks that are lent in a row have
+    a line that is a comment to a script."""
+    text, _, rest = (line[3:] if line.startswith("#: lend ") else line).partition("#")
+    return text.strip(), rest.partition("#")[0].strip()
+
+
+def named(one: Instruction, text: str) -> tuple[str, str]:
+    """An access by the name of its register, and a comment: where the address isn't the one that the name means, or is
+    a virtual function's offset, the name stands there."""
+    if one.op in (Op.VF_WRITE, Op.VF_READ):
+        return text, OFFSETS.get(one.a, "")
+    register = register_at(one.a) if one.op in (Op.WRITE, Op.READ) else None
+    if register is None or register.address != one.a:
+        return text, register.name if register else ""
+    word, _, *rest = text.split()
+    return " ".join([word, register.name, *rest]), ""
 
 
 def bytes_of(words: list[str], comment: str) -> bytes:
@@ -133,6 +146,18 @@ def _take(made: Recording) -> None:
                 made.line_of.append(number)
         except BAD as fault:
             made.bad.append(made.fault(number, fault))
+
+
+def in_place(made: Recording) -> set[int]:
+    """The blocks that are memory of the program's own, lent in place, at any time."""
+    blocks: set[int] = set()
+    for number, words in made.directives:
+        if words[:2] == ["in", "place"]:
+            try:
+                blocks.update(instruction(["lend", *words[2:]], {}).blocks)
+            except BAD as fault:
+                raise made.fault(number, fault) from None
+    return blocks
 
 
 def cut(made: Recording, limit: int) -> None:
@@ -370,11 +395,12 @@ def _comment(recording: Recording, script: Script, steps: list[Step], replies: l
         script.lines[0] += "".join(f"; {text}" for text in rings.values())
     for step, reply in zip(steps, replies):
         at = script.line_of[step.pc] - 1
-        if step.reply == reply:
-            script.lines[at] = script.lines[at].partition("#")[0].rstrip()
+        text, _, said = script.lines[at].partition("#")
+        shown, name = named(script.instructions[step.pc], text.strip())
         note = notes.get(recording.before + step.pc - extra) if reply != "after" else None
-        if note:
-            script.lines[at] += f"  # {note}"
+        recorded = said.strip() if reply == "after" else reply if step.reply != reply else ""
+        comment = "; ".join(filter(None, (recorded, name, note)))
+        script.lines[at] = f"{shown}  # {comment}" if comment else shown
         others += step.reply != reply and reply != "after"
     return others
 
@@ -408,6 +434,8 @@ def trace(player: Player) -> Trace:
     start |= {address: every[address] for step in steps for address, _, _ in step.changes}
     made = Trace(bench, script, steps, start, f"ok {len(steps)}", recording.notes)
     made.lent, made.memory_before, made.waiting, made.out = lent, bench.before, waiting, out
+    made.in_place = in_place(recording)
+    made.read = {one.a for one in recording.instructions[: recording.before] if one.op == Op.POKE}
     made.warnings = [(one.line, one.text) for one in Advice(recording.script()).all()]
     return made
 

@@ -95,6 +95,13 @@ def queues_of_pool(gcr_ext: int) -> int:
     return {1: 8, 2: 4, 3: 2}.get(gcr_ext & 3, 0)
 
 
+# What drivers of virtual functions call the registers of one, by offset.
+OFFSETS: dict[int, str] = {
+    place.offset + place.stride * x: f"{place.name}[{x}]" if place.stride else place.name
+    for place in FUNCTION
+    for x in range(place.count(max(POOL_SIZES)))
+}
+
 # For pools of k queues: offset to row, and how its index follows from v: index = scale * v + rest.
 _FUNCTION_MAP = {
     k: {

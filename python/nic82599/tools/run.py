@@ -19,6 +19,7 @@ from .advice import Advice
 from .memory import Seen, look
 from .reason_table import Reason
 from .reasons import Reasons
+from .regs import OFFSETS
 from .script import Bench, comment_of, instruction_of, read_bytes, text_of
 from .trace import Step, Trace, trace
 
@@ -66,9 +67,26 @@ class Run:
         """What a step does, without its comment."""
         return instruction_of(self.lines[self.line_of[pc] - 1])
 
+    def offset(self, pc: int) -> str:
+        """The name of the register that it names by an offset of a virtual function, or nothing."""
+        found = OFFSET.match(self.shown(pc))
+        return OFFSETS.get(int(found[1], 0), "") if found else ""
+
     def comment(self, pc: int) -> str:
-        """The comment behind it."""
-        return comment_of(self.lines[self.line_of[pc] - 1])
+        """The comment behind it, which has a virtual function's register by its name."""
+        said, name = comment_of(self.lines[self.line_of[pc] - 1]), self.offset(pc)
+        return said if not name or name in said else "; ".join(filter(None, (name, said)))
+
+    @property
+    def failed_ring(self) -> tuple[str, int] | None:
+        """The ring that the words of the finding name, if it is in use: `tx 2`, or queue 2 of either side."""
+        named = RING.search(self.finding.words) if self.finding else None
+        if named is None or self.finding is None:
+            return None
+        side = "tx" if SENDS.search(self.finding.words) else "rx"
+        sides = [named[1]] if named[1] else [side, "rx" if side == "tx" else "tx"]
+        rings = [(side, int(named[2] or named[3])) for side in sides]
+        return next((ring for ring in rings if ring in self.seen.sides), None)
 
     @property
     def opening(self) -> int | None:
@@ -89,6 +107,11 @@ class Run:
         return self.steps[-1].number if self.steps else None
 
 
+# A ring, in the words of a finding; and words of what is sent.
+RING = re.compile(r"\b(rx|tx) (\d{1,4})\b|\bqueue (\d{1,4})\b")
+SENDS = re.compile(r"\b(sends?|sent|goes out|went out|reclaim|TDT|TDH)\b")
+# An access by a virtual function, which has no name in the language of scripts.
+OFFSET = re.compile(r"v[rw] \w+ (0x[0-9a-fA-F]+|[1-9][0-9]*|0)(?: |$)")
 FAILED = re.compile(r"\s*# FAILED (\w+): (.*)")
 CUT = re.compile(r"\s*# CUT: (.*)")
 SIZES = re.compile(r"\s*# .*, by: nicbench run --vfs ([0-9]{1,6}) --fifo ([0-9]{1,6})\s*")

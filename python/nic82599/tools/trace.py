@@ -79,7 +79,9 @@ class Trace:
     """A whole run. `start` has the registers before the first step, as far as any step could change them, and those
     that aren't as at a reset; `lent` the blocks that are lent then, and `memory_before` what 16 bytes of them hold;
     `waiting` and `out` how many frames wait and went out: none where it begins anew. `warnings` are those of niclint
-    with their lines, where the script is a part of what they are about."""
+    with their lines, where the script is a part of what they are about. `in_place` are blocks of the program's own
+    memory, of which a recording has what the device read or wrote, and `read` those of their units that it read
+    before."""
 
     bench: Bench
     script: Script
@@ -92,6 +94,8 @@ class Trace:
     waiting: int = 0
     out: int = 0
     warnings: list[tuple[int, str]] | None = None
+    in_place: set[int] = field(default_factory=set)
+    read: set[int] = field(default_factory=set)
 
     def instruction(self, step: Step) -> Instruction:
         return self.script.instructions[step.pc]

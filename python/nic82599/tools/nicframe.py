@@ -1,0 +1,160 @@
+"""Makes frames with right lengths and checksums: as lines of a register script, as hex, or as a capture.
+
+    tools/nicframe tcp|udp SOURCE:PORT DESTINATION:PORT [options]
+    tools/nicframe ip SOURCE DESTINATION [--protocol N] [options]
+    tools/nicframe arp SENDER TARGET [--reply] [options]
+    tools/nicframe ether --type N [options]
+
+Addresses are of IPv4 or IPv6; an address of IPv6 with a port stands in brackets, [2001:db8::1]:80. With --length the
+packet is filled up to that many bytes of frame. Else the payload is --payload or nothing, and zeros stand behind the
+packet up to 60 bytes.
+
+Each frame is a `data` line, named NAME, or NAME1, NAME2 and so on with --count: then each next one of TCP and UDP comes
+from the next port. With --rss a comment before it says how receive side scaling hashes it, and which queue of --table
+it comes to: with MRQC bits 3:0 1, the key of --key in RSSRK, and the table, repeated up to 128 entries, in RETA.
+
+    tools/nicframe tcp 10.0.0.1:1000 10.0.0.2:80 --rss --table 0,1,2,3
+    tools/nicframe udp [2001:db8::1]:53 [2001:db8::2]:53 --tag 7:2 --hex
+    tools/nicframe arp 10.0.0.1 10.0.0.2 --pcap who-has.pcap
+
+Status 1: the capture can't be written; 3: the words are wrong.
+"""
+
+from __future__ import annotations
+
+import argparse
+import sys
+from collections.abc import Callable
+from typing import Any
+
+from .. import frames
+from ..frames import LEAST, MOST, Rss, mac
+from ..pcap import write_pcap
+from .printable import shortened
+from .tool import Parser, called, ended, number
+
+MOST_FRAMES = 1024
+_ARP = 0x0806
+
+
+def read_by(read: Callable[[str], Any]) -> Callable[[str], Any]:
+    """A word's value, where wrong words are reported by what is wrong with them."""
+
+    def value(word: str) -> object:
+        try:
+            return read(word)
+        except ValueError as fault:
+            raise argparse.ArgumentTypeError(f"{shortened(word)}: {fault}") from fault
+
+    return value
+
+
+def ends_of(word: str) -> tuple[str, int]:
+    """An address and its port. ValueError where there is none."""
+    address, colon, port = word.rpartition(":")
+    if not colon or not port.isdecimal() or (":" in address) != address.startswith("["):
+        raise ValueError(f"{shortened(word)} isn't ADDRESS:PORT, nor [ADDRESS]:PORT for IPv6")
+    return address.strip("[]"), int(port)
+
+
+def ethertype(word: str) -> int:
+    """The type of a frame, as 0x88b5. ValueError for another word."""
+    kind = int(word, 0)
+    if not 0 <= kind <= 0xFFFF:
+        raise ValueError("a type is 0 to 0xffff")
+    return kind
+
+
+def tag_of(word: str) -> int:
+    """A tag: VLAN, or VLAN:PRIORITY."""
+    vlan, _, priority = word.partition(":")
+    read_vlan, read_priority = number(0, 4095), number(0, 7)
+    return read_vlan(vlan) | read_priority(priority or "0") << 13
+
+
+def table_of(word: str) -> tuple[int, ...]:
+    """The entries of a table."""
+    return tuple(number(0, 15)(one) for one in word.split(","))
+
+
+def made(given: argparse.Namespace, place: int) -> bytes:
+    """The frame with this place, 0 the first. ValueError for words that give none."""
+    how = {"tags": given.tag, "to": given.to or frames.TO}
+    if given.kind == "ether":
+        payload = given.payload if given.payload is not None else bytes(max(0, (given.length or 0) - 14))
+        return frames.ethernet(given.type, payload, source=given.source, length=given.length or LEAST, **how)
+    first, second = given.ends
+    if given.kind == "arp":
+        payload = frames.arp(first, second, reply=given.reply, to=given.to, source=given.source)
+        to = given.to or (frames.TO if given.reply else b"\xff" * 6)
+        return frames.ethernet(_ARP, payload, to=to, source=given.source, tags=given.tag, length=given.length or LEAST)
+    more = {"length": given.length, "payload": given.payload, "source_mac": given.source, "protocol": given.protocol}
+    if given.kind == "ip":
+        return frames.made("ip", first, second, **more, **how)
+    (source, port), (destination, to_port) = ends_of(first), ends_of(second)
+    return frames.made(given.kind, source, destination, port + place, to_port, **more, **how)
+
+
+def words_of(rss: Rss, frame: bytes) -> str:
+    """What receive side scaling does with a frame."""
+    kind = rss.type_of(frame)
+    if not kind:
+        return "not hashed: queue 0"
+    words = kind.name.replace("_IPV", " over IPv") if "_" in kind.name else kind.name.replace("IPV", "IPv")
+    found = rss.hash_of(frame)
+    return f"{words}, hash 0x{found:08x}: entry {found & 127}, queue {rss.queue_of(frame)}"
+
+
+def arguments() -> argparse.Namespace:
+    how = {"description": called(__doc__ or ""), "formatter_class": argparse.RawDescriptionHelpFormatter}
+    parser = Parser(**how)
+    add, mac_word, hexadecimal = parser.add_argument, read_by(mac), read_by(bytes.fromhex)
+    add("kind", choices=("tcp", "udp", "ip", "arp", "ether"), metavar="KIND", help="tcp, udp, ip, arp or ether")
+    add("ends", nargs="*", metavar="ADDRESS", help="two addresses, with ports for tcp and udp")
+    add("--to", type=mac_word, metavar="MAC", help="where it goes (02:00:00:00:00:01; an ARP request to all)")
+    add("--from", dest="source", type=mac_word, default=frames.SOURCE, metavar="MAC", help="(02:00:00:00:00:02)")
+    add("--tag", type=tag_of, action="append", default=[], metavar="VLAN[:PRIORITY]", help="a tag; may be repeated")
+    add("--type", type=read_by(ethertype), default=0x88B5, metavar="N", help="the type of ether (0x88b5)")
+    add("--protocol", type=number(0, 255), default=253, metavar="N", help="the protocol of ip (253)")
+    add("--reply", action="store_true", help="ARP's answer: SENDER is at the address of --from")
+    add("--length", type=number(LEAST, MOST), metavar="N", help=f"bytes of the frame, {LEAST} to {MOST:,}")
+    add("--payload", type=hexadecimal, metavar="HEX", help="the payload")
+    add("--count", type=number(1, MOST_FRAMES), metavar="N", help="how many frames (1)")
+    add("--name", default="frame", metavar="NAME", help="what frames are called (frame)")
+    add("--rss", action="store_true", help="say the hash, the entry and the queue of each")
+    add("--key", type=hexadecimal, default=frames.KEY, metavar="HEX", help="80 digits (the verification suite's)")
+    add("--table", type=table_of, default=(0,), metavar="N,N,..", help="queues of the entries, repeated (0)")
+    form = parser.add_mutually_exclusive_group()
+    form.add_argument("--hex", action="store_true", help="print hex alone")
+    form.add_argument("--pcap", metavar="FILE", help="write a capture")
+    given = parser.parse_args()
+    if len(given.ends) != (0 if given.kind == "ether" else 2):
+        parser.error(f"{given.kind} takes {'no address' if given.kind == 'ether' else 'two addresses'}")
+    try:
+        given.rss_now = Rss(given.key, given.table)
+        given.frames = [made(given, place) for place in range(given.count or 1)]
+    except ValueError as fault:
+        parser.error(str(fault))
+    return given
+
+
+def main() -> int:
+    given = arguments()
+    for place, frame in enumerate(given.frames, 1):
+        if given.rss:
+            print(f"# {words_of(given.rss_now, frame)}")
+        if not given.pcap:
+            name = given.name + (str(place) if given.count else "")
+            print(frame.hex() if given.hex else f"data {name} {frame.hex()}")
+    if given.pcap:
+        try:
+            write_pcap(given.pcap, given.frames)
+        except OSError as fault:
+            print(f"nicframe: {given.pcap}: {fault.strerror}", file=sys.stderr)
+            return 1
+    return 0
+
+
+def command() -> int:
+    """The command `nicframe`."""
+    return ended(main, "nicframe", 1)

@@ -249,6 +249,46 @@ def check_vector(look: Look, name: str, vector: str) -> None:
         look.expect(told.get(name) == vector, f"{place}: the vector of {name} in {rows}")
 
 
+def check_mailboxes(look: Look) -> None:
+    """That the panel tells the signals and words of the functions that the device has, at each step."""
+    browser = look.browser
+    browser.size(1_280, 800, False)
+    browser.load(look.file, "#start")
+    told = set()
+    for _ in range(look.count):
+        browser.press("ArrowRight")
+        rows = browser.value(
+            "[...document.querySelectorAll('#mailboxes tr')].map((one) => [...one.children].map((it) => it.innerText))"
+        )
+        look.expect([row[0] for row in rows[1:]] == ["0", "1"], f"the mailboxes are {rows}")
+        told.add(tuple(text.strip() for text in rows[1]))
+    asked = ("0", "VFU 1", "VFU 1", "0: 0x00000002 1: 0x00000100")
+    look.expect(asked in told, f"no step has the mailbox {asked}: {sorted(told)}")
+    look.expect("# VFMAILBOX" in browser.value("document.getElementById('lines').innerText"), "no name of an offset")
+
+
+def check_unread(look: Look, number: int) -> None:
+    """That slots which the device hasn't read are striped, in the ring and in its strip, and the key says so; that no
+    row of the script or of the descriptors is cut off where its box begins."""
+    browser = look.browser
+    for wide in (1_280, 400):
+        browser.size(wide, 800, wide == 400)
+        browser.load(look.file, f"#{number}")
+        slots = browser.value("[...document.querySelectorAll('#front path.slot')].map((one) => one.className.baseVal)")
+        want = ["unread device"] * 2 + ["done"] + ["device"] * 4 + ["unread device"]
+        look.expect([it.removeprefix("slot ") for it in slots] == want, f"the slots of step {number} are {slots}")
+        strip = browser.value("document.querySelectorAll('#grid .line.front .unread').length")
+        look.expect(strip == 3, f"the strip has {strip} striped slots")
+        look.expect(browser.value("!document.getElementById('unread-key').hidden"), "the key has no striped slot")
+        cut = browser.value(
+            "[[document.getElementById('lines'), '#lines li', 0], [document.querySelector('.descriptors'),"
+            " '.descriptors tr:not(:first-child)', document.querySelector('.descriptors tr').offsetHeight]].map("
+            "([box, rows, under]) => Math.min(...[...document.querySelectorAll(rows)].map((one) =>"
+            " one.offsetTop - under - box.scrollTop).filter((at) => at > -15).map(Math.abs)))"
+        )
+        look.expect(all(at <= 1 for at in cut), f"{wide} pixels wide: the first rows are {cut} pixels off")
+
+
 def check_fits(look: Look) -> None:
     """That step and rings of each step from the first ring on stand on a screen of 1,280 by 800."""
     browser = look.browser

@@ -4,8 +4,8 @@
     dev/page_excerpts.py            rewrites the pages
     dev/page_excerpts.py --check    names the pages that are stale, and ends with status 1 if any is
 
-The pages are README.md, c/README.md and those of docs/. A piece is the indented block after a line
-'<!-- FILE: ITEM ITEM .. -->', where FILE is a file of the repository and ITEM one of these:
+The pages are README.md, c/README.md, drivers/common/README.md and those of docs/. A piece is the indented block after a
+line '<!-- FILE: ITEM ITEM .. -->', where FILE is a file of the repository and ITEM one of these:
 
     NAME       a function or a constant, without the comment above it
     head       what stands above the first function
@@ -22,7 +22,8 @@ from pathlib import Path
 sys.dont_write_bytecode = True
 from generated import ROOT, keep, text_of  # noqa: E402
 
-PAGES = [ROOT / "README.md", ROOT / "c/README.md", *sorted((ROOT / "docs").glob("*.md"))]
+PAGES = [ROOT / name for name in ("README.md", "c/README.md", "drivers/common/README.md")]
+PAGES += sorted((ROOT / "docs").glob("*.md"))
 PIECE = re.compile(r"<!-- ([\w./]+): (\S.*) -->\n\n((?:    .*\n|\n+(?=    ))*)")
 
 

@@ -62,6 +62,7 @@ share.md
     Making and closing: device_lock
     Calls under the lock: device_lock/shared device_lock/stepping device_lock/locked device_lock/fault
     Calls that are kept: device_lock/calls
+    Leaving alone, closing and positions, a second time: lock_laws
 driver.md
     A driver, running or not: pmd_driver/driver
     Start: pmd_driver/start
@@ -101,6 +102,7 @@ script.md
     Programs and objects: program
     The machine: machine
     The debugger: debugger
+    Objects, instructions and commands, a second time: script_laws
 tools.md
     What the program writes: bench_commands
     The words of the command line: command_line

@@ -12,6 +12,7 @@ import nic82599
 from nic82599 import places
 from nic82599.tools import as_script, perfetto
 from nic82599.tools.advice import Advice
+from nic82599.tools.draw import State
 from nic82599.tools.library import Place, played
 from nic82599.tools.page import Data
 from nic82599.tools.recording import of_recording, read
@@ -31,6 +32,7 @@ STRANGE = [
     "halt", "and 5", "int 300", "int 62", "tx 70000", "tx 200", "qstep rx 128", "vr 63 0", "vr 300 0", "r 0x100000000",
     "r -1", "data d0", "data d0 0", "poke 0x100000000 d0", "poke 8 d1", "peek 0x10 9", "peek -1 0", "link sideways",
     "arrive d1", "collect", "w 0 0x04000000", "w 0x0", "#: nic vfs 1 fifo 1 blocks 1", "", "   ", "\t# only this",
+    "#: in place", "#: in place 0 to 65535", "#: in place 5 to x", "r 0x00008 # word 0x00080000  # STATUS # more",
 ]  # fmt: skip
 HOSTILE = ["#: snapshot 1", "#: lend 0 to 7 # done", "data d1 00  #: no bytes", "arrive d1 # dropped off", ""]
 # What can't be drawn, and what is said of it with status 2.
@@ -320,6 +322,35 @@ def check_notes(folder: Path, expect: Expect) -> None:
         expect('"note":"first; second ??"' in perfetto.trace(run), "the trace hasn't the note")
 
 
+def check_names(folder: Path, expect: Expect) -> None:
+    """A recording has the addresses that were used with their registers' names, and so have the views and a script."""
+    file = folder / "names.rec"
+    with recorded(file, 1) as nic:
+        nic.write32(0x010D8, 1)
+        nic.write32(0x02100, 0x402)
+        nic.read32(0x0000C)
+        nic.vf(0).read32(0x0108)
+        nic.write32(0x11050, 3)
+        nic.vf(0).write32(0x1058, 1)
+    lines = [" ".join(line.split()) for line in file.read_text().splitlines()[2:]]
+    wanted = [
+        "w 0x010d8 0x00000001 # done # RDT[3]", "w 0x02100 0x00000402 # done # SRRCTL[0]",
+        "r 0x0000c # stray 0x00000000", "vr 0 0x0108 # stray 0xffffffff # VTEIMS",
+        "w 0x11050 0x00000003 # done # GCR_EXT", "vw 0 0x1058 0x00000001 # done # VFRDT[1]",
+    ]  # fmt: skip
+    expect(lines == wanted, f"a recording's names: {lines}")
+    run = of_recording(str(file))
+    shown = [(run.shown(step.pc), run.comment(step.pc)) for step in run.steps]
+    wanted = [
+        ("w RDT[3] 0x00000001", ""), ("w 0x02100 0x00000402", "SRRCTL[0]"), ("r 0x0000c", ""),
+        ("vr 0 0x0108", "VTEIMS"), ("w GCR_EXT 0x00000003", ""), ("vw 0 0x1058 0x00000001", "VFRDT[1]"),
+    ]  # fmt: skip
+    expect(shown == wanted and not run.notes, f"the names that a page shows: {shown}, {run.notes}")
+    script = as_script.script(read(str(file), file.read_bytes()))[0]
+    lines = [" ".join(line.split()) for line in script.splitlines()[2:]]
+    expect(lines[0] == "w RDT[3] 0x00000001 # done" and lines[1].endswith("# SRRCTL[0]"), f"a script's names: {lines}")
+
+
 def check_history(folder: Path, expect: Expect) -> None:
     """A script of a recording with snapshots has what led to its end, and ends before an installed image."""
     file = folder / "history.recording"
@@ -340,6 +371,52 @@ def check_history(folder: Path, expect: Expect) -> None:
     file.write_text(file.read_text() + "#: text 73697a652036340a\nr 0x10010 # word 0x00000300\n")
     check_tool(["nicview", file, "--script"], "", 1, ["can't install an EEPROM image"], expect)
     check_tool(["nicview", ROOT / "examples/first.nic", "--script"], "", 2, ["is no recording"], expect)
+
+
+def in_place_recording(folder: Path) -> Path | None:
+    """A recording of a ring in memory in place, whose driver received three frames, and gave slots 7, 0 and 1 to the
+    device again by its last event; None where there is no library."""
+    file, memory = folder / "in_place.recording", bytearray(16 * 2_048)
+
+    def give(*slots: int) -> None:
+        for slot in slots:
+            memory[16 * slot : 16 * slot + 16] = (0x800 * (slot + 1)).to_bytes(16, "little")
+
+    try:
+        with recorded(file, blocks=16) as nic:
+            nic.memory.lend(0, memory)
+            nic["RXCTRL"], nic["FCTRL"] = 1, 1 << 9
+            nic["RDLEN[0]"], nic["SRRCTL[0]"], nic["RXDCTL[0]"] = 128, 0x0200_0002, 1 << 25
+            give(*range(7))
+            nic["RDT[0]"] = 7
+            nic.settle(1)
+            for _ in range(3):
+                nic.arrive(bytes([2]) + bytes(59))
+            nic.settle(1)
+            give(7, 0, 1)
+            nic["RDT[0]"] = 2
+    except places.Missing:
+        return None
+    return file
+
+
+def check_in_place(folder: Path, expect: Expect) -> None:
+    """Of memory in place the views tell what the device read and wrote, and that nobody knows the rest."""
+    file = in_place_recording(folder)
+    expect("#: in place 0 to 15\n" in Path(str(file)).read_text(), "a recording of memory in place doesn't say so")
+    waits = ["read format"] * 4 + ["not read"]
+    for limit in (4_096, 2):
+        run = of_recording(str(file), limit)
+        state, forms = State(run), []
+        for step in run.steps:
+            state.make(step)
+            ring = next(iter(state.rings()), None)
+            forms.append([state.said(ring, slot).form for slot in range(8)] if ring and ring.slots else [])
+        expect(forms[-2] == ["written back"] * 3 + waits, f"{limit} events in place: before the tail {forms[-2]}")
+        expect(forms[-1] == ["not read"] * 2 + ["written back", *waits], f"{limit} events in place: {forms[-1]}")
+    file = folder / "bad.recording"
+    file.write_text(HEAD + "#: in place 5 to 4\nrx # idle\n")
+    check_tool(["nicview", file, "--text"], "", 2, [":2: this is no line of a recording"], expect)
 
 
 def cut_recording(folder: Path) -> Path | None:
@@ -469,7 +546,9 @@ def check_recordings(scripts: dict[Path, int | None], folder: Path, seed: int, e
     check_ends(folder, expect)
     check_refused(folder, expect)
     check_restored(folder, expect)
-    for check in (check_long, check_lent, check_no_bytes, check_notes, check_history, check_cut, check_opening):
+    checks = check_long, check_lent, check_no_bytes, check_notes, check_names, check_history, check_cut, check_opening
+    checks += (check_in_place,)
+    for check in checks:
         check(folder, expect)
     check_hostile(folder, chance, expect)
     print(f"{len(scripts)} scripts, recorded, with seed {seed}")

@@ -17,7 +17,8 @@ PLAIN    = $(TOOLS) PLAIN_TARGET=$(TARGET) PLAIN_FLAGS='-C linker=$(CROSS)gcc' P
 VERSION := $(shell cat $(HERE)/../VERSION)
 AROUND   = $(patsubst $(HERE)/%.c,$(OUT)/%.o,$(wildcard $(HERE)/recorder/*.c $(HERE)/memory/*.c $(HERE)/why/*.c))
 SYMS    := $(HERE)/recorder/calls.syms $(HERE)/heap.syms
-HEADERS := $(wildcard $(HERE)/recorder/*.h $(HERE)/memory/*.h $(HERE)/why/*.h $(HERE)/why/*.inc $(HERE)/include/*.h)
+HEADERS := $(wildcard $(foreach it,recorder memory why include,$(HERE)/$(it)/*.h $(HERE)/$(it)/*.inc)) \
+    $(HERE)/explore/engine/names.inc
 WORDS   := -std=c99 -O2 -Wall -Wextra -pedantic -I$(HERE)/include -I$(OUT)
 # What the library asks of Windows, besides what the compiler links by itself; threads are taken in.
 SYSTEM  := -static-libgcc -Wl,-Bstatic -lpthread -Wl,-Bdynamic -lws2_32 -luserenv -lbcrypt

@@ -296,7 +296,8 @@ MISTAKES: list[tuple[str, str, list[str], str]] = [
     ("    os_write32(RXCTRL, 1);\n", "", [], r"RXCTRL\.RXEN 0: receiving is off"),
     ("    os_write32(RDT0, slot);\n", "", [], r"rx 0: RDH\[0\] 63, RDT\[0\] 63: head and tail meet"),
 ]
-SANITIZER_SAYS = r"use-after-poison .*\nWRITE of size (.*\n)*? +#\d+ .* in nicd_rx_step"
+# Whose write it was: the proved library has no tables to unwind by, so the stack may end at its first function.
+SANITIZER_SAYS = r"use-after-poison .*\nWRITE of size (.*\n)*? +#\d+ .* in (nicd_rx_step|nic_device::)"
 MISTAKES_SANITIZED: list[tuple[str, str, list[str], str]] = [
     ("", "", ["-DROOM=1024"], SANITIZER_SAYS),
     ("post(slot, fresh);", "post(slot, fresh); put_back(&rx.pool, fresh);", [], SANITIZER_SAYS),

@@ -211,6 +211,13 @@ static void end_reset(struct card *it)
         reset(it, it->stepper.reset.word);
 }
 
+/* With MSI a cause that an access cleared is new when it comes again, also where both happen in one turn. */
+static void follow_causes(struct function *function)
+{
+    if (function_has_line(function))
+        function_line_after_access(function, card_causes());
+}
+
 /* A client accesses a register, and pays for what follows. */
 static void begin_access(struct card *it, struct function *function)
 {
@@ -229,6 +236,7 @@ uint32_t card_read(struct card *it, struct function *function, uint32_t offset)
     if (function->number == BUS_PHYSICAL && offset == NIC_CTRL)
         word |= it->stepper.reset.word & RESETS;
     it->stepper.has_changed |= bus_counts()->enables != enables;
+    follow_causes(function);
     keep_access(it, function, false, offset, word);
     return word;
 }
@@ -270,6 +278,7 @@ void card_write(struct card *it, struct function *function, uint32_t offset, uin
         reset(it, word);
     else
         write_as(it, dma_of(function), function->number, offset, word);
+    follow_causes(function);
 }
 
 /* Its client's rings stop, also where another socket of the function has it, and so its other rings go on. */
@@ -300,6 +309,11 @@ void card_remapped(struct card *it, const struct function *function)
     rings_remapped(it->rings, dma_of(function));
     it->budget.payer = function->socket;
     budget_spend(&it->budget, BUDGET_MAP);
+    it->stepper.has_changed = true;
+}
+
+void card_rearmed(struct card *it)
+{
     it->stepper.has_changed = true;
 }
 
@@ -353,11 +367,16 @@ unsigned int card_receive(struct card *it)
     return receive(it);
 }
 
+uint32_t card_causes(void)
+{
+    return bus_peek(NIC_EICR) & bus_peek(NIC_EIMS);
+}
+
 /* A message of a function is due only where a cause and its mask are there, and most of the time none is. */
 static bool has_cause(unsigned int function)
 {
     if (function == BUS_PHYSICAL)
-        return bus_peek(NIC_EICR) & bus_peek(NIC_EIMS);
+        return card_causes() != 0;
     return bus_peek(NIC_PVTEICR(function - 1)) & bus_peek(NIC_PVTEIMS(function - 1));
 }
 
@@ -372,6 +391,8 @@ static bool any_cause(const struct card *it)
 /* Messages of a function that are due: BUDGET_INTERRUPTS of them at most, and no more after BUDGET_MICROSECONDS. */
 static unsigned int messages(struct card *it, unsigned int function)
 {
+    if (function == BUS_PHYSICAL && function_has_line(it->sockets[function][0]))
+        return function_line(it->sockets[function][0], card_causes());
     uint64_t began = budget_time();
     unsigned int made = 0;
     do {
@@ -529,6 +550,12 @@ void card_hold(struct card *it)
         reset(it, it->stepper.reset.word);
     it->stepper.is_held = true;
     bus_hold(true);
+}
+
+uint8_t card_link(struct card *it, bool is_up)
+{
+    it->stepper.has_changed = true;
+    return nic_link(bus_device(), is_up);
 }
 
 void card_seed(struct card *it, const uint64_t *seed)

@@ -20,8 +20,12 @@
 #define CARD_SOCKETS 2        /* of a virtual function */
 #define CARD_FIFO 4096
 
+/* The best kind of interrupts that the physical function has, besides the worse ones. */
+enum card_interrupts { CARD_INTX, CARD_MSI, CARD_MSIX };
+
 struct card_options {
     uint8_t mac[6];
+    enum card_interrupts interrupts;
     unsigned int functions; /* virtual ones */
     unsigned int answers;   /* enum bus_answer */
     bool has_offloads, has_legacy;
@@ -78,6 +82,10 @@ uint32_t card_read(struct card *it, struct function *function, uint32_t offset);
 void card_write(struct card *it, struct function *function, uint32_t offset, uint32_t word);
 void card_reset_function(struct card *it, struct function *function);
 void card_remapped(struct card *it, const struct function *function);
+/* What a client is informed of interrupts by has changed. */
+void card_rearmed(struct card *it);
+/* The physical function's causes that are enabled. */
+uint32_t card_causes(void);
 /* The function's client is going: what it set up stops. */
 void card_client_goes(struct card *it, const struct function *function);
 /* A message of its client was served: false where its budget of this turn is spent. */
@@ -106,6 +114,8 @@ bool card_enable(struct card *it, bool is_transmit, uint16_t queue);
 /* Whether the last of these ended since the budget did, and more is left for another request. */
 bool card_has_left_some(const struct card *it);
 
+/* The cable is plugged in, or out: what the device says to it. */
+uint8_t card_link(struct card *it, bool is_up);
 /* From now on each step is late by this seed, or (null) none is. */
 void card_seed(struct card *it, const uint64_t *seed);
 /* The device makes no step but those that are asked for. */

@@ -38,8 +38,9 @@ static const char *link_up_or_down(struct request *it)
     bool up = strcmp(it->rest, "up") == 0;
     if (!up && strcmp(it->rest, "down") != 0)
         return "link up, or link down";
-    fprintf(it->to, "%s\n", nic_status_name(nic_link(bus_device(), up)));
-    it->server->card.stepper.has_changed = true;
+    wire_cut(&it->server->wire, !up);
+    it->server->is_wire_gone = false; /* the link is as it is asked for here */
+    fprintf(it->to, "%s\n", nic_status_name(card_link(&it->server->card, up)));
     return NULL;
 }
 

@@ -25,6 +25,7 @@
 
 /* places of capabilities, as on the card */
 #define POWER 0x40u
+#define MSI 0x50u
 #define MSIX 0x70u
 #define EXPRESS 0xA0u
 #define SRIOV 0x100u /* the card's is at 0x160, behind others */
@@ -42,6 +43,12 @@ static uint32_t register_bytes(const struct function *it)
 static unsigned int vectors_of(const struct function *it)
 {
     return it->kind == FUNCTION_PHYSICAL ? VECTORS : FUNCTION_VIRTUAL_VECTORS;
+}
+
+/* Whether the physical function has this kind of interrupts. */
+static bool has_kind(const struct function *it, enum card_interrupts kind)
+{
+    return it->kind == FUNCTION_PHYSICAL && kind <= it->card->options.interrupts;
 }
 
 /* ---- configuration space ---- */
@@ -64,7 +71,12 @@ static void make_config(struct function *it)
     pci_add_bar64(&it->config, 0, 0);
     pci_add_bar64(&it->config, table_bar(it), 0);
     pci_add_power(&it->config, POWER);
-    pci_add_msix(&it->config, MSIX, vectors_of(it), table_bar(it), 0, PENDING_AT);
+    if (it->kind == FUNCTION_PHYSICAL)
+        pci_add_pin(&it->config);
+    if (has_kind(it, CARD_MSI))
+        pci_add_msi(&it->config, MSI);
+    if (has_kind(it, CARD_MSIX) || it->kind != FUNCTION_PHYSICAL)
+        pci_add_msix(&it->config, MSIX, vectors_of(it), table_bar(it), 0, PENDING_AT);
     pci_add_express(&it->config, EXPRESS);
     if (it->kind == FUNCTION_PHYSICAL && it->virtual_functions) {
         const struct pci_sriov sriov = {.functions = (uint16_t)it->virtual_functions,
@@ -80,6 +92,7 @@ static void make_config(struct function *it)
 static void reset_registers(struct function *it)
 {
     it->session.vectors.pending = 0;
+    line_forget(&it->session.line);
     card_reset_function(it->card, it);
 }
 
@@ -101,9 +114,11 @@ static void access_config(struct function *it, uint64_t offset, uint8_t *bytes, 
         pci_write(&it->config, (unsigned int)offset, bytes, shown);
         if (pci_takes_reset(&it->config))
             reset_registers(it);
+        card_rearmed(it->card);
         return;
     }
     memset(bytes + shown, 0, length - shown);
+    pci_line_status(&it->config, it->kind == FUNCTION_PHYSICAL && card_causes() != 0);
     pci_read(&it->config, (unsigned int)offset, bytes, shown);
 }
 
@@ -179,6 +194,12 @@ static void remapped(void *function)
     card_remapped(it->card, it);
 }
 
+static void rearmed(void *function)
+{
+    struct function *it = function;
+    card_rearmed(it->card);
+}
+
 static bool may_serve(void *function)
 {
     struct function *it = function;
@@ -191,7 +212,8 @@ static bool may_go_on(void *function)
     return card_may_go_on(it->card, it);
 }
 
-static const struct session_calls calls = {region_bytes, access_region, reset, remapped, may_serve, may_go_on};
+static const struct session_calls calls = {region_bytes, access_region, reset,    remapped,
+                                           rearmed,      may_serve,     may_go_on};
 
 enum function_ready function_ready(const struct function *it, unsigned int vector)
 {
@@ -210,13 +232,30 @@ void function_message(struct function *it, unsigned int vector)
         it->counts.lost_messages++;
 }
 
+bool function_has_line(const struct function *it)
+{
+    return it->kind == FUNCTION_PHYSICAL && session_is_open(&it->session) && !pci_msix_is_on(&it->config);
+}
+
+bool function_line(struct function *it, uint32_t causes)
+{
+    if (pci_msi_is_on(&it->config))
+        return line_causes(&it->session.line, causes);
+    return line_level(&it->session.line, causes != 0 && pci_line_is_on(&it->config));
+}
+
+void function_line_after_access(struct function *it, uint32_t causes)
+{
+    line_after_access(&it->session.line, causes);
+}
+
 /* ---- sockets ---- */
 
 void function_begin(struct function *it)
 {
     it->listener = -1;
     make_config(it);
-    session_begin(&it->session, &calls, it, vectors_of(it), it->socket);
+    session_begin(&it->session, &calls, it, vectors_of(it), it->kind == FUNCTION_PHYSICAL, it->socket);
     it->session.name = it->path;
     card_add(it->card, it);
 }

@@ -1,4 +1,4 @@
-/* One function of the card as a client sees it: its configuration space, its registers, its MSI-X table. A virtual
+/* One function of the card as a client sees it: its configuration space, its registers, its interrupts. A virtual
    function has two sockets: one makes it a device of its own, for another guest; the other is a shadow that the host's
    guest has in its place, which shows itself only by SR-IOV. */
 #ifndef VFU_FUNCTION_H
@@ -67,6 +67,13 @@ enum function_ready {
 enum function_ready function_ready(const struct function *it, unsigned int vector);
 /* A message of the device for its client. */
 void function_message(struct function *it, unsigned int vector);
+/* Whether its client is informed of causes by the line or by MSI: it is there, and its MSI-X is off. Virtual functions
+   have neither. */
+bool function_has_line(const struct function *it);
+/* These causes are there, and enabled: whether the client is informed of them now. */
+bool function_line(struct function *it, uint32_t causes);
+/* The same causes after an access of a register, which may have cleared some. */
+void function_line_after_access(struct function *it, uint32_t causes);
 /* Ends its client and its socket. */
 void function_end(struct function *it);
 

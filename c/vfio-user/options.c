@@ -25,6 +25,7 @@ static const char help[] =
     "host's\n"
     "  --mac=ADDRESS          the card's hardware address (02:00:00:00:82:99)\n"
     "  --device=ID            its device id in hex (10f7)\n"
+    "  --interrupts=KIND      what the card can interrupt by: intx; msi, and INTx too; msix, and both (the default)\n"
     "  --wire=none            nothing is at the other end\n"
     "  --wire=respond[:IPV4]  ARP and ping are answered for this address (10.0.0.1): the default\n"
     "  --wire=stream:PATH     connect there, as QEMU's -netdev stream\n"
@@ -132,6 +133,17 @@ static bool wire_of(struct options *it, const char *text)
     return true;
 }
 
+static bool interrupts_of(struct options *it, const char *name)
+{
+    static const char *const names[] = {[CARD_INTX] = "intx", [CARD_MSI] = "msi", [CARD_MSIX] = "msix"};
+    for (int kind = CARD_INTX; kind <= CARD_MSIX; kind++)
+        if (strcmp(name, names[kind]) == 0) {
+            it->card.interrupts = (enum card_interrupts)kind;
+            return true;
+        }
+    return false;
+}
+
 static bool leave_out(struct options *it, const char *name)
 {
     unsigned int answer = bus_answer_named(name);
@@ -164,6 +176,8 @@ static bool read_number_word(struct options *it, const char *word, bool *is_know
     if ((value = value_of(word, "--client-memory")))
         return number_of(value, 10, MEMORY_MOST, &number) && number &&
                (it->client_memory = (uint64_t)number << 30, true);
+    if ((value = value_of(word, "--interrupts")))
+        return interrupts_of(it, value);
     if ((value = value_of(word, "--mac")))
         return mac_of(value, it->card.mac);
     if ((value = value_of(word, "--wire")))
@@ -236,6 +250,7 @@ enum options_status options_read(struct options *it, int count, char **words)
     *it = (struct options){.file = -1,
                            .device = PHYSICAL_DEVICE,
                            .card = {.mac = {0x02, 0x00, 0x00, 0x00, 0x82, 0x99},
+                                    .interrupts = CARD_MSIX,
                                     .answers = BUS_ALL,
                                     .has_offloads = true,
                                     .has_legacy = true},

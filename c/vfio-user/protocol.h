@@ -85,9 +85,12 @@ struct vfu_irq_info {
     uint32_t argsz, flags, index, count;
 };
 #define VFU_IRQ_EVENTFD 0x1u
+#define VFU_IRQ_LEVEL 0x6u /* it can be masked, and is masked by itself when it was raised */
 
 /* interrupts of a PCI device: INTx, MSI, MSI-X, errors, requests to let it go */
 #define VFU_IRQS 5u
+#define VFU_INTX 0u
+#define VFU_MSI 1u
 #define VFU_MSIX 2u
 
 struct vfu_irq_set {
@@ -97,6 +100,8 @@ struct vfu_irq_set {
 #define VFU_SET_BOOL 0x2u
 #define VFU_SET_EVENTFD 0x4u
 #define VFU_SET_DATA 0x7u
+#define VFU_SET_MASK 0x08u
+#define VFU_SET_UNMASK 0x10u
 #define VFU_SET_TRIGGER 0x20u
 #define VFU_SET_ACTION 0x38u
 

@@ -256,6 +256,21 @@ static bool has_ended(const struct server *it)
     return physical->listener < 0 && !session_is_open(&physical->session);
 }
 
+/* The link goes down when the wire's other end goes, as where a cable is unplugged, and up when it is there again: true
+   where it went down or up, so that steps may be due. */
+static bool follow_wire(struct server *it)
+{
+    bool is_gone = wire_is_gone(&it->wire);
+    if (is_gone == it->is_wire_gone)
+        return false;
+    it->is_wire_gone = is_gone;
+    log_line(LOG_WIRE, is_gone ? "%s: the wire's other end has gone, so the card's link is down"
+                               : "%s: the wire's other end is there again, so the card's link is up",
+             it->options.wire.path);
+    card_link(&it->card, !is_gone);
+    return true;
+}
+
 void server_run(struct server *it)
 {
     card_begin_turn(&it->card);
@@ -272,6 +287,7 @@ void server_run(struct server *it)
         control_serve(&it->control, events.control, it);
         traffic_prepare(&it->traffic, BUDGET_EXPECTED);
         is_late = pass_frames(it);
+        is_late |= follow_wire(it);
         log_tick();
     }
 }

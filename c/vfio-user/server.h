@@ -24,6 +24,7 @@ struct server {
     struct output trace;
     struct function functions[SERVER_FUNCTIONS];
     unsigned int function_count;
+    bool is_wire_gone; /* the link is down, since the wire's other end has gone */
 };
 
 /* Opens all: false, and a line on standard error says what can't be had. */

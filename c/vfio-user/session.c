@@ -161,10 +161,25 @@ static int region_info(struct work *it)
     return 0;
 }
 
-/* INTx and MSI there aren't; errors and requests are never told, so their files are dropped. */
-static unsigned int irq_count(const struct session *it, uint32_t index)
+static struct vectors *vectors_of(struct session *it, uint32_t index)
 {
-    return index == VFU_MSIX ? it->vectors.count : index > VFU_MSIX && index < VFU_IRQS;
+    switch (index) {
+    case VFU_INTX:
+        return &it->line.pin;
+    case VFU_MSI:
+        return &it->line.msi;
+    case VFU_MSIX:
+        return &it->vectors;
+    default:
+        return NULL;
+    }
+}
+
+/* Errors and requests are never reported, so their files are dropped. */
+static unsigned int irq_count(struct session *it, uint32_t index)
+{
+    const struct vectors *vectors = vectors_of(it, index);
+    return vectors ? vectors->count : index < VFU_IRQS;
 }
 
 static int irq_info(struct work *it)
@@ -173,7 +188,7 @@ static int irq_info(struct work *it)
     if (asked->index >= VFU_IRQS)
         return EINVAL;
     struct vfu_irq_info info = {.argsz = sizeof info,
-                                .flags = VFU_IRQ_EVENTFD,
+                                .flags = VFU_IRQ_EVENTFD | (asked->index == VFU_INTX ? VFU_IRQ_LEVEL : 0),
                                 .index = asked->index,
                                 .count = irq_count(it->session, asked->index)};
     memcpy(asked, &info, sizeof info);
@@ -187,12 +202,12 @@ static bool may_not_go_on(const struct work *it)
     return budget_is_late(it->began) || !it->session->calls->may_go_on(it->session->function);
 }
 
-static int give_files(struct work *it, uint32_t start, uint32_t count)
+static int give_files(struct work *it, struct vectors *to, uint32_t start, uint32_t count)
 {
     int error = 0;
     for (uint32_t i = 0; i < count; i++) {
         int file = take_file(it->message, i);
-        if (vectors_set(&it->session->vectors, start + i, file))
+        if (vectors_set(to, start + i, file))
             continue;
         error = EINVAL;
         if (i < it->message->file_count)
@@ -202,56 +217,85 @@ static int give_files(struct work *it, uint32_t start, uint32_t count)
 }
 
 /* Vectors get files, and what waited for them is sent. */
-static int set_files(struct work *it, uint32_t start, uint32_t count)
+static int set_files(struct work *it, struct vectors *to, uint32_t start, uint32_t count)
 {
     struct session *session = it->session;
     if (session->done++ == 0)
-        session->error = give_files(it, start, count);
-    while (vectors_flush_one(&session->vectors))
+        session->error = give_files(it, to, start, count);
+    while (vectors_flush_one(to))
         if (may_not_go_on(it))
             return GOES_ON;
     return session->error;
 }
 
 /* Messages are sent, to all of these vectors or to those that are named. */
-static int raise_each(struct work *it, uint32_t start, uint32_t count, const uint8_t *named)
+static int raise_each(struct work *it, struct vectors *to, uint32_t start, uint32_t count, const uint8_t *named)
 {
     uint64_t *done = &it->session->done;
     while (*done < count) {
         uint32_t i = (uint32_t)(*done)++;
         if (named && !named[i])
             continue;
-        vectors_raise(&it->session->vectors, start + i);
+        vectors_raise(to, start + i);
         if (*done < count && may_not_go_on(it))
             return GOES_ON;
     }
     return 0;
 }
 
+/* The line is masked or unmasked; after an interrupt the client unmasks it, and is informed again of a level that is
+   there still. */
+static int mask_line(struct work *it, const struct vfu_irq_set *asked, bool is_masked)
+{
+    uint32_t how = asked->flags & VFU_SET_DATA;
+    const uint8_t *each = (const uint8_t *)asked + sizeof *asked;
+    if (asked->index != VFU_INTX || (how != VFU_SET_NONE && how != VFU_SET_BOOL))
+        return EINVAL;
+    if (asked->count == 0 || (how == VFU_SET_BOOL && !each[0]))
+        return 0;
+    line_mask(&it->session->line, is_masked);
+    it->session->calls->rearmed(it->session->function);
+    return 0;
+}
+
+/* The files of these vectors are set or taken away, or the client has them raised. */
+static int trigger(struct work *it, const struct vfu_irq_set *asked, struct vectors *vectors)
+{
+    const uint8_t *each = (const uint8_t *)asked + sizeof *asked;
+    uint32_t how = asked->flags & VFU_SET_DATA, start = asked->start, count = asked->count;
+    if (count == 0 && how != VFU_SET_NONE)
+        return EINVAL;
+    if (count != 0 && (how == VFU_SET_NONE || how == VFU_SET_BOOL))
+        return raise_each(it, vectors, start, count, how == VFU_SET_BOOL ? each : NULL);
+    if (count != 0 && how != VFU_SET_EVENTFD)
+        return EINVAL;
+    if (asked->index == VFU_INTX)
+        line_mask(&it->session->line, false);
+    it->session->calls->rearmed(it->session->function);
+    if (count != 0)
+        return set_files(it, vectors, start, count);
+    vectors_clear(vectors);
+    return 0;
+}
+
 static int set_irqs(struct work *it)
 {
     const struct vfu_irq_set *asked = body(it);
-    struct vectors *vectors = &it->session->vectors;
-    const uint8_t *each = (const uint8_t *)asked + sizeof *asked;
-    uint32_t how = asked->flags & VFU_SET_DATA, start = asked->start, count = asked->count;
-    if (asked->index >= VFU_IRQS || !is_inside(start, count, irq_count(it->session, asked->index)) ||
-        (asked->flags & VFU_SET_ACTION) != VFU_SET_TRIGGER)
+    uint32_t start = asked->start, count = asked->count;
+    if (asked->index >= VFU_IRQS || !is_inside(start, count, irq_count(it->session, asked->index)))
         return EINVAL;
-    if (how == VFU_SET_BOOL && it->message->length < sizeof *asked + count)
+    if ((asked->flags & VFU_SET_DATA) == VFU_SET_BOOL && it->message->length < sizeof *asked + count)
         return EINVAL;
-    if (asked->index != VFU_MSIX)
-        return 0;
-    if (count == 0) {
-        if (how != VFU_SET_NONE)
-            return EINVAL;
-        vectors_clear(vectors);
-        return 0;
+    struct vectors *vectors = vectors_of(it->session, asked->index);
+    switch (asked->flags & VFU_SET_ACTION) {
+    case VFU_SET_TRIGGER:
+        return vectors ? trigger(it, asked, vectors) : 0;
+    case VFU_SET_MASK:
+    case VFU_SET_UNMASK:
+        return mask_line(it, asked, (asked->flags & VFU_SET_MASK) != 0);
+    default:
+        return EINVAL;
     }
-    if (how == VFU_SET_EVENTFD)
-        return set_files(it, start, count);
-    if (how != VFU_SET_NONE && how != VFU_SET_BOOL)
-        return EINVAL;
-    return raise_each(it, start, count, how == VFU_SET_BOOL ? each : NULL);
 }
 
 /* An access of a region that is there; false, and nothing happened, where it isn't inside. */
@@ -390,11 +434,12 @@ static void drop_message(struct session *it)
 /* ---- a client ---- */
 
 void session_begin(struct session *it, const struct session_calls *calls, void *function, unsigned int vectors,
-                   unsigned int owner)
+                   bool has_line, unsigned int owner)
 {
     channel_begin(&it->channel, -1, owner);
     memory_map_begin(&it->map, owner);
     vectors_begin(&it->vectors, vectors, owner);
+    line_begin(&it->line, has_line, owner);
     it->calls = calls;
     it->function = function;
     it->has_version = it->is_told_of_memory = it->is_stalled = it->is_paused = it->is_amid = false;
@@ -435,6 +480,7 @@ void session_close(struct session *it)
     channel_end(&it->channel);
     memory_map_clear(&it->map);
     vectors_clear(&it->vectors);
+    line_clear(&it->line);
 }
 
 bool session_give_back(struct session *it)

@@ -6,6 +6,7 @@
 #include <stdint.h>
 
 #include "channel.h"
+#include "line.h"
 #include "memory_map.h"
 #include "vectors.h"
 
@@ -18,6 +19,8 @@ struct session_calls {
     void (*reset)(void *function);
     /* the ranges of memory have changed */
     void (*remapped)(void *function);
+    /* what its client is informed by, while MSI-X is off, has changed */
+    void (*rearmed)(void *function);
     /* a message was served; false: others have their turn before the next one */
     bool (*may_serve)(void *function);
     /* part of a message was served; false: others have their turn before the rest */
@@ -32,6 +35,7 @@ struct session {
     struct channel channel;
     struct memory_map map;
     struct vectors vectors;
+    struct line line; /* while MSI-X is off */
     const struct session_calls *calls;
     void *function;
     const char *name; /* of the socket, for what is told on standard error */
@@ -45,9 +49,9 @@ struct session {
     struct session_counts counts;
 };
 
-/* `owner`: a number of the session's own, for closer.h. */
+/* `has_line`: INTx and MSI besides the vectors of MSI-X. `owner`: a number of the session's own, for closer.h. */
 void session_begin(struct session *it, const struct session_calls *calls, void *function, unsigned int vectors,
-                   unsigned int owner);
+                   bool has_line, unsigned int owner);
 /* A client has connected: its socket, which is the session's from now on. */
 void session_open(struct session *it, int file);
 bool session_is_open(const struct session *it);

@@ -16,6 +16,10 @@ static void tell_function(const struct function *it, FILE *to)
     for (unsigned int vector = 0; vector < it->session.vectors.count; vector++)
         if (it->session.vectors.sent[vector])
             fprintf(to, " %u:%" PRIu64, vector, it->session.vectors.sent[vector]);
+    if (it->session.line.pin.sent[0])
+        fprintf(to, " INTx:%" PRIu64, it->session.line.pin.sent[0]);
+    if (it->session.line.msi.sent[0])
+        fprintf(to, " MSI:%" PRIu64, it->session.line.msi.sent[0]);
     if (it->counts.lost_messages)
         fprintf(to, "; lost, with MSI-X off: %" PRIu64, it->counts.lost_messages);
     fputc('\n', to);

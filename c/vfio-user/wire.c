@@ -46,16 +46,38 @@ static const char *open_datagrams(struct wire *it)
     return NULL;
 }
 
+static void has_end(struct wire *it, int file)
+{
+    it->file = file;
+    it->had_end |= file >= 0;
+}
+
 static const char *open_stream(struct wire *it)
 {
     if (!connector_start_stream(&it->connector, it->options.path, it->options.is_confined))
         return strerror(errno);
     connector_ask(&it->connector);
-    it->file = connector_wait(&it->connector);
+    has_end(it, connector_wait(&it->connector));
+    if (it->file < 0)
+        log_line(LOG_WIRE, "%s: nobody listens there yet; frames are lost until somebody does", it->options.path);
     return NULL;
 }
 
 /* ---- the other end ---- */
+
+void wire_cut(struct wire *it, bool is_cut)
+{
+    if (it->options.kind != WIRE_STREAM && it->options.kind != WIRE_LISTEN)
+        return;
+    it->is_cut = is_cut;
+    it->had_end = false;
+    hang_up(it);
+}
+
+bool wire_is_gone(const struct wire *it)
+{
+    return it->had_end && it->file < 0;
+}
 
 static void put_length(uint8_t *to, size_t length)
 {
@@ -313,7 +335,9 @@ void wire_polls(const struct wire *it, struct pollfd *polls, bool takes)
     polls[0] = (struct pollfd){.fd = events ? it->file : -1, .events = events};
     polls[1] =
         (struct pollfd){.fd = local_rests() || closer_is_full(CLOSER_WIRE) ? -1 : it->listener, .events = POLLIN};
-    if (it->options.kind == WIRE_STREAM)
+    if (it->is_cut)
+        polls[1].fd = -1;
+    else if (it->options.kind == WIRE_STREAM)
         polls[1].fd = connector_file(&it->connector);
     /* whether a datagram goes depends on the other end's queue, of which poll says nothing */
     if (it->options.kind == WIRE_DGRAM)
@@ -324,7 +348,7 @@ void wire_polls(const struct wire *it, struct pollfd *polls, bool takes)
 static void call(struct wire *it, bool is_answered)
 {
     if (is_answered)
-        it->file = connector_take(&it->connector);
+        has_end(it, connector_take(&it->connector));
     if (it->file < 0 && !closer_is_full(CLOSER_WIRE))
         connector_ask(&it->connector);
 }
@@ -335,11 +359,13 @@ static void accept_one(struct wire *it)
     if (file < 0)
         return;
     hang_up(it);
-    it->file = file;
+    has_end(it, file);
 }
 
 void wire_serve(struct wire *it, const struct pollfd *polls)
 {
+    if (it->is_cut)
+        return;
     if (it->options.kind == WIRE_STREAM) {
         call(it, polls[1].revents != 0);
     } else if (polls[1].revents) {
@@ -362,7 +388,7 @@ int wire_patience(const struct wire *it)
 {
     if ((it->options.kind == WIRE_DGRAM && buffer_waiting(&it->out)) || closer_is_full(CLOSER_WIRE))
         return 1;
-    return it->options.kind == WIRE_STREAM && it->file < 0 ? connector_patience(&it->connector) : -1;
+    return it->options.kind == WIRE_STREAM && it->file < 0 && !it->is_cut ? connector_patience(&it->connector) : -1;
 }
 
 /* ---- the whole ---- */

@@ -44,6 +44,8 @@ struct wire {
     struct wire_options options;
     struct wire_counts counts;
     int file, listener; /* -1: none */
+    bool had_end;       /* somebody was at the other end of a stream */
+    bool is_cut;        /* nobody is to be there, since the card's link is down */
     struct connector connector;
     struct buffer out;                 /* for the other end: stream: bytes; dgram: frames behind their lengths */
     struct buffer in;                  /* of a stream */
@@ -59,6 +61,11 @@ struct wire {
 /* Opens it: false, and a line on standard error says why. */
 bool wire_open(struct wire *it, const struct wire_options *options);
 void wire_close(struct wire *it);
+
+/* The card's link goes down: the other end of a stream is let go, and nobody comes until it is up again. */
+void wire_cut(struct wire *it, bool is_cut);
+/* Whether the other end of a stream was there and has gone. */
+bool wire_is_gone(const struct wire *it);
 
 /* A frame of the card's, by the sender whose ring it lay in. */
 void wire_send(struct wire *it, unsigned int sender, const uint8_t *frame, size_t length);

@@ -5,17 +5,25 @@
 #include "bus.h"
 
 #define COMMAND 0x04u
+#define COMMAND_LINE_OFF 0x04u /* of the high byte */
 #define STATUS 0x06u
 #define STATUS_CAPABILITIES 0x0010u
+#define STATUS_LINE 0x08u /* of the low byte */
 #define FIRST_CAPABILITY 0x34u
 #define BAR(bar) (0x10u + 4 * (bar))
 #define BAR_64_PREFETCHABLE 0x0000000Cu
 
+#define INTERRUPT 0x3Cu /* line, pin */
+#define PIN_A 1u
+
 #define ID_POWER 0x01u
+#define ID_MSI 0x05u
 #define ID_MSIX 0x11u
 #define ID_EXPRESS 0x10u
 #define ID_SRIOV 0x0010u
 
+#define MSI_ENABLE 0x01u  /* of the control's low byte */
+#define MSI_CONTROL 0x0180u /* 64 bits, a mask for the vector */
 #define MSIX_ENABLE 0x80u /* of the control's high byte */
 #define EXPRESS_CONTROL 0x08u
 #define EXPRESS_RESET 0x80u /* of the control's high byte: initiate function level reset */
@@ -78,6 +86,23 @@ void pci_add_power(struct pci_config *it, unsigned int at)
     pci_field(it, at + 4, 4, 0x0008, 0x0103); /* no reset on the way from D3; state, and wake-up */
 }
 
+void pci_add_pin(struct pci_config *it)
+{
+    pci_field(it, INTERRUPT, 2, PIN_A << 8, 0x00FF);
+}
+
+void pci_add_msi(struct pci_config *it, unsigned int at)
+{
+    chain(it, at, ID_MSI);
+    pci_field(it, at + 2, 2, MSI_CONTROL, MSI_ENABLE);
+    pci_field(it, at + 4, 4, 0, 0xFFFFFFFC); /* address */
+    pci_field(it, at + 8, 4, 0, 0xFFFFFFFF);
+    pci_field(it, at + 12, 2, 0, 0xFFFF); /* data */
+    pci_field(it, at + 16, 4, 0, 1);      /* mask */
+    pci_field(it, at + 20, 4, 0, 0);      /* pending */
+    it->msi = at;
+}
+
 void pci_add_msix(struct pci_config *it, unsigned int at, unsigned int vectors, unsigned int bar, uint32_t table,
                   uint32_t pending)
 {
@@ -129,6 +154,21 @@ void pci_write(struct pci_config *it, unsigned int at, const uint8_t *bytes, uns
         it->bytes[at + i] = (uint8_t)((it->bytes[at + i] & ~it->mask[at + i]) | (bytes[i] & it->mask[at + i]));
 }
 
+bool pci_msi_is_on(const struct pci_config *it)
+{
+    return it->msi && it->bytes[it->msi + 2] & MSI_ENABLE;
+}
+
+bool pci_line_is_on(const struct pci_config *it)
+{
+    return !(it->bytes[COMMAND + 1] & COMMAND_LINE_OFF);
+}
+
+void pci_line_status(struct pci_config *it, bool level)
+{
+    it->bytes[STATUS] = (uint8_t)((it->bytes[STATUS] & ~STATUS_LINE) | (level ? STATUS_LINE : 0));
+}
+
 bool pci_msix_is_on(const struct pci_config *it)
 {
     return it->msix && it->bytes[it->msix + 3] & MSIX_ENABLE;
@@ -146,7 +186,7 @@ bool pci_takes_reset(struct pci_config *it)
 /* ---- a space for a driver in this process ---- */
 
 enum { INTEL = 0x8086, PHYSICAL_DEVICE = 0x10FB, VIRTUAL_DEVICE = 0x10ED, SUBSYSTEM = 0x000C };
-enum { AT_POWER = 0x40, AT_EXPRESS = 0xA0, INTERRUPT = 0x3C };
+enum { AT_POWER = 0x40, AT_EXPRESS = 0xA0 };
 
 #define COMMAND_MEMORY 0x0002u
 #define COMMAND_WRITABLE 0x0547u

@@ -14,7 +14,7 @@
 struct pci_config {
     uint8_t bytes[PCI_CONFIG_BYTES], mask[PCI_CONFIG_BYTES];
     unsigned int chain; /* the byte that the next capability's place is written to */
-    unsigned int msix, express, sriov;
+    unsigned int msi, msix, express, sriov;
     unsigned int size;      /* how many of the bytes there are */
     uint64_t reads, writes; /* by pci_config_read and pci_config_write */
 };
@@ -33,6 +33,10 @@ void pci_begin(struct pci_config *it, const struct pci_identity *identity);
 /* A BAR of 64 bits, prefetchable, whose size is a power of two; 0: its size is the client's to know, and it reads 0. */
 void pci_add_bar64(struct pci_config *it, unsigned int bar, uint32_t bytes);
 void pci_add_power(struct pci_config *it, unsigned int at);
+/* Interrupts by pin A; the line's number is the client's to write. */
+void pci_add_pin(struct pci_config *it);
+/* One message, of 64 address bits, that can be masked. */
+void pci_add_msi(struct pci_config *it, unsigned int at);
 void pci_add_msix(struct pci_config *it, unsigned int at, unsigned int vectors, unsigned int bar, uint32_t table,
                   uint32_t pending);
 /* An endpoint of eight lanes at 5 GT/s, with function level reset. */
@@ -57,7 +61,11 @@ void pci_config_write(struct pci_config *it, unsigned int at, unsigned int bytes
 void pci_read(const struct pci_config *it, unsigned int at, uint8_t *bytes, unsigned int length);
 void pci_write(struct pci_config *it, unsigned int at, const uint8_t *bytes, unsigned int length);
 
+bool pci_msi_is_on(const struct pci_config *it);
 bool pci_msix_is_on(const struct pci_config *it);
+/* Whether the command register lets the function raise its line; and what the status register says of it. */
+bool pci_line_is_on(const struct pci_config *it);
+void pci_line_status(struct pci_config *it, bool level);
 /* Whether a function level reset was asked for; asking clears it. */
 bool pci_takes_reset(struct pci_config *it);
 

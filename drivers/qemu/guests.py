@@ -447,6 +447,24 @@ def four_queues(place: Place) -> str:
     return f"4 queues, 5 GiB; {FRAMES} frames each way; {seconds_of(text)}"
 
 
+def without_msix(kind: str) -> Callable[[Place], str]:
+    """A card without MSI-X: the stock driver takes the one message of MSI, or the line."""
+
+    def run(place: Place) -> str:
+        script = TRAFFIC + "grep -E 'eth0|ixgbe' /proc/interrupts\n"
+        text, told = alone(Machine(place, "kernel-6.1", script, 2), f"--interrupts={kind}")
+        has(text, "guest", "3 packets received")
+        passed_frames(text, 1)
+        has(text, "guest", r"PCI-MSI .*eth0" if kind == "msi" else r"IO-APIC .*fasteoi .*eth0")
+        clean(told)
+        raised = re.search(r"interrupts: (MSI|INTx):(\d+)", told)
+        if not raised or raised[1].lower() != kind or int(raised[2]) < 100:
+            raise Wrong(f"the guest wasn't informed by {kind}: {told}")
+        return f"{FRAMES} frames each way, {raised[2]} interrupts by {raised[1]}; {seconds_of(text)}"
+
+    return run
+
+
 def jumbo(place: Place) -> str:
     """MTU 9,000, and a VLAN."""
     script = "up 10.0.0.2\nip link set eth0 mtu 9000\ncarrier\npasses 9014\nload 8021q\n"
@@ -590,6 +608,8 @@ RUNS: dict[str, Run] = {
     "linux-6.12": Run(boots("kernel-6.12"), ("tools", "kernel-6.12")),
     "linux-sid": Run(boots("kernel-sid"), ("tools", "kernel-sid")),
     "queues": Run(four_queues),
+    "intx": Run(without_msix("intx")),
+    "msi": Run(without_msix("msi")),
     "jumbo": Run(jumbo),
     "links": Run(links),
     "removal": Run(removal),

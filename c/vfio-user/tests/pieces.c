@@ -316,7 +316,7 @@ static void slow_messages(void)
     int ends[2];
     CHECK(socketpair(AF_UNIX, SOCK_STREAM, 0, ends) == 0);
     struct peer peer = {ends[1], 0};
-    session_begin(&session, &calls, NULL, 1, 0);
+    session_begin(&session, &calls, NULL, 1, false, 0);
     session_open(&session, ends[0]);
     peer_send(&peer, VFU_VERSION, VFU_NO_REPLY, &version, sizeof version, NULL, 0);
     for (unsigned int i = 0; i < 3; i++)

@@ -60,15 +60,23 @@ static bool for_a_while(void *function)
     return turn < A_TURN;
 }
 
-static const struct session_calls calls = {
-    .region_bytes = region_bytes, .access = access_region, .may_serve = always, .may_go_on = for_a_while};
+static void nothing(void *function)
+{
+    (void)function;
+}
+
+static const struct session_calls calls = {.region_bytes = region_bytes,
+                                           .access = access_region,
+                                           .rearmed = nothing,
+                                           .may_serve = always,
+                                           .may_go_on = for_a_while};
 
 static struct peer begin(void)
 {
     const struct vfu_version version = {0, 0};
     int ends[2];
     CHECK(socketpair(AF_UNIX, SOCK_STREAM, 0, ends) == 0);
-    session_begin(&session, &calls, NULL, VECTORS, 0);
+    session_begin(&session, &calls, NULL, VECTORS, true, 0);
     session_open(&session, ends[0]);
     struct peer peer = {ends[1], 0};
     peer_send(&peer, VFU_VERSION, VFU_NO_REPLY, &version, sizeof version, NULL, 0);
@@ -156,7 +164,7 @@ static uint64_t interrupts(int event)
    client has as many as it likes. */
 static void many_interrupts(void)
 {
-    static const struct session_calls slowly = {.may_serve = always, .may_go_on = never};
+    static const struct session_calls slowly = {.rearmed = nothing, .may_serve = always, .may_go_on = never};
     const struct vfu_irq_set raise = {sizeof raise, VFU_SET_NONE | VFU_SET_TRIGGER, VFU_MSIX, 0, VECTORS};
     struct peer peer = begin();
     int event = eventfd(0, EFD_CLOEXEC | EFD_NONBLOCK), files[VFU_FILES_MOST];

@@ -1,0 +1,106 @@
+/* The link follows the wire: the card's goes down when the other end of a stream goes, and up when it is there again;
+   `link down` lets the other end go, so that its link can follow too. */
+#define _GNU_SOURCE
+#include <poll.h>
+#include <string.h>
+#include <sys/socket.h>
+#include <unistd.h>
+
+#include "../../tests/check.h"
+#include "nic82599.h"
+#include "peer/peer.h"
+
+#define WAIT_MS 60000 /* for a busy machine */
+#define LINKS_UP 0x40000000u
+
+static struct peer peer;
+static char wire_path[200], control_path[200];
+
+static bool is_up(void)
+{
+    return (peer_read(&peer, NIC_LINKS) & LINKS_UP) != 0;
+}
+
+/* Waits until the link is up, or down. */
+static void wait_for_link(bool up)
+{
+    for (unsigned int i = 0; i < WAIT_MS / 10; i++) {
+        if (is_up() == up)
+            return;
+        usleep(10000);
+    }
+    CHECK(!"the link doesn't follow");
+}
+
+/* Whether the server has let this connection go. */
+static bool is_let_go(int file)
+{
+    char byte;
+    struct pollfd end = {file, POLLIN, 0};
+    return poll(&end, 1, WAIT_MS) == 1 && recv(file, &byte, 1, MSG_DONTWAIT) == 0;
+}
+
+/* Whether a frame of this connection arrives at the device, which counts it whether or not it lets it in. */
+static void arrives(int file, int control)
+{
+    static const uint8_t frame[60] = {0xFF, 0xFF, 0xFF, 0xFF, 0xFF, 0xFF, 0x02};
+    uint64_t before = peer_count(control, "; in ");
+    CHECK(peer_put_frame(file, frame, sizeof frame));
+    for (unsigned int i = 0; i < WAIT_MS / 10 && peer_count(control, "; in ") == before; i++)
+        usleep(10000);
+    CHECK(peer_count(control, "; in ") == before + 1);
+}
+
+/* Nobody was there yet: the link is up, as where a cable's other end isn't known. */
+static int comes_and_goes(void)
+{
+    CHECK(is_up());
+    int first = peer_stream(wire_path);
+    CHECK(is_up());
+    peer_write(&peer, NIC_EICR, NIC_EICR_LSC);
+    close(first);
+    wait_for_link(false);
+    CHECK(peer_read(&peer, NIC_EICR) & NIC_EICR_LSC);
+    int second = peer_stream(wire_path);
+    wait_for_link(true);
+    CHECK(peer_read(&peer, NIC_EICR) & NIC_EICR_LSC);
+    return second;
+}
+
+/* Who calls while the link is down is there once it is up. */
+static void is_unplugged(int second, int control)
+{
+    arrives(second, control);
+    CHECK(strncmp(peer_request(control, "link down"), "done", 4) == 0);
+    CHECK(is_let_go(second) && !is_up());
+    close(second);
+    int third = peer_stream(wire_path);
+    CHECK(!is_up());
+    CHECK(strncmp(peer_request(control, "link up"), "done", 4) == 0);
+    CHECK(is_up());
+    arrives(third, control);
+    close(third);
+    wait_for_link(false);
+    /* what is asked for now holds, also where nobody is there */
+    CHECK(strncmp(peer_request(control, "link up"), "done", 4) == 0 && is_up());
+}
+
+int main(int count, char **words)
+{
+    char wire[220], control_word[220];
+    CHECK(count == 2);
+    snprintf(wire_path, sizeof wire_path, "%s/wire", words[1]);
+    snprintf(control_path, sizeof control_path, "%s/control", words[1]);
+    snprintf(wire, sizeof wire, "--wire=listen:%s", wire_path);
+    snprintf(control_word, sizeof control_word, "--control=%s", control_path);
+    const char *const given[] = {wire, control_word, "--quiet", NULL};
+    peer_open(&peer, server_start(given));
+    CHECK(peer_version(&peer) == 0);
+    int control = peer_stream(control_path);
+    is_unplugged(comes_and_goes(), control);
+    close(control);
+    peer_close(&peer);
+    server_stop();
+    printf("cable: passed\n");
+    return 0;
+}

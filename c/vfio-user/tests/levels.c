@@ -1,0 +1,205 @@
+/* A guest whose MSI-X is off: the line (INTx) follows the level of EICR & EIMS, and MSI is sent for each new cause. */
+#define _GNU_SOURCE
+#include <string.h>
+#include <sys/eventfd.h>
+#include <unistd.h>
+
+#include "../../tests/check.h"
+#include "nic82599.h"
+#include "peer/peer.h"
+
+enum { INTX, MSI, MSIX }; /* kinds of interrupts, as the protocol numbers them */
+enum { NONE = 1, BOOL = 2, EVENTFD = 4, MASK = 0x08, UNMASK = 0x10, TRIGGER = 0x20 };
+
+#define COMMAND 0x04u
+#define COMMAND_LINE_OFF 0x0400u
+#define STATUS 0x06u
+#define STATUS_LINE 0x0008u
+#define PIN 0x3Du
+#define MSI_CONTROL 0x52u
+#define MSIX_CONTROL 0x72u
+#define CAUSE_A NIC_EICS_LSC
+#define CAUSE_B NIC_EICS_MAILBOX
+
+static struct peer peer;
+static int event;
+
+static uint32_t set_of(struct peer *of, uint32_t kind, uint32_t flags, uint32_t count, const int *file, uint8_t named)
+{
+    struct {
+        struct vfu_irq_set set;
+        uint8_t named[4];
+    } asked = {{sizeof asked, flags, kind, 0, count}, {named}};
+    return peer_ask(of, VFU_DEVICE_SET_IRQS, &asked, sizeof asked, file, file != NULL, NULL, 0);
+}
+
+static uint32_t set(uint32_t kind, uint32_t flags, uint32_t count)
+{
+    return set_of(&peer, kind, flags, count, flags & EVENTFD ? &event : NULL, 1);
+}
+
+static struct vfu_irq_info info_of(struct peer *of, uint32_t kind)
+{
+    struct vfu_irq_info info = {sizeof info, 0, kind, 0};
+    CHECK(peer_ask(of, VFU_DEVICE_GET_IRQ_INFO, &info, sizeof info, NULL, 0, &info, sizeof info) == 0);
+    return info;
+}
+
+/* How often the client was informed since it was asked last. What an access leads to happens in the turn of the first
+   reply, before the second one. */
+static uint64_t informed(void)
+{
+    uint64_t count = 0;
+    peer_read(&peer, NIC_STATUS);
+    peer_read(&peer, NIC_STATUS);
+    return read(event, &count, sizeof count) == (ssize_t)sizeof count ? count : 0;
+}
+
+static bool status_says(void)
+{
+    return (peer_config(&peer, STATUS, 2) & STATUS_LINE) != 0;
+}
+
+static void set_causes(uint32_t causes)
+{
+    peer_write(&peer, NIC_EICS, causes);
+}
+
+/* As QEMU does before a reset and before another kind of interrupts. */
+static void begin(void)
+{
+    CHECK(set(INTX, NONE | TRIGGER, 0) == 0 && set(MSI, NONE | TRIGGER, 0) == 0);
+    CHECK(peer_ask(&peer, VFU_DEVICE_RESET, NULL, 0, NULL, 0, NULL, 0) == 0);
+    peer_write(&peer, NIC_EIMS, CAUSE_A | CAUSE_B);
+}
+
+/* What there is: one line and one MSI of the host's function. */
+static void kinds(void)
+{
+    struct vfu_irq_info line = info_of(&peer, INTX);
+    CHECK(line.count == 1 && line.flags == 7); /* an eventfd, can be masked, masks itself */
+    CHECK(info_of(&peer, MSI).count == 1 && info_of(&peer, MSI).flags == 1);
+    CHECK(info_of(&peer, MSIX).count == 64);
+    CHECK(peer_config(&peer, PIN, 1) == 1);
+}
+
+/* The client is informed of the level once, and after each time it unmasks the line while the level is there. */
+static void level(void)
+{
+    begin();
+    CHECK(set(INTX, EVENTFD | TRIGGER, 1) == 0 && informed() == 0 && !status_says());
+    set_causes(CAUSE_A);
+    CHECK(informed() == 1 && status_says());
+    set_causes(CAUSE_B);
+    CHECK(informed() == 0);
+    CHECK(set(INTX, NONE | UNMASK, 1) == 0 && informed() == 1);
+    CHECK(peer_read(&peer, NIC_EICR) != 0 && !status_says());
+    CHECK(set(INTX, BOOL | UNMASK, 1) == 0 && informed() == 0);
+    set_causes(CAUSE_B);
+    CHECK(informed() == 1);
+}
+
+/* Causes that EIMS doesn't enable, the command register's bit, and the client's mask each keep the line down; an unmask
+   of no line is none. */
+static void kept_down(void)
+{
+    begin();
+    CHECK(set(INTX, EVENTFD | TRIGGER, 1) == 0);
+    peer_write(&peer, NIC_EIMC, CAUSE_A);
+    set_causes(CAUSE_A);
+    CHECK(informed() == 0 && !status_says());
+    CHECK(set(INTX, NONE | MASK, 1) == 0);
+    peer_write(&peer, NIC_EIMS, CAUSE_A);
+    CHECK(informed() == 0 && status_says());
+    CHECK(set(INTX, NONE | UNMASK, 0) == 0 && informed() == 0);
+    CHECK(set_of(&peer, INTX, BOOL | UNMASK, 1, NULL, 0) == 0 && informed() == 0);
+    peer_set_config(&peer, COMMAND, 2, COMMAND_LINE_OFF);
+    CHECK(set(INTX, NONE | UNMASK, 1) == 0 && informed() == 0);
+    peer_set_config(&peer, COMMAND, 2, 0);
+    CHECK(informed() == 1);
+}
+
+/* A client that gives its eventfd late is informed then; without one nobody is, and nothing waits. */
+static void eventfd_comes_and_goes(void)
+{
+    begin();
+    set_causes(CAUSE_A);
+    CHECK(informed() == 0);
+    CHECK(set(INTX, EVENTFD | TRIGGER, 1) == 0 && informed() == 1);
+    CHECK(set(INTX, NONE | TRIGGER, 0) == 0);
+    CHECK(peer_read(&peer, NIC_EICR) != 0);
+    CHECK(set(INTX, EVENTFD | TRIGGER, 1) == 0 && informed() == 0);
+}
+
+/* MSI is an edge: one message for each cause that is new, also where it was cleared and set in one turn. */
+static void messages(void)
+{
+    begin();
+    peer_set_config(&peer, MSI_CONTROL, 2, 1);
+    CHECK(set(MSI, EVENTFD | TRIGGER, 1) == 0);
+    set_causes(CAUSE_A);
+    CHECK(informed() == 1);
+    CHECK(informed() == 0);
+    set_causes(CAUSE_A);
+    CHECK(informed() == 0);
+    set_causes(CAUSE_B);
+    CHECK(informed() == 1);
+    peer_write(&peer, NIC_EICR, CAUSE_A);
+    set_causes(CAUSE_A);
+    CHECK(informed() == 1);
+    peer_write(&peer, NIC_EIMC, CAUSE_A | CAUSE_B);
+    peer_write(&peer, NIC_EIMS, CAUSE_A | CAUSE_B);
+    CHECK(informed() == 1);
+    peer_set_config(&peer, MSI_CONTROL, 2, 0);
+}
+
+/* With MSI-X on there is no line, and causes without a vector inform nobody. */
+static void with_msix(void)
+{
+    begin();
+    CHECK(set(INTX, EVENTFD | TRIGGER, 1) == 0);
+    peer_set_config(&peer, MSIX_CONTROL, 2, 0x8000);
+    set_causes(CAUSE_A);
+    CHECK(informed() == 0);
+    peer_set_config(&peer, MSIX_CONTROL, 2, 0);
+    CHECK(informed() == 1);
+}
+
+/* What can't be asked is refused; a virtual function has neither. */
+static void refused(struct peer *function)
+{
+    CHECK(set(INTX, EVENTFD | UNMASK, 1) != 0 && set(INTX, NONE | TRIGGER | MASK, 1) != 0);
+    CHECK(set(MSI, NONE | MASK, 1) != 0 && set(MSIX, NONE | UNMASK, 1) != 0);
+    CHECK(set(INTX, EVENTFD | TRIGGER, 2) != 0 && set(INTX, EVENTFD | TRIGGER, 0) != 0);
+    CHECK(set(INTX, NONE | UNMASK, 2) != 0);
+    CHECK(info_of(function, INTX).count == 0 && info_of(function, MSI).count == 0);
+    CHECK(set_of(function, INTX, EVENTFD | TRIGGER, 1, &event, 0) != 0);
+    CHECK(set_of(function, MSI, EVENTFD | TRIGGER, 1, &event, 0) != 0);
+    CHECK(peer_config(function, PIN, 1) == 0);
+}
+
+int main(void)
+{
+    static const char *const words[] = {"--functions=1", "--quiet", NULL};
+    const char *path = server_start(words);
+    struct peer function;
+    char its[120];
+    snprintf(its, sizeof its, "%s.vf0", path);
+    event = eventfd(0, EFD_CLOEXEC | EFD_NONBLOCK);
+    peer_open(&peer, path);
+    peer_open(&function, its);
+    CHECK(event >= 0 && peer_version(&peer) == 0 && peer_version(&function) == 0);
+    kinds();
+    level();
+    kept_down();
+    eventfd_comes_and_goes();
+    messages();
+    with_msix();
+    refused(&function);
+    peer_close(&function);
+    peer_close(&peer);
+    server_stop();
+    close(event);
+    printf("levels: passed\n");
+    return 0;
+}

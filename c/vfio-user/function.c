@@ -212,8 +212,7 @@ static bool may_go_on(void *function)
     return card_may_go_on(it->card, it);
 }
 
-static const struct session_calls calls = {region_bytes, access_region, reset,    remapped,
-                                           rearmed,      may_serve,     may_go_on};
+static const struct session_calls calls = {region_bytes, access_region, reset, remapped, rearmed, may_serve, may_go_on};
 
 enum function_ready function_ready(const struct function *it, unsigned int vector)
 {

@@ -1,5 +1,5 @@
-/* The interrupts of a function while its MSI-X is off: the line (INTx), whose level its client has to follow, or the one
-   vector of MSI, which is sent for each new cause. The public source is the PCI Local Bus Specification 3.0. */
+/* The interrupts of a function while its MSI-X is off: the line (INTx), whose level its client has to follow, or the
+   one vector of MSI, which is sent for each new cause. The public source is the PCI Local Bus Specification 3.0. */
 #ifndef VFU_LINE_H
 #define VFU_LINE_H
 
@@ -10,7 +10,7 @@
 
 struct line {
     struct vectors pin, msi; /* one eventfd each at most; virtual functions have neither */
-    bool is_masked;          /* the client knows the level, or masked the line itself: it is not informed until it unmasks */
+    bool is_masked;          /* the client knows the level, or masked the line: it is informed after it unmasks */
     uint32_t seen;           /* causes that MSI was sent for, and that were there ever since */
 };
 

@@ -264,8 +264,9 @@ static bool follow_wire(struct server *it)
     if (is_gone == it->is_wire_gone)
         return false;
     it->is_wire_gone = is_gone;
-    log_line(LOG_WIRE, is_gone ? "%s: the wire's other end has gone, so the card's link is down"
-                               : "%s: the wire's other end is there again, so the card's link is up",
+    log_line(LOG_WIRE,
+             is_gone ? "%s: the wire's other end has gone, so the card's link is down"
+                     : "%s: the wire's other end is there again, so the card's link is up",
              it->options.wire.path);
     card_link(&it->card, !is_gone);
     return true;

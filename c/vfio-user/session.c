@@ -164,14 +164,10 @@ static int region_info(struct work *it)
 static struct vectors *vectors_of(struct session *it, uint32_t index)
 {
     switch (index) {
-    case VFU_INTX:
-        return &it->line.pin;
-    case VFU_MSI:
-        return &it->line.msi;
-    case VFU_MSIX:
-        return &it->vectors;
-    default:
-        return NULL;
+    case VFU_INTX: return &it->line.pin;
+    case VFU_MSI: return &it->line.msi;
+    case VFU_MSIX: return &it->vectors;
+    default: return NULL;
     }
 }
 
@@ -288,13 +284,10 @@ static int set_irqs(struct work *it)
         return EINVAL;
     struct vectors *vectors = vectors_of(it->session, asked->index);
     switch (asked->flags & VFU_SET_ACTION) {
-    case VFU_SET_TRIGGER:
-        return vectors ? trigger(it, asked, vectors) : 0;
+    case VFU_SET_TRIGGER: return vectors ? trigger(it, asked, vectors) : 0;
     case VFU_SET_MASK:
-    case VFU_SET_UNMASK:
-        return mask_line(it, asked, (asked->flags & VFU_SET_MASK) != 0);
-    default:
-        return EINVAL;
+    case VFU_SET_UNMASK: return mask_line(it, asked, (asked->flags & VFU_SET_MASK) != 0);
+    default: return EINVAL;
     }
 }
 

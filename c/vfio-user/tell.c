@@ -3,6 +3,8 @@
 
 #include <inttypes.h>
 
+#include "absent.h"
+
 static void tell_function(const struct function *it, FILE *to)
 {
     const struct session_counts *counts = &it->session.counts;
@@ -84,6 +86,7 @@ void tell_counts(const struct server *it, FILE *to)
             "; tails in rings that are off %" PRIu64 ", writes lost in resets %" PRIu64 ", rings stopped %" PRIu64 "\n",
             rings->descriptors, rings->ahead, rings->frames_bytes, rings->blocks_most * 2, rings->refused,
             rings->tails_outside, rings->without_room, rings->tails_off, it->card.lost_writes, rings->stopped);
+    absent_tell(to);
     if (it->card.offload) {
         const struct offload_counts *offload = &it->card.offload->counts;
         fprintf(to,

@@ -22,9 +22,9 @@
 #define ID_EXPRESS 0x10u
 #define ID_SRIOV 0x0010u
 
-#define MSI_ENABLE 0x01u  /* of the control's low byte */
+#define MSI_ENABLE 0x01u    /* of the control's low byte */
 #define MSI_CONTROL 0x0180u /* 64 bits, a mask for the vector */
-#define MSIX_ENABLE 0x80u /* of the control's high byte */
+#define MSIX_ENABLE 0x80u   /* of the control's high byte */
 #define EXPRESS_CONTROL 0x08u
 #define EXPRESS_RESET 0x80u /* of the control's high byte: initiate function level reset */
 

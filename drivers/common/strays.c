@@ -79,6 +79,16 @@ void strays_write(FILE *file)
                 write_one(file, function, word * 4, &strays[function][word]);
 }
 
+void strays_each(stray_each *each, void *of)
+{
+    for (unsigned int function = 0; function <= bus_inside.options.functions; function++)
+        for (uint32_t word = 0; word < space_of(function) / 4; word++) {
+            const struct stray *stray = &strays[function][word];
+            if (stray->phases)
+                each(of, function, word * 4, (uint64_t)stray->reads + stray->writes);
+        }
+}
+
 bool strays_save(const char *name)
 {
     FILE *file = fopen(name, "w");

@@ -4,13 +4,18 @@
 #define DRIVERS_STRAYS_H
 
 #include <stdbool.h>
+#include <stdint.h>
 #include <stdio.h>
 
 /* Writes them, a line for each address: pf, or vf and the function's number; address, reads, writes, last word written,
    phases. drivers/common/strays.py tells them by families. */
 void strays_write(FILE *file);
 
-/* The same into a file of this name; false, and a problem, where it can't be written. */
+/* Calls `each` for each address, with how often it was read and written. */
+typedef void stray_each(void *of, unsigned int function, uint32_t offset, uint64_t accesses);
+void strays_each(stray_each *each, void *of);
+
+/* The same as strays_write into a file of this name; false, and a problem, where it can't be written. */
 bool strays_save(const char *name);
 
 #endif

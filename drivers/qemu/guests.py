@@ -515,24 +515,39 @@ def iommu(place: Place) -> str:
     return f"{FRAMES} frames each way, {maps[1]} maps and {maps[2]} unmaps"
 
 
-def functions(place: Place) -> str:
-    """The host in one guest, a virtual function in another."""
+@contextmanager
+def function_guest(place: Place, script: str) -> Iterator[tuple[Server, Guest]]:
+    """The host in one guest, and a script in another, which has a virtual function."""
     server = Server(place, "host", "--functions=2", "--hairpin")
     host = Machine(place, "kernel-6.1", (HERE / "guest/host.sh").read_text())
     shadows = [device(Path(f"{server.path}.shadow{v}"), addr=f"0.{v + 1}") for v in range(2)]
     first = host.start("host", server, *device(server.path, multifunction=True, addr="0.0"), *shadows[0], *shadows[1])
     with running(server, first):
         first.wait_for("HOST READY")
-        other = Machine(place, "kernel-6.1", (HERE / "guest/function.sh").read_text())
+        other = Machine(place, "kernel-6.1", (HERE / f"guest/{script}.sh").read_text())
         second = other.start("function", server, *device(Path(f"{server.path}.vf0")))
         with running(server, second):
-            text = second.end()
-            server.ask("link up")
+            yield server, second
             first.kill()
+
+
+def functions(place: Place) -> str:
+    """A virtual function's traffic, to the wire and to the host."""
+    with function_guest(place, "function") as (_, guest):
+        text = guest.end()
     has(text, "function", r"^4 packets transmitted, 4 packets received")
     has(text, "function", r"^3 packets transmitted, 3 packets received")
     has(text, "function", r"^control: 2000 of 2000, twice 0, wrong 0$")
     return "sriov_numvfs, ixgbevf in another guest: pings to the wire and to the host, 2000 frames out"
+
+
+def function_reset(place: Place) -> str:
+    """A function level reset of a virtual function: its driver sets it up again, and frames pass."""
+    with function_guest(place, "flr") as (_, guest):
+        text = guest.end()
+    after = text.split("AFTER")[-1]
+    has(after, "function", r"^3 packets transmitted, 3 packets received")
+    return "a function level reset under ixgbevf, down and up: 3 of 3 pings"
 
 
 def add_testpmd(place: Place) -> Callable[[Initrd], None]:
@@ -615,6 +630,7 @@ RUNS: dict[str, Run] = {
     "removal": Run(removal),
     "iommu": Run(iommu),
     "functions": Run(functions),
+    "function-reset": Run(function_reset),
     "http": Run(two_guests(1500)),
     "http-9000": Run(two_guests(9000)),
     "dpdk": Run(dpdk, ("tools", "kernel-6.1", "dpdk")),
@@ -644,13 +660,35 @@ def needs_of(words: list[str]) -> list[str]:
 # ---- an author's own guest ----
 
 
+OWN_FILES = ("--kernel", "--initrd", "--disk")
+
+
+def own_words(words: list[str]) -> tuple[dict[str, str], list[str], list[str]]:
+    """The files that are given, with --gdb; the words for the server; those for QEMU."""
+    given: dict[str, str] = {}
+    for_server: list[str] = []
+    rest = list(words)
+    while rest and rest[0] != "--":
+        name = rest.pop(0)
+        if name.startswith("--server="):
+            for_server.append(name.removeprefix("--server="))
+        elif name == "--gdb":
+            given[name] = ""
+        elif name in OWN_FILES and rest and rest[0] != "--":
+            given[name] = rest.pop(0)
+        else:
+            raise Wrong(f"{name} needs a file" if name in OWN_FILES else f"what is {name}?")
+    return given, for_server, rest[1:]
+
+
 def own(place: Place, words: list[str]) -> int:
     """Boots a kernel, or a disk, of the caller's on this terminal."""
-    given: dict[str, str] = {}
-    while words and words[0] != "--":
-        name = words.pop(0)
-        given[name] = "" if name == "--gdb" else words.pop(0) if words else ""
-    server = Server(place, "own")
+    try:
+        given, for_server, for_qemu = own_words(words)
+    except Wrong as fault:
+        print(f"drivers/qemu/run: {fault}", file=sys.stderr)
+        return 3
+    server = Server(place, "own", *for_server)
     line = [*place.qemu("qemu-system-x86_64"), "-machine", "q35,accel=tcg,memory-backend=ram", "-nographic",
             "-nic", "none", *memory("2G"), "-cpu", "max", "-smp", "2", *port(), *device(server.path)]
     for name in ("--kernel", "--initrd"):
@@ -659,7 +697,7 @@ def own(place: Place, words: list[str]) -> int:
     line += ["-drive", f"file={given['--disk']},if=virtio"] if "--disk" in given else []
     line += ["-s", "-S"] if "--gdb" in given else []
     print(f"drivers/qemu/run: the card answers at 10.0.0.1; its control socket is {server.folder}/control", flush=True)
-    status = started([*line, *words[1:]]).wait()
+    status = started([*line, *for_qemu]).wait()
     print(server.end())
     return status
 

@@ -386,6 +386,13 @@ static void held(const char *path, const char *control_path)
     peer_write(&peer, NIC_TDT(0), 2);
     until(&peer, NIC_TXDCTL(0), NIC_TXDCTL_ENABLE, 0);
     CHECK(says("counts", "not lent 1"));
+    CHECK(!says("counts", "not modelled:"));
+    peer_read(&peer, 0x10160);
+    peer_write(&peer, 0x10160, 0);
+    peer_read(&peer, 0x10160);
+    CHECK(says("counts", "not modelled: 3 accesses of the host: SW_FW_SYNC 3 (--strays=FILE has each)"));
+    peer_read(&peer, 0x1FFF0);
+    CHECK(says("counts", "not modelled: 4 accesses of the host: SW_FW_SYNC 3; at no register that is known 1"));
     close(control);
     peer_close(&peer);
 }

@@ -1,6 +1,6 @@
 #!/usr/bin/env python3
-"""Tries what a search judges by, without a guest: drivers/qemu/races/check.py, in a second. Status 0: all is as it
-should be."""
+"""Tries what a search judges by, and the words for a guest of one's own, without a guest: drivers/qemu/races/check.py,
+in a second. Status 0: all is as it should be."""
 
 from __future__ import annotations
 
@@ -14,6 +14,7 @@ from pathlib import Path
 sys.dont_write_bytecode = True
 sys.path.insert(0, str(Path(__file__).resolve().parent))
 from bench import Outcome, is_locked  # noqa: E402
+from guests import Wrong, own_words  # noqa: E402
 from initrd import Initrd  # noqa: E402
 from modules import Unreadable, unpack_modules  # noqa: E402
 from report import junit, line, table  # noqa: E402
@@ -128,8 +129,24 @@ def reports(folder: Path) -> None:
     assert 'tests="2" failures="1"' in (folder / "junit.xml").read_text()
 
 
+def own_guests() -> None:
+    """Words for the server and for QEMU are kept apart; a file that is missing, and another word, are named."""
+    words = ["--kernel", "vmlinuz", "--server=--wire=none", "--gdb", "--server=--bare", "--", "-m", "--kernel"]
+    given = {"--kernel": "vmlinuz", "--gdb": ""}
+    assert own_words(words) == (given, ["--wire=none", "--bare"], ["-m", "--kernel"])
+    for wrong, said in ((["--disk"], "--disk needs a file"), (["--kernel", "--"], "--kernel needs a file"),
+                        (["--kernel", "k", "--serve=x"], "what is --serve=x?")):
+        try:
+            own_words(wrong)
+        except Wrong as fault:
+            assert str(fault) == said, fault
+        else:
+            raise AssertionError(wrong)
+
+
 def main() -> int:
     with tempfile.TemporaryDirectory() as folder:
+        own_guests()
         verdicts()
         checks()
         workloads()

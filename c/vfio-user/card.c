@@ -13,7 +13,7 @@
 /* The bus calls back without a word of whom it calls: there is one card. */
 static struct card *the_card;
 
-/* ---- what is told ---- */
+/* ---- what is reported ---- */
 
 static void keep_access(struct card *it, const struct function *function, bool is_write, uint32_t offset, uint32_t word)
 {
@@ -152,8 +152,8 @@ static void sent(uint16_t queue, const uint8_t *frame, size_t length)
 }
 
 /* Both sockets of a virtual function see its registers, but each client has vectors of its own. A message is for the
-   client that has set its vector up, and for the function's own guest where both have, whoever accessed a register
-   last. */
+   client that has set its vector up, and for the function's own guest where both have, no matter which of them
+   accessed a register last. */
 static void on_message(unsigned int number, unsigned int vector)
 {
     enum function_ready most = FUNCTION_ABSENT;
@@ -180,7 +180,7 @@ void card_add(struct card *it, struct function *function)
         sockets[count] = function;
 }
 
-/* An access at which the device is to be held: what it would do by itself isn't done any more. */
+/* An access at which the device is to be held: it no longer does anything by itself. */
 static void watch(struct card *it, const struct function *function, bool is_write, uint32_t offset, uint32_t word)
 {
     if (!it->stepper.is_held && watch_meets(&it->watch, function->number, is_write, offset, word))

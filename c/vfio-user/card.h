@@ -1,4 +1,4 @@
-/* The card behind all of its functions: the bus of drivers/common with the bench's device, the rings of the guests, and
+/* The card that all functions share: the bus of drivers/common with the bench's device, the rings of the guests, and
    the steps that the device makes. The bus is one for each process, so a process has one card. */
 #ifndef VFU_CARD_H
 #define VFU_CARD_H
@@ -16,7 +16,7 @@
 #include "stepper.h"
 #include "watch.h"
 
-#define CARD_FUNCTIONS_MOST 7 /* virtual ones: a slot behind a root port has eight functions */
+#define CARD_FUNCTIONS_MOST 7 /* virtual ones: a root port's slot has eight functions */
 #define CARD_SOCKETS 2        /* of a virtual function */
 #define CARD_FIFO 4096
 
@@ -29,7 +29,7 @@ struct card_options {
     unsigned int functions; /* virtual ones */
     unsigned int answers;   /* enum bus_answer */
     bool has_offloads, has_legacy;
-    bool has_check; /* each access outside the guest's memory is told with the accesses of registers before it */
+    bool has_check; /* each access outside the guest's memory is reported with the accesses of registers before it */
     bool has_seed;  /* steps are late by this seed */
     uint64_t seed;
     bool is_recorded; /* the device is, by nic_record or its variable */
@@ -41,7 +41,7 @@ typedef void card_sink(void *to, unsigned int sender, const uint8_t *frame, size
 
 #define CARD_ACCESSES 16
 
-/* An access of a register, which is kept to be told. */
+/* An access of a register, which is kept for reports. */
 struct card_access {
     const struct function *function;
     uint32_t offset, word;
@@ -66,7 +66,7 @@ struct card {
     void *sink_to;
     struct arrivals arrivals;
     uint64_t lost_writes; /* of registers, while the card was being reset */
-    uint32_t told_lost;   /* by clients' sockets: the first of them was told */
+    uint32_t told_lost;   /* by clients' sockets: the first of them was reported */
 };
 
 /* Opens the card: false where memory is short. */

@@ -1,5 +1,5 @@
 /* One client's socket: bytes and files come in as they like, whole messages are taken out. Nothing here waits: a client
-   that sends in pieces is waited for by the caller's poll, one that doesn't read has what it is told kept, and is asked
+   that sends in pieces is waited for by the caller's poll, one that doesn't read has its replies kept, and is asked
    no more while more than CHANNEL_KEPT bytes are. */
 #ifndef VFU_CHANNEL_H
 #define VFU_CHANNEL_H
@@ -53,7 +53,7 @@ void channel_end(struct channel *it);
 
 /* Takes in what has come, as much as there is room for. */
 enum channel_state channel_receive(struct channel *it);
-/* The next whole message: true, with *state as it was. False: there is none now, or (*state says so) none any more. */
+/* The next whole message: true, with *state as it was. False: there is none now, or (*state says so) there will be none. */
 bool channel_next(struct channel *it, struct message *message, enum channel_state *state);
 /* Closes the files that are left of a message. */
 void message_drop_files(struct message *message);

@@ -2,7 +2,7 @@
    foreign file (of a file system in a program, a terminal, a network) may take as long as its owner likes. Each owner's
    foreign files have a thread, so they wait for no other's, and files whose memory is the kernel's own wait for none. A
    socket counts as foreign, since its other end may have sent files that nobody took, and so does an eventfd, since
-   whoever watches it by an epoll can hold what its closing waits for. */
+   a process that watches it by an epoll can hold what its closing waits for. */
 #ifndef VFU_CLOSER_H
 #define VFU_CLOSER_H
 

@@ -21,8 +21,8 @@ struct connector {
 void connector_begin(struct connector *it);
 /* Starts the process, for a stream there. False, and errno says why not. */
 bool connector_start_stream(struct connector *it, const char *path, bool is_confined);
-/* The same for datagrams: the socket, which has its own name, is connected to this one again and again, as whoever has
-   it may be another by then. */
+/* The same for datagrams: the socket, which has its own name, is connected to this one again and again, since its owner
+   may be another by then. */
 bool connector_start_datagrams(struct connector *it, int file, const char *peer, bool is_confined);
 void connector_end(struct connector *it);
 

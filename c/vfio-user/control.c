@@ -19,7 +19,7 @@ static const char short_of_memory[] = "memory is short";
 
 /* ---- requests: what each answers, or null and "ok" ---- */
 
-/* A request's words: numbers, and the rest of the line behind its name. */
+/* A request's words: numbers, and the rest of the line after its name. */
 struct request {
     struct server *server;
     const char *rest;

@@ -27,7 +27,7 @@ struct control_client {
     char line[CONTROL_LINE];
     size_t length;
     bool is_long; /* the line is longer than that, and is passed over */
-    bool watches; /* it asked for places at which the device is held, and is told when it is */
+    bool watches; /* it asked for places at which the device is held, and gets a line when it is */
     struct buffer out;
 };
 
@@ -47,7 +47,7 @@ void control_serve(struct control *it, const struct pollfd *polls, struct server
 /* Whether requests wait that have come already. */
 bool control_has_more(const struct control *it);
 
-/* One request of a line, whose answer is written to `to`, and that of `why` at once: true where it asked to be told
+/* One request of a line, whose answer is written to `to`, and that of `why` at once: true where it asked for a line
    when the device is held. */
 bool control_obey(struct server *server, const char *line, FILE *to);
 

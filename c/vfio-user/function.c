@@ -28,7 +28,7 @@
 #define MSI 0x50u
 #define MSIX 0x70u
 #define EXPRESS 0xA0u
-#define SRIOV 0x100u /* the card's is at 0x160, behind others */
+#define SRIOV 0x100u /* the card's is at 0x160, after others */
 
 static unsigned int table_bar(const struct function *it)
 {
@@ -53,7 +53,7 @@ static bool has_kind(const struct function *it, enum card_interrupts kind)
 
 /* ---- configuration space ---- */
 
-/* A slot behind a root port has functions 0 to 7 only, so virtual ones are next to the host's; the card's are 128 away,
+/* A root port's slot has functions 0 to 7 only, so virtual ones are next to the host's; the card's are 128 away,
    and every second. */
 static void make_config(struct function *it)
 {
@@ -314,7 +314,7 @@ bool function_is_busy(const struct function *it)
     return session_is_busy(&it->session);
 }
 
-/* The card goes on, as it does where a machine is switched off: whoever comes next finds it after a reset. */
+/* The card goes on, as it does where a machine is switched off: the next client finds it after a reset. */
 static void gone(struct function *it)
 {
     log_client(it->socket, LOG_CLIENT, "%s: its client has gone", it->path);

@@ -42,7 +42,7 @@ struct function {
     struct function_counts counts;
 };
 
-/* Makes a function of a card; its path must be set, for what is told. */
+/* Makes a function of a card; its path must be set, for the reports. */
 void function_begin(struct function *it);
 /* Listens at its path: null, or what is in the way. */
 const char *function_listen(struct function *it);

@@ -76,7 +76,7 @@ static bool enroll(struct memory_map *it)
 
 /* ---- ranges ---- */
 
-/* The first range that ends behind the address; it->count: none. */
+/* The first range that ends above the address; it->count: none. */
 static unsigned int first_behind(const struct memory_map *it, uint64_t address)
 {
     unsigned int low = 0, high = it->count;
@@ -204,7 +204,7 @@ static struct memory_window *known_window(const struct memory_map *it, const str
     return NULL;
 }
 
-/* Nothing is reached there any more; there is room for it, since there was when it was made. */
+/* Nothing is reached there from now on; there is room for it, since there was when it was made. */
 static void retire(struct memory_map *it, unsigned int place)
 {
     struct memory_window *window = it->windows[place];
@@ -465,7 +465,7 @@ static struct memory_window *window_at(uintptr_t place)
     return NULL;
 }
 
-/* Zeros take the place of a window's rest, from the page on that the file hasn't any more. So a window is two mappings
+/* Zeros take the place of a window's rest, from the first page that the file has lost. So a window is two mappings
    at most, for which the limits have room; and since nothing there is reached from now on, they take no memory. */
 static bool cut(struct memory_window *window, uintptr_t place)
 {

@@ -1,7 +1,7 @@
 /* A client's memory as it mapped it for the device: ranges of DMA addresses, each a piece of a file that is mapped into
    this process, or (a ROM's, for instance) one that can't be reached. However many ranges a client has of a file, the
    file is mapped in a few large pieces, windows, that its ranges share: each mapping of a file makes the kernel's work
-   longer when the file is mapped, cut or given back. What is taken back isn't reached any more, and goes back to the
+   longer when the file is mapped, cut or given back. What is taken back is no longer reached, and goes back to the
    kernel in pieces, since that takes time. */
 #ifndef VFU_MEMORY_MAP_H
 #define VFU_MEMORY_MAP_H

@@ -30,7 +30,7 @@ bool notifier_open(void)
     return false;
 }
 
-/* Starts an access of no bytes, at whose end the file is told. */
+/* Starts an access of no bytes, at whose end the file is signalled. */
 static long submit(int file, uint16_t operation)
 {
     struct iocb access = {.aio_fildes = (uint32_t)source,
@@ -65,7 +65,7 @@ bool notifier_reads_names(void)
 }
 
 /* The kernel looks at the file first: EINVAL says that it is no eventfd, EBADF that the source can't be written, and
-   the file is told of neither. */
+   neither signals the file. */
 bool notifier_takes(int file)
 {
     if (reads)

@@ -13,7 +13,7 @@ bool notifier_open(void);
 bool notifier_reads_names(void);
 /* Whether a file is an eventfd. */
 bool notifier_takes(int file);
-/* False: the file is no eventfd. A full counter stays as it is: its client was told so often that it will look. */
+/* False: the file is no eventfd. A full counter stays as it is: its client was signalled so often that it will look. */
 bool notifier_send(int file);
 
 #endif

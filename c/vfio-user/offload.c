@@ -247,7 +247,7 @@ static void sum_l4(const struct offload *it, const struct offload_job *job, uint
     put16(field, job->l4_type == UDP && sum == 0 ? 0xFFFF : sum);
 }
 
-/* How many bytes the IP packet says that it has: what lies behind is padding, of which no sum is made. */
+/* How many bytes the IP packet says that it has: the bytes after it are padding, which no sum includes. */
 static size_t without_padding(const struct offload_job *job, const uint8_t *frame, size_t length)
 {
     const uint8_t *ip = frame + job->mac_length;

@@ -57,7 +57,7 @@ static const char help[] =
     "A second process, which can do nothing else, removes the sockets at the end; with --wire=stream or dgram a third\n"
     "one connects there. docs/guests.md says what that needs of the kernel.\n";
 
-/* What is behind NAME= in a word; null: the word is another. */
+/* What follows NAME= in a word; null: the word is another. */
 static const char *value_of(const char *word, const char *name)
 {
     size_t length = strlen(name);
@@ -157,7 +157,7 @@ static bool leave_out(struct options *it, const char *name)
     return true;
 }
 
-/* Words with a number or an address behind them. */
+/* Words with a number or an address after the sign. */
 static bool read_number_word(struct options *it, const char *word, bool *is_known)
 {
     unsigned long long number;
@@ -188,7 +188,7 @@ static bool read_number_word(struct options *it, const char *word, bool *is_know
     return true;
 }
 
-/* Words with a file behind them. */
+/* Words with a file after the sign. */
 static bool read_file_word(struct options *it, const char *word)
 {
     const struct {

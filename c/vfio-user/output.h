@@ -17,7 +17,7 @@ struct output {
     bool is_socket, waits;
     struct buffer kept;
     uint64_t lost; /* records */
-    int error;     /* of errno.h, after which nothing is written any more; 0: none */
+    int error;     /* of errno.h, after which nothing more is written; 0: none */
 };
 
 /* Makes the file of this name, or takes one that is there: false, and errno says why not (ENXIO: a FIFO that nobody

@@ -22,7 +22,7 @@ enum vfu_command {
     VFU_DIRTY_PAGES,
     VFU_REGION_WRITE_MULTI,
     VFU_DEVICE_FEATURE,
-    VFU_COMMANDS /* behind the last one */
+    VFU_COMMANDS /* after the last one */
 };
 
 /* vfu_header.flags */

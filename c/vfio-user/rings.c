@@ -59,7 +59,7 @@ struct ring {
 struct rings {
     struct rings_options options;
     struct rings_counts counts;
-    uint32_t told_off, told_zeros; /* by clients' sockets, what is told once */
+    uint32_t told_off, told_zeros; /* by clients' sockets, what was reported once */
     struct part_of parts[WORDS];
     struct ring rings[2][RINGS_QUEUES];
     uint16_t owner[RINGS_BLOCKS]; /* of blocks that rings have: 1 + 128 * side + queue */
@@ -132,7 +132,7 @@ static void refuse_ring(struct rings *it, const char *what, struct dma by, const
     it->options.refused(it->options.of, what, by, queue, ring->base, ring->slots * NIC_DESC_BYTES);
 }
 
-/* A driver's mistake that isn't an access; it is told once of each client's. */
+/* A driver's mistake that isn't an access; it is reported once for each client. */
 static void remark(struct rings *it, uint32_t *told, const char *what, struct dma by, const struct ring *ring,
                    uint16_t queue)
 {

@@ -1,4 +1,4 @@
-/* Guests' memory of any size behind the device's 128 MiB of bus addresses. On the guest's side base registers and
+/* Guests' memory of any size, reached through the device's 128 MiB of bus addresses. On the guest's side base registers and
    descriptors hold the guest's addresses, on the device's side the device's: each ring has a place of its own length
    there, and each queue a place for the buffer that it is at. The first descriptors that a tail gives away are read
    then, as the card prefetches, the others when their turn comes; a buffer when the device acts on it.
@@ -12,7 +12,7 @@
    is so bounded by the number of rings.
 
    All is copied and nothing in place, since the guest runs while calls do. What the guest polls is written last, by a
-   release store: a frame's bytes first, DD behind them. */
+   release store: a frame's bytes first, then DD. */
 #ifndef RINGS_H
 #define RINGS_H
 
@@ -31,7 +31,7 @@
 #define RING_BYTES_MOST 0x80000u /* 32,768 descriptors: what the card takes */
 #define RINGS_AHEAD 64u          /* descriptors of a ring that are read ahead */
 
-/* An access that goes nowhere, or a driver's mistake: told by whoever has the rings. `what` is a noun, `by` whose
+/* An access that goes nowhere, or a driver's mistake: reported by the rings' owner. `what` is a noun, `by` whose
    driver did it, and `where` an address of the ring's client. */
 typedef void rings_refused(void *of, const char *what, struct dma by, uint16_t queue, struct dma_address where,
                            size_t length);
@@ -77,7 +77,7 @@ void rings_remapped(struct rings *it, struct dma client);
 /* Whose ring it is; nobody's where it was stopped, or none was set up. */
 struct dma rings_owner(const struct rings *it, bool is_transmit, uint16_t queue);
 
-/* Gives the device what its next step of this queue needs: before each transmit step, and behind a receive step. False:
+/* Gives the device what its next step of this queue needs: before each transmit step, and after a receive step. False:
    the transmit queue has nothing that could be sent. */
 bool rings_step(struct rings *it, bool is_transmit, uint16_t queue);
 /* The same for each receive queue that was touched: before receive steps. */

@@ -389,7 +389,7 @@ static enum channel_state reply(struct work *it, int error)
     message->head.flags = VFU_REPLY | (error ? VFU_ERROR : 0);
     message->head.error = (uint32_t)error;
     message->head.size = (uint32_t)sizeof message->head + (error ? 0 : it->reply);
-    /* head and body lie behind one another but for alignment, and one call is to send them */
+    /* the body follows the head but for alignment, and one call is to send both */
     uint8_t bytes[VFU_MESSAGE_MOST];
     memcpy(bytes, &message->head, sizeof message->head);
     memcpy(bytes + sizeof message->head, message->body.bytes, message->head.size - sizeof message->head);
@@ -415,7 +415,7 @@ static enum channel_state serve_one(struct session *it, uint64_t began)
     return reply(&work, error);
 }
 
-/* A message that its client has no reply to any more. */
+/* A message whose reply its client no longer waits for. */
 static void drop_message(struct session *it)
 {
     if (it->is_amid)

@@ -38,7 +38,7 @@ struct session {
     struct line line; /* while MSI-X is off */
     const struct session_calls *calls;
     void *function;
-    const char *name; /* of the socket, for what is told on standard error */
+    const char *name; /* of the socket, for what is printed on standard error */
     bool has_version, is_told_of_memory;
     bool is_stalled; /* messages that came wait for what is sent to go, or for what is given back */
     bool is_paused;  /* messages that came wait for the next turn */
@@ -55,7 +55,7 @@ void session_begin(struct session *it, const struct session_calls *calls, void *
 /* A client has connected: its socket, which is the session's from now on. */
 void session_open(struct session *it, int file);
 bool session_is_open(const struct session *it);
-/* Serves what has come. False: the session has ended, for a reason that is told if it is the client's fault. */
+/* Serves what has come. False: the session has ended, for a reason that is printed if it is the client's fault. */
 bool session_serve(struct session *it);
 /* Sends what waits; false as above. */
 bool session_flush(struct session *it);

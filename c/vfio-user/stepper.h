@@ -7,7 +7,7 @@
 
 #define STEPPER_QUEUES 128
 
-/* A reset of the card takes time too, by a seed: drivers are told to wait a millisecond. */
+/* A reset of the card takes time too, by a seed: the datasheet has drivers wait a millisecond. */
 struct late_reset {
     uint32_t word; /* of CTRL; 0: none goes on */
     uint64_t ends; /* nanoseconds of the caller's clock */

@@ -1,4 +1,4 @@
-/* The MSI-X vectors of a function: the eventfd by which each is told to its client, and which messages wait for one. */
+/* The MSI-X vectors of a function: the eventfd that signals each to its client, and which messages wait for one. */
 #ifndef VFU_VECTORS_H
 #define VFU_VECTORS_H
 
@@ -20,7 +20,7 @@ void vectors_clear(struct vectors *it);
 /* Gives a vector a file, which is the vectors' from now on, or (-1) takes it away. False, and the file is still the
    caller's, where it is no eventfd. */
 bool vectors_set(struct vectors *it, unsigned int vector, int file);
-/* Whether a vector has a file, so that its client is told. */
+/* Whether a vector has a file, so that its client is signalled. */
 bool vectors_has(const struct vectors *it, unsigned int vector);
 /* Sends a message, or has it wait until its vector has a file. */
 void vectors_raise(struct vectors *it, unsigned int vector);

@@ -19,7 +19,7 @@ struct watch_place {
 struct watch {
     struct watch_place places[WATCH_PLACES];
     unsigned int count;
-    const struct watch_place *met; /* since somebody was told; null: none */
+    const struct watch_place *met; /* since it was reported; null: none */
     uint32_t word;                 /* that was written there */
 };
 

@@ -136,7 +136,7 @@ static void flush(struct wire *it)
         flush_stream(it);
 }
 
-/* Keeps a frame behind its length; what is more than so many bytes is lost. */
+/* Keeps a frame after its length; what is more than so many bytes is lost. */
 static bool keep(struct wire *it, struct buffer *buffer, size_t most, const uint8_t *frame, size_t length)
 {
     uint8_t head[LENGTH_BYTES];
@@ -245,7 +245,7 @@ static void read_stream(struct wire *it)
     hang_up(it);
 }
 
-/* A length that no frame has ends the connection: what comes behind it can't be told apart. */
+/* A length that no frame has ends the connection: the bytes after it can't be divided into frames. */
 static size_t from_stream(struct wire *it)
 {
     while (buffer_waiting(&it->in) >= LENGTH_BYTES) {
@@ -316,7 +316,7 @@ size_t wire_next(struct wire *it, bool plays)
     it->others_turn = !it->others_turn;
     if (!length)
         return 0;
-    if (length < FRAME_LEAST) { /* whoever sends on a wire fills up */
+    if (length < FRAME_LEAST) { /* a sender on a wire fills up */
         memset(it->frame + length, 0, FRAME_LEAST - length);
         length = FRAME_LEAST;
     }

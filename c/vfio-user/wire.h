@@ -1,5 +1,5 @@
 /* The other end of the card's cable: nothing, a responder, or a program by QEMU's formats for -netdev stream (each
-   frame behind its length, four bytes, the high one first) and -netdev dgram (a datagram each), over UNIX sockets. What
+   frame after its length, four bytes, the high one first) and -netdev dgram (a datagram each), over UNIX sockets. What
    the other end doesn't take is kept up to WIRE_KEPT bytes; what is lost is counted. */
 #ifndef VFU_WIRE_H
 #define VFU_WIRE_H
@@ -47,9 +47,9 @@ struct wire {
     bool had_end;       /* somebody was at the other end of a stream */
     bool is_cut;        /* nobody is to be there, since the card's link is down */
     struct connector connector;
-    struct buffer out;                 /* for the other end: stream: bytes; dgram: frames behind their lengths */
+    struct buffer out;                 /* for the other end: stream: bytes; dgram: frames after their lengths */
     struct buffer in;                  /* of a stream */
-    struct buffer local[WIRE_SENDERS]; /* replies and hairpins of each sender's frames, behind their lengths */
+    struct buffer local[WIRE_SENDERS]; /* replies and hairpins of each sender's frames, after their lengths */
     unsigned int next_local;           /* whose turn it is of these, */
     bool others_turn;                  /* and whether it is the other end's, or the file's, before them */
     struct output capture;

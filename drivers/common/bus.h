@@ -83,7 +83,7 @@ struct bus_counts {
     uint64_t to_device, to_driver;        /* bytes copied, by copies.c */
     uint64_t absent_reads, absent_writes; /* of functions that the mode has no pool for */
     uint64_t answered[8];                 /* how often each answer was given, by enum bus_answer's bit */
-    uint64_t faults, refusals;            /* what never happens in a good run; told on standard error */
+    uint64_t faults, refusals;            /* what never happens in a good run; printed on standard error */
     uint64_t fault_whys[16];              /* faults by enum nic_fault */
     uint64_t drops, not_let_in;           /* frames, by receive steps and at arrival; by enum nic_why: */
     uint64_t drop_whys[16], arrive_whys[16];
@@ -152,7 +152,7 @@ bool bus_message(unsigned int function, void (*message)(unsigned int function, u
 /* Whether the card's interrupt line is up for a cause that is no queue's: EICR and EIMS have it. */
 bool bus_line(void);
 
-/* ---- what is told ---- */
+/* ---- what is reported ---- */
 
 /* The answers that the bus gives; the one with this name, as after --without: its bit, 0 where there is none. */
 unsigned int bus_answers(void);

@@ -5,7 +5,7 @@
 #include "inside.h"
 
 #define REQUESTS 17 /* numbers of requests; the last stands for all others */
-#define SHOWN 3     /* words of a message that are told */
+#define SHOWN 3     /* words of a message that are printed */
 #define ASKS 0x1u   /* VFMAILBOX, written: a request is there */
 #define TELLS 0x1u  /* PFMAILBOX, written: so is a message */
 #define ACKNOWLEDGED 0x80000000u

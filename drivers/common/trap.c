@@ -13,7 +13,7 @@
 #include "window.h"
 
 #define STATUS 4
-#define SHOWN 12 /* bytes of an instruction that are told */
+#define SHOWN 12 /* bytes of an instruction that are printed */
 
 #define PREFIX_16 0x66u
 #define HLT 0xF4u
@@ -157,7 +157,7 @@ static void on_fault(int signal_number, siginfo_t *info, void *context)
 
 bool trap_open(const struct trap_hooks *given)
 {
-    /* A hook, or what the bus calls, may fault itself: that is told too, and not the end without a word. */
+    /* A hook, or what the bus calls, may fault itself: that is reported too, so the process never ends without a word. */
     struct sigaction action = {.sa_sigaction = on_fault, .sa_flags = SA_SIGINFO | SA_NODEFER};
     hooks = given ? *given : (struct trap_hooks){0};
     count = 0;

@@ -13,7 +13,7 @@ struct trap_hooks {
 };
 
 /* Takes the process's SIGSEGV and SIGBUS: false where the system refuses that. A fault elsewhere, and an access that
-   isn't one of 32 bits by MOV, is told with its instruction, and ends the process with status 4. */
+   isn't one of 32 bits by MOV, is reported with its instruction, and ends the process with status 4. */
 bool trap_open(const struct trap_hooks *hooks);
 /* Gives both signals back. */
 void trap_close(void);

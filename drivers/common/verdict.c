@@ -35,7 +35,7 @@ unsigned int problems(void)
 bool same(const char *what, uint64_t told, uint64_t counted)
 {
     if (told != counted)
-        problem("%s: told are %" PRIu64 ", counted %" PRIu64, what, told, counted);
+        problem("%s: reported %" PRIu64 ", counted %" PRIu64, what, told, counted);
     return told == counted;
 }
 

@@ -9,7 +9,7 @@
 #include "bus.h"
 #include "verdict.h"
 
-/* The physical function's window, then the others', each with as many addresses behind it that belong to none. Each
+/* The physical function's window, then the others', each followed by as many addresses that belong to none. Each
    begins at a multiple of its size, as a BAR does. */
 #define PHYSICAL_STEP (2 * (size_t)BUS_SPACE)
 #define VIRTUAL_STEP (2 * (size_t)BUS_FUNCTION_SPACE)

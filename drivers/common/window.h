@@ -16,7 +16,7 @@ void *window_of(unsigned int function);
 /* Whether an address lies in the windows, or between them. */
 bool window_has(const volatile void *address);
 
-/* Whose register is at this address. What lies in no window is a problem, and is told as of the physical function,
+/* Whose register is at this address. What lies in no window is a problem, and is reported as the physical function's,
    beyond its registers. */
 void window_find(const volatile void *address, unsigned int *function, uint32_t *offset);
 

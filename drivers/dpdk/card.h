@@ -7,11 +7,11 @@
 #include <stdint.h>
 
 /* Has the driver of this device id probe a function whose registers are the window of that number: 0, or the driver's
-   error. `max_vfs`: how many virtual functions a host is told to have. `vectors`: how many a driver has for its queues,
+   error. `max_vfs`: how many virtual functions a host has. `vectors`: how many a driver has for its queues,
    by MSI-X, beside that of other causes; 0 where it has one interrupt, which is no MSI-X. */
 int card_probe(unsigned int function, uint16_t device_id, uint16_t max_vfs, unsigned int vectors);
 
-/* Gives a function its vectors anew, as a bus does at each start: a driver gives them up where it stops. */
+/* Gives a function its vectors again, as a bus does at each start: a driver gives them up where it stops. */
 void card_give_vectors(unsigned int function, unsigned int vectors);
 
 /* The card of a function is removed: 0, or the driver's error. */

@@ -31,10 +31,10 @@ extern const uint8_t card_mac[6], peer_mac[6];
 /* DPDK, the bus with its windows, DPDK's memory lent to the device, a pool of packets: false, and a problem, where one
    isn't had. */
 bool dpdk_start(const struct dpdk_options *options);
-/* In the end: strays are saved, the bus is closed, what is wrong is told, DPDK cleaned up. The run's status. */
+/* In the end: strays are saved, the bus is closed, what is wrong is reported, DPDK cleaned up. The run's status. */
 int dpdk_end(const struct dpdk_options *options);
 
-/* Reads a word that each program knows, --scalar or --loud; one with another behind it, --turn or --strays. False: it
+/* Reads a word that each program knows, --scalar or --loud; one with another after it, --turn or --strays. False: it
    is none of these. */
 bool dpdk_word(const char *word, struct dpdk_options *options);
 bool dpdk_pair(const char *word, const char *next, struct dpdk_options *options);

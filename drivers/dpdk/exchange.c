@@ -3,7 +3,7 @@
 
      exchange [--scalar | --segments] [--frames N] [--device ID] [--without SWSM | ANLP1] [--with EICS | EERD]
               [--strays FILE] [--loud] [--turn in | out]
-         the run, of N frames each way in each pass (1,000 unless told); --turn: the shim turns a byte of one frame
+         the run, of N frames each way in each pass (1,000 by default); --turn: the shim turns a byte of one frame
      exchange --speed
          the measurement
 
@@ -150,7 +150,7 @@ static bool measured(uint16_t device)
 
 /* ---- the words ---- */
 
-/* A word that has another behind it: false where either isn't known. */
+/* A word that another follows: false where either isn't known. */
 static bool read_pair(const char *word, const char *next, struct words *it)
 {
     unsigned int answer = bus_answer_named(next), *answers = &it->options.bus.answers;

@@ -11,17 +11,17 @@
 #include "nic82599_explore.h"
 
 /* What is planted into a run, so that it can be seen to fail: a byte that goes to the driver or comes from it is
-   turned; the last store in front of a tail is seen behind it. */
+   turned; the last store before a tail is seen after it. */
 enum plant { NOTHING_PLANTED, TURN, ORDER };
 extern enum plant planted;
 
 /* ---- points: each access of the driver to a ring is one ---- */
 
-/* No ring is known any more. */
+/* No ring is known from now on. */
 void points_begin(void);
 /* Descriptors at an address of the process are those at a bus address. */
 void points_ring(volatile void *at, uint64_t bus, size_t length);
-/* The last store becomes visible. Goes before each call of the explorer, and behind each call of the driver. */
+/* The last store becomes visible. Goes before each call of the explorer, and after each call of the driver. */
 void points_flush(void);
 
 /* ---- state: what is kept at the end of a bring-up, and is back at the begin of each schedule ---- */

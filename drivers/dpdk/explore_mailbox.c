@@ -38,7 +38,7 @@ static void function(void *argument)
     nicx_check(!memcmp(hw->mac.perm_addr, host_knows(vf)->vf_mac_addresses, 6),
                "a function got another address than its host has for it");
     nicx_check(ixgbevf_negotiate_api_version(hw, ixgbe_mbox_api_13) == 0, "a function's version isn't agreed on");
-    nicx_check(ixgbevf_get_queues(hw, &classes, &first) == 0, "a function isn't told its queues");
+    nicx_check(ixgbevf_get_queues(hw, &classes, &first) == 0, "a function doesn't learn its queues");
     nicx_check(hw->mac.ops.set_rar(hw, 0, asked[vf].addr_bytes, 0, 1) == 0, "a function's address isn't taken");
     points_flush();
     done++;

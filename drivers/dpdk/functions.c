@@ -6,9 +6,9 @@
                [--course whole | traffic | no-rss | fewer-queues | second-probe]
                [--scalar] [--turn in | out] [--strays FILE] [--trace FILE] [--loud]
 
-   Answers of the shim are SWSM and ANLP1, given unless told otherwise, EICS, EERD and ABSENT. Courses: `whole` (of a
+   Answers of the shim are SWSM and ANLP1, given by default, EICS, EERD and ABSENT. Courses: `whole` (of a
    host with two functions), `traffic` (frames alone), and three differences from the card that docs/CARD.md tells,
-   which must come out as told there. Status 0 where all was as it should be, else 1; 2 where a file can't be written; 3
+   which must come out as it says there. Status 0 where all was as it should be, else 1; 2 where a file can't be written; 3
    for words that it doesn't know. */
 #include <errno.h>
 #include <inttypes.h>
@@ -122,7 +122,7 @@ static bool restart_host_alone(void)
     return true;
 }
 
-/* The functions stop first; the last one is removed, and probed anew once the host is there again. */
+/* The functions stop first; the last one is removed, and probed again once the host is there again. */
 static bool restart_host_after_functions(void)
 {
     printf("-- the host is restarted, and a function is probed after it\n");
@@ -145,7 +145,7 @@ static bool whole(void)
     if (!begin_host())
         return false;
     port_probe_early(1);
-    /* a function that is probed so early is told of one queue alone: it is removed, and probed anew later */
+    /* a function that is probed so early learns of one queue only: it is removed, and probed again later */
     if ((ports[1].is_there && !port_remove(1)) || !port_start(HOST))
         return false;
     pass(0, 0);
@@ -345,7 +345,7 @@ static void tell_handlers(const struct handlers_way *way)
         functions += card_interrupts(which);
     printf("handlers: the host's was called %" PRIu64 " times, %" PRIu64
            " of them by the line, those of functions %" PRIu64 "; messages of the host %" PRIu64
-           "\n  requests that the host's driver told its application: %u\n",
+           "\n  requests that the host's driver passed to its application: %u\n",
            card_interrupts(HOST), handlers_by_line(), functions, bus_counts()->messages[BUS_PHYSICAL], mailbox_events);
     if (!way->by_line)
         same("calls of the host's handler by the line", handlers_by_line(), 0);

@@ -1,4 +1,4 @@
-/* When the drivers' handlers of interrupts are called: one after the other, as on one processor, and never amid
+/* When the drivers' handlers of interrupts are called: one after the other, as on one processor, and never during
  * another. */
 #ifndef HANDLERS_H
 #define HANDLERS_H

@@ -10,7 +10,7 @@
 
 enum hash { HASH_NONE, HASH_RIGHT, HASH_WRONG };
 
-/* NONE: the frame is to have none, and has none. WRONG is a problem of the caller's, and is told here why. */
+/* NONE: the frame is to have none, and has none. WRONG is a problem of the caller's, and the reason is printed here. */
 enum hash hash_compare(const struct rte_mbuf *packet, const struct frame *frame, const struct rss *rss);
 
 /* Gives a port a redirection table that isn't the driver's own, over so many queues, and fills what a run then expects

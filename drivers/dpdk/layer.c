@@ -185,7 +185,7 @@ const char *layer_pool(unsigned int count)
     return NULL;
 }
 
-/* The driver asks for its own abilities by these, and is told of none beside the plain ones. */
+/* The driver asks for its own abilities by these, and gets the plain ones only. */
 static int tell_nothing(struct rte_eth_dev *it, struct rte_eth_dev_info *information)
 {
     (void)it;

@@ -35,7 +35,7 @@ unsigned int port_queues(unsigned int which)
     return which == HOST ? setting.queues : setting.vf_queues;
 }
 
-/* The host has the pool behind those of its functions, VT_CTL's default. */
+/* The host has the pool after those of its functions, VT_CTL's default. */
 uint16_t device_queue(unsigned int which, uint16_t queue)
 {
     unsigned int pool_number = which == HOST ? setting.max_vfs : which - 1;
@@ -57,7 +57,7 @@ static int probe(unsigned int which)
     return card_probe(which, FUNCTION_DEVICE, 0, vectors_of(which));
 }
 
-/* A port that is there now: its number, its address; told. */
+/* A port that is there now: its number, its address; printed. */
 static bool greet(unsigned int which)
 {
     struct port *port = &ports[which];

@@ -19,7 +19,7 @@
 #define OTHER_VLAN 200
 #define COLUMNS 9
 #define FLOOD 140 /* frames: more than a ring and the receive list of the tests hold */
-#define BEHIND 10 /* frames to the host, behind them */
+#define BEHIND 10 /* frames to the host, after them */
 
 static struct rte_ether_addr further = {{0x02, 0, 0, 0, 0, 0x77}}, another = {{0x02, 0, 0, 0, 0, 0x78}},
                              group = {{0x01, 0, 0x5e, 0x01, 0x02, 0x03}},
@@ -212,7 +212,7 @@ static void block(const char *what, unsigned int at_once)
     waited += port_drain(F0);
     printf("  %-36s the host gets %u of %u at once, %u once VF0 polls; VF0 gets %u of %u\n", what, came, BEHIND, later,
            waited, FLOOD);
-    same("frames to the host behind a full ring", came, at_once);
+    same("frames to the host after a full ring", came, at_once);
     same("frames to the host, and later", came + later, BEHIND);
     same("frames to a function that doesn't poll", waited + (bus_counts()->drops - drops), FLOOD);
 }

@@ -261,7 +261,7 @@ static void restart_receive(uint16_t port)
         frames++;
     behind = arrive_at(1, &number);
     printf("  receive queue 0: RDH is %u, RDT %u; the device writes %u frames for it, of which the driver sees %u,\n"
-           "    the next one waits, and of a frame for queue 1 behind it the device writes %u descriptors\n",
+           "    the next one waits, and of a frame for queue 1 after it the device writes %u descriptors\n",
            head, tail, frames, take(port, 0), behind);
 }
 

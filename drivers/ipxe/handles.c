@@ -169,7 +169,7 @@ static CALL handle_protocol(EFI_HANDLE handle, EFI_GUID *name, void **interface)
     return open_protocol(handle, name, interface, NULL, NULL, 0);
 }
 
-/* Nobody is told to have a protocol open. */
+/* Nobody has a protocol open, by this answer. */
 static CALL open_information(EFI_HANDLE handle, EFI_GUID *name, EFI_OPEN_PROTOCOL_INFORMATION_ENTRY **entries,
                              UINTN *count)
 {

@@ -157,7 +157,7 @@ static CALL configuration(void *io, void **resources)
 static EFI_PCI_IO_PROTOCOL device;
 static EFI_PCI_ROOT_BRIDGE_IO_PROTOCOL root;
 
-/* ACPI's name of the root bridge; behind it function 0 of its slot 0. */
+/* ACPI's name of the root bridge; after it function 0 of its slot 0. */
 #define ROOT 2, 1, 12, 0, 0xD0, 0x41, 0x03, 0x0A, 0, 0, 0, 0
 #define END 0x7F, 0xFF, 4, 0
 static uint8_t root_path[] = {ROOT, END};

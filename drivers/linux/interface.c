@@ -199,7 +199,7 @@ void interface_turn_offloads_off(const struct interface *it)
     tell_failure(it, "lro off", ethtool(it, &flags));
 }
 
-/* ---- what is told ---- */
+/* ---- what is reported ---- */
 
 static unsigned int set_size(const struct interface *it, unsigned int set)
 {

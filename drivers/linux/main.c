@@ -1,4 +1,4 @@
-/* The card of a User-Mode Linux, in a process of its own: the bench's device behind PCI over virtio, and the other end
+/* The card of a User-Mode Linux, in a process of its own: the bench's device as PCI over virtio, and the other end
    of the wire. drivers/linux/run compiles it and starts the guest beside it.
 
      card --socket PATH [--functions N] [--device ID] [--without ANSWER]..
@@ -47,7 +47,7 @@ static bool read_text(const char *word, const char **text)
     return *word != 0;
 }
 
-/* A word and the one behind it: false where either isn't known. */
+/* A word and the one after it: false where either isn't known. */
 static bool read_pair(const char *word, const char *next, struct words *it)
 {
     if (strcmp(word, "--socket") == 0)

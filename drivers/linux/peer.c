@@ -257,7 +257,7 @@ void peer_tell(void)
     if (all.echoes)
         printf("  and %" PRIu64 " datagrams, which it sent back\n", all.echoes);
     if (all.faults)
-        printf("the device told %" PRIu64 " faults for offloads, as the guest expects\n", bus_counts()->faults);
+        printf("the device reported %" PRIu64 " faults for offloads, as the guest expects\n", bus_counts()->faults);
     same("frames that the peer sent, and that were written", all.sent, all.written);
     same("frames that the device sent, and that came", bus_counts()->frames_out,
          all.expected + all.echoes + all.others);
@@ -265,5 +265,5 @@ void peer_tell(void)
         printf("the guest compared %" PRIu32 " things, of which %" PRIu32 " were wrong\n", all.guest_compared,
                all.guest_wrong);
     else
-        problem("the guest told no verdict");
+        problem("the guest gave no verdict");
 }

@@ -228,11 +228,11 @@ static void set_memory(const struct request_message *message)
 {
     const struct region *region = &message->body.memory.regions[0];
     if (message->body.memory.count == 0 || message->file_count == 0) {
-        problem("the guest told no memory");
+        problem("the guest named no memory");
         return;
     }
     if (memory.at)
-        return; /* another device of the same guest told it */
+        return; /* another device of the same guest named it */
     void *at = mmap(NULL, region->size, PROT_READ | PROT_WRITE, MAP_SHARED, message->files[0], (off_t)region->offset);
     if (at == MAP_FAILED) {
         problem("the guest's memory can't be mapped: %s", strerror(errno));

@@ -35,7 +35,7 @@ struct vhost_chain {
 /* Where `length` bytes of the guest's memory are in this process; null where they aren't in it. */
 void *vhost_memory(uint64_t address, uint64_t length);
 
-/* The first address of the guest's memory and its bytes; 0 before the guest has told. */
+/* The first address of the guest's memory and its bytes; 0 before the guest has named it. */
 uint64_t vhost_memory_first(void);
 uint64_t vhost_memory_bytes(void);
 

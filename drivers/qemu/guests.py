@@ -52,7 +52,7 @@ def started(words: Sequence[str | Path], **how: Any) -> subprocess.Popen[bytes]:
 
 
 def end_all() -> None:
-    """QEMU sets the terminal right when it is told to end."""
+    """QEMU sets the terminal right when it is asked to end."""
     for process in processes:
         if process.poll() is None:
             process.terminate()
@@ -109,7 +109,7 @@ class Place:
 
 
 def begin(place: Place) -> None:
-    """However this process ends, others end with it, and behind them their folder goes."""
+    """However this process ends, others end with it, and after them their folder goes."""
     atexit.register(place.forget)
     atexit.register(end_all)
     end_on_signals()
@@ -133,7 +133,7 @@ class Server:
 
     def __init__(self, place: Place, name: str, *words: str) -> None:
         self.folder = Path(tempfile.mkdtemp(prefix=f"{name}.", dir=place.folder))
-        self.path, self.told = self.folder / "card", self.folder / "told"
+        self.path, self.told = self.folder / "card", self.folder / "said"
         given = [f"--socket-path={self.path}", f"--control={self.folder}/control", *words]
         with open(self.told, "wb") as told:
             self.process = started([place.program, *given], stdout=told, stderr=subprocess.STDOUT)
@@ -153,7 +153,7 @@ class Server:
         return answer_of(self.answers)
 
     def end(self) -> str:
-        """Ends it; what it told."""
+        """Ends it; what it printed."""
         self.process.terminate()
         status = self.process.wait(timeout=20)
         told = self.told.read_text()
@@ -362,7 +362,7 @@ def running(server: Server, *guests: Guest) -> Iterator[None]:
 
 
 def alone(machine: Machine, *words: str) -> tuple[str, str]:
-    """One guest with one card: its log, and what the server told."""
+    """One guest with one card: its log, and what the server printed."""
     server = Server(machine.place, "one", *words)
     guest = machine.start("guest", server, *device(server.path))
     with running(server, guest):
@@ -376,7 +376,7 @@ def ipxe(place: Place) -> str:
     """iPXE's own driver, with legacy descriptors."""
     script = place.folder / "script.ipxe"
     lines = ["#!ipxe", "ifopen net0", "set net0/ip 10.0.0.2", "set net0/netmask 255.255.255.0",
-             "ping --count 4 10.0.0.1", "ifstat", "echo all is told", "sleep 600"]
+             "ping --count 4 10.0.0.1", "ifstat", "echo all is printed", "sleep 600"]
     script.write_text("\n".join(lines) + "\n")
     server = Server(place, "ipxe")
     words = [*place.qemu("qemu-system-x86_64"), "-machine", "q35,accel=tcg,memory-backend=ram", *QUIET, *memory("256M"),
@@ -384,7 +384,7 @@ def ipxe(place: Place) -> str:
              *device(server.path)]
     guest = Guest(words, server, server.folder / "guest.log")
     with running(server, guest):
-        guest.wait_for("all is told", 120)
+        guest.wait_for("all is printed", 120)
         guest.kill()
         told = server.end()
     text = "\n".join(guest.lines)
@@ -599,13 +599,13 @@ def two_guests(mtu: int) -> Callable[[Place], str]:
 
 
 def turned(place: Place) -> str:
-    """One byte is turned each way, which must be told."""
+    """One byte is turned each way, which must be reported."""
     script = TRAFFIC.replace("passes 1514", "echo '@control turn 77 99'\npasses 1514")
     text, _ = alone(Machine(place, "kernel-6.1", script))
     count = FRAMES - 1
     has(text, "server", rf"^control: {count} of {FRAMES}, twice 0, wrong 1$")
     has(text, "guest", rf"^frames: received {count} of {FRAMES} .* twice 0, wrong 1$")
-    return "both were told"
+    return "both were reported"
 
 
 @dataclass

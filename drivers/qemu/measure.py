@@ -3,7 +3,7 @@
 
     measure.py FETCHED OUT SERVER TURNS
 
-drivers/qemu/run --measure calls it. The cards take turns, and of each figure the best of all turns is told, since other
+drivers/qemu/run --measure calls it. The cards take turns, and of each figure the best of all turns is printed, since other
 work on the machine makes each of them only worse. What is printed is a table in Markdown.
 """
 

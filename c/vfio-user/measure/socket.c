@@ -1,6 +1,6 @@
 /* How long the server takes for what a guest asks of it: a client and a server of its own, without a guest.
 
-     socket [COUNT]   so many reads, posted writes and frames out, several times; the best of these is told */
+     socket [COUNT]   so many reads, posted writes and frames out, several times; the best of these is printed */
 #define _GNU_SOURCE
 #include <stdio.h>
 #include <stdlib.h>
@@ -36,7 +36,7 @@ static void reads(struct peer *it, unsigned long count)
         peer_read(it, NIC_STATUS);
 }
 
-/* A read behind them waits until all have arrived. */
+/* A read after them waits until all have arrived. */
 static void writes(struct peer *it, unsigned long count)
 {
     for (unsigned long i = 0; i < count; i++)

@@ -279,7 +279,7 @@ static void endless(struct peer *host, struct peer *function)
     CHECK(strstr(peer_request(control, "go"), "ok"));
 }
 
-/* The server ends when it is told to, also then. */
+/* The server ends on request then too. */
 static void ends(void)
 {
     struct timespec pause = {0, 10000000};

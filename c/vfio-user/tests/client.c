@@ -141,7 +141,7 @@ static void map_memory(struct peer *it)
     CHECK(peer_map(it, RAM, RAM_BYTES, 0, 3, ram_file) == 0);
     CHECK(peer_map(it, RAM, PAGE, 0, 3, ram_file) == EEXIST);
     CHECK(peer_map(it, RAM + RAM_BYTES - PAGE, 2 * PAGE, 0, 3, ram_file) == EEXIST);
-    /* as the firmware has RAM mapped in pieces anew */
+    /* as the firmware has RAM mapped again, in pieces */
     CHECK(peer_unmap(it, RAM, PAGE) == EINVAL && peer_unmap(it, RAM - PAGE, RAM_BYTES + 2 * PAGE) == 0);
     CHECK(peer_map(it, RAM, 3 * PAGE, 0, 3, ram_file) == 0);
     CHECK(peer_map(it, RAM + 3 * PAGE, RAM_BYTES - 3 * PAGE, 3 * PAGE, 3, ram_file) == 0);
@@ -369,7 +369,7 @@ static void held(const char *path, const char *control_path)
     CHECK(says("why", "tx 0: TDH[0] 0, TDT[0] 1: nothing is in the way") && !says("why", "lent"));
     CHECK(says("tx 0", "1 descriptors"));
     CHECK(get64(TX_RING + 8) & NIC_TXWB_DD && says("peek 06010", "00000001"));
-    peer_read(&peer, NIC_STATUS); /* the reply to the request has arrived behind it */
+    peer_read(&peer, NIC_STATUS); /* the reply to the request has arrived before its reply */
     CHECK(!(get64(RX_RING + 8) & NIC_RXWB_DD) && says("due", "rx: at most 1") && says("rx", "1 descriptors"));
     CHECK(get64(RX_RING + 8) & NIC_RXWB_DD && says("link down", "done") && peer_read(&peer, NIC_LINKS) == 0);
     peer_write(&peer, NIC_TXDCTL(1), NIC_TXDCTL_ENABLE);
@@ -550,7 +550,7 @@ static void in_pieces(const char *path)
         usleep(200);
     }
     CHECK(peer_reply(&peer, 7, reply, sizeof reply) == 0);
-    /* files with the first piece of their message, and another message behind the last one */
+    /* files with the first piece of their message, and another message after the last one */
     struct {
         struct vfu_header head;
         struct vfu_dma_map map;
@@ -627,7 +627,7 @@ static void what_is_no_message(const char *path)
     peer_close(&peer);
 }
 
-/* The file that the device's rings and buffers are in is cut behind the server's back. */
+/* The file that the device's rings and buffers are in is cut without the server's knowledge. */
 static void with_a_cut_file(const char *path)
 {
     struct peer peer;
@@ -644,7 +644,7 @@ static void with_a_cut_file(const char *path)
     peer_close(&peer);
 }
 
-/* A driver's run in a recording, for whoever looks at that. */
+/* A driver's run in a recording, for the test that reads it. */
 static void recorded(const char *file)
 {
     static char word[256];

@@ -160,7 +160,7 @@ static void foreign_file(void)
     close(file);
 }
 
-/* More files of memory than a client may have: it is told, and another has its own. */
+/* More files of memory than a client may have: a line says so, and another client has its own. */
 static void many_files(void)
 {
     struct peer peer, other;

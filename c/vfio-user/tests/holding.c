@@ -132,7 +132,7 @@ static void eventfd_that_does_not_close(void)
 
 /* ---- the wire's connection ---- */
 
-/* The process that began this one; 0: it has none any more. */
+/* The process that began this one; 0: that one has ended. */
 static pid_t parent_of(const char *process)
 {
     char name[300], line[512];

@@ -1,4 +1,4 @@
-/* Interrupts go to the client that set their vectors up, whoever accessed a register last: a virtual function has two
+/* Interrupts go to the client that set their vectors up, no matter who accessed a register last: a virtual function has two
    sockets, its guest's and the shadow that the host's guest has of it. */
 #define _GNU_SOURCE
 #include <stdlib.h>
@@ -69,7 +69,7 @@ static void raise(struct guest *by, uint32_t vector)
     peer_read(&by->peer, VTEICR);
 }
 
-/* How often a client was told of a vector since it was asked last. */
+/* How often a client was signalled for a vector since it was asked last. */
 static uint64_t told(const struct guest *it, uint32_t vector)
 {
     uint64_t count = 0;
@@ -87,7 +87,7 @@ static uint64_t pending(struct guest *it)
     return reply.bits;
 }
 
-/* Each vector is its client's, and the other is told nothing, whoever writes registers. */
+/* Each vector is its client's, and the other gets nothing, no matter who writes registers. */
 static void each_has_its_own(void)
 {
     set_up(&own, 0);
@@ -113,7 +113,7 @@ static void both_have_it(void)
     take_away(&shadow, 0);
 }
 
-/* Nobody has set it up: it waits with one of them, and the other is never told. */
+/* Nobody has set it up: it waits with one of them, and the other never gets it. */
 static void nobody_has_it(void)
 {
     raise(&shadow, 2);

@@ -1,5 +1,5 @@
 #!/usr/bin/env python3
-"""The example for libvirt has shared memory, and QEMU's words for a card behind a root port: libvirt.py FILE."""
+"""The example for libvirt has shared memory, and QEMU's words for a card at a root port: libvirt.py FILE."""
 
 from __future__ import annotations
 

@@ -48,7 +48,7 @@ class Packet:
     identification: int
     l4: bytes  # its header, with zeros for length and checksum
     payload: bytes
-    padding: bytes = b""  # behind the packet, of which no sum is made
+    padding: bytes = b""  # after the packet; no sum includes it
 
     def with_sum_of_zero(self) -> Packet:
         """The same UDP datagram, whose sum is 0, so that the field gets ones."""

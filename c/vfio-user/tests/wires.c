@@ -51,7 +51,7 @@ static void take(int file, uint8_t *bytes, size_t length)
 
 /* ---- streams ---- */
 
-/* Frames out are behind their lengths; frames in come whole, in pieces and several at once. */
+/* Frames out follow their lengths; frames in come whole, in pieces and several at once. */
 static void passes_a_stream(int peer)
 {
     uint8_t frame[2000], bytes[4 + 2000];

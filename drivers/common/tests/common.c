@@ -548,7 +548,7 @@ static void strays_are_kept(void)
     bus_close();
 }
 
-/* A run that names no parts and no address. In it no frame passes, which is told (the script looks for it). */
+/* A run that names no parts and no address. No frame passes in it, which is reported (the script looks for it). */
 static void a_bus_needs_no_names(void)
 {
     unsigned int wrong = problems();

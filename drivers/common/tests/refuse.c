@@ -1,4 +1,4 @@
-/* Runs a program where one thing is refused, as a strict container does, to try what is told then:
+/* Runs a program where one thing is refused, as a strict container does, to try what is reported then:
 
      refuse ptrace | personality | executable-memory PROGRAM WORDS..
 

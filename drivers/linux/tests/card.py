@@ -279,7 +279,7 @@ def try_frames(program: str) -> None:
         host.send(0, frame(number or 6, PEER_MAC, CARD_MAC))
         host.verdict(0, 1)
         status, said = card.end()
-        expect(f"{what} is told", status == 1 and said.count("wrong: ") == 1, said)
+        expect(f"{what} is reported", status == 1 and said.count("wrong: ") == 1, said)
 
 
 def try_faults(program: str) -> None:
@@ -336,7 +336,7 @@ def try_ends(program: str) -> None:
         act(card.guests[0])
         card.guests[0].verdict(0, 1)
         status, said = card.end()
-        expect(f"{what} is told", status == 1 and said.count("wrong: ") == 1, said)
+        expect(f"{what} is reported", status == 1 and said.count("wrong: ") == 1, said)
 
 
 def try_words(program: str) -> None:

@@ -55,7 +55,7 @@ static bool open_interface(struct interface *it, const char *name)
     return bind(it->file, (const struct sockaddr *)&at, sizeof at) == 0;
 }
 
-/* Frames, each behind its length. All are made before the first goes, and compared when the last has come, so that
+/* Frames, each after its length. All are made before the first goes, and compared when the last has come, so that
    neither takes time in between. */
 struct store {
     uint8_t *bytes;
@@ -73,7 +73,7 @@ static bool open_store(struct store *it, unsigned int count, unsigned int most)
     return it->bytes != NULL;
 }
 
-/* The frame behind `at`, and its length; `at` moves on. */
+/* The frame at `at`, and its length; `at` moves on. */
 static const uint8_t *next_of(const struct store *it, size_t *at, uint32_t *length)
 {
     const uint8_t *bytes = it->bytes + *at + sizeof *length;
@@ -82,7 +82,7 @@ static const uint8_t *next_of(const struct store *it, size_t *at, uint32_t *leng
     return bytes;
 }
 
-/* A frame was put behind the last one. */
+/* A frame was put after the last one. */
 static void add_to(struct store *it, uint32_t length)
 {
     memcpy(it->bytes + it->end, &length, sizeof length);

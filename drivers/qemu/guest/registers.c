@@ -1,7 +1,7 @@
 /* In a guest: reads or writes a register of a card many times, by its BAR 0, and tells how long it took.
 
      registers DEVICE OFFSET COUNT         COUNT reads of 4 bytes
-     registers DEVICE OFFSET COUNT WORD    COUNT writes of this word, and a read behind them
+     registers DEVICE OFFSET COUNT WORD    COUNT writes of this word, and a read after them
 
    DEVICE is as 0000:01:00.0. Numbers but COUNT are hexadecimal. */
 #include <errno.h>

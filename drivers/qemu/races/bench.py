@@ -20,14 +20,14 @@ from workload import Plan, script  # noqa: E402
 
 BOOT_SECONDS = 300
 SILENT_SECONDS = 90  # in which a guest that is well says something
-LOCKED_SECONDS = 60  # after a lockup was told, in which a guest that goes on begins another operation
+LOCKED_SECONDS = 60  # after a lockup was reported, in which a guest that goes on begins another operation
 FUNCTION_MAC = "02:00:00:00:00:55"
 REQUEST = re.compile(r"@(control|await|search|host) (.*)$")
 WORKLOAD = LIBRARY + (HERE / "guest.sh").read_text()
 
 
 class Asked(Server):
-    """A server that is asked by two threads: the guest's reader, and whoever judges."""
+    """A server that is asked by two threads: the guest's reader, and the judge."""
 
     def __init__(self, place: Place, name: str, *words: str) -> None:
         self.lock = threading.Lock()
@@ -125,7 +125,7 @@ class Relay(Guest):
 
 
 def is_locked(lines: Sequence[str]) -> bool:
-    """A lockup was told, and no operation has begun since the first of those that are told now."""
+    """A lockup was reported, and no operation has begun since the first of those reported now."""
     for line in reversed(lines):
         if line.startswith("@search doing"):
             return False
@@ -236,7 +236,7 @@ class Bench:
                     return "a processor is locked up"
             else:
                 locked = 0.0
-            if "@search stuck was told" in lines:
+            if "@search stuck was reported" in lines:
                 return "an operation takes more than 40 s"
             if time.time() - self.guest.last > SILENT_SECONDS:
                 return f"nothing was said for {SILENT_SECONDS} s"

@@ -1,4 +1,4 @@
-# The guest that has the virtual function, behind guest.sh: broadcasts don't reach it, so addresses are entered by hand.
+# The guest that has the virtual function, after guest.sh: broadcasts don't reach it, so addresses are entered by hand.
 start() {
     load ixgbevf
     ip link set eth0 address 02:00:00:00:00:55

@@ -1,4 +1,4 @@
-# What a guest of drivers/qemu/search does, behind guest/library.sh: busybox's sh reads it. Lines "@search .." are the
+# What a guest of drivers/qemu/search does, after guest/library.sh: busybox's sh reads it. Lines "@search .." are the
 # runner's, "@control .." and "@await .." go to the server, "@host .." to the guest that has the physical function.
 
 # doing WORDS..: what the guest does now, which the watcher looks at too.
@@ -12,7 +12,7 @@ doing() {
 echo pfifo_fast >/proc/sys/net/core/default_qdisc
 
 # control WORDS..: a request to the server, which is answered before the guest goes on. Where an operation is to begin
-# at once behind a request, the line is "@control WORDS", and nobody waits.
+# at once after a request, the line is "@control WORDS", and nobody waits.
 control() {
     echo "@await $*"
     read -r -t 20 _
@@ -170,7 +170,7 @@ watcher() {
         echo w >/proc/sysrq-trigger
         echo l >/proc/sysrq-trigger
         dmesg -n 5
-        echo "@search stuck was told"
+        echo "@search stuck was reported"
     done
 }
 

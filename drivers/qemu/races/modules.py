@@ -35,7 +35,7 @@ FORMS: tuple[tuple[bytes, Callable[[bytes], bytes]], ...] = (
 
 
 def files(data: bytes) -> Iterator[tuple[str, bytes]]:
-    """Names and contents, over archives that stand behind one another."""
+    """Names and contents, over archives that follow one another."""
     at = 0
     while at < len(data):
         if data[at] == 0:

@@ -17,7 +17,7 @@ from windows import Window, text_of, with_tails
 ROOT = Path(__file__).resolve().parents[3]
 EVENTS = 3000  # of a recording that a page shows; of one time that the card was down:
 EVENTS_DOWN = 12_000
-BEHIND = 60  # lines behind it
+BEHIND = 60  # lines after it
 
 
 def said(it: Outcome) -> str:

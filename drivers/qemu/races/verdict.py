@@ -38,7 +38,7 @@ KINDS = {
 }
 FATAL = frozenset(list(KINDS)[: list(KINDS).index("frames") + 1])
 # What isn't a failure, by driver: a busy machine does it too, and a host that is reset does it to its functions, which
-# can't know of it before they are told.
+# can't know of it before they are notified.
 NOTES = {"ixgbe": frozenset(["slow"]), "ixgbevf": frozenset(["slow", "driver", "reset", "tail outside", "tail off"])}
 
 SPOKEN: Sequence[tuple[str, str]] = (
@@ -93,7 +93,7 @@ def counted(before: Mapping[str, int], after: Mapping[str, int]) -> Iterator[Fin
 
 
 def checked(lines: Sequence[str], is_function: bool) -> Iterator[Finding]:
-    """What the guest and the server told of the check at the end."""
+    """What the guest and the server printed of the check at the end."""
     text = "\n".join(lines)
     if not re.search(r"^@search carrier 1$", text, re.MULTILINE):
         yield Finding("no link", KINDS["no link"])
@@ -107,9 +107,9 @@ def checked(lines: Sequence[str], is_function: bool) -> Iterator[Finding]:
         if way == "in" and is_function:
             continue
         if not found or found[1] != found[2] or found[3] != "0" or found[4] != "0":
-            yield Finding("frames", f"{way}: " + (found[0].split(": ")[-1] if found else "nothing was told"))
+            yield Finding("frames", f"{way}: " + (found[0].split(": ")[-1] if found else "nothing was printed"))
     if is_function and (not pings or pings[1] != pings[2]):
-        yield Finding("frames", f"echo replies: {pings[2]} of {pings[1]}" if pings else "no echo replies were told")
+        yield Finding("frames", f"echo replies: {pings[2]} of {pings[1]}" if pings else "no echo replies were printed")
 
 
 def went_on(findings: Iterable[Finding]) -> Iterator[Finding]:

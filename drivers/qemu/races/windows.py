@@ -47,7 +47,7 @@ class Access:
         if self.name == "CTRL" and self.word & RESET:
             return "a reset"
         if TAIL.fullmatch(self.name):
-            return "a frame is given to the card" if self.word else "the ring begins anew"
+            return "a frame is given to the card" if self.word else "the ring begins again"
         return ""
 
 
@@ -77,7 +77,7 @@ def accesses(lines: Iterable[str]) -> Iterator[Access]:
 
 
 def windows(lines: Iterable[str]) -> Iterator[Window]:
-    """Each time that the card was down, and (last) what is behind the last one."""
+    """Each time that the card was down, and (last) what follows the last one."""
     before: list[Access] = []
     window: Window | None = None
     for it in accesses(lines):

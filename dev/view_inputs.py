@@ -79,6 +79,7 @@ USES = [
     (["nicview", "-"], "#" * 8_388_609, 2, "too long"),
     (["nicview", "-", "--text"], LONG_RING, 0, "  32 to 127 not read\n"),
     (["nicview", "-", "--text"], LONG_RING, 0, " 128 to 199 not lent\n"),
+    (["nicview", "-", "--text"], LONG_RING, 0, f"  {'D' * 32}{'d' * 32}\n"),
     (["nicview", "-", "--text"], "w RDLEN[0] 128\nw RDT[0] 8\n", 0, "????????  T 8 (no slot of the ring)\n"),
     (["nicview", "-", "--text"], "w RDLEN[0] 128\nw RDH[0] 9\n", 0, "????????  H 9 (no slot of the ring)\n"),
     (["nicview", "-", "--svg", "1"], "w RDLEN[0] 128\nw RDT[0] 8\n", 0, "tail 8: no slot"),

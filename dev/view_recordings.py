@@ -12,7 +12,7 @@ import nic82599
 from nic82599 import places
 from nic82599.tools import as_script, perfetto
 from nic82599.tools.advice import Advice
-from nic82599.tools.draw import State
+from nic82599.tools.draw import State, ring_lines
 from nic82599.tools.library import Place, played
 from nic82599.tools.page import Data
 from nic82599.tools.recording import of_recording, read
@@ -414,6 +414,8 @@ def check_in_place(folder: Path, expect: Expect) -> None:
             forms.append([state.said(ring, slot).form for slot in range(8)] if ring and ring.slots else [])
         expect(forms[-2] == ["written back"] * 3 + waits, f"{limit} events in place: before the tail {forms[-2]}")
         expect(forms[-1] == ["not read"] * 2 + ["written back", *waits], f"{limit} events in place: {forms[-1]}")
+        strip = ring_lines(next(iter(state.rings())), state)[2].strip()
+        expect(strip == "dd+DDDDd", f"{limit} events in place: the strip is {strip}")
     file = folder / "bad.recording"
     file.write_text(HEAD + "#: in place 5 to 4\nrx # idle\n")
     check_tool(["nicview", file, "--text"], "", 2, [":2: this is no line of a recording"], expect)

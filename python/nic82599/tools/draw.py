@@ -14,6 +14,7 @@ from .run import Run
 from .trace import Step
 
 MARKS = {"device": "D", "done": "+", "driver": ".", "nobody": "?"}
+UNREAD_MARKS = {"device": "d", "driver": ","}
 LONG = 64
 UNKNOWN = ("not read", "not lent")
 
@@ -34,6 +35,15 @@ class Slots:
         """How a slot is shown: the device's, done, or the driver's."""
         owner = ring.owner(slot)
         return "done" if owner == "driver" and self.said(ring, slot).done else owner
+
+    def is_unread(self, ring: Ring, slot: int) -> bool:
+        """Whether a slot's descriptor isn't known: the driver may have written it, and the device hasn't read it."""
+        return ring.owner(slot) in UNREAD_MARKS and self.said(ring, slot).form == "not read"
+
+    def mark(self, ring: Ring, slot: int) -> str:
+        """The character of a slot."""
+        shown = self.look(ring, slot)
+        return UNREAD_MARKS[shown] if self.is_unread(ring, slot) else MARKS[shown]
 
     def told(self, ring: Ring, slot: int) -> str:
         """A slot in words; nothing where it says nothing."""
@@ -90,7 +100,7 @@ def ring_lines(ring: Ring, state: Slots) -> list[str]:
     for begin in range(0, ring.slots if ring.slots <= 8 * LONG else 0, LONG):
         slots = range(begin, min(begin + LONG, ring.slots))
         over = "".join(_pointer(ring, slot) for slot in slots)
-        strip = "".join(MARKS[state.look(ring, slot)] for slot in slots)
+        strip = "".join(state.mark(ring, slot) for slot in slots)
         lines += [f"  {over}".rstrip()] if over.strip() else []
         lines.append(f"  {strip}" + (_outside(ring) if slots.stop == ring.slots else ""))
     lines += [f" {_outside(ring)}"] if ring.slots > 8 * LONG and ring.is_outside() else []
@@ -222,8 +232,7 @@ def _svg_ring(ring: Ring, state: State) -> list[str]:
             f"M{_turn(start, 86)} A86 86 0 0 1 {_turn(end, 86)}",
             f"L{_turn(end, 52)} A52 52 0 0 0 {_turn(start, 52)} Z",
         )
-        is_unread = shown in ("device", "driver") and state.said(ring, slot).form == "not read"
-        pale = ' fill-opacity="0.35"' if is_unread else ""
+        pale = ' fill-opacity="0.35"' if state.is_unread(ring, slot) else ""
         parts.append(f'<path class="slot {shown}"{pale} d="{outer} {inner}"/>')
         x, y = _point((start + end) / 2, 69)
         if count <= 32:

@@ -304,18 +304,40 @@ MISTAKES_SANITIZED: list[tuple[str, str, list[str], str]] = [
 ]
 
 
-def adapter(kit: Kit, old: str = "", new: str = "", *flags: str) -> Path:
-    """The program of examples/adapter, with a change of its driver."""
+# The driver's writes of its address, and where its run opens both.
+ADDRESS = """    os_write32(RAL0, address[0] | (uint32_t)address[1] << 8 | (uint32_t)address[2] << 16 | (uint32_t)address[3] << 24);
+    os_write32(RAH0, address[4] | (uint32_t)address[5] << 8 | RAH_AV);
+"""
+OPENS = "    if (nic_open(&n, 0, 64, BLOCKS) != NIC_DONE || !driver_open(address, SLOTS, true))\n"
+OPENED = "    if (nic_open(&n, 0, 64, BLOCKS) != NIC_DONE)\n        return 1;\n{}    if (!driver_open(address, SLOTS, true))\n"
+
+
+def adapter(kit: Kit, old: str = "", new: str = "", *flags: str, opened: str = "") -> Path:
+    """The program of examples/adapter, with a change of its driver, and more lines where its run opens the bench."""
     folder, program = kit.folder / "adapter", kit.folder / "adapter-program"
     shutil.copytree(ADAPTER_FOLDER, folder, dirs_exist_ok=True)
     text = (folder / "driver.c").read_text()
     if old not in text:
         raise Wrong(f"c/examples/adapter/driver.c has no {old!r}")
     (folder / "driver.c").write_text(text.replace(old, new) if old else text)
+    glue = (folder / "glue.c").read_text()
+    if OPENS not in glue:
+        raise Wrong(f"c/examples/adapter/glue.c has no {OPENS!r}")
+    (folder / "glue.c").write_text(glue.replace(OPENS, OPENED.format(opened)))
     archives = [kit.engine / f"libnic82599{part}.a" for part in ("_drive", "_explore")]
     words = [kit.compiler, *STRICT, *kit.flags, *flags, f"-I{C}/include", folder / "driver.c", folder / "glue.c"]
     ran([*words, *archives, C / "out/libnic82599.a", "-lpthread", "-o", program])
     return program
+
+
+def check_address(kit: Kit) -> None:
+    """A driver that takes its address from RAL0 and RAH0 reads that it is missing, and has it by port.md's image."""
+    silent = "    (void)address;\n"
+    told(ran([adapter(kit, ADDRESS, silent)], 1), "no RAL and RAH with AV 1 matched", "a driver with no address")
+    page = (C.parent / "docs/port.md").read_text()
+    lines = re.findall(r"^    (?:static const char image|uint64_t line;|nic_install_text).*\n", page, re.M)
+    if ran([adapter(kit, ADDRESS, silent, opened="".join(lines))]) != (ADAPTER_FOLDER / "adapter.out").read_text():
+        raise Wrong("examples/adapter with port.md's EEPROM image prints something else than adapter.out")
 
 
 def check_adapter(kit: Kit, sanitized: list[str] | None) -> str:
@@ -324,6 +346,7 @@ def check_adapter(kit: Kit, sanitized: list[str] | None) -> str:
     if ran([adapter(kit)]) != (ADAPTER_FOLDER / "adapter.out").read_text():
         raise Wrong("examples/adapter prints something else than adapter.out")
     rows = none_failed(kit.card(kit.folder / "adapter-program", None, "--runs", 2, "--every", 2))
+    check_address(kit)
     for old, new, flags, wanted in MISTAKES:
         told(ran([adapter(kit, old, new, *flags)], 1), wanted, f"examples/adapter with {new or flags}")
     if sanitized:
@@ -525,6 +548,30 @@ def check_pages() -> str:
     return "what is told of pages"
 
 
+# How long a row may take, by --hang, and what is said of one that takes longer.
+PATIENCE = """import sys
+from pathlib import Path
+sys.path[:0] = [FOLDERS]
+from card import rows
+def too_long(words, seconds):
+    raise rows.TooLong
+rows.ran = too_long
+row = rows.Row("a", "b", "", "c", "d", "e")
+print(rows.Runner(Path("a"), Path(), rows.Budget(hang=int(sys.argv[1]))).make(row).cause)
+"""
+
+
+def check_patience() -> str:
+    """A busy machine is given longer for a row by --hang, and the row says so."""
+    folders = ", ".join(repr(str(path)) for path in (HERE, C.parent / "python"))
+    for hang, seconds in ((1, 81), (3, 81), (60, 1221)):
+        words = [sys.executable, "-B", "-c", PATIENCE.replace("FOLDERS", folders), hang]
+        said = ran([str(word) for word in words])
+        if f"nothing came of it in {seconds} s: " not in said or not said.endswith("the machine is busy (--hang)\n"):
+            raise Wrong(f"--hang {hang}: a row that takes too long says {said}")
+    return "how long a row may take"
+
+
 def check_refusals(kit: Kit) -> str:
     broken = kit.folder / "broken.c"
     broken.write_text("int main(void) { return nothing; }\n")
@@ -608,6 +655,7 @@ def check_all(kit: Kit, full: bool) -> list[str]:
         check_places(kit),
         check_aliases(kit),
         check_pages(),
+        check_patience(),
         check_files(kit),
         check_faults(kit, few),
         check_reached(kit, 1 if full else 5),

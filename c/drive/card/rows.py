@@ -5,10 +5,11 @@ from __future__ import annotations
 import re
 import signal
 import xml.etree.ElementTree
+from collections.abc import Callable
 from concurrent.futures import ThreadPoolExecutor
 from dataclasses import asdict, dataclass, field
 from pathlib import Path
-from typing import Any, Callable
+from typing import Any
 
 from nic82599.tools.printable import printable
 
@@ -110,12 +111,19 @@ class Runner:
             words.append("--no-shrink")
         return [str(word) for word in [*words, "--coverage", self.folder / f"{row.name}.seen", *more]]
 
+    def limit(self, seconds: float) -> float:
+        """How long a search of so many seconds may take by the clock: shrinking comes to it, and a busy machine has
+        more of --hang."""
+        return 3 * seconds + 20 * max(self.budget.hang, 3)
+
     def search(self, row: Row, more: list[object], seconds: float) -> bool:
         """One search of a row; whether it may go on."""
+        limit = self.limit(seconds)
         try:
-            made = ran(self.words(row, more), seconds)
+            made = ran(self.words(row, more), limit)
         except TooLong:
-            fail(row, "hang: nothing came of it: a call that the card makes before the first schedule has no end")
+            before = "a call that the card makes before the first schedule has no end"
+            fail(row, f"hang: nothing came of it in {limit:.0f} s: {before}, or the machine is busy (--hang)")
             return False
         self.read_seen(row)
         self.read_junit(row)
@@ -142,8 +150,8 @@ class Runner:
         budget = self.budget
         by_chance: list[object] = ["--runs", budget.runs, "--seconds", budget.seconds]
         every: list[object] = ["--strategy", "exhaustive", "--runs", budget.every, "--seconds", budget.every_seconds]
-        if self.search(row, by_chance, 60 + 3 * budget.seconds):
-            if not self.search(row, [*every, "--preemptions", 1], 60 + 3 * budget.every_seconds):
+        if self.search(row, by_chance, budget.seconds):
+            if not self.search(row, [*every, "--preemptions", 1], budget.every_seconds):
                 return row
             judge_reached(row)
         return row

@@ -213,5 +213,5 @@ def pages(version: str, date: str) -> dict[str, str]:
             first, *rest = [it.name for it in group.functions]
             near = [it.functions[0].name for it in groups if it.section == group.section and it is not group]
             made[first] = page(header, group, near[:12], version, date)
-            made |= {name: f".so man3/{first}.3\n" for name in rest}
+            made |= dict.fromkeys(rest, f".so man3/{first}.3\n")
     return made

@@ -114,13 +114,16 @@ def write(packed: Files, name: str, epoch: int, out: Path) -> Path:
     """Writes the `.crate` file of a crate of this name: the same bytes for the same files and time."""
     named = f"{name}-{version_of(packed)}"
     path = out / f"{named}.crate"
-    with open(path, "wb") as file, gzip.GzipFile("", "wb", 9, file, mtime=0) as zipped:
-        with tarfile.open(fileobj=zipped, mode="w", format=tarfile.GNU_FORMAT) as archive:
-            for file_name, data in sorted(packed.items()):
-                info = tarfile.TarInfo(f"{named}/{file_name}")
-                info.size, info.mtime = len(data), epoch
-                info.mode = 0o755 if is_program(packed, file_name) else 0o644
-                archive.addfile(info, io.BytesIO(data))
+    with (
+        open(path, "wb") as file,
+        gzip.GzipFile("", "wb", 9, file, mtime=0) as zipped,
+        tarfile.open(fileobj=zipped, mode="w", format=tarfile.GNU_FORMAT) as archive,
+    ):
+        for file_name, data in sorted(packed.items()):
+            info = tarfile.TarInfo(f"{named}/{file_name}")
+            info.size, info.mtime = len(data), epoch
+            info.mode = 0o755 if is_program(packed, file_name) else 0o644
+            archive.addfile(info, io.BytesIO(data))
     return path
 
 

@@ -175,9 +175,9 @@ def commands_of(text: str) -> Iterator[str]:
     """The commands of an installed page that build C, and those that start what was built."""
     for line in text.splitlines():
         words = line[4:]
-        if line.startswith("    ") and re.match(r"(?:NIC82599_RECORD=\S+ )?(?:cc |/tmp/[\w-]+( |$))", words):
-            if IN_CLONE not in words and not re.match(r"/tmp/\S+\.\w+:", words):
-                yield words
+        is_command = line.startswith("    ") and re.match(r"(?:NIC82599_RECORD=\S+ )?(?:cc |/tmp/[\w-]+( |$))", words)
+        if is_command and IN_CLONE not in words and not re.match(r"/tmp/\S+\.\w+:", words):
+            yield words
 
 
 def foreign_files(name: str, text: str, kept: frozenset[str]) -> Iterator[str]:

@@ -143,7 +143,7 @@ def check_lit(look: Look) -> None:
     for number, (_, _, _, changes, more) in enumerate(data["steps"]):
         browser.press("ArrowRight")
         both = [f"{known[address]:08x}{word:08x}" for address, word in changes]
-        known.update({address: word for address, word in changes})
+        known.update(changes)
         digits = [sum(a != b for a, b in zip(one[:8], one[8:])) for one in both]
         lit = browser.value(
             "[...document.querySelectorAll('#changes .change')].filter((one) => one.querySelector('code.old'))"

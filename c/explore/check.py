@@ -214,7 +214,7 @@ def check_examples(kit: Kit, runs: int) -> str:
 # --- how faults are told ---
 
 # A sanitizer that reports a crash looks no lines up, which takes longer than all else.
-CRASHES = {name: "symbolize=0" for name in ("ASAN_OPTIONS", "UBSAN_OPTIONS")}
+CRASHES = dict.fromkeys(("ASAN_OPTIONS", "UBSAN_OPTIONS"), "symbolize=0")
 
 FAULTS = {
     "end": "end: it ended <here> & \"now\"",

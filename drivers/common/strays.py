@@ -245,7 +245,7 @@ def tell(left: dict[int, Touched], table: list[Family]) -> int:
         if not found:
             continue
         rows += 1
-        phases = [phase for phase in dict.fromkeys(phase for it in found for phase in it.phases)]
+        phases = list(dict.fromkeys(phase for it in found for phase in it.phases))
         print(f"{family.name:20} {family.where():34} {len(found):4}  {span([it.reads for it in found]):7} "
               f"{span([it.writes for it in found]):7} {' '.join(phases)}")
     for address, it in left.items():

@@ -15,14 +15,25 @@ import re
 import subprocess
 import sys
 import tempfile
-from contextlib import contextmanager
 from collections.abc import Iterator
+from contextlib import contextmanager
 from dataclasses import dataclass
 from pathlib import Path
 
 sys.dont_write_bytecode = True
 from guests import (  # noqa: E402
-    HERE, Guest, Machine, Place, Server, Wrong, answer_of, begin, device, has, running, started,
+    HERE,
+    Guest,
+    Machine,
+    Place,
+    Server,
+    Wrong,
+    answer_of,
+    begin,
+    device,
+    has,
+    running,
+    started,
 )  # fmt: skip
 
 READS, WRITES, FRAMES = 20_000, 100_000, 20_000  # of a register, and each way

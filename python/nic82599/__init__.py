@@ -45,7 +45,7 @@ from .buffers import bytes_of, shown_number, text_bytes
 from .keeping import Lent, end_once, held
 from .pcap import NoCapture, read_pcap, write_pcap
 from .registers import FIELDS, OFFSETS, REGISTERS
-from .version import VERSION as __version__
+from .version import VERSION as __version__  # noqa: F401
 
 if TYPE_CHECKING:
     from _typeshed import WriteableBuffer

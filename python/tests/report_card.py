@@ -136,7 +136,7 @@ class Cards(unittest.TestCase):
             self.assertRegex(told, r"(?m)^IndexError: list index out of range$")
 
     def test_what_is_left_out_is_told(self) -> None:
-        everything = {lack for lack in rows_of(drivers.Everything).values()}
+        everything = set(rows_of(drivers.Everything).values())
         self.assertEqual(everything, {"-", NO_RESET})
         for name in OPTIONAL:
             kept = {key: value for key, value in vars(drivers.Everything).items() if key != name}

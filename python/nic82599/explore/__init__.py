@@ -29,10 +29,10 @@ from .engine import POLLS, Choose, Result, Run, Thread, place_of_call
 from .jobs import Found, Over, searched
 from .kit import TCP, UDP, Flow, Mailbox, frame_number, numbered_frame
 from .lenient import Parting, following
-from .turn import Turn, turn_of
 from .script import Script, name_of, number_of, offset_name_of
 from .shrink import Shrinking, cut
 from .strategy import Exhaustive, by_chance, by_list, by_priority
+from .turn import Turn, turn_of
 from .weak import WeakMemory
 
 __all__ = [
@@ -178,7 +178,7 @@ class Scenario(Dma):
         """Makes steps of the device until none has anything to do; in `bring_up`."""
         run = Run(self, self._nic, lambda _run, _can: None, 1)
         run.list_actors()
-        while any([run.device_event(one) for one in run.actors if one.kind == "device"]):
+        while any([run.device_event(one) for one in run.actors if one.kind == "device"]):  # noqa: C419 (each acts)
             continue
 
     def _who(self, run: Run | None, more: str = "") -> str:
@@ -618,7 +618,7 @@ class Search:
         self.scenario, self.hang, self.is_cut = scenario, hang, False
         self.last: Run | None = None
         kind = scenario.memory if memory is None else memory
-        if kind not in KINDS or not ORDERS >= scenario.orders:
+        if kind not in KINDS or not scenario.orders <= ORDERS:
             raise ValueError(f"a scenario's memory is strong or weak, its orders writes and reads: {kind!r}, "
                              f"{set(scenario.orders)!r}")  # fmt: skip
         scenario._is_weak = kind == "weak"

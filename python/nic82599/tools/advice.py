@@ -15,7 +15,6 @@ from .regs import ENABLE, Register
 from .script import Instruction, Op, Script
 
 
-
 @dataclass(frozen=True, order=True)
 class Warning:
     """A warning and the line that it is about. Of a stray access `family` is what was reached: one line is printed for

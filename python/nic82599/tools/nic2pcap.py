@@ -40,12 +40,12 @@ class NoFrame(Exception):
 
 def frames_in(lines: Iterable[str]) -> Iterator[tuple[int, int, bytes]]:
     """The instruction's number, the queue and the bytes of each frame."""
-    for number, line in enumerate(lines, 1):
+    for at, line in enumerate(lines, 1):
         line = line.rstrip("\r\n")
         if re.match(r"\d+ frame ", line):
             found = FRAME.fullmatch(line)
             if not found or len(found[3]) % 2:
-                raise NoFrame(f"standard input:{number}: no line of a frame: {shortened(line)}")
+                raise NoFrame(f"standard input:{at}: no line of a frame: {shortened(line)}")
             yield int(found[1]), int(found[2]), bytes.fromhex(found[3])
 
 

@@ -24,9 +24,7 @@ from pathlib import Path
 
 import nic82599
 
-from . import draw
-from . import page
-from . import perfetto
+from . import draw, page, perfetto
 from .as_script import script
 from .printable import printable
 from .recording import is_recording, read, refuse_sizes, run_of

@@ -53,7 +53,7 @@ def arguments() -> argparse.Namespace:
 def main() -> int:
     given = arguments()
     try:
-        source = sys.stdin.buffer if given.file == "-" else open(given.file, "rb")
+        source = sys.stdin.buffer if given.file == "-" else open(given.file, "rb")  # noqa: SIM115
         with source as it:
             frames = list(chosen(frames_of(it.read()), given.first, given.count))
         if len(frames) > MOST:

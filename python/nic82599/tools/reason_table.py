@@ -176,8 +176,8 @@ class Asked:
         if it := named(node):
             return self.register(it)
         match node:
-            case ast.Constant(value=int()):
-                return node.value
+            case ast.Constant(value=int() as value):
+                return value
             case ast.Name():
                 return int(self.given[node.id])
             case ast.UnaryOp(op=ast.Not()):
@@ -194,8 +194,8 @@ class Asked:
                 return OPERATORS[type(how)](self.number(node.left), self.number(right))
             case ast.IfExp():
                 return self.number(node.body if self.number(node.test) else node.orelse)
-            case ast.Call(func=ast.Name()):
-                return number(node.func.id, self.words, *map(self.number, node.args))
+            case ast.Call(func=ast.Name(id=name)):
+                return number(name, self.words, *map(self.number, node.args))
         raise Bad(f"what is this: {ast.unparse(node)}")
 
     def register(self, it: Named) -> int:

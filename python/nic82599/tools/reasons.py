@@ -8,6 +8,7 @@ program's. The conditions and what is told of them are those of reason_table.py.
 from __future__ import annotations
 
 from . import regs
+from .fields import FIELDS
 from .frames import address
 from .memory import Frame, Seen, ring_of
 from .reason_table import Reason, Words, number, reason
@@ -23,7 +24,7 @@ ACC = (Op.READ, Op.VF_READ, Op.PEEK, Op.AND)
 
 def _value(words: Words, name: str, field: str, index: int = 0) -> int:
     """A field's value."""
-    return next(one for one in regs.FIELDS[name] if one.name == field).of(word_of(words, name, index))
+    return next(one for one in FIELDS[name] if one.name == field).of(word_of(words, name, index))
 
 
 def _by_jumbo(words: Words, plain: Reason, jumbo: Reason) -> Reason:

@@ -138,7 +138,7 @@ def text(run: Run) -> Iterator[str]:
     state = State(run)
     drawn: dict[str, list[str]] = {}
     yield from finding_lines(run)
-    yield "D the device's slot, + done, . the driver's; H head, T tail, B both"
+    yield "D the device's slot, + done, . the driver's, d and , not read; H head, T tail, B both"
     for step, why in zip(run.steps, run.reasons):
         state.make(step)
         comment = run.comment(step.pc)

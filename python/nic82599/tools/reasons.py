@@ -8,6 +8,7 @@ program's. The conditions and what is told of them are those of reason_table.py.
 from __future__ import annotations
 
 from . import regs
+from .advice import absent_at
 from .fields import FIELDS
 from .frames import address
 from .memory import Frame, Seen, ring_of
@@ -201,6 +202,8 @@ class Reasons:
         if one.op in (Op.VF_READ, Op.VF_WRITE):
             group = [it.text for it in self._group(one.x) if it.held]
             return [Reason(True, "; ".join(group)) if group else self._why("stray_offset", one.a)]
+        if absent := absent_at(one.a):
+            return [Reason(True, f"0x{one.a:05x} is {absent.name}, which the bench hasn't: {absent.what}")]
         return [self._why("stray_address", one.a)]
 
     def _memory(self, step: Step) -> Reason:

@@ -18,17 +18,32 @@ static void expect(const char *got, const char *want)
     exit(1);
 }
 
+/* The lists as tables: a call of its own for each line takes a compiler a minute. */
+static const struct {
+    const char *text;
+    uint32_t address;
+} macros[] = {
+#define MACRO(macro, address) {#macro, address},
+#include "macros.inc"
+};
+static const uint32_t addresses[] = {
+#define ADDRESS(address) address,
+#include "addresses.inc"
+};
+
 /* A macro's text is NIC_NAME or NIC_NAME(i). */
-static void try_macro(const char *macro, uint32_t address)
+static void try_macros(void)
 {
     char want[64], got[MOST_NAME];
-    snprintf(want, sizeof want, "%s", macro + strlen("NIC_"));
-    char *index = strchr(want, '(');
-    if (index) {
-        *index = '[';
-        want[strlen(want) - 1] = ']';
+    for (size_t k = 0; k < sizeof macros / sizeof *macros; k++) {
+        snprintf(want, sizeof want, "%s", macros[k].text + strlen("NIC_"));
+        char *index = strchr(want, '(');
+        if (index) {
+            *index = '[';
+            want[strlen(want) - 1] = ']';
+        }
+        expect(nicxi_register(macros[k].address, got), want);
     }
-    expect(nicxi_register(address, got), want);
 }
 
 /* Each address of the table is a register's first one, or stands for one. */
@@ -49,16 +64,16 @@ static void try_aliases(void)
         expect(nicxi_register(nicxi_first_address(some[k].address, &is_low), got), some[k].name);
         expect(is_low ? "low" : "whole", some[k].is_low ? "low" : "whole");
     }
-#define ADDRESS(address)                                                                                               \
-    expect(*nicxi_register(nicxi_first_address(address, &is_low), got) == '0' ? "no name" : "a name", "a name");
-#include "addresses.inc"
+    for (size_t k = 0; k < sizeof addresses / sizeof *addresses; k++) {
+        nicxi_register(nicxi_first_address(addresses[k], &is_low), got);
+        expect(*got == '0' ? "no name" : "a name", "a name");
+    }
 }
 
 int main(void)
 {
     char got[MOST_NAME];
-#define MACRO(macro, address) try_macro(#macro, address);
-#include "macros.inc"
+    try_macros();
     try_aliases();
     expect(nicxi_register(0x00004, got), "0x00004");
     expect(nicxi_register(0x01002, got), "0x01002");

@@ -15,7 +15,6 @@ from collections import deque
 from collections.abc import Iterator, Sequence
 from dataclasses import dataclass
 from functools import cache
-from pathlib import Path
 
 from nic82599.tools.printable import printable
 
@@ -23,6 +22,8 @@ from nic82599.tools.printable import printable
 MOST_PRINTED, PIECE = 1 << 20, 1 << 16
 # So often it is looked whether it ended, in seconds.
 EACH = 0.05
+# A line of /proc/PID/stat has less: a name of 16 bytes and 51 numbers of at most 20 digits.
+MOST_OF_STAT = 1 << 12
 PR_SET_CHILD_SUBREAPER = 36
 
 
@@ -78,12 +79,18 @@ def _adopts_orphans() -> None:
 
 
 def _children() -> Iterator[int]:
-    """The children of this process, where the system tells them (/proc)."""
-    for file in Path("/proc").glob("[0-9]*/stat"):
+    """The children of this process, where the system tells them (/proc). By plain calls of the system, since this is
+    asked after each program: a machine may have hundreds of processes."""
+    for name in filter(str.isdigit, os.listdir("/proc") if os.path.isdir("/proc") else []):
         with contextlib.suppress(OSError, ValueError, IndexError):
+            file = os.open(f"/proc/{name}/stat", os.O_RDONLY)
+            try:
+                told = os.read(file, MOST_OF_STAT)
+            finally:
+                os.close(file)
             # (a name in brackets, which may have any characters, stands before the state and the parent)
-            if int(file.read_text(errors="replace").rpartition(")")[2].split()[1]) == os.getpid():
-                yield int(file.parent.name)
+            if int(told.rpartition(b")")[2].split(None, 2)[1]) == os.getpid():
+                yield int(name)
 
 
 def _end_group(process: int) -> None:

@@ -10,7 +10,7 @@ import re
 import shutil
 import subprocess
 import xml.etree.ElementTree
-from dataclasses import dataclass, replace
+from dataclasses import dataclass, field, replace
 from pathlib import Path
 
 HERE = Path(__file__).resolve().parent
@@ -59,6 +59,8 @@ class Kit:
     flags: list[str]
     explorer: Path
     nicbench: str
+    # Of each program that was built here: its command lines and its source, by which it needn't be built again.
+    built: dict[Path, object] = field(default_factory=dict)
 
     def out(self, name: str) -> Path:
         """A folder for what programs write."""
@@ -73,8 +75,16 @@ class Kit:
         program = self.folder / "-".join([source.stem, *defines]).lower()
         includes = [f"-I{C}/include", f"-I{HERE}/corpus", f"-I{self.folder}"]
         words = [self.compiler, *STRICT, *self.flags, *includes, *(f"-D{one}" for one in defines), source]
-        ran([*words, self.explorer, C / "out/libnic82599.a", "-o", program])
+        self.make(program, source, [*words, self.explorer, C / "out/libnic82599.a", "-o", program])
         return program
+
+    def make(self, program: Path, source: Path, *lines: list[object]) -> None:
+        """Builds a program by these command lines, unless that is what stands there: several checks use one."""
+        wanted = lines, source.read_bytes()
+        if self.built.get(program) != wanted:
+            for line in lines:
+                ran(line)
+            self.built[program] = wanted
 
     def build_form(self, source: Path, *defines: str, of_memory: bool = False, form: str = "threads") -> Path:
         """The same by the link form that turns a driver's own threads; or that of a whole program, which prints
@@ -83,8 +93,9 @@ class Kit:
         made = program.with_suffix(".o")
         kind = ["-fsanitize=thread"] if of_memory else []
         words = [self.compiler, "-std=gnu11", *STRICT[1:], "-g", "-O1", *kind, f"-I{C}/include", f"-I{HERE}/corpus"]
-        ran([*words, *(f"-D{one}" for one in defines), "-c", source, "-o", made])
-        ran([self.compiler, made, f"-L{C}/out", f"@{C}/out/nic82599_{form}.opts", "-o", program])
+        compiled = [*words, *(f"-D{one}" for one in defines), "-c", source, "-o", made]
+        linked = [self.compiler, made, f"-L{C}/out", f"@{C}/out/nic82599_{form}.opts", "-o", program]
+        self.make(program, source, compiled, linked)
         return program
 
 

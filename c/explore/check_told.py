@@ -7,6 +7,7 @@ import json
 import os
 import re
 import shutil
+from dataclasses import replace
 from pathlib import Path
 from typing import Any
 
@@ -253,4 +254,4 @@ def check_told(kit: Kit) -> list[str]:
 
 def replace_flags(kit: Kit) -> Kit:
     """The same with debug information, without which no lines are known."""
-    return Kit(kit.folder, kit.compiler, [*kit.flags, "-g"], kit.explorer, kit.nicbench)
+    return replace(kit, flags=[*kit.flags, "-g"])

@@ -25,8 +25,14 @@ struct nicxi_races {
     void (*told)(const struct step *step); /* a step was made */
     /* A pending store of a processor to own memory reached memory: which of those that are kept, and where. */
     void (*landed)(unsigned processor, unsigned slot, uint64_t at);
+    /* The thread that runs gives what it did so far to an object, and takes over from it: what a caller promises of the
+       order of its calls. It is no barrier. */
+    void (*gives)(const void *object);
+    void (*takes)(const void *object);
 };
 
+/* The file of the linker's options for this form: the card has another one. */
+extern const char *nicxi_form_options;
 extern const struct nicxi_form *nicxi_form;
 extern const struct nicxi_races *nicxi_races;
 /* Makes accesses of the driver's own memory points: all, or those of a variable or a function of this name. Null, or

@@ -8,6 +8,8 @@
 
 enum { MOST_TOLD_UNPOINTED = 1024 };
 
+const char *nicxi_form_options = "nic82599_threads.opts";
+
 static void tell_never(void *argument, const char *line)
 {
     fprintf(argument, "%s: note: %s\n", nicxi.scenario->name, line);
@@ -66,8 +68,8 @@ static void tell_unpointed(const struct unpointed_list *found)
     for (uint32_t k = 0; k < found->count; k++) {
         nicxi_unpointed_words(&found->list[k], words, sizeof words);
         printf("%s: note: %s: call nicx_point() in between, or compile with -fsanitize=thread and link with "
-               "@nic82599_threads.opts\n",
-               nicxi.scenario->name, words);
+               "@%s\n",
+               nicxi.scenario->name, words, nicxi_form_options);
     }
 }
 

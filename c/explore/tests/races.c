@@ -247,6 +247,25 @@ static void message(void)
         data.value = 1;
 }
 
+/* --- a timer comes after what armed it, and not after what follows that --- */
+
+static int timer;
+
+static void fire(void *unused)
+{
+    (void)unused;
+    data.value++;
+}
+
+static void arm(void)
+{
+    if (is("timer"))
+        data.value = 1;
+    nicx_arm(timer);
+    if (is("no_timer"))
+        data.value = 1;
+}
+
 /* --- */
 
 static const struct mode modes[] = {
@@ -256,7 +275,7 @@ static const struct mode modes[] = {
     {"condition", one_tells}, {"cond", one_tells},     {"join", one_tells},       {"no_join", one_tells},
     {"heap", heap},           {"no_free", free_used},  {"stack", stack},          {"no_stack", stack},
     {"device", device},       {"no_done", device},     {"no_late", late},         {"message", message},
-    {"no_message", message},
+    {"no_message", message},  {"timer", arm},          {"no_timer", arm},
 };
 
 static void run(void *unused)
@@ -280,6 +299,8 @@ static void begin(void)
         nicx_handler("isr", 0, 5, isr, NULL, NICX_BESIDE);
     if (is("message") || is("no_message"))
         nicx_write32(NIC_EICS, CAUSE);
+    if (is("timer") || is("no_timer"))
+        timer = nicx_timer("timer", fire, NULL, 20);
     frames_come(1);
 }
 

@@ -526,8 +526,8 @@ void nicxi_race_free(const void *at, size_t length, const void *call)
 
 /* --- what the engine tells: the device is one more that has a clock --- */
 
-/* Of what sides of queues, and the device as a whole, were told by registers; of messages. */
-enum { GENERAL = 256, ALL_OF_IT, MESSAGES = 1024 };
+/* Of what sides of queues, and the device as a whole, were told by registers; of timers, and of messages. */
+enum { GENERAL = 256, ALL_OF_IT, TIMERS = 512, MESSAGES = 1024 };
 
 static void accessed_register(const struct step *step)
 {
@@ -603,7 +603,10 @@ static void handler_starts(void)
 {
     unsigned number = nicxi.actors[nicxi.schedule[*nicxi.points - 1]].of;
     const struct thread *handler = &nicxi.threads[number];
-    join(&now[number], clock_of(SIDE, MESSAGES + 16u * handler->group + handler->vector));
+    if (handler->is_timer)
+        join(&now[number], clock_of(SIDE, TIMERS + number));
+    else
+        join(&now[number], clock_of(SIDE, MESSAGES + 16u * handler->group + handler->vector));
     int task = handler->on >= 0 ? handler->on : handler->where; /* one that has ended was on that processor too */
     if (task < 0)
         return;
@@ -631,6 +634,8 @@ static void accessed_itself(const struct step *step)
         nicxi_race_release((const void *)(uintptr_t)step->bus);
     else if (step->word == LOCAL_UNTIL)
         take_by_condition(nicxi.self);
+    else if (step->word == LOCAL_ARM)
+        give(SIDE, TIMERS + step->of); /* what armed a timer comes before what it does */
 }
 
 static void told(const struct step *step)
@@ -653,6 +658,18 @@ static void told(const struct step *step)
         accessed_register(step);
 }
 
+static void gives(const void *object)
+{
+    if (is_told())
+        give(MEMORY, (uintptr_t)object);
+}
+
+static void takes(const void *object)
+{
+    if (is_told())
+        take(MEMORY, (uintptr_t)object);
+}
+
 static void begin(void)
 {
     memset(fences, 0, sizeof fences);
@@ -664,7 +681,7 @@ static void begin(void)
 
 void nicxi_race_open(void)
 {
-    static const struct nicxi_races races = {begin, told, landed};
+    static const struct nicxi_races races = {begin, told, landed, gives, takes};
     nicxi_races = &races;
     is_open = true;
 }

@@ -182,6 +182,58 @@ def check_pages_driver(kit: Kit, runs: int) -> str:
     return f"corpus/pages.c passes {sum(row['state'] == 'passed' for row in rows)} rows"
 
 
+# In corpus/pages.c, whose word of queues that are to be rearmed two polls and a handler change: the same by plain
+# accesses, which lose a queue where another one is rearmed between the load and the store.
+PLAIN_WORD = {
+    "__atomic_store_n(&card.polled, 0, __ATOMIC_RELEASE)": "card.polled = 0",
+    "__atomic_store_n(&card.polled, all, __ATOMIC_RELEASE)": "card.polled = all",
+    "__atomic_and_fetch(&card.polled, ~(1u << queue), __ATOMIC_ACQ_REL)": "(card.polled &= ~(1u << queue))",
+}
+UNSEEN = "^accesses of the driver's own memory aren't seen, so no bug in their order is found: "
+
+
+def check_accesses(kit: Kit) -> str:
+    """A word that two polls change is found without a point of the driver's at it, and the twin passes. Where accesses
+    aren't seen, the row passes, and the first line says why."""
+    row, right = "interrupt-two-queues", HERE / "corpus/pages.c"
+    how: list[object] = ["--rows", row, "--runs", 200, "--every", 200, "--no-pages", *PATIENT]
+    text = right.read_text()
+    for old, new in PLAIN_WORD.items():
+        if old not in text:
+            raise Wrong(f"corpus/pages.c has no {old}")
+        text = text.replace(old, new)
+    wrong, folder = kit.folder / "plain_word.c", kit.folder / "accesses"
+    wrong.write_text(text)
+    found = nicdrive(folder, [wrong, *how], 1)
+    expect(rows_of(folder)[row], r"race: card\+0x\w+, 4 bytes: .* at plain_word\.c:\d+ .*no order between", "a word")
+    passes = nicdrive(folder, [right, *how], 0)
+    if "aren't seen" in found + passes:
+        raise Wrong(f"accesses of {right} aren't seen:\n{passes}")
+    check_blind(kit, wrong, how)
+    return "a plain word that two polls change, and what is said where it isn't seen"
+
+
+def check_blind(kit: Kit, wrong: Path, how: list[object]) -> None:
+    folder = kit.folder / "blind"
+    other = kit.folder / "plain_word.o"
+    ran([kit.compiler, "-g", f"-I{C}/include", "-c", wrong, "-o", other])
+    lame = kit.folder / "lame-cc"
+    refuses = 'case "$*" in *sanitize*) echo "cc: no sanitizer" >&2; exit 1;; esac'
+    lame.write_text(f'#!/bin/sh\n{refuses}\nexec {kit.compiler} "$@"\n')
+    lame.chmod(0o755)
+    for words, wanted in {
+        (wrong, "--no-accesses"): "--no-accesses\n",
+        (wrong, "--flags", "-fsanitize=undefined -fno-sanitize=all"): "--flags has another sanitizer\n",
+        (wrong, "--cc", lame): ".*lame-cc can't compile and link for it: cc: no sanitizer\n",
+        (other,): "plain_word.o: compile with -fsanitize=thread\n",
+        (kit.build(HERE / "corpus/pages.c"),): "compile it with .*, and link with @nic82599_drive.opts\n",
+    }.items():
+        told(nicdrive(folder, [*words, *how], 0), UNSEEN + wanted, str(words))
+        told((folder / "card.txt").read_text(), UNSEEN + wanted, "card.txt")
+        if "no bug in their order is found" not in (folder / "card.html").read_text():
+            raise Wrong(f"card.html doesn't say that accesses aren't seen: {words}")
+
+
 def check_kept(kit: Kit, each: int = 1) -> str:
     """Each setting that an event makes the driver forget fails in the row of both, by words that name them."""
     own = replace(kit, flags=["-O0"])
@@ -660,6 +712,7 @@ def check_all(kit: Kit, full: bool) -> list[str]:
         check_pages(),
         check_patience(),
         check_files(kit),
+        check_accesses(kit),
         check_faults(kit, few),
         check_reached(kit, 1 if full else 5),
         check_kept(kit, 1 if full else 14),

@@ -16,6 +16,18 @@ $(OUT)/libnic82599_drive.a: $(DRIVE_OBJECTS)
 	$Qrm -f $@
 	$Q$(AR) rcs $@ $^
 
+# The same for drivers whose accesses are seen: what the card itself calls isn't turned (../explore/threads.mk), and
+# libnic82599_threads.a comes after it. The options are for the linker: @c/out/nic82599_drive.opts.
+DRIVE_TURNED := $(patsubst $(OUT)/%.o,$(OUT)/threads/not-turned/%.o,$(DRIVE_OBJECTS))
+
+$(OUT)/libnic82599_drive_threads.a: $(DRIVE_TURNED)
+	$(call SAY,$(@F))
+	$Qrm -f $@
+	$Q$(AR) rcs $@ $^
+
+$(OUT)/nic82599_drive.opts: $(OUT)/nic82599_threads.opts
+	$Qsed 's/-l:libnic82599_threads.a/-l:libnic82599_drive_threads.a &/' $< >$@
+
 # The same for drivers in Python, as one shared library: the stacks are threads there (python/fiber.c).
 PYTHON_SOURCES := $(wildcard $(HERE)/drive/python/*.c)
 PYTHON_HEADERS := $(wildcard $(HERE)/drive/python/*.h)

@@ -1,4 +1,8 @@
-"""A driver's program, from what an author has: a source, an object, a file of Python, or the program itself."""
+"""A driver's program, from what an author has: a source, an object, a file of Python, or the program itself.
+
+Sources are compiled with -fsanitize=thread and linked with the explorer's form that takes its calls, so that each
+access of the driver's own memory is seen. Where a compiler or a linker can't do that, they are compiled as they are.
+"""
 
 from __future__ import annotations
 
@@ -6,20 +10,39 @@ import os
 import shlex
 import subprocess
 import sys
+import tempfile
+from dataclasses import dataclass
 from pathlib import Path
 
 from . import where
-from .rows import Refused
+from .rows import Refused, accesses_of
 
 PYTHON = Path(__file__).resolve().parents[3] / "python"
+OBJECTS = (".o", ".a")
 
 
-def archives(folder: Path) -> list[Path]:
-    found = [folder / name for name in where.ARCHIVES]
-    for path in found:
+@dataclass
+class Words:
+    """How sources are compiled and linked, by what the command was given."""
+
+    compiler: str
+    flags: str
+    libraries: Path
+    sees: bool = True  # accesses of the driver's own memory, where that can be
+
+
+@dataclass
+class Built:
+    program: Path
+    blind: str = ""  # why accesses of the driver's own memory aren't seen
+
+
+def found(folder: Path, names: tuple[str, ...]) -> list[Path]:
+    paths = [folder / name for name in names]
+    for path in paths:
         if not path.exists():
             raise Refused(f"{path}: there is no such file{': `make -C c` makes it' if where.clone() else ''}")
-    return found
+    return paths
 
 
 def of_python(given: Path, folder: Path) -> Path:
@@ -37,22 +60,73 @@ def of_python(given: Path, folder: Path) -> Path:
     return program
 
 
-def build(given: list[Path], folder: Path, compiler: str, flags: str, libraries: Path) -> Path:
+def made(words: list[object]) -> str:
+    """Runs a compiler: an empty text, or what it said where it failed."""
+    given = [str(word) for word in words]
+    try:
+        done = subprocess.run(given, capture_output=True, text=True, check=False)
+    except OSError as fault:
+        raise Refused(f"{given[0]}: it can't be run: {fault.strerror}") from fault
+    return (done.stderr.rstrip() or f"status {done.returncode}") if done.returncode else ""
+
+
+def compiler_of(words: Words) -> list[object]:
+    return [*shlex.split(words.compiler), "-g", "-O1", f"-I{where.include()}", *shlex.split(words.flags)]
+
+
+def plainly(given: list[Path], program: Path, words: Words) -> str:
+    """A program whose accesses aren't seen: an empty text, or why there is none."""
+    return made([*compiler_of(words), *given, *found(words.libraries, where.ARCHIVES), "-lpthread", "-o", program])
+
+
+def seen(given: list[Path], program: Path, words: Words) -> str:
+    """A program whose accesses are seen: an empty text, or why there is none."""
+    found(words.libraries, where.SEEN)
+    compiler = compiler_of(words)
+    with tempfile.TemporaryDirectory() as folder:
+        objects: list[object] = []
+        for number, path in enumerate(given):
+            if path.suffix in OBJECTS:
+                objects.append(path)
+                continue
+            objects.append(Path(folder) / f"{number}.o")
+            if fault := made([*compiler, "-fsanitize=thread", "-c", path, "-o", objects[-1]]):
+                return fault
+        form = f"@{words.libraries / where.SEEN[0]}"
+        return made([*compiler, *objects, f"-L{words.libraries}", form, "-lpthread", "-o", program])
+
+
+def unseen(given: list[Path]) -> str:
+    """Why accesses in given objects aren't seen, or an empty text."""
+    blind = [path.name for path in given if path.suffix in OBJECTS and b"__tsan_" not in path.read_bytes()]
+    return f"{', '.join(blind)}: compile with -fsanitize=thread" if blind else ""
+
+
+def compile_all(given: list[Path], program: Path, words: Words) -> str:
+    """Makes the program: why accesses aren't seen in it, or an empty text. Refused where there is no program."""
+    blind = "--no-accesses" if not words.sees else ""
+    if not blind and "-fsanitize=" in words.flags:
+        blind = "--flags has another sanitizer"
+    if not blind and not (fault := seen(given, program, words)):
+        return unseen(given)
+    if failed := plainly(given, program, words):
+        raise Refused(f"it doesn't compile:\n{failed}")
+    return blind or f"{words.compiler} can't compile and link for it: {fault.splitlines()[0]}"
+
+
+def is_program(given: list[Path]) -> bool:
+    return len(given) == 1 and given[0].suffix not in (".c", *OBJECTS) and os.access(given[0], os.X_OK)
+
+
+def build(given: list[Path], folder: Path, words: Words) -> Built:
     """The program of what is given; Refused with the compiler's words where there is none."""
     if len(given) == 1 and given[0].name.partition(":")[0].endswith(".py"):
-        return of_python(given[0], folder)
+        return Built(of_python(given[0], folder), "in Python a call is a point, and so is self.point()")
     for path in given:
         if not path.exists():
             raise Refused(f"{path}: there is no such file")
-    if len(given) == 1 and given[0].suffix not in (".c", ".o", ".a") and os.access(given[0], os.X_OK):
-        return given[0]
+    if is_program(given):
+        seen = accesses_of(given[0].resolve())
+        return Built(given[0], "" if seen else "compile it with -fsanitize=thread, and link with @nic82599_drive.opts")
     program = folder / "program"
-    words = [*shlex.split(compiler), "-g", "-O1", f"-I{where.include()}", *shlex.split(flags), *map(str, given)]
-    words += [str(path) for path in archives(libraries)] + ["-lpthread", "-o", str(program)]
-    try:
-        made = subprocess.run(words, capture_output=True, text=True, check=False)
-    except OSError as fault:
-        raise Refused(f"{compiler}: it can't be run: {fault.strerror}") from fault
-    if made.returncode:
-        raise Refused(f"it doesn't compile:\n{made.stderr.rstrip()}")
-    return program
+    return Built(program, compile_all(given, program, words))

@@ -11,6 +11,9 @@ of JUnit; of each failed row its schedule, as text and as a page, and its run, a
 nicview. Each row is searched in a process of its own: one of a driver that crashes or hangs fails, and the others go
 on.
 
+Sources are compiled with -fsanitize=thread, so that each access of the driver's own memory is seen: two accesses
+without an order between them fail a row. Where that can't be, the first line says it, and why.
+
 A row in which nothing failed passes if it came to what it tries: frames on each queue, a reset while some were on their
 way. Otherwise it is "not reached", with what never came up.
 
@@ -33,7 +36,7 @@ from pathlib import Path
 from nic82599.tools.tool import add_version, printable_output
 
 from . import page, report, where
-from .build import build
+from .build import Words, build
 from .rows import FAILED, NOT_REACHED, Budget, Refused, Row, Runner, listed, make_all, name_of
 
 ALL_PASSED, ONE_FAILED, REFUSED = 0, 1, 2
@@ -75,6 +78,8 @@ def words() -> argparse.Namespace:
     parser.add_argument("--jobs", type=int, default=os.cpu_count() or 1, metavar="N", help=jobs)
     parser.add_argument("--cc", default=os.environ.get("CC", "cc"), metavar="CC", help="the compiler (cc)")
     parser.add_argument("--flags", default="", metavar="WORDS", help="more words for it, in quotes")
+    blind = "the driver's own memory isn't looked at: compiled without -fsanitize=thread, it takes less time"
+    parser.add_argument("--no-accesses", action="store_true", help=blind)
     archives = "the folder of the archives (c/out of a clone, else where they are installed)"
     parser.add_argument("--libraries", type=Path, default=where.libraries(), metavar="FOLDER", help=archives)
     parser.add_argument("--no-pages", action="store_true", help="no page of the run of a failed row")
@@ -132,10 +137,14 @@ def tell_names(rows: list[Row]) -> int:
     return ALL_PASSED
 
 
+def how_of(given: argparse.Namespace) -> Words:
+    return Words(given.cc, given.flags, given.libraries, not given.no_accesses)
+
+
 def list_all(given: argparse.Namespace) -> int:
     """The rows without a driver: those of the corpus's driver, which has all functions."""
     with tempfile.TemporaryDirectory() as folder:
-        rows = listed(build([where.WHOLE], Path(folder), given.cc, given.flags, given.libraries))
+        rows = listed(build([where.WHOLE], Path(folder), how_of(given)).program)
     for row in rows:
         row.lack = ""
     return tell_names(chosen(rows, given.rows))
@@ -152,17 +161,20 @@ def make(given: argparse.Namespace) -> int:
         folder.mkdir(parents=True, exist_ok=True)
     except OSError as fault:
         raise Refused(f"{folder}: it can't be made: {fault.strerror}") from fault
-    program = build(given.driver, folder, given.cc, given.flags, given.libraries)
+    built = build(given.driver, folder, how_of(given))
+    program = built.program
     rows = chosen(listed(program.resolve()), given.rows)
     if given.list:
         return tell_names(rows)
+    if built.blind:
+        print(report.blindness(built.blind), flush=True)
     budget = Budget(given.runs, given.seconds, given.every, hang=given.hang, seed=given.seed, memory=given.memory)
     began, used = time.monotonic(), processor_seconds()
     make_all(Runner(program, folder, budget), rows, given.jobs, tell)
     if not given.no_pages:
         draw_all(rows, folder)
     spent = time.monotonic() - began, processor_seconds() - used
-    card = report.Card(name_of(program.resolve()), rows, budget, *spent)
+    card = report.Card(name_of(program.resolve()), rows, budget, *spent, blind=built.blind)
     card.write(folder / "card.json")
     (folder / "card.txt").write_text(report.text(card))
     report.write_junit(card, folder / "card.xml")

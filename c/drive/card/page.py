@@ -4,7 +4,7 @@ from __future__ import annotations
 
 from html import escape
 
-from .report import Card, counts, extent
+from .report import Card, blindness, counts, extent
 from .rows import FAILED, NOT_APPLICABLE, NOT_REACHED, PASSED, Row
 
 MARKS = {
@@ -145,6 +145,7 @@ def page(card: Card) -> str:
         '<meta name="viewport" content="width=device-width, initial-scale=1">'
         f"<title>{escape(card.driver)}: report card</title><style>{STYLE}</style></head><body>"
         f"<h1>{escape(card.driver)}</h1><p>{counts(card)}, in {card.seconds:.0f} s with seed {card.budget.seed}</p>"
+        f"{f'<p>{escape(blindness(card.blind))}</p>' if card.blind else ''}"
         f"{bar(card)}{f'<p>failed: {links(failed)}</p>' if failed else ''}{first}{families}{coverage(card)}"
         "</body></html>\n"
     )

@@ -14,6 +14,7 @@ from nic82599.tools.tables import TABLE
 
 from .rows import FAILED, NOT_APPLICABLE, NOT_REACHED, PASSED, Budget, Refused, Row
 
+UNSEEN = "accesses of the driver's own memory aren't seen, so no bug in their order is found"
 ANY = 1000  # preemptions: all schedules whatever
 # What became of a row that passed, where that is worse.
 WORSE = ("fails now", "no longer reached", "no longer applicable")
@@ -39,6 +40,7 @@ class Card:
     budget: Budget
     seconds: float
     processor: float = 0  # the seconds that its processes took
+    blind: str = ""  # why accesses of the driver's own memory weren't seen
 
     def count(self, state: str) -> int:
         return sum(row.state == state for row in self.rows)
@@ -73,6 +75,7 @@ class Card:
             "driver": self.driver,
             "seconds": round(self.seconds, 1),
             "processor": round(self.processor, 1),
+            "blind": self.blind,
             "budget": vars(self.budget),
             "rows": [row.data() for row in self.rows],
         }
@@ -86,7 +89,7 @@ def read(path: Path) -> Card:
         data: dict[str, Any] = json.loads(path.read_text())
         rows = [checked(Row(**row)) for row in data["rows"]]
         spent = float(data["seconds"]), float(data.get("processor", 0))
-        return Card(str(data["driver"]), rows, Budget(**data["budget"]), *spent)
+        return Card(str(data["driver"]), rows, Budget(**data["budget"]), *spent, str(data.get("blind", "")))
     except RecursionError:
         raise Refused(f"{path}: it is no card: it is nested too deep") from None
     except (OSError, ValueError, KeyError, TypeError, AttributeError) as fault:
@@ -131,12 +134,17 @@ def counts(card: Card) -> str:
     )
 
 
+def blindness(why: str) -> str:
+    """The first line of a card in which accesses of the driver's own memory aren't seen."""
+    return f"{UNSEEN}: {why}"
+
+
 def summary(card: Card) -> str:
     return f"{card.driver}: {counts(card)}, {card.seconds:.0f} s, of the processor {card.processor:.0f} s"
 
 
 def text(card: Card) -> str:
-    lines = [summary(card), ""]
+    lines = [*([blindness(card.blind)] if card.blind else []), summary(card), ""]
     for family in card.families():
         lines += [family, *map(line, card.of(family)), ""]
     for row in card.rows:

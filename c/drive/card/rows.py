@@ -95,6 +95,14 @@ def name_of(program: Path) -> str:
         raise Refused(f"{program} --name makes no end: does its main call nicd_main?") from fault
 
 
+def accesses_of(program: Path) -> bool:
+    """Whether accesses of the driver's own memory are seen in its program."""
+    try:
+        return ran([program, "--accesses"], LIST_SECONDS).printed.strip() == "seen"
+    except (OSError, TooLong):
+        return False  # what is wrong with it, the list of its rows will say
+
+
 class Runner:
     """Makes rows of a program; its files go to a folder."""
 

@@ -9,6 +9,8 @@ from pathlib import Path
 DRIVE = Path(__file__).resolve().parents[1]
 # What a program of the card links, in this order.
 ARCHIVES = ("libnic82599_drive.a", "libnic82599_explore.a", "libnic82599.a")
+# What one links whose accesses are seen: the linker's options, and what they name.
+SEEN = ("nic82599_drive.opts", "nic82599_threads.ld", "libnic82599_drive_threads.a", "libnic82599_threads.a")
 # A driver that has all functions, of which --list tells the rows.
 WHOLE = DRIVE / "corpus/driver.c"
 

@@ -77,11 +77,22 @@ static struct {
     uint32_t seen;                                          /* of VFMAILBOX: what a read tells once */
     bool scheduled[NICD_QUEUES], polls[NICD_QUEUES], rests; /* of threads of its own */
     uint32_t interrupts, looked;
-    uint32_t taken; /* frames by one poll */
+    uint32_t taken[NICD_QUEUES]; /* frames by one poll */
     bool is_polled[NICD_QUEUES];
     nicd_frame partial;
-    nicx_mutex counters, other;
+    nicx_mutex counters, other, link;
 } driver;
+
+/* A flag that handlers or other threads look at. */
+static bool is_on(const bool *flag)
+{
+    return __atomic_load_n(flag, __ATOMIC_ACQUIRE);
+}
+
+static void turn(bool *flag, bool on)
+{
+    __atomic_store_n(flag, on, __ATOMIC_RELEASE);
+}
 
 /* --- registers: a function has those of its queues at other addresses --- */
 
@@ -412,9 +423,14 @@ static void stop_queues(void)
     }
 }
 
+/* A handler looks beside a reset: the one that reads LINKS last has to be the last one that writes what it read. */
 static void look_at_link(void)
 {
+    nicx_interrupts_off();
+    nicx_lock(&driver.link);
     driver.link_is_up = (nicx_read32(NIC_LINKS) & NIC_LINKS_LINK_UP) != 0;
+    nicx_unlock(&driver.link);
+    nicx_interrupts_on();
 }
 
 /* --- open and close --- */
@@ -557,9 +573,9 @@ static bool receive(uint16_t queue, nicd_frame *frame)
         nicx_lock(&driver.counters);
     if (BUG == LOCK_ORDER)
         nicx_lock(&driver.other);
-    bool is_over = BUG == BUDGET_WITHOUT_POLL && driver.taken == BUDGET;
+    bool is_over = BUG == BUDGET_WITHOUT_POLL && driver.taken[queue] == BUDGET;
     bool is_there = !is_over && take_frame(queue, frame);
-    driver.taken = is_there ? driver.taken + 1 : 0;
+    driver.taken[queue] = is_there ? driver.taken[queue] + 1 : 0;
     if (BUG == LOCK_ORDER)
         nicx_unlock(&driver.other);
     if (BUG == LOCK_IN_HANDLER_AND_POLL || BUG == LOCK_ORDER)
@@ -695,14 +711,14 @@ static uint32_t interrupt(uint8_t vector)
 {
     if (BUG == LOCK_IN_HANDLER_AND_POLL) {
         nicx_lock(&driver.counters);
-        driver.interrupts++;
+        __atomic_fetch_add(&driver.interrupts, 1, __ATOMIC_ACQ_REL);
         nicx_unlock(&driver.counters);
     }
     if (BUG == DOUBLE_CLEANER)
         clean(0);
     if (HAS_THREADS && vector < NICD_QUEUES) {
-        driver.interrupts++;
-        driver.scheduled[vector] = true;
+        __atomic_fetch_add(&driver.interrupts, 1, __ATOMIC_ACQ_REL);
+        turn(&driver.scheduled[vector], true);
         return 0;
     }
     if (vector == OTHER_VECTOR && !driver.setup.port) {
@@ -882,13 +898,29 @@ static bool link_is_up(void)
 
 /* --- the mailbox --- */
 
+/* Several threads read VFMAILBOX: each keeps what is told once for the others too. */
+static uint32_t seen(void)
+{
+    return __atomic_load_n(&driver.seen, __ATOMIC_ACQUIRE);
+}
+
+static void keep_seen(uint32_t bits)
+{
+    __atomic_fetch_or(&driver.seen, bits, __ATOMIC_ACQ_REL);
+}
+
+static void forget_seen(uint32_t bits)
+{
+    __atomic_fetch_and(&driver.seen, ~bits, __ATOMIC_ACQ_REL);
+}
+
 static uint32_t read_mailbox(void)
 {
     uint32_t word = nicx_vf_read32((uint8_t)(driver.setup.port - 1), NIC_VFMAILBOX);
     if (BUG == RSTD_TOLD_ONCE)
         return word;
-    driver.seen |= word & (NIC_PVFMAILBOX_PFSTS | NIC_PVFMAILBOX_PFACK | NIC_PVFMAILBOX_RSTD);
-    return word | driver.seen;
+    keep_seen(word & (NIC_PVFMAILBOX_PFSTS | NIC_PVFMAILBOX_PFACK | NIC_PVFMAILBOX_RSTD));
+    return word | seen();
 }
 
 static bool function_sends(const uint32_t *words, uint32_t count)
@@ -897,13 +929,13 @@ static bool function_sends(const uint32_t *words, uint32_t count)
     uint32_t word = read_mailbox();
     if (BUG != MESSAGE_BEFORE_ACK && driver.waits_for_ack && !(word & NIC_PVFMAILBOX_PFACK))
         return false;
-    driver.seen &= ~NIC_PVFMAILBOX_PFACK;
+    forget_seen(NIC_PVFMAILBOX_PFACK);
     driver.waits_for_ack = false;
     if (BUG != MAILBOX_NOT_TAKEN) {
         nicx_vf_write32(vf, NIC_VFMAILBOX, NIC_PVFMAILBOX_VFU);
         if (!(read_mailbox() & NIC_PVFMAILBOX_VFU))
             return false;
-        if (driver.seen & NIC_PVFMAILBOX_PFSTS) { /* what the host sent is read first */
+        if (seen() & NIC_PVFMAILBOX_PFSTS) { /* what the host sent is read first */
             nicx_vf_write32(vf, NIC_VFMAILBOX, 0);
             return false;
         }
@@ -922,7 +954,7 @@ static bool function_receives(uint32_t words[NICD_WORDS])
         return false;
     for (unsigned k = 0; k < NICD_WORDS; k++)
         words[k] = nicx_vf_read32(vf, NIC_VFMBMEM(k));
-    driver.seen &= ~NIC_PVFMAILBOX_PFSTS;
+    forget_seen(NIC_PVFMAILBOX_PFSTS);
     nicx_vf_write32(vf, NIC_VFMAILBOX, NIC_PVFMAILBOX_ACK);
     return true;
 }
@@ -985,14 +1017,14 @@ static const uint16_t queue_numbers[NICD_QUEUES] = {0, 1, 2, 3};
 
 static bool has_work(void *queue)
 {
-    return driver.scheduled[*(const uint16_t *)queue] && !driver.rests;
+    return is_on(&driver.scheduled[*(const uint16_t *)queue]) && !is_on(&driver.rests);
 }
 
 static void deliver_all(uint32_t thread, uint16_t queue)
 {
     static nicd_frame frames[NICD_QUEUES];
     nicd_frame *frame = &frames[thread];
-    while (!driver.rests && receive(queue, frame))
+    while (!is_on(&driver.rests) && receive(queue, frame))
         nicd_deliver(queue, frame->bytes, frame->length);
     nicx_point(); /* the handler touches what comes next */
 }
@@ -1001,16 +1033,17 @@ static void poll(uint32_t thread, uint16_t queue)
 {
     for (;;) {
         nicx_wait_until(has_work, (void *)(uintptr_t)&queue_numbers[queue]);
-        driver.polls[queue] = true;
+        turn(&driver.polls[queue], true);
         if (BUG != INTERRUPT_MODERATION)
-            driver.scheduled[queue] = false;
+            turn(&driver.scheduled[queue], false);
         if (BUG == UNMASKED_BEFORE_LAST_LOOK)
             rearm(queue);
         deliver_all(thread, queue);
-        driver.scheduled[queue] = driver.scheduled[queue] && BUG != INTERRUPT_MODERATION;
-        if (BUG != UNMASKED_BEFORE_LAST_LOOK && !driver.rests)
+        if (BUG == INTERRUPT_MODERATION)
+            turn(&driver.scheduled[queue], false);
+        if (BUG != UNMASKED_BEFORE_LAST_LOOK && !is_on(&driver.rests))
             rearm(queue);
-        driver.polls[queue] = false;
+        turn(&driver.polls[queue], false);
     }
 }
 
@@ -1018,7 +1051,7 @@ static bool nobody_polls(void *unused)
 {
     (void)unused;
     for (unsigned queue = 0; queue < NICD_QUEUES; queue++)
-        if (driver.polls[queue])
+        if (is_on(&driver.polls[queue]))
             return false;
     return true;
 }
@@ -1026,15 +1059,15 @@ static bool nobody_polls(void *unused)
 /* No thread of its own acts from here on, until wake_threads. */
 static void rest_threads(void)
 {
-    driver.rests = true;
+    turn(&driver.rests, true);
     nicx_wait_until(nobody_polls, NULL);
 }
 
 static void wake_threads(void)
 {
     for (unsigned queue = 0; queue < driver.setup.queues; queue++)
-        driver.scheduled[queue] = HAS_THREADS;
-    driver.rests = false;
+        turn(&driver.scheduled[queue], HAS_THREADS);
+    turn(&driver.rests, false);
 }
 
 static bool are_many(void *unused)
@@ -1047,7 +1080,7 @@ static void moderate(void)
 {
     for (unsigned interval = 0; interval < 2; interval++) {
         nicx_wait_until(are_many, NULL);
-        driver.looked = driver.interrupts;
+        driver.looked = __atomic_load_n(&driver.interrupts, __ATOMIC_ACQUIRE);
         nicx_write32(NIC_EIMC, 1);
         nicx_pause();
         nicx_write32(NIC_EIMS, 1);

@@ -44,6 +44,7 @@ static struct {
     uint32_t multicast[NIC_MTA_COUNT]; /* as the table is */
     uint32_t polled;                   /* queues that are to be rearmed before the vector is */
     bool has_rss, link;
+    nicx_mutex looks; /* at the link */
 } card;
 
 /* --- memory --- */
@@ -345,7 +346,7 @@ static void set_lengths(void)
 
 static void set_interrupts(void)
 {
-    card.polled = 0;
+    __atomic_store_n(&card.polled, 0, __ATOMIC_RELEASE);
     if (!card.setup.interrupts)
         return;
     MAKE({NIC_GPIE, NIC_GPIE_MULTIPLE_MSIX | NIC_GPIE_PBA_SUPPORT | NIC_GPIE_OCD}, {NIC_EIAC, 0}, {NIC_EIAM, 0},
@@ -357,9 +358,14 @@ static void set_interrupts(void)
          {NIC_EIMS, own_causes});
 }
 
+/* The handler looks beside a reset: the one that reads LINKS last is the last one that writes what it read. */
 static void look_at_link(void)
 {
+    nicx_interrupts_off();
+    nicx_lock(&card.looks);
     card.link = (nicx_read32(NIC_LINKS) & NIC_LINKS_LINK_UP) != 0;
+    nicx_unlock(&card.looks);
+    nicx_interrupts_on();
 }
 
 static void start(void)
@@ -439,14 +445,14 @@ static uint32_t interrupt(uint8_t vector)
     nicx_write32(NIC_EICR, causes);
     if (causes & NIC_EICR_LSC)
         look_at_link();
-    card.polled = (1u << card.setup.queues) - 1;
-    return card.polled;
+    uint32_t all = (1u << card.setup.queues) - 1;
+    __atomic_store_n(&card.polled, all, __ATOMIC_RELEASE);
+    return all;
 }
 
 static void rearm(uint16_t queue)
 {
-    card.polled &= ~(1u << queue);
-    if (!card.polled)
+    if (!__atomic_and_fetch(&card.polled, ~(1u << queue), __ATOMIC_ACQ_REL))
         nicx_write32(NIC_EIMS, own_causes);
 }
 

@@ -36,11 +36,13 @@ static void begin_call(enum call call)
     if (nicxi.self && call == nicd.reached->call)
         nicd.era = DURING;
     nicd_reach_call();
+    nicd_calls(OF_CONTROL);
 }
 
 static void end_call(bool is_done)
 {
     enum call call = nicd.doing;
+    nicd_called(OF_CONTROL);
     nicd.doing = NO_CALL;
     if (nicd.era == DURING && call == nicd.reached->call)
         nicd.era = AFTER;
@@ -184,7 +186,9 @@ bool nicd_receive(uint16_t queue)
 {
     nicd_frame *frame = &nicd.room[queue].frame;
     frame->length = 0;
+    nicd_calls(OF_QUEUE);
     bool is_there = nicd.driver->receive(queue, frame);
+    nicd_called(OF_QUEUE);
     judge_behind(queue);
     if (!is_there)
         return false;
@@ -241,6 +245,13 @@ static bool is_scheduled(void *given)
     return nicd.is_running && nicd.pollers[number_of(given)].scheduled;
 }
 
+void nicd_rearm(uint16_t queue)
+{
+    nicd_calls(OF_QUEUE);
+    nicd.driver->rearm(queue);
+    nicd_called(OF_QUEUE);
+}
+
 /* A thread that looks where a handler says so. */
 static void serve(void *given)
 {
@@ -248,15 +259,14 @@ static void serve(void *given)
     struct poller *poller = &nicd.pollers[queue];
     for (;;) {
         nicx_wait_until(is_scheduled, given);
-        poller->busy = true;
-        poller->scheduled = false;
+        nicd_begin_poll(queue);
         nicx_rmb();
         while (nicd.driver->receive && nicd_receive(queue))
             continue;
         if (nicd.driver->reclaim)
             nicd_reclaim(queue);
         if (nicd.driver->rearm)
-            nicd.driver->rearm(queue);
+            nicd_rearm(queue);
         poller->busy = false;
     }
 }
@@ -276,13 +286,7 @@ static void handle(void *given)
         return;
     if (nicd_peek(NIC_RDH(nicd.base)) == nicd_peek(NIC_RDT(nicd.base)))
         nicd_reach(LATE_CALL);
-    uint32_t queues = nicd.driver->interrupt((uint8_t)number_of(given));
-    for (unsigned k = 0; k < nicd.setup.queues; k++)
-        if (queues >> k & 1) {
-            if (nicd.pollers[k].busy)
-                nicd_reach(AGAIN_CALL);
-            nicd.pollers[k].scheduled = true;
-        }
+    nicd_interrupt((uint8_t)number_of(given));
 }
 
 /* --- vectors that something has: all of them where the driver isn't open yet --- */
@@ -369,7 +373,9 @@ uint32_t nicd_reclaim(uint16_t queue)
         return nicd.out[queue] = nicd.accepted[queue] - nicd.went[queue];
     nicd.calls++;
     nicx_lock(&poller->lock);
+    nicd_calls(OF_QUEUE);
     uint32_t left = nicd.driver->reclaim(queue);
+    nicd_called(OF_QUEUE);
     nicx_unlock(&poller->lock);
     nicd.calls--;
     if (!left && life == nicd.life)
@@ -392,7 +398,9 @@ bool nicd_send(uint16_t queue, uint32_t length)
         nicd_reach(OVERLAPS);
     if (!is_shared)
         nicx_lock(&poller->lock);
+    nicd_calls(OF_QUEUE);
     bool is_taken = nicd.driver->send(queue, bytes, length);
+    nicd_called(OF_QUEUE);
     if (is_taken) {
         struct sent *sent = &nicd.sent[queue][nicd.accepted[queue]++ % MOST_OUT];
         nicd.accepted_now[queue] += life == nicd.life;
@@ -490,6 +498,30 @@ void nicd_send_frames(uint16_t queue, uint32_t count, uint32_t length)
     nicx_task(names[sender_count++ % 8], send_all, it);
 }
 
+/* --- the mailbox --- */
+
+bool nicd_mailbox_send(uint8_t vf, const uint32_t *words, uint32_t count)
+{
+    nicd_calls(OF_MAILBOX);
+    bool is_sent = nicd.driver->mailbox_send(vf, words, count);
+    nicd_called(OF_MAILBOX);
+    return is_sent;
+}
+
+bool nicd_mailbox_receive(uint8_t vf, uint32_t *words)
+{
+    nicd_calls(OF_MAILBOX);
+    bool is_there = nicd.driver->mailbox_receive(vf, words);
+    nicd_called(OF_MAILBOX);
+    return is_there;
+}
+
+bool nicd_mailbox_ready(void)
+{
+    nicd_calls(OF_QUEUE);
+    return nicd.driver->mailbox_ready();
+}
+
 /* --- the scenario's own threads --- */
 
 static void (*control)(void);
@@ -558,6 +590,7 @@ static bool was_open(void *unused)
 static void run_thread(void *given)
 {
     nicx_wait_until(was_open, NULL);
+    nicd_calls(OF_QUEUE);
     nicd.driver->thread(number_of(given));
 }
 
@@ -641,6 +674,7 @@ void nicd_begin(void)
     set_up();
     forget();
     nicd_memory_begin();
+    nicd_contract_begin();
     nicd_judge_begin();
     nicd_watch_begin();
     if (!(nicd.scenario->ways & OPENS) && !nicd_open())

@@ -303,6 +303,19 @@ void nicd_reach_of(enum reach reach, unsigned number);
 /* The name of a call. */
 const char *nicd_call_name(enum call call);
 
+/* --- what the adapter's contract says of two calls: the second one comes after the first one has returned --- */
+
+/* Around each call of the driver. Those of `queue` (receive, reclaim, send, rearm) come after open, and after what holds
+   the flow; those that hold it, after the calls of queues; those of the mailbox and of a vector one at a time. */
+enum contract { OF_QUEUE, OF_CONTROL, OF_MAILBOX, OF_HANDLER };
+void nicd_calls(enum contract contract);
+void nicd_called(enum contract contract);
+void nicd_contract_begin(void);
+/* Calls the handler of a vector, which never runs beside itself; the queues that it names are to be polled. */
+void nicd_interrupt(uint8_t vector);
+/* Such a poll begins. */
+void nicd_begin_poll(unsigned queue);
+
 /* --- parts --- */
 
 void nicd_memory_begin(void);
@@ -419,6 +432,11 @@ uint16_t nicd_let_one_come(void);
 /* Sends one frame of this length, if it is taken. */
 bool nicd_send(uint16_t queue, uint32_t length);
 uint32_t nicd_reclaim(uint16_t queue);
+void nicd_rearm(uint16_t queue);
+/* The mailbox: of a host with function vf, of a function vf is 0. */
+bool nicd_mailbox_send(uint8_t vf, const uint32_t *words, uint32_t count);
+bool nicd_mailbox_receive(uint8_t vf, uint32_t *words);
+bool nicd_mailbox_ready(void);
 /* The same until it is taken; and until all of a queue went out. */
 void nicd_send_surely(uint16_t queue, uint32_t length);
 void nicd_wait_until_out(uint16_t queue);

@@ -7,6 +7,7 @@
 #include <string.h>
 #include <unistd.h>
 
+#include "../../explore/engine/parts.h"
 #include "drive.h"
 
 enum { DONE = 0, REFUSED = 2, NOT_APPLICABLE = 4, NO_END = 5, MOST_WORDS_GIVEN = 64, PATIENCE = 20 };
@@ -287,6 +288,7 @@ int nicd_main(int argc, char **argv, const nicd_driver *driver)
     const char *fault = fault_of(driver);
     nicd.driver = driver;
     nicd_make_rows();
+    nicxi_form_options = "nic82599_drive.opts";
     nicxi_for_threads = "use the adapter's threads and locks (docs/report-card.md)";
     if (fault) {
         fprintf(stderr, "%s: the driver can't be taken: %s\n", argv[0], fault);
@@ -302,6 +304,10 @@ int nicd_main(int argc, char **argv, const nicd_driver *driver)
     }
     if (argc == 2 && !strcmp(argv[1], "--name")) {
         printf("%s\n", driver->name);
+        return DONE;
+    }
+    if (argc == 2 && !strcmp(argv[1], "--accesses")) {
+        printf("%s\n", nicxi_races ? "seen" : "not seen");
         return DONE;
     }
     if (argc >= 3 && !strcmp(argv[1], "--row"))

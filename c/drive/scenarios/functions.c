@@ -169,7 +169,7 @@ static void host_sends_two(void)
 static void give(uint32_t k)
 {
     uint32_t words[2] = {word(false, k, 0), word(false, k, 1)};
-    while (!nicd.driver->mailbox_send(0, words, 2))
+    while (!nicd_mailbox_send(0, words, 2))
         nicx_wait();
     mail.given++;
 }
@@ -186,7 +186,7 @@ static void take_two(void *unused)
     uint32_t words[NICD_WORDS] = {0};
     (void)unused;
     while (mail.received < 2) {
-        if (!nicd.driver->mailbox_receive(0, words)) {
+        if (!nicd_mailbox_receive(0, words)) {
             nicx_wait();
             continue;
         }
@@ -203,9 +203,9 @@ static void give_and_take(void *unused)
     (void)unused;
     while (mail.given < 2 || mail.received < 1) {
         uint32_t own[2] = {word(false, mail.given, 0), word(false, mail.given, 1)};
-        bool acted = mail.given < 2 && nicd.driver->mailbox_send(0, own, 2);
+        bool acted = mail.given < 2 && nicd_mailbox_send(0, own, 2);
         mail.given += acted;
-        if (nicd.driver->mailbox_receive(0, words)) {
+        if (nicd_mailbox_receive(0, words)) {
             check_words(words, true, mail.received);
             mail.received++;
             nicd_reach(MAIL_TAKEN);
@@ -279,7 +279,7 @@ static void host_gets_ready(void)
 static void wait_for_ready(void *unused)
 {
     (void)unused;
-    while (!nicd.driver->mailbox_ready())
+    while (!nicd_mailbox_ready())
         nicx_wait();
     nicx_check(nicd_peek(NIC_CTRL_EXT) & NIC_CTRL_EXT_PFRSTD,
                "mailbox_ready answers true, and since the reset the host hasn't set CTRL_EXT.PFRSTD");
@@ -292,7 +292,7 @@ static void look_for_messages(void *unused)
     uint32_t words[NICD_WORDS] = {0};
     (void)unused;
     for (unsigned k = 0; k < 3; k++) {
-        nicd.driver->mailbox_receive(0, words);
+        nicd_mailbox_receive(0, words);
         nicx_point();
     }
 }

@@ -129,7 +129,7 @@ static void function_does_both(void)
 static bool take(uint8_t vf, uint32_t *number)
 {
     uint32_t words[NICD_WORDS] = {0};
-    if (!nicd.driver->mailbox_receive(vf, words))
+    if (!nicd_mailbox_receive(vf, words))
         return false;
     *number = words[0] >> 8 & 0xFF;
     if (words[0] != word(vf, false, *number, 0) || words[1] != word(vf, false, *number, 1))
@@ -156,7 +156,7 @@ static void serve(void *unused)
 static bool answer(uint8_t vf, uint32_t number)
 {
     uint32_t words[2] = {word(vf, true, number, 0), word(vf, true, number, 1)};
-    return nicd.driver->mailbox_send(vf, words, 2);
+    return nicd_mailbox_send(vf, words, 2);
 }
 
 /* Answers each request; a new request in place of the answered one is taken first. */

@@ -12,11 +12,8 @@ static void call_for_nothing(void)
 {
     nicx_wait_until(has_begun, NULL);
     for (unsigned k = 0; k < 2; k++) {
-        uint32_t queues = nicd.driver->interrupt(0);
+        nicd_interrupt(0);
         nicd_reach(SPURIOUS);
-        for (unsigned q = 0; q < nicd.setup.queues; q++)
-            if (queues >> q & 1)
-                nicd.pollers[q].scheduled = true;
         nicx_point();
     }
 }
@@ -48,9 +45,9 @@ static void rearm_one(void)
         return;
     nicd_reach(OWN_VECTORS);
     nicx_write32(NIC_EIMC, other);
-    nicd.driver->rearm(0);
+    nicd_rearm(0);
     nicx_check(!(nicd_peek(NIC_EIMS) & other), "rearm of queue 0 enables the cause of queue 1 too");
-    nicd.driver->rearm(1);
+    nicd_rearm(1);
     nicd_go_on();
 }
 

@@ -1,0 +1,89 @@
+/* What the adapter's contract says of the order of two calls, and of calls that never run beside each other. The search
+   for data races takes over from it: what a driver does in two such calls needs no lock of its own. */
+#include "../../explore/engine/parts.h"
+#include "drive.h"
+
+enum { VECTORS = 16 };
+
+/* Each by its address: the flow was let go on; calls of queues ended; one of the mailbox ended. */
+static const char flow, ended, mailbox;
+
+static struct vector {
+    bool runs;
+} vectors[VECTORS];
+
+static void gives(const void *object)
+{
+    if (nicxi_races)
+        nicxi_races->gives(object);
+}
+
+static void takes(const void *object)
+{
+    if (nicxi_races)
+        nicxi_races->takes(object);
+}
+
+void nicd_contract_begin(void)
+{
+    for (unsigned k = 0; k < VECTORS; k++)
+        vectors[k].runs = false;
+}
+
+void nicd_calls(enum contract contract)
+{
+    takes(&flow);
+    if (contract == OF_CONTROL)
+        takes(&ended);
+    else if (contract == OF_MAILBOX)
+        takes(&mailbox);
+}
+
+void nicd_called(enum contract contract)
+{
+    if (contract == OF_QUEUE)
+        gives(&ended);
+    else if (contract == OF_CONTROL)
+        gives(&flow);
+    else if (contract == OF_MAILBOX)
+        gives(&mailbox);
+}
+
+/* What the handler did comes before the poll that it asks for. */
+static void schedule(unsigned queue)
+{
+    if (nicd.pollers[queue].busy)
+        nicd_reach(AGAIN_CALL);
+    nicd.pollers[queue].scheduled = true;
+    gives(&nicd.pollers[queue].scheduled);
+}
+
+void nicd_begin_poll(unsigned queue)
+{
+    nicd.pollers[queue].busy = true;
+    nicd.pollers[queue].scheduled = false;
+    takes(&nicd.pollers[queue].scheduled);
+}
+
+static bool is_idle(void *given)
+{
+    return !((const struct vector *)given)->runs;
+}
+
+void nicd_interrupt(uint8_t number)
+{
+    struct vector *vector = &vectors[number];
+    nicx_interrupts_off();
+    if (vector->runs)
+        nicx_wait_until(is_idle, vector);
+    vector->runs = true;
+    nicd_calls(OF_HANDLER);
+    takes(vector);
+    uint32_t queues = nicd.driver->interrupt(number);
+    gives(vector);
+    vector->runs = false;
+    for (unsigned k = 0; k < nicd.setup.queues; k++)
+        if (queues >> k & 1)
+            schedule(k);
+    nicx_interrupts_on();
+}

@@ -162,7 +162,9 @@ enum {
 
 /* Of one queue alone, or of each. With few queues it is each, since that costs little, and a seed goes on to give the
    schedules that it gave. */
-enum { EACH_QUEUE = UINT16_MAX, FEW_QUEUES = 2 };
+enum { EACH_QUEUE = UINT16_MAX };
+
+uint16_t nicxi_few_queues = FEW_QUEUES;
 
 struct woken {
     unsigned kinds;
@@ -213,7 +215,7 @@ static struct woken woken_by(const struct step *step)
 static void wake_queues(const struct woken *woken)
 {
     uint16_t queues = (uint16_t)(first.messages - first.tx), from = 0, to = queues;
-    if (woken->queue != EACH_QUEUE && queues > FEW_QUEUES) {
+    if (woken->queue != EACH_QUEUE && queues > nicxi_few_queues) {
         from = woken->queue < queues ? woken->queue : queues;
         to = (uint16_t)(from + (from < queues));
     }

@@ -339,6 +339,9 @@ bool nicxi_device_step(struct actor *actor, struct step *step);
 void nicxi_judge(const struct step *step);
 /* After this step, these steps of the device may have something to do, and threads that wait look again. */
 void nicxi_wake(const struct step *step);
+/* With more queues than this a write of a queue's register wakes that queue alone. A test wakes all of them. */
+enum { FEW_QUEUES = 2 };
+extern uint16_t nicxi_few_queues;
 
 /* Whether the number of an actor is a value of nicx_choose. */
 static inline bool nicxi_is_value(uint16_t actor)

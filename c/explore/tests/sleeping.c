@@ -2,7 +2,8 @@
    by chance, what the driver saw and what the device is at the end of each schedule. `sleeping SCENARIOS SEED MODE..`:
    by `vf` the queue is a virtual function's, and the driver is its too; by `apart` its tasks share nothing but a lock
    and what it keeps, and the scenario says that it is race-free; by `told` each access of its memory is told; by `weak`
-   memory is weak. */
+   memory is weak; by `three` and `four` there are so many transmit queues, and the search without sleep sets wakes all of
+   them where the other one wakes the queue that was written. */
 #include <stdio.h>
 #include <stdlib.h>
 #include <string.h>
@@ -17,6 +18,7 @@ enum { MOST_ENDS = 1 << 16, LENGTH = 3, TWO = 2, MOST_RUNS = 12000 };
 static struct chance chance;
 static uint8_t doings[TWO][LENGTH];
 static bool has_handler, has_function, is_apart, is_told;
+static unsigned queues = 1;
 static nicx_mutex lock;
 static uint64_t shared;
 static uint64_t seen[TWO + 1];
@@ -40,9 +42,28 @@ static void count_in_lock(uint64_t *sum)
     nicx_unlock(&lock);
 }
 
+/* With several queues: each of these for each of them. */
+enum { QUEUED = 64, MOST_QUEUES = 4, ON_QUEUE = 5 };
+
+static void act_on_queue(uint64_t *sum, unsigned what, unsigned queue)
+{
+    switch (what) {
+    case 0: *sum = chance_mixed(*sum, nicx_read32(NIC_TDH(queue))); break;
+    case 1: nicx_write32(NIC_TDT(queue), 1); break;
+    case 2: nicx_write32(NIC_TXDCTL(queue), 0); break;
+    case 3: nicx_write32(NIC_TXDCTL(queue), ENABLE); break;
+    default: *sum = chance_mixed(*sum, nicx_read32(NIC_TXDCTL(queue))); break;
+    }
+}
+
 static void act(unsigned who, uint8_t doing)
 {
     uint64_t *sum = &seen[who];
+    if (doing >= QUEUED) {
+        act_on_queue(sum, (doing - QUEUED) / MOST_QUEUES, doing % MOST_QUEUES);
+        tell(sum, sizeof *sum, true);
+        return;
+    }
     switch (doing) {
     case 0: *sum = chance_mixed(*sum, nicx_read32(NIC_RDH(0))); break;
     case 1: *sum = chance_mixed(*sum, nicx_read32(NIC_TDH(0))); break;
@@ -97,6 +118,17 @@ static void handler(void *unused)
     seen[TWO] = chance_mixed(seen[TWO], has_function ? nicx_vf_read32(0, NIC_VTEICR) : nicx_read32(NIC_EICR));
 }
 
+static void bring_up_queue(unsigned queue)
+{
+    uint32_t ring = TX_RING + 16 * SLOTS * queue;
+    nicx_write32(NIC_TDBAL(queue), ring);
+    nicx_write32(NIC_TDLEN(queue), 16 * SLOTS);
+    nicx_write32(NIC_TXDCTL(queue), ENABLE);
+    nicx_settle();
+    nicx_put64(ring, buffer(0));
+    nicx_put64(ring + 8, (uint64_t)FRAME << 46 | (uint64_t)EOP_RS << 24 | (uint64_t)DATA << 20 | FRAME);
+}
+
 static const char *bring_up(void)
 {
     lend_blocks(2);
@@ -110,6 +142,8 @@ static const char *bring_up(void)
     bring_up_transmit();
     put_transmit(0, 0, EOP_RS);
     put_transmit(1, 1, EOP_RS);
+    for (unsigned queue = 1; queue < queues; queue++)
+        bring_up_queue(queue);
     return NULL;
 }
 
@@ -136,6 +170,12 @@ static const char *end(void)
         sum = chance_mixed(sum, seen[k]);
     for (size_t k = 0; k < sizeof looked / sizeof *looked; k++) {
         nic_peek32(nicx_device(), looked[k], &word);
+        sum = chance_mixed(sum, word);
+    }
+    for (unsigned queue = 1; queue < queues; queue++) {
+        nic_peek32(nicx_device(), NIC_TDH(queue), &word);
+        sum = chance_mixed(sum, word);
+        nic_peek32(nicx_device(), NIC_TXDCTL(queue), &word);
         sum = chance_mixed(sum, word);
     }
     nic_peek32(nicx_device(), NIC_EICR, &word);
@@ -192,6 +232,8 @@ static uint32_t search(uint32_t preemptions, bool sleeps, uint64_t *sum)
 static uint8_t some_doing(bool is_weak)
 {
     static const uint8_t memory[] = {3, 6, 13, 22, 23};
+    if (queues > 1 && chance_below(&chance, 4))
+        return (uint8_t)(QUEUED + MOST_QUEUES * chance_below(&chance, ON_QUEUE) + chance_below(&chance, queues));
     if (!chance_below(&chance, 3))
         return is_weak ? memory[chance_below(&chance, sizeof memory)] : 12;
     return (uint8_t)chance_below(&chance, is_weak ? OF_WEAK : has_function ? OF_ALL : OF_HOST);
@@ -224,12 +266,16 @@ int main(int argc, char **argv)
     scenario.vfs = has_function = has_mode(argc, argv, "vf");
     scenario.race_free = is_apart = has_mode(argc, argv, "apart");
     scenario.memory = has_mode(argc, argv, "weak") ? NICX_WEAK : 0;
+    scenario.queues = (uint16_t)(queues = has_mode(argc, argv, "four") ? 4 : has_mode(argc, argv, "three") ? 3 : 1);
     if (nicx_open(&scenario))
         return 2;
     for (unsigned k = 0; k < scenarios; k++) {
         mix(k, seed, scenario.memory);
         uint64_t with, without;
-        uint32_t many = search(bounds[k % 4], false, &without), few = search(bounds[k % 4], true, &with);
+        nicxi_few_queues = UINT16_MAX;
+        uint32_t many = search(bounds[k % 4], false, &without);
+        nicxi_few_queues = FEW_QUEUES;
+        uint32_t few = search(bounds[k % 4], true, &with);
         if (!many || !few)
             continue;
         compared++;

@@ -33,6 +33,8 @@ struct nicxi_races {
 
 /* The file of the linker's options for this form: the card has another one. */
 extern const char *nicxi_form_options;
+/* What is to be done in another language so that a search meets accesses of the driver's own memory; null: C. */
+extern const char *nicxi_to_be_seen;
 extern const struct nicxi_form *nicxi_form;
 extern const struct nicxi_races *nicxi_races;
 /* Makes accesses of the driver's own memory points: all, or those of a variable or a function of this name. Null, or

@@ -9,6 +9,7 @@
 enum { MOST_TOLD_UNPOINTED = 1024 };
 
 const char *nicxi_form_options = "nic82599_threads.opts";
+const char *nicxi_to_be_seen;
 
 static void tell_never(void *argument, const char *line)
 {
@@ -51,10 +52,12 @@ bool nicxi_tell_nothing(const struct options *options, const struct totals *tota
 static void tell_unseen(void)
 {
     char words[MOST_WORDS];
-    if (nicxi_form && !nicxi_races)
-        printf("%s: plain accesses and atomics aren't seen, so no bug in their order is found: compile with "
-               "-fsanitize=thread\n",
-               nicxi.scenario->name);
+    static const char unseen[] = "plain accesses and atomics aren't seen, so no bug in their order is found";
+    if (!nicxi_races && nicxi_to_be_seen)
+        printf("%s: %s: %s\n", nicxi.scenario->name, unseen, nicxi_to_be_seen);
+    else if (!nicxi_races)
+        printf("%s: %s: compile with -fsanitize=thread%s%s\n", nicxi.scenario->name, unseen,
+               nicxi_form ? "" : " and link with @", nicxi_form ? "" : nicxi_form_options);
     else if (nicxi_form && nicxi_form->assembly(words, sizeof words))
         printf(
             "%s: inline assembly isn't seen, so %s orders nothing: use atomic_thread_fence, an atomic of C11 or of the "

@@ -142,7 +142,11 @@ struct RawLock {
     kept: u64,
 }
 
+/// What the first line of a search says, since it sees no access of the driver's own memory.
+const TO_BE_SEEN: &[u8] = b"call Bus::point where threads share memory (docs/rust.md)\0";
+
 extern "C" {
+    static mut nicxi_to_be_seen: *const c_char;
     fn nicx_main(argc: c_int, argv: *mut *mut c_char, scenario: *const RawScenario) -> c_int;
     fn nicx_task(name: *const c_char, function: Function, argument: *mut c_void) -> c_int;
     fn nicx_service(name: *const c_char, function: Function, argument: *mut c_void) -> c_int;
@@ -491,7 +495,10 @@ pub(super) fn run(driven: &dyn Driven, settings: &Settings<'_>, words: &[String]
     };
     // SAFETY: the words are strings and end with a null; the scenario and all that it points to stay until the call is
     // over; no other search is at work in the process, since `within` lets one in.
-    within(driven, is_quiet, || unsafe { nicx_main(words.len() as c_int, argv.as_mut_ptr(), &scenario) })
+    within(driven, is_quiet, || unsafe {
+        nicxi_to_be_seen = TO_BE_SEEN.as_ptr().cast();
+        nicx_main(words.len() as c_int, argv.as_mut_ptr(), &scenario)
+    })
 }
 
 // --- in `begin` ---

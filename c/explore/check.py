@@ -626,7 +626,7 @@ def check_unpointed(kit: Kit) -> str:
         told(found, f"{POINTED[mode]}(.*\n)*.*FAILED race: driver", mode)
         if "no point in between" in found:
             raise Wrong(f"unpointed {mode}: a point is reported as missing that is there:\n{found}")
-    for mode in ("locked", "flags"):
+    for mode in ("locked", "flags", "atomic"):
         if "no point in between" in ran([silent, mode, *words]):
             raise Wrong(f"unpointed {mode}: a point is reported as missing that no schedule needs")
     wanted = r"note: interrupted\(\) in task one .* and interrupt\(\) in handler"
@@ -856,6 +856,9 @@ def check_assembly(kit: Kit) -> str:
         said = ran([kit.build_form(source, f"BARRIER={define}", of_memory=True), *words])
         wanted = rf"assembly: inline assembly isn't seen, so {name} at assembly\.c:\d+ orders nothing"
         told(said.splitlines()[0], wanted, define)
+    distance = ["BARRIER=DISTANCE"] if os.uname().machine == "x86_64" else []
+    if "inline assembly" in ran([kit.build_form(source, *distance, of_memory=True), *words]):
+        raise Wrong("assembly.c: the distance of a call is taken for a barrier")
     for right in (source, HERE / "tests/points.c", HERE / "examples/forwarder.c"):
         form = "program" if right.parent.name == "examples" else "threads"
         program = kit.build_form(right, "FIXED", of_memory=True, form=form)

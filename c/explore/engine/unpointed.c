@@ -58,6 +58,7 @@ struct decoded {
     const uint8_t *at;    /* after the opcode: at the ModRM byte */
     unsigned rex, opcode; /* two bytes: 0x0F00 and more */
     bool is_wide;         /* immediates of four bytes, not of two */
+    bool is_locked;       /* nobody comes between its load and its store */
     bool reads, writes;
 };
 
@@ -66,14 +67,17 @@ static bool take_opcode(const uint8_t *at, struct decoded *it)
 {
     memset(it, 0, sizeof *it);
     it->is_wide = true;
-    while (*at == 0x66 || *at == 0xF2 || *at == 0xF3 || *at == 0xF0 || *at == 0x2E || *at == 0x3E)
-        it->is_wide &= *at++ != 0x66;
+    for (; *at == 0x66 || *at == 0xF2 || *at == 0xF3 || *at == 0xF0 || *at == 0x2E || *at == 0x3E; at++) {
+        it->is_wide &= *at != 0x66;
+        it->is_locked |= *at == 0xF0;
+    }
     if ((*at & 0xF0) == 0x40)
         it->rex = *at++;
     it->opcode = *at++;
     if (it->opcode == 0x0F)
         it->opcode = 0x0F00u | *at++;
     it->at = at;
+    it->is_locked |= (it->opcode & 0xFE) == 0x86;
     return it->opcode != 0x64 && it->opcode != 0x65;
 }
 
@@ -194,7 +198,7 @@ static void note_access(uintptr_t instruction, const greg_t *registers)
 {
     struct decoded it;
     const struct thread *self = nicxi.self;
-    if (!take_opcode((const uint8_t *)instruction, &it) || *it.at >> 6 == 3)
+    if (!take_opcode((const uint8_t *)instruction, &it) || *it.at >> 6 == 3 || it.is_locked)
         return;
     if (it.opcode >= 0x0F00)
         decode_two(&it, *it.at >> 3 & 7);

@@ -53,6 +53,18 @@ static void locked(void *unused)
     }
 }
 
+/* Nobody comes between the load and the store of one that is atomic. */
+static void atomic(void *unused)
+{
+    (void)unused;
+    for (int k = 0; k < EACH; k++) {
+        nicx_write32(NIC_EIMC, 1);
+        __atomic_fetch_add(&driver.count, 1, __ATOMIC_ACQ_REL);
+        nicx_write32(NIC_EIMC, 2);
+        __atomic_exchange_n(&driver.taken, 1, __ATOMIC_ACQ_REL);
+    }
+}
+
 static void flags(void *value)
 {
     nicx_write32(NIC_EIMC, 1);
@@ -97,7 +109,7 @@ static void begin(void)
     static const struct {
         const char *name;
         void (*function)(void *);
-    } modes[] = {{"count", count}, {"push", push}, {"locked", locked}, {"flags", flags}};
+    } modes[] = {{"count", count}, {"push", push}, {"locked", locked}, {"atomic", atomic}, {"flags", flags}};
     memset(&driver, 0, sizeof driver);
     for (size_t k = 0; k < sizeof modes / sizeof *modes; k++)
         if (!strcmp(modes[k].name, mode)) {
@@ -111,7 +123,7 @@ static void begin(void)
 static const char *end(void)
 {
     unsigned wanted = 2 * EACH;
-    if ((!strcmp(mode, "count") || !strcmp(mode, "locked")) && driver.count != wanted)
+    if ((!strcmp(mode, "count") || !strcmp(mode, "locked") || !strcmp(mode, "atomic")) && driver.count != wanted)
         return "a count is lost";
     if (!strcmp(mode, "interrupt") && driver.count != 1 + driver.taken)
         return "a count is lost";

@@ -9,6 +9,8 @@ extern const uint8_t nicxi_text_begin[], nicxi_text_end[];
 
 #if defined __x86_64__
 
+extern const char __executable_start[], _end[]; /* by the linker: the program */
+
 static bool begins(const uint8_t *at, size_t left, const char *bytes, size_t length)
 {
     return left >= length && !memcmp(at, bytes, length);
@@ -29,8 +31,23 @@ static bool exchanges(const uint8_t *at, size_t left)
     return at[1] == 0xB0 || at[1] == 0xB1 || at[1] == 0xC0 || at[1] == 0xC1;
 }
 
+/* Whether these bytes are of a distance to another place of the program: of a call, a jump, or an access by it. */
+static bool is_distance(const uint8_t *at)
+{
+    for (unsigned k = 1; k <= 4 && at - k >= nicxi_text_begin; k++) {
+        const uint8_t *before = at - k;
+        bool has_distance = *before == 0xE8 || *before == 0xE9 || (*before & 0xC7) == 0x05;
+        int32_t distance;
+        memcpy(&distance, before + 1, sizeof distance);
+        uintptr_t to = (uintptr_t)before + 5 + (uintptr_t)(intptr_t)distance;
+        if (has_distance && to - (uintptr_t)__executable_start < (uintptr_t)(_end - __executable_start))
+            return true;
+    }
+    return false;
+}
+
 /* What begins here, or null. */
-static const char *instruction_at(const uint8_t *at, size_t left)
+static const char *named_at(const uint8_t *at, size_t left)
 {
     if (BEGINS("\x0F\xAE\xF0"))
         return "mfence";
@@ -45,6 +62,12 @@ static const char *instruction_at(const uint8_t *at, size_t left)
     if (left > 1 && at[0] == 0xF0 && exchanges(at + 1, left - 1))
         return "lock cmpxchg or xadd";
     return NULL;
+}
+
+static const char *instruction_at(const uint8_t *at, size_t left)
+{
+    const char *name = named_at(at, left);
+    return name && !is_distance(at) ? name : NULL;
 }
 
 enum { STEP = 1 };

@@ -189,6 +189,8 @@ PLAIN_WORD = {
     "__atomic_store_n(&card.polled, all, __ATOMIC_RELEASE)": "card.polled = all",
     "__atomic_and_fetch(&card.polled, ~(1u << queue), __ATOMIC_ACQ_REL)": "(card.polled &= ~(1u << queue))",
 }
+# Rows in which threads of the driver meet, beside their rings.
+SEEN = "interrupt-two-queues,interrupt-often,link,stats,reset-amid-interrupts,mailbox-ready-once,host-collides"
 UNSEEN = "^accesses of the driver's own memory aren't seen, so no bug in their order is found: "
 
 
@@ -209,8 +211,21 @@ def check_accesses(kit: Kit) -> str:
     passes = nicdrive(folder, [right, *how], 0)
     if "aren't seen" in found + passes:
         raise Wrong(f"accesses of {right} aren't seen:\n{passes}")
+    counts: list[object] = ["--flags=-DPLAIN_COUNTS", "--rows", "stats-receive", "--runs", 200, "--no-pages", *PATIENT]
+    nicdrive(folder, [HERE / "corpus/driver.c", *counts], 1)
+    expect(rows_of(folder)["stats-receive"], r"race: driver\+0x\w+, 8 bytes: .* no order between", "counts")
     check_blind(kit, wrong, how)
     return "a plain word that two polls change, and what is said where it isn't seen"
+
+
+def check_seen(kit: Kit, runs: int, rows: str) -> str:
+    """The right drivers have no race where accesses are seen, by calls and by threads of their own."""
+    said = []
+    for source, defines in (("driver.c", ""), ("driver.c", "-DTHREADS"), ("pages.c", "")):
+        how: list[object] = ["--rows", rows, "--runs", runs, "--every", runs, "--jobs", kit.jobs, "--no-pages", *PATIENT]
+        nicdrive(kit.folder / "seen", [HERE / "corpus" / source, f"--flags={defines}", *how], None)
+        said.append(str(len(none_failed(rows_of(kit.folder / "seen")))))
+    return f"{', '.join(said)} rows of right drivers whose accesses are seen"
 
 
 def check_blind(kit: Kit, wrong: Path, how: list[object]) -> None:
@@ -272,7 +287,7 @@ def check_words(kit: Kit) -> str:
         folder = kit.folder / "flags"
         nicdrive(folder, [source, *words, "--rows", "receive-one", "--runs", 20, "--no-pages", *PATIENT], 1)
         expect(rows_of(folder)["receive-one"], FAULTS["NO_LENGTH"][1], " ".join(words))
-    for words, wanted in ((["--rows", "interrupt"], 8), (["--rows", "suspend,receive-wra"], 4), ([], 158)):
+    for words, wanted in ((["--rows", "interrupt"], 8), (["--rows", "suspend,receive-wra"], 4), ([], 162)):
         lines = nicdrive(kit.folder, ["--list", *words], 0).splitlines()
         if len(lines) != wanted or "not applicable" in "".join(lines):
             raise Wrong(f"nicdrive --list {' '.join(words)} tells {len(lines)} rows, and not {wanted}")
@@ -713,6 +728,7 @@ def check_all(kit: Kit, full: bool) -> list[str]:
         check_patience(),
         check_files(kit),
         check_accesses(kit),
+        check_seen(kit, 200 if full else 20, "interrupts,rss,link,stats,reset,function,host" if full else SEEN),
         check_faults(kit, few),
         check_reached(kit, 1 if full else 5),
         check_kept(kit, 1 if full else 14),

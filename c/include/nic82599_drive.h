@@ -67,6 +67,12 @@ typedef struct nicd_filter {
     uint8_t address[4][6]; /* unicast or multicast, besides the port's own */
 } nicd_filter;
 
+/* What a driver counted since `open`. */
+typedef struct nicd_stats {
+    uint64_t rx_frames, rx_bytes; /* that were handed up */
+    uint64_t tx_frames, tx_bytes; /* that `send` took */
+} nicd_stats;
+
 /* Receive side scaling. A type is 1 << enum nic_rss_type (nic82599_desc.h). */
 typedef struct nicd_rss {
     uint8_t key[40];
@@ -142,7 +148,8 @@ typedef struct nicd_driver {
     bool (*suspend)(void);          /* the device rests: no frame, no message, no access until `resume`, but by a
                                        handler that runs as it returns */
     bool (*resume)(void);
-    bool (*link)(void); /* whether the link is up, as far as the driver knows; it makes no access */
+    bool (*link)(void); /* whether the link is up, as far as the driver knows; it makes no access, and any thread
+                           calls it beside all others */
 
     /* The mailbox, as host (port 0, to function vf) or as function (its own; vf is 0). mailbox_send puts 1 to
        NICD_WORDS words in it, for the other side: false where the mailbox isn't free now. mailbox_receive takes a
@@ -151,6 +158,10 @@ typedef struct nicd_driver {
     bool (*mailbox_receive)(uint8_t vf, uint32_t words[NICD_WORDS]);
     /* Of a function: whether the device is ready, since its host has set it up (RSTD, or a host that was there). */
     bool (*mailbox_ready)(void);
+
+    /* What it counted since `open`. Any thread calls it beside all others: frames and bytes of a direction are of one
+       moment, no count goes back, and none is lost. A frame counts before `receive` or `send` returns. */
+    void (*stats)(nicd_stats *stats);
 } nicd_driver;
 
 /* --- in the driver's functions --- */

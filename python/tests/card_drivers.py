@@ -10,7 +10,7 @@ import time
 from collections.abc import Iterator
 
 from nic82599.descriptors import is_sent, rx_descriptor, tx_descriptor
-from nic82599.drive import Can, Driver, Filter, Mutex, Rss, Setup
+from nic82599.drive import Can, Driver, Filter, Mutex, Rss, Setup, Stats
 
 ENABLE = 1 << 25
 CAUSE = 1
@@ -62,6 +62,7 @@ class Both(Driver):
         self.rx, self.tx = Ring(self), Ring(self)
         self.interrupts = False
         self.piece: int | None = None
+        self.counts = Stats(0, 0, 0, 0)
 
     def set_enable(self, control: str, enable: int) -> None:
         self.write32(control, enable)
@@ -154,7 +155,16 @@ class Both(Driver):
         self.wmb()
         self.write32("RDT[0]", slot)
         ring.next = ring.after(slot)
+        self.count(rx_frames=1, rx_bytes=length)
         return frame, 0
+
+    def count(self, **more: int) -> None:
+        """A new tuple in one step, so that frames and bytes are of one moment."""
+        kept = self.counts._asdict()
+        self.counts = Stats(**{name: count + more.get(name, 0) for name, count in kept.items()})
+
+    def stats(self) -> Stats:
+        return self.counts
 
     def send(self, queue: int, frame: bytes) -> bool:
         ring, slot = self.tx, self.tx.next
@@ -165,6 +175,7 @@ class Both(Driver):
         ring.next, ring.used = ring.after(slot), ring.used + 1
         self.wmb()
         self.write32("TDT[0]", ring.next)
+        self.count(tx_frames=1, tx_bytes=len(frame))
         return True
 
     def reclaim(self, queue: int) -> int:
@@ -216,6 +227,13 @@ class LockTwice(Both):
         mutex = Mutex("counters")
         with self.holding(mutex), self.holding(mutex):
             return super().receive(queue)
+
+
+class CountsInTwoSteps(Both):
+    def count(self, **more: int) -> None:
+        for name, count in more.items():
+            super().count(**{name: count})
+            self.point()
 
 
 # --- what no driver may do ---
@@ -284,6 +302,11 @@ class OpenAnswersNone(Both):
     def open(self, setup: Setup) -> bool:
         super().open(setup)
         return None  # type: ignore[return-value]
+
+
+class StatsAnswersText(Both):
+    def stats(self) -> Stats:
+        return "1 frame"  # type: ignore[return-value]
 
 
 class ReceiveAnswersText(Both):
@@ -478,3 +501,6 @@ class Everything(Driver):
 
     def mailbox_ready(self) -> bool:
         return False
+
+    def stats(self) -> Stats:
+        return Stats(0, 0, 0, 0)

@@ -109,3 +109,7 @@ WRONG(FILTER_BY_STOP, "promiscuous-amid-traffic", "to its own address didn't com
       "Reception is off while the filter is changed")
 WRONG(RETA_CHANGED_BY_HALF, "rss-changed", "came by queue \\d, and is to come by \\d",
       "Of another table only the first half is written")
+WRONG(COUNTED_IN_TWO_STEPS, "stats-receive", "stats: rx_frames is \\d and rx_bytes \\d+, of frames of 60 bytes",
+      "A frame and its bytes are counted in two steps, and statistics are read between them")
+WRONG(LINK_TOGGLED, "link-flap", "the link is (up|down), and the driver has it (up|down)",
+      "A handler turns the state of the link at each message, and two changes raise one")

@@ -67,12 +67,21 @@ struct rings {
     struct transmit tx[NICD_QUEUES];
 };
 
+/* Frames of one direction in the upper 24 bits, and their bytes below: so that both are of one moment. */
+struct count {
+    uint64_t frames_and_bytes;
+#ifdef PLAIN_COUNTS
+    uint64_t frames, bytes;
+#endif
+};
+
 static struct {
     nicd_setup setup;
     struct rings rings;
     nicd_filter filter;
     nicd_rss rss;
     bool has_rss, link_is_up;
+    struct count received, sent;
     bool waits_for_ack;
     uint32_t seen;                                          /* of VFMAILBOX: what a read tells once */
     bool scheduled[NICD_QUEUES], polls[NICD_QUEUES], rests; /* of threads of its own */
@@ -92,6 +101,41 @@ static bool is_on(const bool *flag)
 static void turn(bool *flag, bool on)
 {
     __atomic_store_n(flag, on, __ATOMIC_RELEASE);
+}
+
+/* --- statistics --- */
+
+static void count(struct count *it, uint32_t length)
+{
+#ifdef PLAIN_COUNTS /* two words, of which the bench's points see neither */
+    it->frames++;
+    it->bytes += length;
+#else
+    bool is_split = BUG == COUNTED_IN_TWO_STEPS;
+    __atomic_fetch_add(&it->frames_and_bytes, (uint64_t)1 << 40 | (is_split ? 0 : length), __ATOMIC_ACQ_REL);
+    if (is_split) {
+        nicx_point();
+        __atomic_fetch_add(&it->frames_and_bytes, length, __ATOMIC_ACQ_REL);
+    }
+#endif
+}
+
+static void read_count(struct count *it, uint64_t *frames, uint64_t *bytes)
+{
+#ifdef PLAIN_COUNTS
+    *frames = it->frames;
+    *bytes = it->bytes;
+#else
+    uint64_t both = __atomic_load_n(&it->frames_and_bytes, __ATOMIC_ACQUIRE);
+    *frames = both >> 40;
+    *bytes = both & (((uint64_t)1 << 40) - 1);
+#endif
+}
+
+static void stats(nicd_stats *stats)
+{
+    read_count(&driver.received, &stats->rx_frames, &stats->rx_bytes);
+    read_count(&driver.sent, &stats->tx_frames, &stats->tx_bytes);
 }
 
 /* --- registers: a function has those of its queues at other addresses --- */
@@ -428,7 +472,7 @@ static void look_at_link(void)
 {
     nicx_interrupts_off();
     nicx_lock(&driver.link);
-    driver.link_is_up = (nicx_read32(NIC_LINKS) & NIC_LINKS_LINK_UP) != 0;
+    turn(&driver.link_is_up, (nicx_read32(NIC_LINKS) & NIC_LINKS_LINK_UP) != 0);
     nicx_unlock(&driver.link);
     nicx_interrupts_on();
 }
@@ -576,6 +620,8 @@ static bool receive(uint16_t queue, nicd_frame *frame)
     bool is_over = BUG == BUDGET_WITHOUT_POLL && driver.taken[queue] == BUDGET;
     bool is_there = !is_over && take_frame(queue, frame);
     driver.taken[queue] = is_there ? driver.taken[queue] + 1 : 0;
+    if (is_there)
+        count(&driver.received, frame->length);
     if (BUG == LOCK_ORDER)
         nicx_unlock(&driver.other);
     if (BUG == LOCK_IN_HANDLER_AND_POLL || BUG == LOCK_ORDER)
@@ -659,6 +705,7 @@ static bool send_locked(uint16_t queue, const uint8_t *bytes, uint32_t length)
     if (used(tx) + parts >= driver.setup.slots)
         return BUG == ACCEPTED_AND_DROPPED;
     fill(queue, bytes, length);
+    count(&driver.sent, length);
     return true;
 }
 
@@ -694,9 +741,11 @@ static uint32_t reclaim(uint16_t queue)
 static void handle_other(void)
 {
     uint32_t causes = nicx_read32(NIC_EICR);
-    if (causes & NIC_EICR_LSC)
+    if (causes & NIC_EICR_LSC && BUG == LINK_TOGGLED)
+        turn(&driver.link_is_up, !is_on(&driver.link_is_up));
+    else if (causes & NIC_EICR_LSC)
         look_at_link();
-    if (causes & NIC_EICR_LSC && BY == LINK && driver.link_is_up) {
+    if (causes & NIC_EICR_LSC && BY == LINK && is_on(&driver.link_is_up)) {
         lose(LINK);
         set_filter();
         set_lengths();
@@ -893,7 +942,7 @@ static bool resume(void)
 
 static bool link_is_up(void)
 {
-    return driver.link_is_up;
+    return is_on(&driver.link_is_up);
 }
 
 /* --- the mailbox --- */
@@ -1146,6 +1195,7 @@ int main(int argc, char **argv)
         .mailbox_send = mailbox_send,
         .mailbox_receive = mailbox_receive,
         .mailbox_ready = function_ready,
+        .stats = stats,
     };
     return nicd_main(argc, argv, &card);
 }

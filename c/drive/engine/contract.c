@@ -77,7 +77,7 @@ void nicd_interrupt(uint8_t number)
     if (vector->runs)
         nicx_wait_until(is_idle, vector);
     vector->runs = true;
-    nicd_calls(OF_HANDLER);
+    nicd_calls(BESIDE_ALL);
     takes(vector);
     uint32_t queues = nicd.driver->interrupt(number);
     gives(vector);

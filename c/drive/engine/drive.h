@@ -43,7 +43,8 @@ enum needs {
     SHARED_DEVICE = 1 << 15,
     READY_BIT = 1 << 16,
     PHYSICAL = 1 << 17, /* the registers of the physical function */
-    HOST = 1 << 18
+    HOST = 1 << 18,
+    STATS = 1 << 19
 };
 
 enum ways {
@@ -114,6 +115,7 @@ enum reach {
     MAIL_TAKEN, /* the driver took one of the other side, as a host of function 0 */
     MAIL_TAKEN_1,
     IS_READY,
+    COUNTED, /* stats told more than before, as a thread of the row called it */
     REACHES
 };
 
@@ -307,7 +309,7 @@ const char *nicd_call_name(enum call call);
 
 /* Around each call of the driver. Those of `queue` (receive, reclaim, send, rearm) come after open, and after what holds
    the flow; those that hold it, after the calls of queues; those of the mailbox and of a vector one at a time. */
-enum contract { OF_QUEUE, OF_CONTROL, OF_MAILBOX, OF_HANDLER };
+enum contract { OF_QUEUE, OF_CONTROL, OF_MAILBOX, BESIDE_ALL };
 void nicd_calls(enum contract contract);
 void nicd_called(enum contract contract);
 void nicd_contract_begin(void);
@@ -449,6 +451,11 @@ void nicd_wait_for_event(uint32_t seen);
 void nicd_wait_for_rest(void);
 /* Waits until so many frames were delivered in all. */
 void nicd_wait_for(uint32_t delivered);
+
+/* Words that stay until the next ones. */
+const char *nicd_words(const char *form, ...) __attribute__((format(printf, 1, 2)));
+/* Whether the driver has the link as LINKS has it: null, or what is wrong. */
+const char *nicd_judge_link(void);
 
 /* For `see`: fails where a ring's registers are written while its queue is on. */
 void nicd_see_held(const struct step *step, bool is_drivers);

@@ -15,6 +15,16 @@ static void put_words(const char *form, va_list list)
     nicd.fault = nicd.words;
 }
 
+const char *nicd_words(const char *form, ...)
+{
+    static char words[WORDS];
+    va_list list;
+    va_start(list, form);
+    vsnprintf(words, sizeof words, form, list);
+    va_end(list);
+    return words;
+}
+
 void nicd_note(const char *form, ...)
 {
     va_list list;

@@ -133,6 +133,7 @@ static const char *lack_of(const struct scenario *it)
         {RESET, d->reset, "no reset"},
         {SUSPEND, d->suspend && d->resume, "no suspend and resume"},
         {LINK, d->link, "no link"},
+        {STATS, d->stats, "no stats"},
         {MAILBOX, d->mailbox_send && d->mailbox_receive, "no mailbox_send and mailbox_receive"},
         {READY_BIT, d->mailbox_ready, "no mailbox_ready"},
         {FUNCTIONS, d->can & NICD_FUNCTIONS, "no NICD_FUNCTIONS"},

@@ -78,6 +78,7 @@ static const struct {
     [MAIL_TAKEN] = {"the driver took messages", "the driver took no message", ONCE},
     [MAIL_TAKEN_1] = {"the driver took messages of function 1", "the driver took no message of function 1", ONCE},
     [IS_READY] = {"mailbox_ready returned true", "mailbox_ready never returned true", ONCE},
+    [COUNTED] = {"stats counted more between two frames", "stats never counted more while frames came or went", ONCE},
 };
 
 const char *nicd_call_name(enum call call)

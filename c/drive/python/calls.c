@@ -28,6 +28,7 @@ enum function {
     ASK_MAILBOX_SEND,
     ASK_MAILBOX_RECEIVE,
     ASK_MAILBOX_READY,
+    ASK_STATS,
     ASK_CONDITION
 };
 
@@ -121,6 +122,11 @@ static void close_port(void)
     call(ASK_CLOSE, 0, 0, 0);
 }
 
+static void stats(nicd_stats *stats)
+{
+    call(ASK_STATS, at(stats), 0, 0);
+}
+
 static void rearm(uint16_t queue)
 {
     call(ASK_REARM, queue, 0, 0);
@@ -167,6 +173,7 @@ int nicp_main(int argc, char **argv, const struct nicp_driver *given)
         .mailbox_send = IF_IT_HAS(ASK_MAILBOX_SEND, mailbox_send),
         .mailbox_receive = IF_IT_HAS(ASK_MAILBOX_RECEIVE, mailbox_receive),
         .mailbox_ready = IF_IT_HAS(ASK_MAILBOX_READY, mailbox_ready),
+        .stats = IF_IT_HAS(ASK_STATS, stats),
     };
     nicp_begin_thread = python.begin_thread;
     nicxi_ask_for_lines = lines_of;

@@ -5,7 +5,7 @@ enum { MOST_REFUSED = 6 }; /* one of so many requests for memory, from the first
 
 /* --- the link --- */
 
-static const char *judge_link(void)
+const char *nicd_judge_link(void)
 {
     bool is_up = nicd_peek(NIC_LINKS) & NIC_LINKS_LINK_UP;
     if (nicd.driver->link() == is_up)
@@ -120,10 +120,14 @@ static void break_receive(void)
 static const char *judge_recovery(void)
 {
     for (unsigned queue = 0; queue < nicd.setup.queues; queue++) {
-        if (nicd.driver->receive && !(nicd_peek(NIC_RXDCTL(nicd.base + queue)) & NIC_RXDCTL_ENABLE))
-            return "a receive queue is off, and reset has returned";
-        if (nicd.driver->send && !(nicd_peek(NIC_TXDCTL(nicd.base + queue)) & NIC_TXDCTL_ENABLE))
-            return "a transmit queue is off, and reset has returned";
+        uint32_t receive = nicd_peek(NIC_RXDCTL(nicd.base + queue)),
+                 transmit = nicd_peek(NIC_TXDCTL(nicd.base + queue));
+        if (nicd.driver->receive && !(receive & NIC_RXDCTL_ENABLE))
+            return nicd_words("receive queue %u is off, and reset has returned: RXDCTL is 0x%08x", queue,
+                              (unsigned)receive);
+        if (nicd.driver->send && !(transmit & NIC_TXDCTL_ENABLE))
+            return nicd_words("transmit queue %u is off, and reset has returned: TXDCTL is 0x%08x", queue,
+                              (unsigned)transmit);
     }
     return NULL;
 }
@@ -133,7 +137,7 @@ static void break_send(void)
     bool transmit = true;
     uint32_t block = ring_block(true);
     nicd_hold();
-    nicx_check(nicd_send(0, 60), "send answers false, and the ring is empty");
+    nicx_check(nicd_send(0, 60), "send of queue 0 answers false, and no slot of its ring is in use");
     if (nicd.went[0])
         return;
     nic_dma_read(nicx_device(), (uint64_t)block * NIC_BLOCK_BYTES, kept, sizeof kept);
@@ -180,7 +184,8 @@ static const char *judge_shrunk(void)
 {
     for (uint16_t k = 0; k < nicd.count; k++)
         if (nicd.frames[k].life == nicd.life && nicd.coming[k].length > 1514 && nicd.frames[k].state == IS_DELIVERED)
-            return "a frame came in that is longer than the new limit";
+            return nicd_words("frame %u of %u bytes came in, and mtu has 1514 as the longest frame: MAXFRS is 0x%08x",
+                              k, (unsigned)nicd.coming[k].length, (unsigned)nicd_peek(NIC_MAXFRS));
     return NULL;
 }
 
@@ -235,14 +240,14 @@ static const char resize_rule[] =
 const struct scenario nicd_link[] = {
     ROW("link-down", "the link goes down, and the driver knows",
         "A change of the link raises LSC; LINKS says how it is", "Link Status", RECEIVES | LINK | INTERRUPTS,
-        .setup = {.interrupts = true}, .takes = true, .links = 1, .end = judge_link),
+        .setup = {.interrupts = true}, .takes = true, .links = 1, .end = nicd_judge_link),
     ROW("link-down-up", "down and up amid traffic", "A change of the link raises LSC; LINKS says how it is",
         "Link Status", RECEIVES | LINK | INTERRUPTS, .ways = LOSSY | DROPS, .setup = {.interrupts = true},
-        .takes = true, .sends = 3, .comes = 4, .links = 2, .end = judge_link),
+        .takes = true, .sends = 3, .comes = 4, .links = 2, .end = nicd_judge_link),
     ROW("link-amid-reset", "the link goes down while the device is reset",
         "A reset takes the causes that were raised before it, so the link is looked at after it", "Link Status",
         RECEIVES | LINK | INTERRUPTS | RESET, .ways = LOSSY | DROPS, .setup = {.interrupts = true},
-        .control = reset_once, .takes = true, .links = 1, .end = judge_link),
+        .control = reset_once, .takes = true, .links = 1, .end = nicd_judge_link),
     {0}};
 
 const struct scenario nicd_resets[] = {

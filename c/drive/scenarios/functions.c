@@ -7,11 +7,16 @@ static void close_it(void)
 {
     nicd_hold();
     nicd_close();
-    for (unsigned queue = 0; queue < nicd.setup.queues; queue++)
-        nicx_check(!((nicd_peek(NIC_RXDCTL(nicd.base + queue)) | nicd_peek(NIC_TXDCTL(nicd.base + queue))) &
-                     NIC_RXDCTL_ENABLE),
-                   "a queue of the function is on, and its driver is closed");
-    nicx_check(!nicd_peek(NIC_PVTEIMS(VF)), "causes of the function are enabled, and its driver is closed");
+    for (unsigned queue = 0; queue < nicd.setup.queues; queue++) {
+        uint32_t receive = nicd_peek(NIC_RXDCTL(nicd.base + queue)),
+                 transmit = nicd_peek(NIC_TXDCTL(nicd.base + queue));
+        if ((receive | transmit) & NIC_RXDCTL_ENABLE)
+            nicd_failed("queue %u of the function is on, and its driver is closed: VFRXDCTL is 0x%08x, VFTXDCTL 0x%08x",
+                        queue, (unsigned)receive, (unsigned)transmit);
+    }
+    if (nicd_peek(NIC_PVTEIMS(VF)))
+        nicd_failed("the function's driver is closed, and its causes are enabled: VTEIMS is 0x%08x",
+                    (unsigned)nicd_peek(NIC_PVTEIMS(VF)));
     if (nicd_memory_left())
         nicx_fail(nicd.fault);
 }
@@ -224,9 +229,14 @@ static void begin_mail(void)
 static const char *judge_mail(void)
 {
     if (mail.taken < mail.given)
-        return "a message of the function was put into the mailbox, and the host never got it";
+        return nicd_words(
+            "message %u of the function was put into the mailbox, and the host never got it: VFMAILBOX is "
+            "0x%08x",
+            (unsigned)mail.taken, (unsigned)nicd_peek(NIC_PVFMAILBOX(VF)));
     if (mail.received < mail.sent)
-        return "a message of the host was put into the mailbox, and the driver never took it";
+        return nicd_words("message %u of the host was put into the mailbox, and the driver never took it: VFMAILBOX is "
+                          "0x%08x",
+                          (unsigned)mail.received, (unsigned)nicd_peek(NIC_PVFMAILBOX(VF)));
     return NULL;
 }
 

@@ -205,13 +205,19 @@ static const char *judge(void)
 {
     for (unsigned vf = 0; vf < FUNCTIONS_THERE; vf++)
         if (mail.taken[vf] < mail.given[vf])
-            return "a message of a function was put into the mailbox, and the host's driver never took it";
+            return nicd_words(
+                "message %u of function %u was put into the mailbox, and the host's driver never took it: "
+                "PFMBICR(0) is 0x%08x",
+                (unsigned)mail.taken[vf], vf, (unsigned)nicd_peek(NIC_PFMBICR(0)));
     return judge_ready();
 }
 
 static const char *judge_answer(void)
 {
-    return mail.read[0] ? judge_ready() : "the function waits for the answer to its request, and none comes";
+    return mail.read[0] ? judge_ready()
+                        : nicd_words("function 0 waits for the answer to its request, and none comes: PFMAILBOX(0) is "
+                                     "0x%08x, PFMBICR(0) 0x%08x",
+                                     (unsigned)nicd_peek(NIC_PFMAILBOX(0)), (unsigned)nicd_peek(NIC_PFMBICR(0)));
 }
 
 static void begin(void (*function)(void), const char *name)

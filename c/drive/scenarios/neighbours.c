@@ -42,15 +42,21 @@ static const char *judge(void)
     unsigned queue = others(), shift = 16 * (queue % 2);
     uint8_t byte = 0;
     if (!(nicd_peek(NIC_RXDCTL(queue)) & nicd_peek(NIC_TXDCTL(queue)) & NIC_RXDCTL_ENABLE))
-        return "the other driver's queue is off";
+        return nicd_words("queue %u, another driver's, is off: RXDCTL is 0x%08x, TXDCTL 0x%08x", queue,
+                          (unsigned)nicd_peek(NIC_RXDCTL(queue)), (unsigned)nicd_peek(NIC_TXDCTL(queue)));
     if (nicd_peek(NIC_RDBAL(queue)) != RING || nicd_peek(NIC_TDBAL(queue)) != RING + 1024)
-        return "the other driver's rings are elsewhere";
+        return nicd_words("the rings of queue %u, another driver's, are elsewhere: RDBAL is 0x%x, TDBAL 0x%x", queue,
+                          (unsigned)nicd_peek(NIC_RDBAL(queue)), (unsigned)nicd_peek(NIC_TDBAL(queue)));
     if ((nicd_peek(NIC_IVAR(queue / 2)) >> shift & 0xFFFF) != (0x80 | VECTOR) * 0x101u)
-        return "the other driver's bytes of IVAR are changed";
+        return nicd_words("the bytes of queue %u, another driver's, in IVAR(%u) are changed: it is 0x%08x", queue,
+                          queue / 2, (unsigned)nicd_peek(NIC_IVAR(queue / 2)));
     if (!(nicd_peek(NIC_EIMS) >> VECTOR & 1))
-        return "the other driver's cause is masked";
+        return nicd_words("cause %u, another driver's, is masked: EIMS is 0x%08x", VECTOR,
+                          (unsigned)nicd_peek(NIC_EIMS));
     nic_dma_read(nicx_device(), RING + NIC_BLOCK_BYTES, &byte, 1);
-    return byte == mark ? NULL : "the other driver's memory is changed";
+    return byte == mark ? NULL
+                        : nicd_words("the byte at 0x%llx, another driver's memory, is 0x%02x, and was 0x%02x",
+                                     (unsigned long long)(RING + NIC_BLOCK_BYTES), byte, mark);
 }
 
 static bool is_in_set(uint32_t address, uint32_t first)
@@ -70,7 +76,7 @@ static void see(const struct step *step, bool is_drivers)
     if ((step->kind == STEP_POKE || step->kind == STEP_PEEK || step->kind == STEP_TAKE) && step->bus >= RING)
         nicd_note("the driver reaches 0x%llx, memory of another", (unsigned long long)step->bus);
     if (step->kind == STEP_WRITE && address == NIC_EICR && step->word >> VECTOR & 1 && step->word != 0x7FFFFFFF)
-        nicd_note("the driver clears the cause of another in EICR");
+        nicd_note("EICR is written with 0x%08x, which clears cause %u, another driver's", (unsigned)step->word, VECTOR);
     if (step->kind == STEP_WRITE && (address == NIC_EIMS || address == NIC_EIMC) && step->word >> VECTOR & 1)
         nicd_note("the driver writes the mask of another's cause: 0x%08x", (unsigned)step->word);
 }

@@ -114,6 +114,12 @@ const struct reached nicd_reaches[] = {
     {"link-down", {LINK_DOWN}, NO_CALL},
     {"link-down-up", {LINK_DOWN, LINK_UP, TAKEN}, NO_CALL},
     {"link-amid-reset", {LINK_DOWN, AMID_LINK}, CALL_RESET},
+    {"link-flap", {LINK_DOWN, LINK_UP}, NO_CALL},
+
+    /* stats */
+    {"stats-receive", {TAKEN, COUNTED}, NO_CALL},
+    {"stats-send", {SENT, COUNTED}, NO_CALL},
+    {"stats-two-threads", {TAKEN, SENT, COUNTED}, NO_CALL},
 
     /* reset */
     {"reset-amid-receive", {TAKEN, AMID_IN}, CALL_RESET},

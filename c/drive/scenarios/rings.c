@@ -67,7 +67,9 @@ static void use_two_queues(void)
 /* A frame that is longer than what was agreed. */
 static void send_too_long(void)
 {
-    nicx_check(!nicd_send(0, nicd.setup.frame + 1), "send takes a frame that is longer than the setup says");
+    if (nicd_send(0, nicd.setup.frame + 1))
+        nicd_failed("send of queue 0 takes a frame of %u bytes, and the setup has %u as the longest",
+                    (unsigned)nicd.setup.frame + 1, (unsigned)nicd.setup.frame);
     nicd_send_surely(0, nicd.setup.frame);
 }
 

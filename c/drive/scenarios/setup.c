@@ -76,7 +76,8 @@ static void see_masks(const struct step *step, bool is_drivers)
     if (step->address == NIC_EIMC && (step->word & 0x7FFFFFFF) == 0x7FFFFFFF)
         seen.is_masked = true;
     if (is_reset && !seen.is_masked)
-        nicd_note("CTRL.RST is written, and EIMC didn't mask all causes before");
+        nicd_note("CTRL.RST is written, and no write of EIMC with 0x7fffffff came before: EIMS is 0x%08x",
+                  (unsigned)nicd_peek(NIC_EIMS));
     if (!is_reset)
         return;
     seen.was_reset = true;
@@ -133,17 +134,21 @@ static void see_ring(const struct step *step, bool is_drivers)
 {
     unsigned queue;
     uint32_t address = step->address, word = step->word;
+    char name[MOST_NAME];
     if (!is_write(step, is_drivers))
         return;
     see_high_half(step);
     if ((is_of_queue(address, NIC_RDBAL(0), &queue) || is_of_queue(address, NIC_TDBAL(0), &queue)) && word % 128)
-        nicd_note("a ring begins at 0x%x, which is no multiple of 128", (unsigned)word);
+        nicd_note("%s is written with 0x%x: a ring begins at a multiple of 128", nicxi_register(address, name),
+                  (unsigned)word);
     if ((is_of_queue(address, NIC_RDLEN(0), &queue) || is_of_queue(address, NIC_TDLEN(0), &queue)) &&
         (word % 128 || word != NIC_DESC_BYTES * (uint32_t)nicd.setup.slots))
-        nicd_note("a ring has %u bytes, and %u slots were asked for", (unsigned)word, nicd.setup.slots);
+        nicd_note("%s is written with %u bytes: %u slots of 16 bytes were asked for", nicxi_register(address, name),
+                  (unsigned)word, nicd.setup.slots);
     if ((is_of_queue(address, NIC_RDT(0), &queue) || is_of_queue(address, NIC_TDT(0), &queue)) &&
         word >= nicd.setup.slots)
-        nicd_note("a tail is moved to %u, and the ring has %u slots", (unsigned)word, nicd.setup.slots);
+        nicd_note("%s is moved to %u, and the ring has slots 0 to %u", nicxi_register(address, name), (unsigned)word,
+                  nicd.setup.slots - 1u);
 }
 
 static void see_buffers(const struct step *step, bool is_drivers)
@@ -152,10 +157,10 @@ static void see_buffers(const struct step *step, bool is_drivers)
     if (!is_write(step, is_drivers) || !is_of_queue(step->address, NIC_SRRCTL(0), &queue))
         return;
     if (nic_field(step->word, NIC_SRRCTL_DESCTYPE) != 1)
-        nicd_note("SRRCTL.DESCTYPE is %u, and 1 is the advanced one with one buffer",
+        nicd_note("SRRCTL(%u).DESCTYPE is %u, and 1 is the advanced one with one buffer", queue,
                   (unsigned)nic_field(step->word, NIC_SRRCTL_DESCTYPE));
     if (!nic_field(step->word, NIC_SRRCTL_BSIZEPACKET) || nic_field(step->word, NIC_SRRCTL_BSIZEPACKET) > 16)
-        nicd_note("SRRCTL.BSIZEPACKET is %u: it is 1 to 16, in KB",
+        nicd_note("SRRCTL(%u).BSIZEPACKET is %u: it is 1 to 16, in KB", queue,
                   (unsigned)nic_field(step->word, NIC_SRRCTL_BSIZEPACKET));
 }
 
@@ -285,7 +290,8 @@ static void check_masks(void)
 
 static void check_after_reset(void)
 {
-    nicx_check(!seen.was_reset || seen.is_masked, "after CTRL.RST the causes weren't masked again");
+    nicx_check(!seen.was_reset || seen.is_masked,
+               "CTRL.RST was written, and no write of EIMC with 0x7fffffff came after it");
 }
 
 static void check_loaded(void)

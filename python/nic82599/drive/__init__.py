@@ -31,9 +31,9 @@ from ..buffers import bytes_of
 from ..dma import Dma
 from ..statuses import DONE
 from .calls import ANY_WORD, CARD, Failed, Lock
-from .values import MAILBOX_WORDS, MOST_FRAME, MOST_QUEUES, Can, Filter, Rss, Setup
+from .values import MAILBOX_WORDS, MOST_FRAME, MOST_QUEUES, Can, Filter, Rss, Setup, Stats
 
-__all__ = ["Can", "Driver", "Filter", "MAILBOX_WORDS", "MOST_FRAME", "MOST_QUEUES", "Mutex", "Rss", "Setup"]
+__all__ = ["Can", "Driver", "Filter", "MAILBOX_WORDS", "MOST_FRAME", "MOST_QUEUES", "Mutex", "Rss", "Setup", "Stats"]
 
 
 def _word(word: int) -> int:
@@ -58,8 +58,8 @@ class Driver(Dma):
     The card calls `receive` of a queue on one thread at a time, and so `send` and `reclaim` of a queue; those of other
     queues beside them. `interrupt` comes at any time between open and close, on top of any thread or beside all. The
     others (close, reset, filter, rss, mtu, resize, suspend, resume) are called by one thread, and no receive, send or
-    reclaim runs meanwhile. `mailbox_send` and `mailbox_receive` are called by one thread at a time, `mailbox_ready`
-    beside them.
+    reclaim runs meanwhile. The handler of one vector never runs beside itself. `mailbox_send` and `mailbox_receive` are
+    called by one thread at a time, `mailbox_ready` beside them.
     """
 
     name = ""  # 1 to 40 letters, digits, '-' and '_'
@@ -128,6 +128,10 @@ class Driver(Dma):
 
         def link(self) -> bool:
             """Whether the link is up, as far as the driver knows; it makes no access."""
+
+        def stats(self) -> Stats:
+            """What it counted since `open`. Any thread calls it beside all others: frames and bytes of a direction are
+            of one moment, no count goes back, and none is lost. It makes no access."""
 
         def mailbox_send(self, vf: int, words: tuple[int, ...]) -> bool:
             """Puts 1 to 16 words in the mailbox for the other side, as host for this function, as function for its

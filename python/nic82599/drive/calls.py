@@ -39,7 +39,8 @@ MOST_DMA = 524_288
 # What the card asks of a driver, by the numbers of c/drive/python/calls.c. Those from `receive` on may be missing.
 FUNCTIONS = (
     "begin", "open", "close", "receive", "send", "reclaim", "interrupt", "rearm", "thread", "filter", "rss", "mtu",
-    "resize", "reset", "suspend", "resume", "link", "mailbox_send", "mailbox_receive", "mailbox_ready", "condition",
+    "resize", "reset", "suspend", "resume", "link", "mailbox_send", "mailbox_receive", "mailbox_ready", "stats",
+    "condition",
 )  # fmt: skip
 OPTIONAL = FUNCTIONS[3:-1]
 
@@ -149,6 +150,12 @@ def _number(name: str, told: object) -> int:
     raise TypeError(f"{name} answers {shown}, and not a number of 0 to 4,294,967,295")
 
 
+def _count(told: object) -> int:
+    if isinstance(told, int) and not isinstance(told, bool) and 0 <= told < ANY_WORD**2:
+        return told
+    raise TypeError(f"stats answers {told!r:.40}, and not four counts of 64 bits")
+
+
 def _nothing(_name: str, _told: object) -> int:
     return 0
 
@@ -174,6 +181,14 @@ def _put_words(told: object, place: int) -> int:
         raise TypeError(f"mailbox_receive answers {type(told).__name__}, and not 16 words or None")
     room = (_U32 * MAILBOX_WORDS).from_address(place)
     room[:] = [_number("mailbox_receive", word) for word in told]
+    return 1
+
+
+def _put_stats(told: object, place: int) -> int:
+    if not isinstance(told, tuple) or len(told) != 4:
+        raise TypeError(f"stats answers {type(told).__name__}, and not Stats")
+    room = (_U64 * 4).from_address(place)
+    room[:] = [_count(count) for count in told]
     return 1
 
 
@@ -338,6 +353,9 @@ class Card:
 
     def _mailbox_receive(self, vf: int, place: int, _c: int) -> int:
         return _put_words(self._driver.mailbox_receive(vf), place)
+
+    def _stats(self, place: int, _b: int, _c: int) -> int:
+        return _put_stats(self._driver.stats(), place)
 
     def _condition(self, number: int, _b: int, _c: int) -> int:
         return int(bool(self._conditions[number]()))

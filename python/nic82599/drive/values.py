@@ -4,6 +4,7 @@ from __future__ import annotations
 
 from dataclasses import dataclass
 from enum import Flag
+from typing import NamedTuple
 
 MOST_QUEUES = 4
 MOST_FRAME = 9724
@@ -38,6 +39,15 @@ class Setup:
     interrupts: bool  # whether `interrupt` will be called; else the driver leaves all causes masked
     address: bytes  # the port's own, as its EEPROM or its host gives it: 6 bytes
     functions: int  # of port 0: it is the host of so many virtual functions, 0 or 2 (nic82599_drive.h)
+
+
+class Stats(NamedTuple):
+    """What a driver counted since `open`."""
+
+    rx_frames: int  # that were handed up
+    rx_bytes: int
+    tx_frames: int  # that `send` took
+    tx_bytes: int
 
 
 @dataclass(frozen=True)

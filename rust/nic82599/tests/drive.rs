@@ -314,14 +314,14 @@ const fn unless<T: Copy>(left_out: bool, function: T) -> Option<T> {
 }
 
 /// The number behind those of functions: it lacks none, and says what it never does.
-const NEVER: usize = 17;
+const NEVER: usize = 18;
 const NEVER_DOES: Can =
     Can::NO_MODERATION.and(Can::NO_HEADS).and(Can::ONE_VECTOR).and(Can::ONE_BUFFER).and(Can::NO_ADDRESS);
 const ALL_CAN: Can = Can::SHARED_SEND.and(Can::FUNCTIONS).and(Can::SHARED_DEVICE).and(Can::HOST);
 const NO_RESET: &str = "no reset of the device (NICD_SHARED_DEVICE)";
 
 /// What stands in the card's list for a function that is left out; no row asks for `rearm` alone.
-const LACKS: [&str; 17] = [
+const LACKS: [&str; 18] = [
     "no receive",
     "no send",
     "no reclaim",
@@ -338,6 +338,7 @@ const LACKS: [&str; 17] = [
     "no mailbox_send and mailbox_receive",
     "no mailbox_send and mailbox_receive",
     "no mailbox_ready",
+    "no stats",
     "",
 ];
 
@@ -362,6 +363,7 @@ impl<const LEFT_OUT: u8> Driver for Without<LEFT_OUT> {
     const MAILBOX_SEND: Option<MailboxSend<Self>> = unless(LEFT_OUT == 13, |_, _, _, _| false);
     const MAILBOX_RECEIVE: Option<MailboxReceive<Self>> = unless(LEFT_OUT == 14, |_, _, _| None);
     const MAILBOX_READY: Option<Plain<Self>> = unless(LEFT_OUT == 15, |_, _| false);
+    const STATS: Option<fn(&Self) -> Stats> = unless(LEFT_OUT == 16, |_| Stats::default());
 
     fn new() -> Self {
         Without
@@ -382,7 +384,7 @@ macro_rules! programs {
 }
 
 const FAULTY: [fn() -> ExitCode; 13] = programs!(Both: 0 1 2 3 4 5 6 7 8 9 10 11 12);
-const LACKING: [fn() -> ExitCode; NEVER + 1] = programs!(Without: 0 1 2 3 4 5 6 7 8 9 10 11 12 13 14 15 16 17);
+const LACKING: [fn() -> ExitCode; NEVER + 1] = programs!(Without: 0 1 2 3 4 5 6 7 8 9 10 11 12 13 14 15 16 17 18);
 
 fn program(name: &str) -> ExitCode {
     let number = |from: &str| name.strip_prefix(from).and_then(|it| it.parse::<usize>().ok());

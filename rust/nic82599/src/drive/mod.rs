@@ -76,7 +76,7 @@ pub const MAILBOX_WORDS: usize = 16;
 /// The card calls `RECEIVE` of a queue on one thread at a time, and so `SEND` and `RECLAIM` of a queue; those of other
 /// queues beside them. `INTERRUPT` comes at any time between open and close, on top of any thread or beside all. The
 /// others (close, reset, filter, rss, mtu, resize, suspend, resume) are called by one thread, and no receive, send or
-/// reclaim runs meanwhile. `MAILBOX_SEND` and `MAILBOX_RECEIVE` are called by one thread at a time, `MAILBOX_READY`
+/// reclaim runs meanwhile. The handler of one vector never runs beside itself. `MAILBOX_SEND` and `MAILBOX_RECEIVE` are called by one thread at a time, `MAILBOX_READY`
 /// beside them.
 pub trait Driver: Sized + 'static {
     /// Of 1 to 40 letters, digits, '-' and '_'.
@@ -131,6 +131,10 @@ pub trait Driver: Sized + 'static {
     /// Whether the link is up, as far as the driver knows; it makes no access.
     const LINK: Option<fn(&Self) -> bool> = None;
 
+    /// What it counted since `open`. Any thread calls it beside all others: frames and bytes of a direction are of one
+    /// moment, no count goes back, and none is lost. It makes no access.
+    const STATS: Option<fn(&Self) -> Stats> = None;
+
     /// Tells the other side something.
     const MAILBOX_SEND: Option<MailboxSend<Self>> = None;
     /// Takes a message of the other side, and acknowledges it: `None` where none is there.
@@ -158,6 +162,19 @@ pub type Plain<D> = fn(&D, &Platform) -> bool;
 pub type MailboxSend<D> = fn(&D, &Platform, u8, &[u32]) -> bool;
 /// Takes a message of a function, or of the host.
 pub type MailboxReceive<D> = fn(&D, &Platform, u8) -> Option<[u32; MAILBOX_WORDS]>;
+
+/// What a driver counted since `open`.
+#[derive(Clone, Copy, Debug, Default, PartialEq, Eq)]
+pub struct Stats {
+    /// Frames that were handed up.
+    pub rx_frames: u64,
+    /// Their bytes.
+    pub rx_bytes: u64,
+    /// Frames that `SEND` took.
+    pub tx_frames: u64,
+    /// Their bytes.
+    pub tx_bytes: u64,
+}
 
 /// What a driver can beside its functions: `Can::SHARED_SEND | Can::FUNCTIONS`.
 #[derive(Clone, Copy, Debug, Default, PartialEq, Eq)]

@@ -12,7 +12,7 @@ use std::os::raw::{c_char, c_int, c_void};
 use std::rc::Rc;
 use std::slice;
 
-use super::{Driver, Filter, Frame, Platform, Rss, Setup, MAILBOX_WORDS, MOST_FRAME};
+use super::{Driver, Filter, Frame, Platform, Rss, Setup, Stats, MAILBOX_WORDS, MOST_FRAME};
 use crate::explore::raw::{
     arguments, at_point, caught, fail, plain_calls, text, told, unwinding, why_not, within, Driven,
 };
@@ -59,6 +59,15 @@ struct RawRss {
 
 type Plain = extern "C" fn() -> bool;
 
+/// `struct nicd_stats`.
+#[repr(C)]
+struct RawStats {
+    rx_frames: u64,
+    rx_bytes: u64,
+    tx_frames: u64,
+    tx_bytes: u64,
+}
+
 /// `struct nicd_driver`.
 #[repr(C)]
 struct RawDriver {
@@ -88,6 +97,7 @@ struct RawDriver {
     mailbox_send: Option<extern "C" fn(u8, *const u32, u32) -> bool>,
     mailbox_receive: Option<extern "C" fn(u8, *mut u32) -> bool>,
     mailbox_ready: Option<Plain>,
+    stats: Option<extern "C" fn(*mut RawStats)>,
 }
 
 extern "C" {
@@ -200,6 +210,13 @@ extern "C" fn link<D: Driver>() -> bool {
     called::<D, _>(false, |driver, _| of(D::LINK)(driver))
 }
 
+extern "C" fn stats<D: Driver>(room: *mut RawStats) {
+    let Stats { rx_frames, rx_bytes, tx_frames, tx_bytes } =
+        called::<D, _>(Stats::default(), |driver, _| of(D::STATS)(driver));
+    // SAFETY: the card gives room for them that nobody else touches while the function runs.
+    unsafe { *room = RawStats { rx_frames, rx_bytes, tx_frames, tx_bytes } }
+}
+
 extern "C" fn mailbox_send<D: Driver>(vf: u8, words: *const u32, count: u32) -> bool {
     // SAFETY: the card gives so many words, which stay as they are while the function runs.
     let words = unsafe { slice::from_raw_parts(words, count as usize) };
@@ -270,6 +287,7 @@ fn raw_driver<D: Driver>(name: &CString) -> RawDriver {
         mailbox_send: D::MAILBOX_SEND.map(|_| mailbox_send::<D> as _),
         mailbox_receive: D::MAILBOX_RECEIVE.map(|_| mailbox_receive::<D> as _),
         mailbox_ready: D::MAILBOX_READY.map(|_| mailbox_ready::<D> as _),
+        stats: D::STATS.map(|_| stats::<D> as _),
     }
 }
 

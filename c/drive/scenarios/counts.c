@@ -1,0 +1,119 @@
+/* What other threads look at: statistics, and the state of the link. */
+#include "../engine/drive.h"
+
+enum { LENGTH = 60, LOOKS = 6, LOOKERS = 2 };
+
+/* What each thread that looks was told last. */
+static nicd_stats told[LOOKERS];
+
+/* --- statistics --- */
+
+struct direction {
+    const char *name;
+    uint64_t frames, bytes, before; /* before: frames as this thread was told last */
+};
+
+/* All frames of these rows have the same length. */
+static void judge_direction(const struct direction *it)
+{
+    unsigned long long frames = it->frames, bytes = it->bytes, before = it->before;
+    if (frames < before)
+        nicd_failed("stats: %s_frames is %llu, and was %llu before: a count never goes back", it->name, frames, before);
+    if (bytes != frames * LENGTH)
+        nicd_failed("stats: %s_frames is %llu and %s_bytes %llu, of frames of %u bytes: the two aren't of one moment",
+                    it->name, frames, it->name, bytes, LENGTH);
+}
+
+static void look(unsigned looker)
+{
+    nicd_stats now = {0, 0, 0, 0}, *before = &told[looker];
+    nicd_calls(BESIDE_ALL);
+    nicd.driver->stats(&now);
+    judge_direction(&(struct direction){"rx", now.rx_frames, now.rx_bytes, before->rx_frames});
+    judge_direction(&(struct direction){"tx", now.tx_frames, now.tx_bytes, before->tx_frames});
+    if (now.rx_frames + now.tx_frames && now.rx_frames + now.tx_frames > before->rx_frames + before->tx_frames)
+        nicd_reach(COUNTED);
+    *before = now;
+}
+
+static void look_often(void)
+{
+    for (unsigned k = 0; k < LOOKS; k++) {
+        look(0);
+        nicx_pause();
+    }
+}
+
+static void look_too(void *unused)
+{
+    (void)unused;
+    for (unsigned k = 0; k < LOOKS; k++) {
+        look(1);
+        nicx_pause();
+    }
+}
+
+static void begin_counts(void)
+{
+    for (unsigned k = 0; k < LOOKERS; k++)
+        told[k] = (nicd_stats){0, 0, 0, 0};
+}
+
+static void begin_two(void)
+{
+    begin_counts();
+    nicx_task("stats", look_too, NULL);
+}
+
+/* Null, or what is wrong with one count at the end. */
+static const char *judge_count(const char *what, uint64_t count, uint64_t wanted)
+{
+    if (count == wanted)
+        return NULL;
+    return nicd_words("stats: %s is %llu at the end, and the card counted %llu", what, (unsigned long long)count,
+                      (unsigned long long)wanted);
+}
+
+static const char *judge_counts(void)
+{
+    nicd_stats now = {0, 0, 0, 0};
+    uint64_t sent = 0;
+    for (unsigned queue = 0; queue < NICD_QUEUES; queue++)
+        sent += nicd.accepted[queue];
+    nicd.driver->stats(&now);
+    const char *fault = judge_count("rx_frames", now.rx_frames, nicd.delivered);
+    fault = fault ? fault : judge_count("rx_bytes", now.rx_bytes, (uint64_t)nicd.delivered * LENGTH);
+    fault = fault ? fault : judge_count("tx_frames", now.tx_frames, sent);
+    return fault ? fault : judge_count("tx_bytes", now.tx_bytes, sent * LENGTH);
+}
+
+/* --- the link --- */
+
+static void read_link(void)
+{
+    for (unsigned k = 0; k < LOOKS; k++) {
+        nicd_calls(BESIDE_ALL);
+        nicd.driver->link();
+        nicx_pause();
+    }
+}
+
+static const char rule[] = "A thread reads statistics beside all others: frames and bytes are of one moment, no count "
+                           "goes back, and none is lost";
+
+const struct scenario nicd_counts[] = {
+    ROW("stats-receive", "statistics are read while frames come", rule, "stats of the adapter", RECEIVES | STATS,
+        .begin = begin_counts, .control = look_often, .takes = true, .comes = 4, .end = judge_counts),
+    ROW("stats-send", "statistics are read while frames are sent", rule, "stats of the adapter", SENDS | STATS,
+        .begin = begin_counts, .control = look_often, .sends = 4, .end = judge_counts),
+    ROW("stats-two-threads", "two threads read statistics while frames come and go", rule, "stats of the adapter",
+        RECEIVES | SENDS | STATS, .setup = {.interrupts = true}, .begin = begin_two, .control = look_often,
+        .takes = true, .sends = 3, .comes = 3, .end = judge_counts),
+    {0}};
+
+const struct scenario nicd_link_read[] = {
+    ROW("link-flap", "the link goes down, up and down while another thread reads its state",
+        "Changes that come before the handler looks raise LSC once; LINKS says how the link is", "Link Status",
+        RECEIVES | LINK | INTERRUPTS, .setup = {.interrupts = true}, .control = read_link, .takes = true, .links = 3,
+        .end = nicd_judge_link),
+    {0}};

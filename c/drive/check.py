@@ -221,8 +221,8 @@ def check_accesses(kit: Kit) -> str:
 def check_seen(kit: Kit, runs: int, rows: str) -> str:
     """The right drivers have no race where accesses are seen, by calls and by threads of their own."""
     said = []
+    how: list[object] = ["--rows", rows, "--runs", runs, "--every", runs, "--jobs", kit.jobs, "--no-pages", *PATIENT]
     for source, defines in (("driver.c", ""), ("driver.c", "-DTHREADS"), ("pages.c", "")):
-        how: list[object] = ["--rows", rows, "--runs", runs, "--every", runs, "--jobs", kit.jobs, "--no-pages", *PATIENT]
         nicdrive(kit.folder / "seen", [HERE / "corpus" / source, f"--flags={defines}", *how], None)
         said.append(str(len(none_failed(rows_of(kit.folder / "seen")))))
     return f"{', '.join(said)} rows of right drivers whose accesses are seen"

@@ -647,7 +647,7 @@ def check_orders(kit: Kit, states: int) -> str:
 
 
 # Of the driver: a host's or a function's, its tasks apart by what the scenario says, or by what they are told to touch.
-SLEEPING = ("", "vf", "apart", "vf apart", "told", "vf told", "vf weak", "three", "four told")
+SLEEPING = ("", "vf", "apart", "vf apart", "told", "vf told", "vf weak", "three", "four")
 
 
 def check_sleeping(kit: Kit, scenarios: int) -> str:

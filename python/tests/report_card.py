@@ -56,7 +56,7 @@ WRONG = {
     "Recurses": ("receive-one", "check: RecursionError: "),
     "OpenAnswersNone": ("receive-one", "TypeError: open answers NoneType, and not True or False"),
     "CountsInTwoSteps": ("stats-receive", "check: stats: rx_frames is 1 and rx_bytes 0, of frames of 60 bytes"),
-    "StatsAnswersText": ("stats-send", "check: TypeError: stats answers str, and not Stats"),
+    "StatsAnswersText": ("stats-send", "check: TypeError: stats answers str, but wants Stats"),
     "ReceiveAnswersText": ("receive-one", "check: TypeError: receive answers str, and not bytes"),
     "ReclaimAnswersBelowZero": ("send-one", "check: TypeError: reclaim answers -1, and not a number"),
     "FrameTooLong": ("receive-one", "check: a frame of 9725 bytes is handed up in queue 0"),

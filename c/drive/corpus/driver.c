@@ -947,7 +947,7 @@ static bool link_is_up(void)
 
 /* --- the mailbox --- */
 
-/* Several threads read VFMAILBOX: each keeps what is told once for the others too. */
+/* Several threads read VFMAILBOX: each keeps bits that one read clears for the others too. */
 static uint32_t seen(void)
 {
     return __atomic_load_n(&driver.seen, __ATOMIC_ACQUIRE);

@@ -363,7 +363,7 @@ static void look_at_link(void)
 {
     nicx_interrupts_off();
     nicx_lock(&card.looks);
-    card.link = (nicx_read32(NIC_LINKS) & NIC_LINKS_LINK_UP) != 0;
+    __atomic_store_n(&card.link, (nicx_read32(NIC_LINKS) & NIC_LINKS_LINK_UP) != 0, __ATOMIC_RELEASE);
     nicx_unlock(&card.looks);
     nicx_interrupts_on();
 }
@@ -514,7 +514,7 @@ static bool resume(void)
 
 static bool link_is_up(void)
 {
-    return card.link;
+    return __atomic_load_n(&card.link, __ATOMIC_ACQUIRE);
 }
 
 int main(int argc, char **argv)

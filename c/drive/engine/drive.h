@@ -115,7 +115,7 @@ enum reach {
     MAIL_TAKEN, /* the driver took one of the other side, as a host of function 0 */
     MAIL_TAKEN_1,
     IS_READY,
-    COUNTED, /* stats told more than before, as a thread of the row called it */
+    COUNTED, /* stats returned more than before to a thread of the row */
     REACHES
 };
 

@@ -3,14 +3,14 @@
 
 enum { LENGTH = 60, LOOKS = 6, LOOKERS = 2 };
 
-/* What each thread that looks was told last. */
-static nicd_stats told[LOOKERS];
+/* What each thread that looks got last. */
+static nicd_stats last[LOOKERS];
 
 /* --- statistics --- */
 
 struct direction {
     const char *name;
-    uint64_t frames, bytes, before; /* before: frames as this thread was told last */
+    uint64_t frames, bytes, before; /* before: frames as this thread got them last */
 };
 
 /* All frames of these rows have the same length. */
@@ -26,7 +26,7 @@ static void judge_direction(const struct direction *it)
 
 static void look(unsigned looker)
 {
-    nicd_stats now = {0, 0, 0, 0}, *before = &told[looker];
+    nicd_stats now = {0, 0, 0, 0}, *before = &last[looker];
     nicd_calls(BESIDE_ALL);
     nicd.driver->stats(&now);
     judge_direction(&(struct direction){"rx", now.rx_frames, now.rx_bytes, before->rx_frames});
@@ -56,7 +56,7 @@ static void look_too(void *unused)
 static void begin_counts(void)
 {
     for (unsigned k = 0; k < LOOKERS; k++)
-        told[k] = (nicd_stats){0, 0, 0, 0};
+        last[k] = (nicd_stats){0, 0, 0, 0};
 }
 
 static void begin_two(void)

@@ -153,7 +153,7 @@ def _number(name: str, told: object) -> int:
 def _count(told: object) -> int:
     if isinstance(told, int) and not isinstance(told, bool) and 0 <= told < ANY_WORD**2:
         return told
-    raise TypeError(f"stats answers {told!r:.40}, and not four counts of 64 bits")
+    raise TypeError(f"stats answers {told!r:.40}, but wants four counts of 64 bits")
 
 
 def _nothing(_name: str, _told: object) -> int:
@@ -186,7 +186,7 @@ def _put_words(told: object, place: int) -> int:
 
 def _put_stats(told: object, place: int) -> int:
     if not isinstance(told, tuple) or len(told) != 4:
-        raise TypeError(f"stats answers {type(told).__name__}, and not Stats")
+        raise TypeError(f"stats answers {type(told).__name__}, but wants Stats")
     room = (_U64 * 4).from_address(place)
     room[:] = [_count(count) for count in told]
     return 1

@@ -103,8 +103,8 @@ enum nicd_can {
    The card calls `receive` of a queue on one thread at a time, and so `send` and `reclaim` of a queue; those of other
    queues beside them. `interrupt` comes at any time between open and close, on top of any thread or beside all. The
    others (close, reset, filter, rss, mtu, resize, suspend, resume) are called by one thread, and no receive, send or
-   reclaim runs meanwhile. The handler of one vector never runs beside itself. mailbox_send and mailbox_receive are called by one thread at a time, mailbox_ready beside
-   them. Threads of the driver's own are its own to keep apart. */
+   reclaim runs meanwhile. The handler of one vector never runs beside itself. mailbox_send and mailbox_receive are
+   called by one thread at a time, mailbox_ready beside them. Threads of the driver's own are its own to keep apart. */
 typedef struct nicd_driver {
     const char *name; /* letters, digits, '-' and '_', at most 40 */
     uint32_t can;     /* of enum nicd_can */

@@ -307,8 +307,8 @@ const char *nicd_call_name(enum call call);
 
 /* --- what the adapter's contract says of two calls: the second one comes after the first one has returned --- */
 
-/* Around each call of the driver. Those of `queue` (receive, reclaim, send, rearm) come after open, and after what holds
-   the flow; those that hold it, after the calls of queues; those of the mailbox and of a vector one at a time. */
+/* Around each call of the driver. Those of a queue (receive, reclaim, send, rearm) come after open, and after what
+   holds the flow; those that hold it, after the calls of queues; those of the mailbox and of a vector one at a time. */
 enum contract { OF_QUEUE, OF_CONTROL, OF_MAILBOX, BESIDE_ALL };
 void nicd_calls(enum contract contract);
 void nicd_called(enum contract contract);

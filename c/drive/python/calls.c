@@ -2,6 +2,7 @@
 #include <stdio.h>
 #include <string.h>
 
+#include "../../explore/engine/parts.h"
 #include "../../explore/engine/places.h"
 #include "../engine/drive.h"
 #include "python.h"
@@ -177,6 +178,7 @@ int nicp_main(int argc, char **argv, const struct nicp_driver *given)
     };
     nicp_begin_thread = python.begin_thread;
     nicxi_ask_for_lines = lines_of;
+    nicxi_to_be_seen = "call self.point() where threads of the driver share what they keep";
     nicp_open();
     return nicd_main(argc, argv, &driver);
 }

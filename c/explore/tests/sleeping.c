@@ -2,8 +2,8 @@
    by chance, what the driver saw and what the device is at the end of each schedule. `sleeping SCENARIOS SEED MODE..`:
    by `vf` the queue is a virtual function's, and the driver is its too; by `apart` its tasks share nothing but a lock
    and what it keeps, and the scenario says that it is race-free; by `told` each access of its memory is told; by `weak`
-   memory is weak; by `three` and `four` there are so many transmit queues, and the search without sleep sets wakes all of
-   them where the other one wakes the queue that was written. */
+   memory is weak; by `three` and `four` there are so many transmit queues, and the search without sleep sets wakes all
+   of them where the other one wakes the queue that was written. */
 #include <stdio.h>
 #include <stdlib.h>
 #include <string.h>
@@ -45,25 +45,23 @@ static void count_in_lock(uint64_t *sum)
 /* With several queues: each of these for each of them. */
 enum { QUEUED = 64, MOST_QUEUES = 4, ON_QUEUE = 5 };
 
-static void act_on_queue(uint64_t *sum, unsigned what, unsigned queue)
+static void act_on_queue(unsigned who, unsigned doing)
 {
-    switch (what) {
+    uint64_t *sum = &seen[who];
+    unsigned queue = doing % MOST_QUEUES;
+    switch (doing / MOST_QUEUES) {
     case 0: *sum = chance_mixed(*sum, nicx_read32(NIC_TDH(queue))); break;
     case 1: nicx_write32(NIC_TDT(queue), 1); break;
     case 2: nicx_write32(NIC_TXDCTL(queue), 0); break;
     case 3: nicx_write32(NIC_TXDCTL(queue), ENABLE); break;
     default: *sum = chance_mixed(*sum, nicx_read32(NIC_TXDCTL(queue))); break;
     }
+    tell(sum, sizeof *sum, true);
 }
 
 static void act(unsigned who, uint8_t doing)
 {
     uint64_t *sum = &seen[who];
-    if (doing >= QUEUED) {
-        act_on_queue(sum, (doing - QUEUED) / MOST_QUEUES, doing % MOST_QUEUES);
-        tell(sum, sizeof *sum, true);
-        return;
-    }
     switch (doing) {
     case 0: *sum = chance_mixed(*sum, nicx_read32(NIC_RDH(0))); break;
     case 1: *sum = chance_mixed(*sum, nicx_read32(NIC_TDH(0))); break;
@@ -109,7 +107,10 @@ static void task(void *argument)
 {
     unsigned who = *(const unsigned *)argument;
     for (unsigned k = 0; k < LENGTH; k++)
-        act(who, doings[who][k]);
+        if (doings[who][k] < QUEUED)
+            act(who, doings[who][k]);
+        else
+            act_on_queue(who, doings[who][k] - (unsigned)QUEUED);
 }
 
 static void handler(void *unused)

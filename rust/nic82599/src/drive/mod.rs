@@ -76,8 +76,8 @@ pub const MAILBOX_WORDS: usize = 16;
 /// The card calls `RECEIVE` of a queue on one thread at a time, and so `SEND` and `RECLAIM` of a queue; those of other
 /// queues beside them. `INTERRUPT` comes at any time between open and close, on top of any thread or beside all. The
 /// others (close, reset, filter, rss, mtu, resize, suspend, resume) are called by one thread, and no receive, send or
-/// reclaim runs meanwhile. The handler of one vector never runs beside itself. `MAILBOX_SEND` and `MAILBOX_RECEIVE` are called by one thread at a time, `MAILBOX_READY`
-/// beside them.
+/// reclaim runs meanwhile. The handler of one vector never runs beside itself. `MAILBOX_SEND` and `MAILBOX_RECEIVE` are
+/// called by one thread at a time, `MAILBOX_READY` beside them.
 pub trait Driver: Sized + 'static {
     /// Of 1 to 40 letters, digits, '-' and '_'.
     const NAME: &'static str;

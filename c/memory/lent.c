@@ -34,7 +34,7 @@ static uint8_t *exchange(nic *n, uint32_t block, uint8_t *bytes)
    caller's memory is still in, and comes back: then the table still has the block's own. */
 static bool put_in(nic *n, struct nicd_table *it, uint32_t number)
 {
-    struct nicd_block *block = &it->blocks[number];
+    struct nicd_block *block = &it->runs.blocks[number];
     uint8_t *former = exchange(n, number, block->host);
     if (former && former != block->host)
         block->own = former;
@@ -45,9 +45,9 @@ static bool put_in(nic *n, struct nicd_table *it, uint32_t number)
    lost, the block's own is in already, and comes back. */
 static bool take_out(nic *n, struct nicd_table *it, uint32_t number)
 {
-    bool is_out = exchange(n, number, it->blocks[number].own);
+    bool is_out = exchange(n, number, it->runs.blocks[number].own);
     if (is_out)
-        it->blocks[number].own = NULL;
+        it->runs.blocks[number].own = NULL;
     return is_out;
 }
 
@@ -103,12 +103,11 @@ uint8_t nicd_lend_memory(nic *n, uint64_t bus, void *memory, size_t bytes)
     uint8_t status = lend_each(n, range);
     if (status != NIC_DONE)
         return status;
-    struct nicd_table *it = nicd_table_with_room(n, range.end);
+    struct nicd_table *it = nicd_table_with(n, range.first, range.end, memory);
     if (!it) {
         take_each(n, range);
         return NIC_OUT_OF_MEMORY;
     }
-    nicd_table_add(it, range.first, range.end, memory);
     for (uint32_t block = range.first; block < range.end; block++)
         if (!put_in(n, it, block))
             status = NIC_BROKEN;
@@ -154,8 +153,9 @@ void nicd_free_in_place(nic n)
 {
     struct nicd_table *it = nicd_table_of(&n);
     if (it) {
-        for (uint32_t place = 0; place < it->count; place++)
-            take_out(&n, it, it->by_address[place]);
+        for (uint32_t block = 0; block < it->room; block++)
+            if (nicd_table_has(it, block))
+                take_out(&n, it, block);
         nicd_table_close(it);
     }
     nicd_free(n);
@@ -167,7 +167,7 @@ void nicd_free_in_place(nic n)
    doesn't lend it, the memory is given back. A refused restore has left the bytes in the caller's memory. */
 static void back_in_place(nic *n, struct nicd_table *it, uint32_t number, bool is_restored)
 {
-    uint8_t *host = it->blocks[number].host;
+    uint8_t *host = it->runs.blocks[number].host;
     if (is_restored && nicd_dma_read(n, (uint64_t)number * NICD_BLOCK, host, NICD_BLOCK) != NIC_DONE)
         nicd_table_remove(it, number, number + 1);
     else

@@ -21,7 +21,7 @@ static void each_part(const nic *n, uint64_t bus, uint64_t length, look *look, n
     while (it && length && bus / NICD_BLOCK < it->room) {
         uint32_t number = (uint32_t)(bus / NICD_BLOCK), from = (uint32_t)(bus % NICD_BLOCK);
         uint32_t more = length < NICD_BLOCK - from ? (uint32_t)length : NICD_BLOCK - from;
-        struct part part = {&it->blocks[number], bus - from, from, from + more};
+        struct part part = {&it->runs.blocks[number], bus - from, from, from + more};
         if (part.block->host) {
             if (!part.block->shadow)
                 part.block->shadow = calloc(1, NICD_BLOCK);

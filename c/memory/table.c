@@ -5,9 +5,13 @@
 #include <stdlib.h>
 #include <string.h>
 
-/* The list of tables, what is in `by_address`, and the borders are changed, and others' read, with this held. */
+#include "starts.h"
+
+/* The tables, where blocks begin, and the borders are changed, and others' read, with this held. */
 static pthread_mutex_t lock = PTHREAD_MUTEX_INITIALIZER;
-static struct nicd_table *tables;
+static struct nicd_by_device tables;
+/* How many there are: what each call looks at. */
+static size_t count;
 
 /* All memory of callers' is from `lowest` on and below `beyond`. */
 static uintptr_t lowest = UINTPTR_MAX, beyond;
@@ -27,42 +31,18 @@ void nicd_table_let_go(void)
 
 /* --- by address --- */
 
-static uintptr_t address_at(const struct nicd_table *it, uint32_t place)
-{
-    return (uintptr_t)it->blocks[it->by_address[place]].host;
-}
-
-/* How many blocks end at or below an address. */
-static uint32_t below_address(const struct nicd_table *it, uintptr_t address)
-{
-    uint32_t low = 0, high = it->count;
-    while (low < high) {
-        uint32_t middle = low + (high - low) / 2;
-        if (address_at(it, middle) + NICD_BLOCK <= address)
-            low = middle + 1;
-        else
-            high = middle;
-    }
-    return low;
-}
-
-static bool has_between(const struct nicd_table *it, uintptr_t from, uintptr_t to)
-{
-    uint32_t place = below_address(it, from);
-    return place < it->count && address_at(it, place) < to;
-}
-
 bool nicd_table_has_bytes(const struct nicd_table *it, const void *memory, size_t bytes)
 {
-    return it && has_between(it, (uintptr_t)memory, (uintptr_t)memory + bytes);
+    uint32_t run = it ? nicd_runs_above(&it->runs, (uintptr_t)memory) : NICD_NO_RUN;
+    return run != NICD_NO_RUN && nicd_run_begin(&it->runs, run) < (uintptr_t)memory + bytes;
 }
 
 bool nicd_table_bus_of(const struct nicd_table *it, uint64_t address, uint64_t *bus)
 {
-    uint32_t place = it && address <= UINTPTR_MAX ? below_address(it, (uintptr_t)address) : 0;
-    if (!it || place >= it->count || address > UINTPTR_MAX || address_at(it, place) > address)
+    uint32_t run = it && address <= UINTPTR_MAX ? nicd_runs_at(&it->runs, (uintptr_t)address) : NICD_NO_RUN;
+    if (run == NICD_NO_RUN || address >= nicd_run_end(&it->runs, run))
         return false;
-    *bus = (uint64_t)it->by_address[place] * NICD_BLOCK + (address - address_at(it, place));
+    *bus = (uint64_t)run * NICD_BLOCK + (address - nicd_run_begin(&it->runs, run));
     return true;
 }
 
@@ -71,7 +51,8 @@ bool nicd_table_low_half(const struct nicd_table *it, uint64_t low, uint64_t *ad
 {
     uint64_t bus;
     for (int side = 0; it && it->count && low <= UINT32_MAX && side < 2; side++) {
-        uint64_t at = address_at(it, side ? it->count - 1 : 0) + (uint64_t)(side ? NICD_BLOCK - 1 : 0);
+        uint64_t at = side ? nicd_run_end(&it->runs, nicd_runs_last(&it->runs)) - 1u
+                           : nicd_run_begin(&it->runs, nicd_runs_above(&it->runs, 0));
         *address = (at & ~(uint64_t)UINT32_MAX) | low;
         if (*address != low && nicd_table_bus_of(it, *address, &bus))
             return true;
@@ -79,26 +60,28 @@ bool nicd_table_low_half(const struct nicd_table *it, uint64_t low, uint64_t *ad
     return false;
 }
 
-static void note_borders(void)
+/* Memory from one address on and below another is a caller's; the borders are narrow again where none is. */
+static void widen(uintptr_t from, uintptr_t to)
 {
-    uintptr_t low = UINTPTR_MAX, high = 0;
-    for (const struct nicd_table *it = tables; it; it = it->next) {
-        if (!it->count)
-            continue;
-        uintptr_t end = address_at(it, it->count - 1) + NICD_BLOCK;
-        low = address_at(it, 0) < low ? address_at(it, 0) : low;
-        high = end > high ? end : high;
-    }
-    __atomic_store_n(&lowest, low, __ATOMIC_RELAXED);
-    __atomic_store_n(&beyond, high, __ATOMIC_RELAXED);
+    if (from < lowest)
+        __atomic_store_n(&lowest, from, __ATOMIC_RELAXED);
+    if (to > beyond)
+        __atomic_store_n(&beyond, to, __ATOMIC_RELAXED);
+}
+
+static void forget_start(uint8_t *host)
+{
+    nicd_starts_remove((uintptr_t)host);
+    if (!nicd_starts_is_empty())
+        return;
+    __atomic_store_n(&lowest, UINTPTR_MAX, __ATOMIC_RELAXED);
+    __atomic_store_n(&beyond, (uintptr_t)0, __ATOMIC_RELAXED);
 }
 
 static __attribute__((noinline)) bool is_callers(uintptr_t address)
 {
-    bool is_there = false;
     nicd_table_hold();
-    for (const struct nicd_table *it = tables; it && !is_there; it = it->next)
-        is_there = has_between(it, address, address + 1);
+    bool is_there = nicd_starts_has(address);
     nicd_table_let_go();
     return is_there;
 }
@@ -116,15 +99,18 @@ void nicd_dealloc(void *piece)
 
 /* --- tables --- */
 
+static void note_count(void)
+{
+    __atomic_store_n(&count, tables.count, __ATOMIC_RELAXED);
+}
+
 /* Where no controller has one, nobody waits for the lock. A thread sees the tables that it made. */
 struct nicd_table *nicd_table_of(const nic *n)
 {
-    if (!__atomic_load_n(&tables, __ATOMIC_RELAXED))
+    if (!__atomic_load_n(&count, __ATOMIC_RELAXED))
         return NULL;
     nicd_table_hold();
-    struct nicd_table *it = tables;
-    while (it && it->device != n->device)
-        it = it->next;
+    struct nicd_table *it = (struct nicd_table *)nicd_by_device_find(&tables, n->device);
     nicd_table_let_go();
     return it;
 }
@@ -134,107 +120,111 @@ static struct nicd_table *made(const nic *n)
     struct nicd_table *it = calloc(1, sizeof *it);
     if (!it)
         return NULL;
-    it->device = n->device;
+    it->of.device = n->device;
+    it->runs.root = NICD_NO_RUN;
     nicd_table_hold();
-    it->next = tables;
-    __atomic_store_n(&tables, it, __ATOMIC_RELAXED);
+    nicd_by_device_add(&tables, &it->of);
+    note_count();
     nicd_table_let_go();
     return it;
 }
 
+/* Room for so many blocks, or for more. */
 static bool grows(struct nicd_table *it, uint32_t room)
 {
-    struct nicd_block *blocks = realloc(it->blocks, room * sizeof *blocks);
-    if (!blocks)
+    struct nicd_block *more = realloc(it->runs.blocks, room * sizeof *more);
+    if (!more)
         return false;
-    it->blocks = blocks;
-    uint32_t *by_address = realloc(it->by_address, room * sizeof *by_address);
-    if (!by_address)
-        return false;
-    it->by_address = by_address;
+    it->runs.blocks = more;
     for (uint32_t block = it->room; block < room; block++)
-        blocks[block] = (struct nicd_block){NULL, NULL, NULL};
+        more[block] = (struct nicd_block){NULL, NULL, NULL, 0, 0, 0};
     it->room = room;
     return true;
 }
 
-struct nicd_table *nicd_table_with_room(const nic *n, uint32_t blocks)
+/* Room for the blocks below a number, twice as many as there were or more. */
+static bool has_room(struct nicd_table *it, uint32_t blocks)
+{
+    uint32_t twice = it->room < NICD_MOST_BLOCKS / 2 ? 2 * it->room : NICD_MOST_BLOCKS;
+    return blocks <= it->room || grows(it, blocks > twice ? blocks : twice);
+}
+
+static void add(struct nicd_table *it, uint32_t first, uint32_t end, uint8_t *host)
+{
+    for (uint32_t block = first; block < end; block++, host += NICD_BLOCK) {
+        it->runs.blocks[block].host = host;
+        nicd_starts_add((uintptr_t)host);
+    }
+    widen((uintptr_t)it->runs.blocks[first].host, (uintptr_t)host);
+    nicd_runs_add(&it->runs, first, end);
+    it->count += end - first;
+}
+
+struct nicd_table *nicd_table_with(const nic *n, uint32_t first, uint32_t end, uint8_t *host)
 {
     struct nicd_table *it = nicd_table_of(n);
     if (!it)
         it = made(n);
-    if (!it || blocks <= it->room)
-        return it;
-    uint32_t twice = it->room < NICD_MOST_BLOCKS / 2 ? 2 * it->room : NICD_MOST_BLOCKS;
+    if (!it || !has_room(it, end))
+        return NULL;
     nicd_table_hold();
-    bool has_grown = grows(it, blocks > twice ? blocks : twice);
+    bool is_there = nicd_starts_reserve(end - first);
+    if (is_there)
+        add(it, first, end, host);
     nicd_table_let_go();
-    return has_grown ? it : NULL;
+    return is_there ? it : NULL;
+}
+
+bool nicd_table_has(const struct nicd_table *it, uint32_t block)
+{
+    return it && block < it->room && it->runs.blocks[block].host;
+}
+
+/* Blocks first to end - 1, of one run, are the controller's own again. */
+static void forget(struct nicd_table *it, uint32_t first, uint32_t end)
+{
+    nicd_table_hold();
+    nicd_runs_remove(&it->runs, first, end);
+    it->count -= end - first;
+    for (uint32_t block = first; block < end; block++)
+        forget_start(it->runs.blocks[block].host);
+    nicd_table_let_go();
+    for (uint32_t block = first; block < end; block++) {
+        struct nicd_block *at = &it->runs.blocks[block];
+        free(at->shadow);
+        at->host = at->own = at->shadow = NULL;
+    }
+}
+
+/* The block after the last one of the run that a block is in. */
+static uint32_t run_end(const struct nicd_table *it, uint32_t block)
+{
+    uint32_t run = nicd_runs_at(&it->runs, (uintptr_t)it->runs.blocks[block].host);
+    return run + it->runs.blocks[run].run;
+}
+
+void nicd_table_remove(struct nicd_table *it, uint32_t first, uint32_t end)
+{
+    while (first < end) {
+        uint32_t of_run = run_end(it, first), upto = of_run < end ? of_run : end;
+        forget(it, first, upto);
+        first = upto;
+    }
 }
 
 void nicd_table_close(struct nicd_table *it)
 {
     nicd_table_hold();
-    it->device = NULL;
+    nicd_by_device_remove(&tables, &it->of);
+    note_count();
     nicd_table_let_go();
 }
 
 void nicd_table_end(struct nicd_table *it)
 {
-    nicd_table_hold();
-    struct nicd_table **at = &tables;
-    while (*at != it)
-        at = &(*at)->next;
-    __atomic_store_n(at, it->next, __ATOMIC_RELAXED);
-    note_borders();
-    nicd_table_let_go();
-    for (uint32_t block = 0; block < it->room; block++)
-        free(it->blocks[block].shadow);
-    free(it->blocks);
-    free(it->by_address);
+    uint32_t run;
+    while ((run = nicd_runs_above(&it->runs, 0)) != NICD_NO_RUN)
+        nicd_table_remove(it, run, run_end(it, run));
+    free(it->runs.blocks);
     free(it);
-}
-
-bool nicd_table_has(const struct nicd_table *it, uint32_t block)
-{
-    return it && block < it->room && it->blocks[block].host;
-}
-
-void nicd_table_add(struct nicd_table *it, uint32_t first, uint32_t end, uint8_t *host)
-{
-    uint32_t more = end - first;
-    nicd_table_hold();
-    uint32_t place = below_address(it, (uintptr_t)host);
-    memmove(it->by_address + place + more, it->by_address + place, (it->count - place) * sizeof *it->by_address);
-    for (uint32_t k = 0; k < more; k++) {
-        it->by_address[place + k] = first + k;
-        it->blocks[first + k].host = host + (size_t)k * NICD_BLOCK;
-    }
-    it->count += more;
-    note_borders();
-    nicd_table_let_go();
-}
-
-/* Blocks from `first` on, as many as lie one behind the other; the first one behind them. */
-static uint32_t remove_run(struct nicd_table *it, uint32_t first, uint32_t end)
-{
-    uint32_t place = below_address(it, (uintptr_t)it->blocks[first].host), run = 1;
-    while (first + run < end && place + run < it->count && it->by_address[place + run] == first + run)
-        run++;
-    it->count -= run;
-    memmove(it->by_address + place, it->by_address + place + run, (it->count - place) * sizeof *it->by_address);
-    for (uint32_t block = first; block < first + run; block++) {
-        free(it->blocks[block].shadow);
-        it->blocks[block] = (struct nicd_block){NULL, NULL, NULL};
-    }
-    return first + run;
-}
-
-void nicd_table_remove(struct nicd_table *it, uint32_t first, uint32_t end)
-{
-    nicd_table_hold();
-    while (first < end)
-        first = remove_run(it, first, end);
-    note_borders();
-    nicd_table_let_go();
 }

@@ -3,29 +3,23 @@
 #ifndef NICD_TABLE_H
 #define NICD_TABLE_H
 
+#include "by_device.h"
 #include "nic82599.h"
-
-enum { NICD_BLOCK = NIC_BLOCK_BYTES, NICD_MOST_BLOCKS = 65536 };
-
-/* A block whose memory is the caller's. */
-struct nicd_block {
-    uint8_t *host;   /* the caller's memory; null: this block has the controller's own */
-    uint8_t *own;    /* the memory that the controller made for it, which waits here */
-    uint8_t *shadow; /* of a recorded one: what a replay has there, or null */
-};
+#include "runs.h"
 
 struct nicd_table {
-    struct nicd_table *next;
-    void *device;
-    uint32_t count, room;
-    uint32_t *by_address;      /* the `count` blocks that have memory of the caller's, the lowest address first */
-    struct nicd_block *blocks; /* `room` of them, by number */
+    struct nicd_of of;
+    uint32_t count, room;  /* blocks that have memory of the caller's; and of which numbers there are any */
+    struct nicd_runs runs; /* with `room` blocks */
 };
 
 /* The table of a controller, or null: it never had memory of the caller's. */
 struct nicd_table *nicd_table_of(const nic *n);
-/* The same with room for the blocks below a number, made where there is none; null where memory is short. */
-struct nicd_table *nicd_table_with_room(const nic *n, uint32_t blocks);
+/* The same, made where there is none, where blocks first to end - 1 have memory of the caller's from now on, one after
+   the other; null where memory is short: then nothing has changed. */
+struct nicd_table *nicd_table_with(const nic *n, uint32_t first, uint32_t end, uint8_t *host);
+/* Those blocks have none of the caller's. */
+void nicd_table_remove(struct nicd_table *it, uint32_t first, uint32_t end);
 /* A controller ends: its table is no controller's from now on; what it has isn't freed before the table ends too. */
 void nicd_table_close(struct nicd_table *it);
 void nicd_table_end(struct nicd_table *it);
@@ -38,10 +32,6 @@ bool nicd_table_has_bytes(const struct nicd_table *it, const void *memory, size_
 bool nicd_table_bus_of(const struct nicd_table *it, uint64_t address, uint64_t *bus);
 /* An address of the caller's memory with this low half, which is all that there is of it. False: none. */
 bool nicd_table_low_half(const struct nicd_table *it, uint64_t low, uint64_t *address);
-
-/* Blocks first to end - 1 have memory of the caller's from now on, one after the other; and none of the caller's. */
-void nicd_table_add(struct nicd_table *it, uint32_t first, uint32_t end, uint8_t *host);
-void nicd_table_remove(struct nicd_table *it, uint32_t first, uint32_t end);
 
 /* All tables are held while the process forks, behind what else is held then. */
 void nicd_table_hold(void);

@@ -5,25 +5,30 @@
 #include <stdlib.h>
 #include <string.h>
 
+#include "../memory/by_device.h"
+
 struct dropped {
-    struct dropped *next;
-    void *device;
+    struct nicd_of of; /* of no controller: it is free in the pool */
     struct nicd_drops drops;
 };
 
-/* The list is changed and read with this held. */
+/* What all of them dropped is changed and read with this held. */
 static pthread_mutex_t lock = PTHREAD_MUTEX_INITIALIZER;
-static struct dropped *list;
+static struct nicd_by_device all;
+/* How many there are: what each end of a controller looks at. */
+static size_t all_count;
 
 /* So many controllers that drop frames take no memory for it, so their counts are right where memory is short too. */
 enum { POOL = 64 };
 static struct dropped pool[POOL];
+static unsigned pooled;
 
 static struct dropped *take(void)
 {
-    for (unsigned k = 0; k < POOL; k++)
-        if (!pool[k].device) {
+    for (unsigned k = 0; pooled < POOL && k < POOL; k++)
+        if (!pool[k].of.device) {
             memset(&pool[k], 0, sizeof pool[k]);
+            pooled++;
             return &pool[k];
         }
     return calloc(1, sizeof(struct dropped));
@@ -33,7 +38,8 @@ static void give_back(struct dropped *it)
 {
     for (unsigned k = 0; k < POOL; k++)
         if (it == &pool[k]) {
-            it->device = NULL;
+            it->of.device = NULL;
+            pooled--;
             return;
         }
     free(it);
@@ -49,13 +55,21 @@ void nicd_drops_let_go(void)
     pthread_mutex_unlock(&lock);
 }
 
-/* Where a controller stands in the list, or the list's end. */
-static struct dropped **place_of(const nic *n)
+/* What a controller dropped, or null. */
+static struct dropped *of(const nic *n)
 {
-    struct dropped **at = &list;
-    while (*at && (*at)->device != n->device)
-        at = &(*at)->next;
-    return at;
+    return (struct dropped *)nicd_by_device_find(&all, n->device);
+}
+
+static struct dropped *made(const nic *n)
+{
+    struct dropped *it = take();
+    if (!it)
+        return NULL;
+    it->of.device = n->device;
+    nicd_by_device_add(&all, &it->of);
+    __atomic_store_n(&all_count, all.count, __ATOMIC_RELAXED);
+    return it;
 }
 
 unsigned nicd_drop_kind(uint8_t why, const uint8_t *frame)
@@ -80,25 +94,23 @@ static void count(struct nicd_drops *it, unsigned kind, const uint8_t *frame, si
 void nicd_note_drop(const nic *n, uint8_t why, const uint8_t *frame, size_t length)
 {
     nicd_drops_hold();
-    struct dropped **at = place_of(n);
-    if (!*at) {
-        *at = take();
-        if (*at)
-            (*at)->device = n->device;
-    }
-    if (*at)
-        count(&(*at)->drops, nicd_drop_kind(why, frame), frame, length);
+    struct dropped *it = of(n);
+    if (!it)
+        it = made(n);
+    if (it)
+        count(&it->drops, nicd_drop_kind(why, frame), frame, length);
     nicd_drops_let_go();
 }
 
 void nicd_forget_drops(const nic *n)
 {
-    if (!__atomic_load_n(&list, __ATOMIC_RELAXED)) /* most programs have none, and nobody waits for the lock */
+    if (!__atomic_load_n(&all_count, __ATOMIC_RELAXED)) /* most programs have none, and nobody waits for the lock */
         return;
     nicd_drops_hold();
-    struct dropped **at = place_of(n), *it = *at;
+    struct dropped *it = of(n);
     if (it) {
-        *at = it->next;
+        nicd_by_device_remove(&all, &it->of);
+        __atomic_store_n(&all_count, all.count, __ATOMIC_RELAXED);
         give_back(it);
     }
     nicd_drops_let_go();
@@ -107,7 +119,7 @@ void nicd_forget_drops(const nic *n)
 bool nicd_drops_of(const nic *n, struct nicd_drops *drops)
 {
     nicd_drops_hold();
-    const struct dropped *it = *place_of(n);
+    const struct dropped *it = of(n);
     if (it)
         *drops = it->drops;
     else

@@ -1,0 +1,137 @@
+#include "runs.h"
+
+#include "step.h"
+
+/* The root of a tree has the least height number; no two blocks have the same. */
+static uint32_t height_of(uint32_t block)
+{
+    block = (block ^ block >> 16) * UINT32_C(0x85ebca6b);
+    block = (block ^ block >> 13) * UINT32_C(0xc2b2ae35);
+    return block ^ block >> 16;
+}
+
+static bool is_above(uint32_t one, uint32_t other)
+{
+    return other == NICD_NO_RUN || height_of(one) < height_of(other);
+}
+
+/* --- searches --- */
+
+uint32_t nicd_runs_at(const struct nicd_runs *it, uintptr_t address)
+{
+    uint32_t at = it->root, found = NICD_NO_RUN;
+    while (at != NICD_NO_RUN) {
+        bool is_below = nicd_run_begin(it, at) <= address;
+        NICD_STEP();
+        found = is_below ? at : found;
+        at = is_below ? it->blocks[at].right : it->blocks[at].left;
+    }
+    return found;
+}
+
+uint32_t nicd_runs_above(const struct nicd_runs *it, uintptr_t address)
+{
+    uint32_t at = it->root, found = NICD_NO_RUN;
+    while (at != NICD_NO_RUN) {
+        bool ends_above = nicd_run_end(it, at) > address;
+        NICD_STEP();
+        found = ends_above ? at : found;
+        at = ends_above ? it->blocks[at].left : it->blocks[at].right;
+    }
+    return found;
+}
+
+uint32_t nicd_runs_last(const struct nicd_runs *it)
+{
+    uint32_t at = it->root;
+    while (at != NICD_NO_RUN && it->blocks[at].right != NICD_NO_RUN) {
+        NICD_STEP();
+        at = it->blocks[at].right;
+    }
+    return at;
+}
+
+/* --- the tree --- */
+
+/* The place of a run, or where one would stand that isn't in. */
+static uint32_t *place_of(struct nicd_runs *it, uint32_t run)
+{
+    uint32_t *place = &it->root;
+    while (*place != run && !is_above(run, *place)) {
+        struct nicd_block *at = &it->blocks[*place];
+        NICD_STEP();
+        place = (uintptr_t)at->host < nicd_run_begin(it, run) ? &at->right : &at->left;
+    }
+    return place;
+}
+
+/* Parts a tree into what lies below a run, its left side, and what lies above it, its right side. */
+static void part(struct nicd_runs *it, uint32_t tree, uint32_t run)
+{
+    uint32_t *below = &it->blocks[run].left, *above = &it->blocks[run].right;
+    while (tree != NICD_NO_RUN) {
+        struct nicd_block *at = &it->blocks[tree];
+        NICD_STEP();
+        if ((uintptr_t)at->host < nicd_run_begin(it, run)) {
+            *below = tree;
+            below = &at->right;
+            tree = at->right;
+        } else {
+            *above = tree;
+            above = &at->left;
+            tree = at->left;
+        }
+    }
+    *below = *above = NICD_NO_RUN;
+}
+
+static void insert(struct nicd_runs *it, uint32_t run, uint32_t blocks)
+{
+    uint32_t *place = place_of(it, run);
+    it->blocks[run].run = blocks;
+    part(it, *place, run);
+    *place = run;
+}
+
+/* Puts two trees in the place of a run, the left one below the right one. */
+static void take_out(struct nicd_runs *it, uint32_t run)
+{
+    uint32_t *place = place_of(it, run), left = it->blocks[run].left, right = it->blocks[run].right;
+    while (left != NICD_NO_RUN && right != NICD_NO_RUN) {
+        NICD_STEP();
+        if (is_above(left, right)) {
+            *place = left;
+            place = &it->blocks[left].right;
+            left = *place;
+        } else {
+            *place = right;
+            place = &it->blocks[right].left;
+            right = *place;
+        }
+    }
+    *place = left != NICD_NO_RUN ? left : right;
+    it->blocks[run].run = 0;
+}
+
+/* --- runs --- */
+
+void nicd_runs_add(struct nicd_runs *it, uint32_t first, uint32_t end)
+{
+    uint32_t before = nicd_runs_at(it, nicd_run_begin(it, first));
+    if (before != NICD_NO_RUN && before + it->blocks[before].run == first &&
+        nicd_run_end(it, before) == nicd_run_begin(it, first))
+        it->blocks[before].run += end - first;
+    else
+        insert(it, first, end - first);
+}
+
+void nicd_runs_remove(struct nicd_runs *it, uint32_t first, uint32_t end)
+{
+    uint32_t run = nicd_runs_at(it, nicd_run_begin(it, first)), behind = run + it->blocks[run].run;
+    if (run == first)
+        take_out(it, run);
+    else
+        it->blocks[run].run = first - run;
+    if (end < behind)
+        insert(it, end, behind - end);
+}

@@ -1,0 +1,203 @@
+/* The table of memory that callers lend, by itself: beside a list of all blocks, with calls by chance; and how many
+   steps its calls take as blocks, runs and controllers become eight times as many. It is linked with the sources, which
+   count their steps (NICD_COUNT_STEPS): no time is measured. */
+#include <string.h>
+
+#include "../memory/starts.h"
+#include "../memory/table.h"
+#include "check.h"
+
+/* Eight times as many may take so many times the steps, by calls that each search a tree. */
+enum { TIMES = 8, MOST_TIMES = 14 };
+
+unsigned long long nicd_steps;
+static void *freed;
+
+void nicd_dealloc(void *piece);
+void rattle_dealloc(void *piece);
+
+void rattle_dealloc(void *piece)
+{
+    freed = piece;
+}
+
+/* --- beside a list --- */
+
+enum { CONTROLLERS = 3, BLOCKS = 24, SPACE = 40 * NICD_BLOCK, CALLS = 60000 };
+
+static uint8_t space[SPACE];
+static uint8_t *hosts[CONTROLLERS][BLOCKS];
+static nic controllers[CONTROLLERS];
+static struct nicd_table *its[CONTROLLERS];
+
+static bool listed(unsigned c, const uint8_t *at, uint64_t *bus)
+{
+    for (uint32_t block = 0; block < BLOCKS; block++)
+        if (hosts[c][block] && at >= hosts[c][block] && at < hosts[c][block] + NICD_BLOCK) {
+            *bus = (uint64_t)block * NICD_BLOCK + (uint64_t)(at - hosts[c][block]);
+            return true;
+        }
+    return false;
+}
+
+static bool overlaps(unsigned c, const uint8_t *at, size_t bytes)
+{
+    for (uint32_t block = 0; block < BLOCKS; block++)
+        if (hosts[c][block] && hosts[c][block] < at + bytes && at < hosts[c][block] + NICD_BLOCK)
+            return true;
+    return false;
+}
+
+/* Half of the memory begins at a unit of 2,048 bytes, half elsewhere. */
+static uint8_t *somewhere(uint32_t blocks)
+{
+    uint32_t at = below(SPACE - blocks * NICD_BLOCK);
+    return space + (below(2) ? at : at / NICD_BLOCK * NICD_BLOCK);
+}
+
+static void lend(unsigned c)
+{
+    uint32_t first = below(BLOCKS), end = first + 1 + below(BLOCKS - first);
+    uint8_t *at = somewhere(end - first);
+    size_t bytes = (size_t)(end - first) * NICD_BLOCK;
+    CHECK(nicd_table_has_bytes(its[c], at, bytes) == overlaps(c, at, bytes));
+    if (overlaps(c, at, bytes))
+        return;
+    for (uint32_t block = first; block < end; block++)
+        if (hosts[c][block])
+            return;
+    its[c] = nicd_table_with(&controllers[c], first, end, at);
+    CHECK(its[c] && its[c] == nicd_table_of(&controllers[c]));
+    for (uint32_t block = first; block < end; block++)
+        hosts[c][block] = at + (size_t)(block - first) * NICD_BLOCK;
+}
+
+static void unlend(unsigned c)
+{
+    uint32_t first = below(BLOCKS), end = first;
+    while (end < BLOCKS && hosts[c][end] && below(8))
+        hosts[c][end++] = NULL;
+    if (first < end)
+        nicd_table_remove(its[c], first, end);
+}
+
+static void finish(unsigned c)
+{
+    if (!its[c])
+        return;
+    nicd_table_close(its[c]);
+    CHECK(!nicd_table_of(&controllers[c]));
+    nicd_table_end(its[c]);
+    its[c] = NULL;
+    memset(hosts[c], 0, sizeof hosts[c]);
+}
+
+static void look(void)
+{
+    uint8_t *at = space + below(SPACE);
+    uint64_t bus = 0, want = 0;
+    bool is_callers = false;
+    for (unsigned c = 0; c < CONTROLLERS; c++) {
+        bool is_there = listed(c, at, &want);
+        CHECK(nicd_table_bus_of(its[c], (uintptr_t)at, &bus) == is_there && (!is_there || bus == want));
+        is_callers |= is_there;
+    }
+    freed = NULL;
+    nicd_dealloc(at);
+    CHECK((freed == NULL) == is_callers);
+}
+
+static void beside_a_list(void)
+{
+    for (unsigned c = 0; c < CONTROLLERS; c++)
+        controllers[c].device = space + c;
+    for (unsigned call = 0; call < CALLS; call++) {
+        unsigned c = below(CONTROLLERS), kind = below(100);
+        if (kind < 40)
+            lend(c);
+        else if (kind < 70)
+            unlend(c);
+        else if (kind == 99)
+            finish(c);
+        look();
+    }
+    for (unsigned c = 0; c < CONTROLLERS; c++)
+        finish(c);
+    CHECK(nicd_starts_is_empty());
+}
+
+/* --- growth --- */
+
+enum order { UP, DOWN, APART };
+
+/* Where a block's memory lies: nothing is read there. */
+static uint8_t *host_of(uint32_t block, uint32_t blocks, enum order order)
+{
+    uintptr_t at = order == DOWN ? blocks - block : order == APART ? 3 * (uintptr_t)block : block;
+    return (uint8_t *)(uintptr_t)(UINT64_C(0x10000000) + at * NICD_BLOCK);
+}
+
+/* The steps of lending blocks one by one, of looking for each, and of taking each back, in the same order. */
+static unsigned long long of_blocks(uint32_t blocks, enum order order)
+{
+    nic n = {space};
+    struct nicd_table *it = NULL;
+    uint64_t bus;
+    nicd_steps = 0;
+    for (uint32_t block = 0; block < blocks; block++) {
+        uint8_t *host = host_of(block, blocks, order);
+        CHECK(!nicd_table_has_bytes(nicd_table_of(&n), host, NICD_BLOCK));
+        it = nicd_table_with(&n, block, block + 1, host);
+        CHECK(it && nicd_table_bus_of(it, (uintptr_t)host + 5, &bus) && bus == (uint64_t)block * NICD_BLOCK + 5);
+    }
+    for (uint32_t block = 0; block < blocks; block++)
+        nicd_table_remove(it, block, block + 1);
+    nicd_table_close(it);
+    nicd_table_end(it);
+    return nicd_steps;
+}
+
+/* The steps of controllers that each lend a block, the same or their own, take it back and lend it again, and of pieces
+   beside it that are freed. */
+static unsigned long long of_controllers(uint32_t controllers, enum order order)
+{
+    static nic n[4096];
+    static uint8_t devices[4096][16];
+    nicd_steps = 0;
+    for (uint32_t c = 0; c < 2 * controllers; c++) {
+        nic *it = &n[c % controllers];
+        uint8_t *host = order == APART ? host_of(c % controllers, controllers, order) : host_of(0, 1, UP) + 8;
+        it->device = devices[c % controllers];
+        if (c >= controllers)
+            nicd_table_remove(nicd_table_of(it), 0, 1);
+        CHECK(nicd_table_with(it, 0, 1, host));
+        nicd_dealloc(host - 1);
+        nicd_dealloc(host + NICD_BLOCK);
+    }
+    for (uint32_t c = 0; c < controllers; c++) {
+        struct nicd_table *it = nicd_table_of(&n[c]);
+        nicd_table_close(it);
+        nicd_table_end(it);
+    }
+    return nicd_steps;
+}
+
+static void grows(const char *what, unsigned long long few, unsigned long long many)
+{
+    if (many <= MOST_TIMES * few)
+        return;
+    fprintf(stderr, "%s: %llu steps, and %d times as many take %llu\n", what, few, TIMES, many);
+    exit(1);
+}
+
+int main(void)
+{
+    beside_a_list();
+    grows("blocks upwards", of_blocks(4096, UP), of_blocks(TIMES * 4096, UP));
+    grows("blocks at addresses that fall", of_blocks(4096, DOWN), of_blocks(TIMES * 4096, DOWN));
+    grows("blocks that lie apart", of_blocks(4096, APART), of_blocks(TIMES * 4096, APART));
+    grows("controllers with the same memory", of_controllers(512, UP), of_controllers(TIMES * 512, UP));
+    grows("controllers with memory of their own", of_controllers(512, APART), of_controllers(TIMES * 512, APART));
+    puts("steps don't grow faster than blocks and controllers do");
+    return 0;
+}

@@ -16,7 +16,7 @@
 #include "tell.h"
 
 enum { MOST_VFS = 63, MOST_BLOCKS = 65536, UNIT = NICD_UNIT, SHOWN = 4, QUEUES = 128 };
-enum { NOTE_BYTES = 200, MOST_REPLY = 160, LINE = 64 };
+enum { NOTE_BYTES = 200, LINE = 64 };
 
 #define IS_OFF __builtin_expect(!__atomic_load_n(&nicd_is_watched, __ATOMIC_RELAXED), 1)
 /* A handle that was never opened, or that nic_close ended. */
@@ -36,28 +36,45 @@ enum { NOTE_BYTES = 200, MOST_REPLY = 160, LINE = 64 };
 static void reply(struct recording *it, const char *text)
 {
     nicd_add_reply(it);
-    nicd_add(it, "%s\n", text);
+    nicd_add_text(it, text);
+    nicd_add_text(it, "\n");
 }
 
-/* Of an access by number a comment after the reply has the register's name, where there is one. */
+/* The name of a register, where there is one, is a comment after a reply. */
+static void end_with_name(struct recording *it, struct nicd_text *text, const char *name)
+{
+    if (name) {
+        nicd_put(text, "  # ");
+        nicd_put(text, name);
+    }
+    nicd_put(text, "\n");
+    nicd_text_ends(it, text);
+}
+
 static void reply_word(struct recording *it, uint8_t status, uint32_t word, const char *name)
 {
     nicd_add_reply(it);
-    nicd_add(it, "%s 0x%08" PRIx32 "%s%s\n", status == NIC_DONE ? "word" : "stray", word, name ? "  # " : "",
-             name ? name : "");
+    struct nicd_text text = nicd_text_of(it);
+    nicd_put(&text, status == NIC_DONE ? "word " : "stray ");
+    nicd_put_word(&text, word, 8);
+    end_with_name(it, &text, name);
 }
 
 static void reply_write(struct recording *it, uint8_t status, const char *name)
 {
     nicd_add_reply(it);
-    nicd_add(it, "%s%s%s\n", status == NIC_DONE ? "done" : "stray 0x00000000", name ? "  # " : "", name ? name : "");
+    struct nicd_text text = nicd_text_of(it);
+    nicd_put(&text, status == NIC_DONE ? "done" : "stray 0x00000000");
+    end_with_name(it, &text, name);
 }
 
 static void reply_told(struct recording *it, uint8_t status, const nic_told *told)
 {
-    char words[MOST_REPLY];
-    nicd_reply(words, sizeof words, status, told);
-    reply(it, words);
+    nicd_add_reply(it);
+    struct nicd_text text = nicd_text_of(it);
+    nicd_put_reply(&text, status, told);
+    nicd_put(&text, "\n");
+    nicd_text_ends(it, &text);
 }
 
 /* A call that a script can't make, and that changed nothing. */
@@ -117,6 +134,7 @@ uint8_t nic_restore(nic *n, const nic_kept *kept)
     if (it && status == NIC_DONE) { /* 0 is a snapshot of another recording, or of none */
         nicd_add(it, "#: restore %" PRIu32 "\n", nicd_kept(it, kept));
         nicd_shadow_note(n, 0, NICD_ALL);
+        nicd_may_switch(it);
     }
     nicd_leave(it);
     return status;
@@ -138,14 +156,39 @@ void nic_free_snapshot(nic_kept kept)
 
 /* --- registers --- */
 
+/* The line of an access: `w 0x01018 0x0000003f`, and of a function `vw 3 0x1018 0x0000003f`. */
+static void access_line(char line[LINE], const char *call, uint32_t address, const uint32_t *word)
+{
+    struct nicd_text text = nicd_text_in(line, LINE);
+    nicd_put(&text, call);
+    nicd_put_word(&text, address, 5);
+    if (word) {
+        nicd_put(&text, " ");
+        nicd_put_word(&text, *word, 8);
+    }
+}
+
+static void vf_line(char line[LINE], const char *call, uint8_t vf, uint32_t offset, const uint32_t *word)
+{
+    struct nicd_text text = nicd_text_in(line, LINE);
+    nicd_put(&text, call);
+    nicd_put_number(&text, vf);
+    nicd_put(&text, " ");
+    nicd_put_word(&text, offset, 4);
+    if (word) {
+        nicd_put(&text, " ");
+        nicd_put_word(&text, *word, 8);
+    }
+}
+
 COLD uint8_t read_register(nic *n, uint32_t address, uint32_t *word)
 {
     char line[LINE], room[NICD_NAME];
     struct recording *it = nicd_enter(n);
     uint8_t status = nicd_read32(n, address, word);
-    snprintf(line, sizeof line, "r 0x%05" PRIx32, address);
+    access_line(line, "r ", address, NULL);
     if (it) {
-        nicd_add(it, "%s", line);
+        nicd_add_text(it, line);
         reply_word(it, status, *word, nicd_register(address, room));
     }
     if (status == NIC_STRAY)
@@ -165,9 +208,9 @@ COLD uint8_t write_register(nic *n, uint32_t address, uint32_t word)
     char line[LINE], room[NICD_NAME];
     struct recording *it = nicd_enter(n);
     uint8_t status = nicd_write32(n, address, word);
-    snprintf(line, sizeof line, "w 0x%05" PRIx32 " 0x%08" PRIx32, address, word);
+    access_line(line, "w ", address, &word);
     if (it) {
-        nicd_add(it, "%s", line);
+        nicd_add_text(it, line);
         reply_write(it, status, nicd_register(address, room));
     }
     if (status == NIC_STRAY)
@@ -187,9 +230,9 @@ COLD uint8_t read_vf(nic *n, uint8_t vf, uint32_t offset, uint32_t *word)
     char line[LINE], room[NICD_NAME];
     struct recording *it = nicd_enter(n);
     uint8_t status = nicd_vf_read32(n, vf, offset, word);
-    snprintf(line, sizeof line, "vr %u 0x%04" PRIx32, vf, offset);
+    vf_line(line, "vr ", vf, offset, NULL);
     if (it && vf < MOST_VFS) {
-        nicd_add(it, "%s", line);
+        nicd_add_text(it, line);
         reply_word(it, status, *word, nicd_offset(offset, room));
     } else if (it) {
         refused(it, "a read of a function above 62", status);
@@ -211,9 +254,9 @@ COLD uint8_t write_vf(nic *n, uint8_t vf, uint32_t offset, uint32_t word)
     char line[LINE], room[NICD_NAME];
     struct recording *it = nicd_enter(n);
     uint8_t status = nicd_vf_write32(n, vf, offset, word);
-    snprintf(line, sizeof line, "vw %u 0x%04" PRIx32 " 0x%08" PRIx32, vf, offset, word);
+    vf_line(line, "vw ", vf, offset, &word);
     if (it && vf < MOST_VFS) {
-        nicd_add(it, "%s", line);
+        nicd_add_text(it, line);
         reply_write(it, status, nicd_offset(offset, room));
     } else if (it) {
         refused(it, "a write of a function above 62", status);
@@ -358,6 +401,20 @@ static uint64_t not_lent(nic *n, uint64_t bus, size_t length)
     return first;
 }
 
+static void peeked(struct recording *it, uint64_t at, unsigned word, const uint8_t unit[UNIT])
+{
+    struct nicd_text text = nicd_text_of(it);
+    nicd_put(&text, "peek ");
+    nicd_put_word(&text, at, 5);
+    nicd_put(&text, " ");
+    nicd_put_number(&text, word);
+    nicd_text_ends(it, &text);
+    nicd_add_reply(it);
+    nicd_add_text(it, "bytes ");
+    nicd_add_hex(it, unit, UNIT);
+    nicd_add_text(it, "\n");
+}
+
 /* A read looks at each sixteen that it touches; the first four are told. */
 COLD uint8_t read_memory(nic *n, uint64_t bus, uint8_t *bytes, size_t length)
 {
@@ -374,11 +431,7 @@ COLD uint8_t read_memory(nic *n, uint64_t bus, uint8_t *bytes, size_t length)
     } else if (it && length) {
         for (uint64_t at = first; at < bus + length && at < first + SHOWN * UNIT; at += UNIT) {
             nicd_dma_read(n, at, unit, UNIT);
-            nicd_add(it, "peek 0x%05" PRIx64 " %u", at, at < bus ? (unsigned)(bus / 4 % 4) : 0u);
-            nicd_add_reply(it);
-            nicd_add(it, "bytes ");
-            nicd_add_hex(it, unit, UNIT);
-            nicd_add(it, "\n");
+            peeked(it, at, at < bus ? (unsigned)(bus / 4 % 4) : 0u, unit);
         }
     }
     nicd_leave(it);
@@ -394,7 +447,7 @@ uint8_t nic_dma_read(nic *n, uint64_t bus, uint8_t *bytes, size_t length)
 static void poke(struct recording *it, uint64_t at, const uint8_t unit[UNIT], uint8_t status)
 {
     uint32_t name = nicd_add_data(it, unit, UNIT);
-    nicd_add(it, "poke 0x%05" PRIx64 " d%" PRIu32, at, name);
+    nicd_add_poke(it, at, name);
     reply(it, nic_status_name(status));
 }
 
@@ -439,7 +492,7 @@ COLD uint8_t arrive(nic *n, const uint8_t *frame, size_t length, nic_told *told)
     if (it && status == NIC_OUT_OF_MEMORY) {
         refused(it, "arrive", status);
     } else if (it) {
-        nicd_add(it, "arrive d%" PRIu32, nicd_add_data(it, frame, length));
+        nicd_add_number(it, "arrive d", nicd_add_data(it, frame, length), "");
         reply_told(it, status, told);
     }
     if (status == NIC_DROPPED)
@@ -466,13 +519,13 @@ COLD uint8_t collect(nic *n, uint8_t *room, size_t length, nic_told *told)
     struct recording *it = nicd_enter(n);
     uint8_t status = nicd_collect(n, room, length, told);
     if (it && status == NIC_FRAME) {
-        nicd_add(it, "collect");
+        nicd_add_text(it, "collect");
         nicd_add_reply(it);
-        nicd_add(it, "frame queue %u ", told->queue);
+        nicd_add_number(it, "frame queue ", told->queue, " ");
         nicd_add_hex(it, room, (size_t)told->len);
-        nicd_add(it, "\n");
+        nicd_add_text(it, "\n");
     } else if (it && status == NIC_IDLE) {
-        nicd_add(it, "collect");
+        nicd_add_text(it, "collect");
         reply(it, "idle");
     } else if (it) {
         refused(it, "collect", status);
@@ -516,7 +569,7 @@ static uint8_t stepped(struct recording *it, uint8_t status, const nic_told *tol
     if (it && status == NIC_OUT_OF_MEMORY) {
         refused(it, line, status);
     } else if (it) {
-        nicd_add(it, "%s", line);
+        nicd_add_text(it, line);
         reply_told(it, status, told);
     }
     nicd_leave(it);
@@ -539,7 +592,9 @@ uint8_t nic_tx_step(nic *n, uint16_t queue, nic_told *told)
     UNLESS_WATCHED(n, nicd_tx_step(n, queue, told));
     char line[16];
     struct recording *it = nicd_enter(n);
-    snprintf(line, sizeof line, "tx %u", queue);
+    struct nicd_text text = nicd_text_in(line, sizeof line);
+    nicd_put(&text, "tx ");
+    nicd_put_number(&text, queue);
     nicd_before_transmit(it, n, queue);
     uint8_t status = nicd_tx_step(n, queue, told);
     if (status != NIC_NO_QUEUE && status != NIC_OUT_OF_MEMORY) {
@@ -554,6 +609,7 @@ uint8_t nic_queue_step(nic *n, bool transmit, uint16_t queue, nic_told *told)
     UNLESS_WATCHED(n, nicd_queue_step(n, transmit, queue, told));
     char line[24];
     struct recording *it = nicd_enter(n);
+    nicd_may_switch(it);
     snprintf(line, sizeof line, "qstep %s %u", transmit ? "tx" : "rx", queue);
     return stepped(it, nicd_queue_step(n, transmit, queue, told), told, line);
 }
@@ -599,7 +655,7 @@ static void settled(struct recording *it, const nic_told *told)
     case NIC_INTERRUPT: group_line(told->of, line); break;
     default: snprintf(line, sizeof line, "%s", nic_step_name(told->step)); break;
     }
-    nicd_add(it, "%s", line);
+    nicd_add_text(it, line);
     reply_told(it, told->status, told);
 }
 

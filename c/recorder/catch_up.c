@@ -2,8 +2,6 @@
    that is: where a step of the device reads more one day, a replay of calls by chance (c/test) differs. */
 #include "catch_up.h"
 
-#include <inttypes.h>
-
 #include "../memory/shadow.h"
 #include "../memory/table.h"
 #include "look.h"
@@ -18,9 +16,9 @@ static void poked(void *recording, uint64_t bus, const uint8_t unit[NICD_UNIT])
 {
     struct recording *it = recording;
     uint32_t name = nicd_add_data(it, unit, NICD_UNIT);
-    nicd_add(it, "poke 0x%05" PRIx64 " d%" PRIu32, bus, name);
+    nicd_add_poke(it, bus, name);
     nicd_add_reply(it);
-    nicd_add(it, "done\n");
+    nicd_add_text(it, "done\n");
 }
 
 static bool is_in_place(const struct recording *it, const nic *n)
@@ -58,14 +56,42 @@ void nicd_before_read(struct recording *it, nic *n, uint64_t bus, uint64_t lengt
         nicd_shadow_poke(n, bus, length, poked, it);
 }
 
-/* Which queue the frame goes to isn't known, so it is each that is on. */
+void nicd_may_switch(struct recording *it)
+{
+    if (it)
+        nicd_on_of(it)->is_known = false;
+}
+
+static bool is_on(nic *n, uint32_t queue)
+{
+    return nicd_word_at(n, NIC_RXDCTL(queue)) & NIC_RXDCTL_ENABLE;
+}
+
+static void find_queues(struct nicd_on *on, nic *n)
+{
+    if (on->is_known)
+        return;
+    *on = (struct nicd_on){true, {0, 0}};
+    for (uint32_t queue = 0; queue < QUEUES; queue++)
+        on->queues[queue / 64] |= (uint64_t)is_on(n, queue) << queue % 64;
+}
+
+/* Which queue the frame goes to isn't known, so it is each that is on. To look at all of them takes longer than the
+   step, so it is done where one may have been switched on. */
 void nicd_before_receive(struct recording *it, nic *n)
 {
     if (!is_in_place(it, n))
         return;
-    for (uint32_t queue = 0; queue < QUEUES; queue++)
-        if (nicd_word_at(n, NIC_RXDCTL(queue)) & NIC_RXDCTL_ENABLE)
-            before_ring(it, n, false, queue, FIRST);
+    struct nicd_on *on = nicd_on_of(it);
+    find_queues(on, n);
+    for (int half = 0; half < 2; half++)
+        for (uint64_t left = on->queues[half]; left; left &= left - 1) {
+            uint32_t bit = (uint32_t)__builtin_ctzll(left), queue = (uint32_t)half * 64 + bit;
+            if (is_on(n, queue))
+                before_ring(it, n, false, queue, FIRST);
+            else
+                on->queues[half] &= ~(UINT64_C(1) << bit);
+        }
 }
 
 void nicd_before_transmit(struct recording *it, nic *n, uint32_t queue)
@@ -77,6 +103,7 @@ void nicd_before_transmit(struct recording *it, nic *n, uint32_t queue)
 /* A queue that is off may be on before its first slot is read. */
 void nicd_before_settle(struct recording *it, nic *n, uint32_t queues)
 {
+    nicd_may_switch(it);
     if (!is_in_place(it, n))
         return;
     for (uint32_t queue = 0; queue < QUEUES; queue++) {

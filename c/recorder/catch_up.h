@@ -7,6 +7,8 @@
 
 /* Before a read of memory by the caller, and before a snapshot. */
 void nicd_before_read(struct recording *it, nic *n, uint64_t bus, uint64_t length);
+/* Before a step that may switch a queue on, or after a restore that may have. */
+void nicd_may_switch(struct recording *it);
 /* Before one receive step, one transmit step of a queue, and before nic_settle with so many queues. */
 void nicd_before_receive(struct recording *it, nic *n);
 void nicd_before_transmit(struct recording *it, nic *n, uint32_t queue);

@@ -1,10 +1,9 @@
 #include "names.h"
 
-#include <inttypes.h>
 #include <stdbool.h>
-#include <stdio.h>
 
 #include "../explore/engine/names.inc"
+#include "text.h"
 
 #define COUNT(list) (sizeof(list) / sizeof *(list))
 
@@ -38,10 +37,13 @@ static const char *named(const uint8_t *places, const struct run *list, uint32_t
     if (!number)
         return NULL;
     const struct run *run = &list[number - 1];
-    if (run->many)
-        snprintf(room, NICD_NAME, "%s[%" PRIu32 "]", run->name, run->index + (at - run->first) / run->stride);
-    else
-        snprintf(room, NICD_NAME, "%s", run->name);
+    struct nicd_text text = nicd_text_in(room, NICD_NAME);
+    nicd_put(&text, run->name);
+    if (run->many) {
+        nicd_put(&text, "[");
+        nicd_put_number(&text, run->index + (at - run->first) / run->stride);
+        nicd_put(&text, "]");
+    }
     return room;
 }
 

@@ -33,7 +33,8 @@ struct recording {
     char *text;
     size_t used, room, line; /* bytes of `text`, and where its last line begins */
     uint32_t lent, lent_end; /* the last line is of these blocks; 0 and 0 where it is another */
-    bool is_again;           /* `text` stands in place of the file's last line, which has LENT bytes */
+    struct nicd_on on;
+    bool is_again; /* `text` stands in place of the file's last line, which has LENT bytes */
 };
 
 /* A program that this one starts doesn't have the file; and its bytes are those that are written. */
@@ -293,6 +294,11 @@ void nicd_leave(struct recording *it)
     let_go();
 }
 
+struct nicd_on *nicd_on_of(struct recording *it)
+{
+    return &it->on;
+}
+
 /* --- snapshots --- */
 
 uint32_t nicd_keep(struct recording *it, const nic_kept *kept)
@@ -357,43 +363,100 @@ static void note_line(struct recording *it)
         it->line = it->used;
 }
 
+/* Where there is no memory for text, what is added goes here. */
+static char nowhere[NICD_LINE];
+
+struct nicd_text nicd_text_of(struct recording *it)
+{
+    it->lent = it->lent_end = 0;
+    return nicd_text_in(has_room(it, NICD_LINE) ? it->text + it->used : nowhere, NICD_LINE);
+}
+
+void nicd_text_ends(struct recording *it, const struct nicd_text *text)
+{
+    if (!it->is_whole)
+        return;
+    it->used = (size_t)(text->at - it->text);
+    note_line(it);
+}
+
+void nicd_add_text(struct recording *it, const char *text)
+{
+    struct nicd_text more = nicd_text_of(it);
+    nicd_put(&more, text);
+    nicd_text_ends(it, &more);
+}
+
+void nicd_add_number(struct recording *it, const char *before, uint64_t number, const char *after)
+{
+    struct nicd_text more = nicd_text_of(it);
+    nicd_put(&more, before);
+    nicd_put_number(&more, number);
+    nicd_put(&more, after);
+    nicd_text_ends(it, &more);
+}
+
 void nicd_add(struct recording *it, const char *format, ...)
 {
+    struct nicd_text more = nicd_text_of(it);
     va_list list;
-    it->lent = it->lent_end = 0;
-    if (!has_room(it, 512))
-        return;
     va_start(list, format);
-    int length = vsnprintf(it->text + it->used, 512, format, list);
+    int length = vsnprintf(more.at, NICD_LINE, format, list);
     va_end(list);
-    it->used += length < 0 ? 0 : length < 512 ? (size_t)length : 511;
-    note_line(it);
+    more.at += length < 0 ? 0 : length < NICD_LINE ? length : NICD_LINE - 1;
+    nicd_text_ends(it, &more);
+}
+
+/* The two digits of each byte, made at the first use. */
+static const char (*digits_of_bytes(void))[2]
+{
+    static char digits[256][2];
+    for (unsigned byte = 0; !digits[255][1] && byte < 256; byte++) {
+        digits[byte][0] = "0123456789abcdef"[byte >> 4];
+        digits[byte][1] = "0123456789abcdef"[byte & 15];
+    }
+    return (const char(*)[2])digits;
 }
 
 void nicd_add_hex(struct recording *it, const uint8_t *bytes, size_t length)
 {
-    static const char digits[] = "0123456789abcdef";
+    const char(*digits)[2] = digits_of_bytes();
     if (!has_room(it, 2 * length))
         return;
-    for (size_t k = 0; k < length; k++) {
-        it->text[it->used++] = digits[bytes[k] >> 4];
-        it->text[it->used++] = digits[bytes[k] & 15];
-    }
+    char *at = it->text + it->used;
+    for (size_t k = 0; k < length; k++, at += 2)
+        memcpy(at, digits[bytes[k]], 2);
+    it->used += 2 * length;
 }
 
 uint32_t nicd_add_data(struct recording *it, const uint8_t *bytes, size_t length)
 {
     static const uint8_t zero[1];
-    nicd_add(it, "data d%lu ", (unsigned long)it->strings);
+    nicd_add_number(it, "data d", it->strings, " ");
     nicd_add_hex(it, length ? bytes : zero, length ? length : 1);
-    nicd_add(it, length ? "\n" : "  #: no bytes\n");
+    nicd_add_text(it, length ? "\n" : "  #: no bytes\n");
     return it->strings++;
+}
+
+void nicd_add_poke(struct recording *it, uint64_t bus, uint32_t name)
+{
+    struct nicd_text more = nicd_text_of(it);
+    nicd_put(&more, "poke ");
+    nicd_put_word(&more, bus, 5);
+    nicd_put(&more, " d");
+    nicd_put_number(&more, name);
+    nicd_text_ends(it, &more);
 }
 
 void nicd_add_reply(struct recording *it)
 {
+    static const char blanks[REPLIES + 1] = "                            ";
     size_t wide = it->used - it->line;
-    nicd_add(it, "%*s # ", wide < REPLIES ? (int)(REPLIES - wide) : 0, "");
+    struct nicd_text more = nicd_text_of(it);
+    if (wide < REPLIES)
+        nicd_put_bytes(&more, blanks, REPLIES - wide);
+    nicd_put_bytes(&more, " # ", 3);
+    nicd_text_ends(it, &more);
 }
 
 /* Takes back the last line, of blocks that were lent; where it is in the file already, the text takes its place. A file

@@ -2,10 +2,14 @@
 #ifndef NICD_RECORDING_H
 #define NICD_RECORDING_H
 
+#include <stdbool.h>
 #include <stddef.h>
 #include <stdint.h>
 
 #include "nic82599.h"
+#include "text.h"
+
+enum { NICD_LINE = 512 };
 
 /* A recording of one controller, whose text is written when an event is complete. */
 struct recording;
@@ -22,6 +26,13 @@ void nicd_leave(struct recording *it);
 void nicd_begin(const nic *n, uint8_t vfs, uint16_t fifo, uint32_t blocks);
 void nicd_end(const nic *n, struct recording *it);
 
+/* Receive queues that may be on, a bit each: a step switches one on, or a restore does; all others only off. */
+struct nicd_on {
+    bool is_known; /* of the rest nothing is known, until all queues are looked at */
+    uint64_t queues[2];
+};
+struct nicd_on *nicd_on_of(struct recording *it);
+
 /* The number of a snapshot that was made now, and of one that is restored: 0 if it isn't of this recording. */
 uint32_t nicd_keep(struct recording *it, const nic_kept *kept);
 uint32_t nicd_kept(const struct recording *it, const nic_kept *kept);
@@ -30,11 +41,20 @@ struct recording *nicd_enter_dropped(nic_kept kept, uint32_t *number);
 
 /* --- text --- */
 
+/* The end of what was added, for text of at most NICD_LINE bytes; and the place where that ended. Of two texts the first
+   one ends before the second one begins. */
+struct nicd_text nicd_text_of(struct recording *it);
+void nicd_text_ends(struct recording *it, const struct nicd_text *text);
+/* The same for one text, for two with a number between them, and for printf's forms. */
+void nicd_add_text(struct recording *it, const char *text);
+void nicd_add_number(struct recording *it, const char *before, uint64_t number, const char *after);
 void nicd_add(struct recording *it, const char *format, ...) __attribute__((format(printf, 2, 3)));
 void nicd_add_hex(struct recording *it, const uint8_t *bytes, size_t length);
 /* A line that names bytes, in front of the one that uses them: the number of the name. A script's data has one byte at
    least: where there is none, it has one, and the comment tells. As a frame both are dropped for the same reason. */
 uint32_t nicd_add_data(struct recording *it, const uint8_t *bytes, size_t length);
+/* `poke 0x00010 d3`: these bytes at a bus address. */
+void nicd_add_poke(struct recording *it, uint64_t bus, uint32_t name);
 /* Blanks up to the column of replies, counted from the last line's beginning, and what begins one. */
 void nicd_add_reply(struct recording *it);
 /* A block that was lent: a line `lend 3`. Where the line before is of the block before it, both become one line,

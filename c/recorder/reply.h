@@ -2,39 +2,69 @@
 #ifndef NICD_REPLY_H
 #define NICD_REPLY_H
 
-#include <inttypes.h>
-#include <stdio.h>
-
 #include "nic82599.h"
+#include "text.h"
 
-static inline int nicd_fault_words(char *room, size_t size, const nic_told *told)
+static inline void nicd_put_two(struct nicd_text *it, const char *text, uint64_t number)
 {
-    const char *name = nic_fault_name(told->why);
-    if (told->why == NIC_FAULT_NOT_LENT)
-        return snprintf(room, size, "fault queue %u %s 0x%05" PRIx64, told->queue, name, told->bus);
-    return snprintf(room, size, "fault queue %u %s", told->queue, name);
+    nicd_put(it, text);
+    nicd_put_number(it, number);
 }
 
-static inline int nicd_message_words(char *room, size_t size, const nic_told *told)
+static inline void nicd_put_fault(struct nicd_text *it, const nic_told *told)
+{
+    nicd_put_two(it, "fault queue ", told->queue);
+    nicd_put(it, " ");
+    nicd_put(it, nic_fault_name(told->why));
+    if (told->why != NIC_FAULT_NOT_LENT)
+        return;
+    nicd_put(it, " ");
+    nicd_put_word(it, told->bus, 5);
+}
+
+static inline void nicd_put_message(struct nicd_text *it, const nic_told *told)
 {
     if (told->group)
-        return snprintf(room, size, "message vf %u vector %u", told->group - 1u, told->vector);
-    return snprintf(room, size, "message pf vector %u", told->vector);
+        nicd_put_two(it, "message vf ", told->group - 1u);
+    else
+        nicd_put(it, "message pf");
+    nicd_put_two(it, " vector ", told->vector);
 }
 
-/* Answers the length of the text, as snprintf does. */
+static inline void nicd_put_slot(struct nicd_text *it, const char *text, const nic_told *told)
+{
+    nicd_put_two(it, text, told->queue);
+    nicd_put_two(it, " slot ", told->slot);
+}
+
+static inline void nicd_put_reply(struct nicd_text *it, uint8_t status, const nic_told *told)
+{
+    switch (status) {
+    case NIC_DROPPED:
+        nicd_put(it, "dropped ");
+        nicd_put(it, nic_why_name(told->why));
+        break;
+    case NIC_WROTE:
+        nicd_put_slot(it, "wrote queue ", told);
+        nicd_put(it, told->end ? " end" : " more");
+        break;
+    case NIC_ADVANCED: nicd_put_slot(it, "advanced queue ", told); break;
+    case NIC_SENT:
+        nicd_put_two(it, "sent queue ", told->queue);
+        nicd_put_two(it, " len ", told->len);
+        break;
+    case NIC_FAULT: nicd_put_fault(it, told); break;
+    case NIC_MESSAGE: nicd_put_message(it, told); break;
+    default: nicd_put(it, nic_status_name(status)); break;
+    }
+}
+
+/* The same with a 0 behind it. Answers the length of the text. */
 static inline int nicd_reply(char *room, size_t size, uint8_t status, const nic_told *told)
 {
-    const char *end = told->end ? "end" : "more";
-    switch (status) {
-    case NIC_DROPPED: return snprintf(room, size, "dropped %s", nic_why_name(told->why));
-    case NIC_WROTE: return snprintf(room, size, "wrote queue %u slot %u %s", told->queue, told->slot, end);
-    case NIC_ADVANCED: return snprintf(room, size, "advanced queue %u slot %u", told->queue, told->slot);
-    case NIC_SENT: return snprintf(room, size, "sent queue %u len %" PRIu64, told->queue, told->len);
-    case NIC_FAULT: return nicd_fault_words(room, size, told);
-    case NIC_MESSAGE: return nicd_message_words(room, size, told);
-    default: return snprintf(room, size, "%s", nic_status_name(status));
-    }
+    struct nicd_text text = nicd_text_in(room, size);
+    nicd_put_reply(&text, status, told);
+    return (int)(text.at - room);
 }
 
 #endif

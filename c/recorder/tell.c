@@ -243,7 +243,7 @@ static void tell_fault(nic *n, const nic_told *told, bool transmit)
         return;
     nicd_why_fault(n, told, transmit, text, sizeof text);
     join(text);
-    nicd_fault_words(reply, sizeof reply, told);
+    nicd_reply(reply, sizeof reply, NIC_FAULT, told);
     say(it, "%s: %s: %s", transmit ? "tx" : "rx", reply, text);
 }
 

@@ -4,6 +4,7 @@ from __future__ import annotations
 
 import random
 import subprocess
+import tracemalloc
 from collections.abc import Callable, Iterator
 from contextlib import contextmanager
 from pathlib import Path
@@ -14,8 +15,9 @@ from nic82599.tools import as_script, perfetto
 from nic82599.tools.advice import Advice
 from nic82599.tools.draw import State, ring_lines
 from nic82599.tools.library import Place, played
+from nic82599.tools.lines import Source
 from nic82599.tools.page import Data
-from nic82599.tools.recording import of_recording, read
+from nic82599.tools.recording import Player, cut, of_recording, read
 from nic82599.tools.regs import REGISTERS
 from nic82599.tools.run import Run, of_script
 from nic82599.tools.script import Bench, Fault, Op, Refused, load
@@ -23,6 +25,7 @@ from nic82599.tools.trace import Step
 from view_inputs import ENDS
 
 ROOT = Path(__file__).resolve().parents[1]
+MOST_OF_A_LINE = 60
 Expect = Callable[[bool, str], None]
 HEAD = "#: nic vfs 0 fifo 64 blocks 256\n"
 # Lines that a changed recording may have, and with which one begins.
@@ -252,6 +255,45 @@ def check_long(folder: Path, expect: Expect) -> None:
     check_tool(["nicview", file, "--text", "--limit", 2], "", 0, [f"line {lines - 1}: arrive d0"], expect)
     check_tool(["nicview", "-", "--text", "--limit", 2], file.read_text(), 0, [f"line {lines - 1}: arrive d0"], expect)
     check_tool(["nicview", ROOT / "examples/first.nic", "--limit", 100_001], "", 3, ["100000 steps"], expect)
+
+
+def busy_recording(file: Path, rounds: int) -> None:
+    """A recording whose lines have other bytes each: five events a round, and the data of two."""
+    with recorded(file) as nic:
+        nic.lend(0)
+        for number in range(rounds):
+            nic.memory.write(0, number.to_bytes(16, "little"))
+            nic.memory.read(0, 16)
+            nic.arrive(number.to_bytes(60, "little"))
+            nic.write32(0x00888, number % 256)
+            nic.read32(0x04074)
+
+
+def peak_of(file: Path) -> tuple[int, int]:
+    """How many bytes of Python's there are at most while a recording is read, looked at, and made again up to its last
+    event; and how many lines it has."""
+    tracemalloc.start()
+    made = read(str(file), Source(str(file)))
+    Advice(made.script()).all()
+    cut(made, 1)
+    player = Player(made)
+    with player.nic:
+        player.play()
+    peak = tracemalloc.get_traced_memory()[1]
+    tracemalloc.stop()
+    return peak, len(made.lines)
+
+
+def check_memory(folder: Path, expect: Expect) -> None:
+    """A longer recording takes some bytes more for a line, not its text: ten million lines fit in 1 GB."""
+    file = folder / "busy.recording"
+    peaks = []
+    for rounds in (1_000, 4_000):
+        busy_recording(file, rounds)
+        peaks.append(peak_of(file))
+    (few, lines), (many, more) = peaks
+    a_line = (many - few) / (more - lines)
+    expect(a_line < MOST_OF_A_LINE, f"a recording takes {a_line:.0f} bytes a line: {peaks}")
 
 
 def check_lent(folder: Path, expect: Expect) -> None:
@@ -549,7 +591,7 @@ def check_recordings(scripts: dict[Path, int | None], folder: Path, seed: int, e
     check_refused(folder, expect)
     check_restored(folder, expect)
     checks = check_long, check_lent, check_no_bytes, check_notes, check_names, check_history, check_cut, check_opening
-    checks += (check_in_place,)
+    checks += (check_in_place, check_memory)
     for check in checks:
         check(folder, expect)
     check_hostile(folder, chance, expect)

@@ -1,6 +1,5 @@
-/* Where the caller's memory begins, block by block, of all controllers together: the question of whether a piece that is
-   to be freed is the caller's takes a few steps, however many controllers and blocks there are. The caller holds a
-   lock. */
+/* Where the caller's memory begins, block by block, of all controllers together: whether a piece is the caller's is
+   known in a few steps, however many controllers and blocks there are. The caller holds a lock. */
 #ifndef NICD_STARTS_H
 #define NICD_STARTS_H
 

@@ -5,8 +5,10 @@ They come from the instructions of the object, looked at in the order of the lin
 
 from __future__ import annotations
 
+from array import array
+from bisect import bisect_left, bisect_right
 from collections.abc import Iterator
-from dataclasses import dataclass
+from dataclasses import dataclass, field
 
 from . import regs
 from .known import ABSENT
@@ -47,6 +49,8 @@ def absent_at(address: int) -> Absent | None:
 # What drivers write to clear all causes or masks at once, whichever bits a register has.
 ALL = (0x7FFF_FFFF, 0xFFFF_FFFF)
 CLEARED = ("EICR", "EIMC", "PVTEICR", "PVTEIMC")
+# Of so many words of a register it is kept what is to be said of them.
+MOST_WORDS = 1 << 16
 
 
 @dataclass(frozen=True)
@@ -59,31 +63,83 @@ class Access:
     function: int | None
 
 
+def _of_word(register: Register, word: int) -> Iterator[str]:
+    """What is to be said of a word that goes to a register."""
+    row, name = register.row, register.name
+    if row.kind in ("Ro", "Rc", "Calc"):
+        yield f"{name} isn't written by drivers: the write changes nothing"
+        return
+    rest = 0 if word in ALL and row.name in CLEARED else regs.reserved(row, word)
+    if rest:
+        yield f"{name}: bits 0x{rest:08x} of the word are reserved; write 0 there, later cards may use them"
+    # (what reads 1 and stays so is written back by whoever changes another bit)
+    lost = word & ~row.mask & ~row.reset & ~rest & 0xFFFF_FFFF
+    if row.kind in ("Rw", "Held") and lost:
+        why = {
+            "DLEN": "; a ring's length is a multiple of 128 bytes",
+            "DBAL": "; a ring begins at a multiple of 128",
+        }.get(row.name[1:], "")
+        yield f"{name} doesn't keep bits 0x{lost:08x}{why}"
+
+
+@dataclass
+class Writes:
+    """The writes of a register by one side, in the order of their instructions: a recording may have millions."""
+
+    register: Register
+    function: int | None
+    pcs: array[int] = field(default_factory=lambda: array("I"))
+    words: array[int] = field(default_factory=lambda: array("I"))
+
+    def each(self, first: int = 0, end: int | None = None) -> Iterator[Access]:
+        """Those from one place in the row up to another."""
+        for at in range(first, len(self.pcs) if end is None else end):
+            yield Access(self.pcs[at], self.register, self.words[at], self.function)
+
+
 class Advice:
     """The warnings for a script."""
 
     def __init__(self, script: Script) -> None:
         self.script = script
-        self.writes: list[Access] = []
-        self.strays: list[int] = []
+        self.writes: dict[tuple[int, int | None], Writes] = {}
+        self.strays = array("I")
+        self.steps = {Op.QSTEP: list[tuple[int, Instruction]](), Op.INT: list[tuple[int, Instruction]]()}
         self._read_accesses()
+        self.rows: dict[str, list[Writes]] = {}
+        for one in self.writes.values():
+            self.rows.setdefault(one.register.row.name, []).append(one)
 
     def _read_accesses(self) -> None:
         """Finds the writes. How pools part the queues is taken from the last write of GCR_EXT before."""
-        k = 0
-        for pc, one in enumerate(self.script.instructions):
+        k, which = 0, (Op.WRITE, Op.READ, Op.VF_WRITE, Op.VF_READ, *self.steps)
+        for pc, one in self.script.only(*which):
             if one.op in (Op.WRITE, Op.READ):
                 register, function = regs.register_at(one.a), None
             elif one.op in (Op.VF_WRITE, Op.VF_READ):
                 register, function = regs.function_register(k or 2, one.x, one.a), one.x
             else:
+                self._take_step(pc, one)
                 continue
             if register is None:
                 self.strays.append(pc)
             elif one.op in (Op.WRITE, Op.VF_WRITE):
-                self.writes.append(Access(pc, register, one.b, function))
+                self._take_write(pc, register, one.b, function)
                 if register.row.name == "GCR_EXT":
                     k = regs.queues_of_pool(one.b)
+
+    def _take_write(self, pc: int, register: Register, word: int, function: int | None) -> None:
+        key = register.address, function
+        if (mine := self.writes.get(key)) is None:
+            mine = self.writes[key] = Writes(register, function)
+        mine.pcs.append(pc)
+        mine.words.append(word)
+
+    def _take_step(self, pc: int, one: Instruction) -> None:
+        """Keeps the steps that switch queues, and the first one that the physical function's messages have."""
+        mine = self.steps[one.op]
+        if one.op == Op.QSTEP or not (mine or one.sub):
+            mine.append((pc, one))
 
     def all(self) -> list[Warning]:
         found = [
@@ -100,10 +156,12 @@ class Advice:
         return Warning(self.script.line_of[pc], text)
 
     def _of(self, name: str) -> list[Access]:
-        return [access for access in self.writes if access.register.row.name == name]
+        found = [access for one in self.rows.get(name, []) for access in one.each()]
+        return sorted(found, key=lambda one: one.pc)
 
-    def _instructions(self, op: Op) -> list[tuple[int, Instruction]]:
-        return [(pc, one) for pc, one in enumerate(self.script.instructions) if one.op == op]
+    def _of_queue(self, name: str, queue: int) -> list[Writes]:
+        """The writes of a queue's register."""
+        return [one for one in self.rows.get(name, []) if one.register.index == queue]
 
     def _strays(self) -> Iterator[Warning]:
         """Accesses that name nothing."""
@@ -122,85 +180,81 @@ class Advice:
 
     def _words(self) -> Iterator[Warning]:
         """Words with bits that are reserved, that aren't kept, or that go to a register which takes none."""
-        for access in self.writes:
-            row, word, name = access.register.row, access.word, access.register.name
-            if row.kind in ("Ro", "Rc", "Calc"):
-                yield self._at(access.pc, f"{name} isn't written by drivers: the write changes nothing")
-                continue
-            rest = 0 if word in ALL and row.name in CLEARED else regs.reserved(row, word)
-            if rest:
-                yield self._at(
-                    access.pc,
-                    f"{name}: bits 0x{rest:08x} of the word are reserved; write 0 there, later cards may use them",
-                )
-            # (what reads 1 and stays so is written back by whoever changes another bit)
-            lost = word & ~row.mask & ~row.reset & ~rest & 0xFFFF_FFFF
-            if row.kind in ("Rw", "Held") and lost:
-                why = {
-                    "DLEN": "; a ring's length is a multiple of 128 bytes",
-                    "DBAL": "; a ring begins at a multiple of 128",
-                }.get(row.name[1:], "")
-                yield self._at(access.pc, f"{name} doesn't keep bits 0x{lost:08x}{why}")
+        for writes in self.writes.values():
+            told: dict[int, list[str]] = {}
+            for pc, word in zip(writes.pcs, writes.words):
+                if (texts := told.get(word)) is None:
+                    texts = list(_of_word(writes.register, word))
+                    if len(told) < MOST_WORDS:
+                        told[word] = texts
+                for text in texts:
+                    yield self._at(pc, text)
 
     def _queues(self, bank: str) -> Iterator[Warning]:
         """What a side of a queue needs, and in which order."""
         letter, side = ("R", "rx") if bank == "Receive" else ("T", "tx")
         enables = {one.register.index: one for one in reversed(self._of(letter + "XDCTL")) if one.word & ENABLE}
-        tails = self._of(letter + "DT")
-        switched = [(pc, one.x) for pc, one in self._instructions(Op.QSTEP) if bool(one.sub) == (side == "tx")]
+        switched: dict[int, list[int]] = {}
+        for pc, one in self.steps[Op.QSTEP]:
+            if bool(one.sub) == (side == "tx"):
+                switched.setdefault(one.x, []).append(pc)
         sends = [one.pc for one in self._of("DMATXCTL") if one.word & 1]
         for queue, enable in enables.items():
             name = f"{letter}XDCTL[{queue}]"
-            mine = [one for one in tails if one.register.index == queue]
             if side == "tx" and not [pc for pc in sends if pc < enable.pc]:
                 yield self._at(
                     enable.pc,
                     f"{name}.ENABLE is written before DMATXCTL.TE is 1: TE comes first, or the queue may not start",
                 )
-            on = next((pc for pc, x in switched if x == queue and pc > enable.pc), None)
+            on = next((pc for pc in switched.get(queue, []) if pc > enable.pc), None)
             if on is None:
                 yield self._at(
                     enable.pc,
                     f"no `qstep {side} {queue}` follows: the queue stays off until the device makes that step",
                 )
-            if not mine:
-                yield self._at(
-                    enable.pc, f"{letter}DT[{queue}] is never written: no slot of the ring becomes the device's"
-                )
-            for one in mine:
-                if one.word and one.pc < (on if on is not None else enable.pc):
-                    what = (
-                        "the device may lose it"
-                        if side == "rx"
-                        else "the device may fetch from a ring that isn't set up"
-                    )
-                    yield self._at(
-                        one.pc,
-                        f"{one.register.name} is written before {name}.ENABLE reads 1: write it behind that, or {what}",
-                    )
+            yield from self._tails(letter, queue, enable, on)
             yield from self._held(bank, queue, on)
             if side == "rx":
                 yield from self._buffers(queue, enable)
 
+    def _tails(self, letter: str, queue: int, enable: Access, on: int | None) -> Iterator[Warning]:
+        """Writes of a queue's tail: there are some, and not before the queue is on."""
+        mine = self._of_queue(letter + "DT", queue)
+        if not mine:
+            text = f"{letter}DT[{queue}] is never written: no slot of the ring becomes the device's"
+            yield self._at(enable.pc, text)
+        lost = "the device may lose it" if letter == "R" else "the device may fetch from a ring that isn't set up"
+        for writes in mine:
+            for one in writes.each(0, bisect_left(writes.pcs, on if on is not None else enable.pc)):
+                if one.word:
+                    name, what = one.register.name, f"{letter}XDCTL[{queue}].ENABLE reads 1"
+                    yield self._at(one.pc, f"{name} is written before {what}: write it behind that, or {lost}")
+
     def _held(self, bank: str, queue: int, on: int | None) -> Iterator[Warning]:
         """Writes of a ring's place while its queue is on."""
-        off = [
-            one.pc
-            for one in self._of(("R" if bank == "Receive" else "T") + "XDCTL")
-            if one.register.index == queue and not one.word & ENABLE
-        ]
-        for access in self.writes:
-            row = access.register.row
-            is_of_it = row.kind == "Held" and row.bank == bank and access.register.index == queue
-            if is_of_it and on is not None and on < access.pc and not any(on < pc < access.pc for pc in off):
-                yield self._at(
-                    access.pc,
-                    f"{access.register.name} is held while the queue is on: the write changes nothing",
-                )
+        if on is None:
+            return
+        off = min(
+            (
+                one.pc
+                for writes in self._of_queue(("R" if bank == "Receive" else "T") + "XDCTL", queue)
+                for one in writes.each(bisect_right(writes.pcs, on))
+                if not one.word & ENABLE
+            ),
+            default=None,
+        )
+        for writes in self.writes.values():
+            row = writes.register.row
+            if row.kind != "Held" or row.bank != bank or writes.register.index != queue:
+                continue
+            end = len(writes.pcs) if off is None else bisect_right(writes.pcs, off)
+            for one in writes.each(bisect_right(writes.pcs, on), end):
+                text = f"{one.register.name} is held while the queue is on: the write changes nothing"
+                yield self._at(one.pc, text)
 
     def _buffers(self, queue: int, enable: Access) -> Iterator[Warning]:
         """The form of a receive queue's descriptors."""
-        control = [one for one in self._of("SRRCTL") if one.register.index == queue]
+        control = [one for writes in self._of_queue("SRRCTL", queue) for one in writes.each()]
         if not control:
             yield self._at(
                 enable.pc,
@@ -220,7 +274,7 @@ class Advice:
 
     def _messages(self) -> Iterator[Warning]:
         """Messages that the card wouldn't send so."""
-        steps = [pc for pc, one in self._instructions(Op.INT) if not one.sub]
+        steps = [pc for pc, _ in self.steps[Op.INT]]
         if steps and not [one for one in self._of("GPIE") if one.word & 0x10]:
             yield self._at(steps[0], f"GPIE.Multiple_MSIX isn't set: {rows()['no_msix'].why}")
 

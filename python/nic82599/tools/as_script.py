@@ -96,7 +96,7 @@ def _history(recording: Recording, made: Made) -> list[int]:
 
 def _add(made: Made, recording: Recording, event: int) -> None:
     """Adds the lines of an event; End."""
-    one, reply, number = recording.instructions[event], recording.replies[event], recording.line_of[event]
+    (one, reply), number = recording.instructions.both(event), recording.line_of[event]
     if one.op == Op.LEND and reply == "done":
         first, last = one.blocks[0], one.blocks[-1]
         for block in range(first, min(last, BLOCKS - 1) + 1):

@@ -6,6 +6,8 @@ from the replies, and a register is asked for where the controller was brought t
 
 from __future__ import annotations
 
+from collections.abc import Sequence
+
 import nic82599
 from nic82599 import Nic, Snapshot
 from nic82599.printed import printed
@@ -25,7 +27,7 @@ MOST_BLOCKS = 65_536
 MOST_DIGITS = 20
 
 
-def _number(word: str) -> int:
+def number_of(word: str) -> int:
     """A number from 0 on; ValueError."""
     if not word[:1].isdigit() or len(word) > MOST_DIGITS:
         raise ValueError(f"{shortened(word)} is no number")
@@ -36,32 +38,32 @@ def instruction(words: list[str], names: dict[str, int]) -> Instruction:
     """An instruction by the words of its line; data and labels by their numbers. ValueError, KeyError, IndexError."""
     op = OPS[words[0]]
     if op in (Op.WRITE, Op.READ):
-        return Instruction(op, 0, 0, _number(words[1]), _number(words[2]) if op == Op.WRITE else 0)
+        return Instruction(op, 0, 0, number_of(words[1]), number_of(words[2]) if op == Op.WRITE else 0)
     if op in (Op.VF_WRITE, Op.VF_READ):
-        word = _number(words[3]) if op == Op.VF_WRITE else 0
-        return Instruction(op, 0, _number(words[1]), _number(words[2]), word)
+        word = number_of(words[3]) if op == Op.VF_WRITE else 0
+        return Instruction(op, 0, number_of(words[1]), number_of(words[2]), word)
     if op == Op.POKE:
-        return Instruction(op, 0, names[words[2]], _number(words[1]), 0)
+        return Instruction(op, 0, names[words[2]], number_of(words[1]), 0)
     if op == Op.PEEK:
-        return Instruction(op, _number(words[2]), 0, _number(words[1]), 0)
+        return Instruction(op, number_of(words[2]), 0, number_of(words[1]), 0)
     if op in (Op.ARRIVE, Op.JMP):
         return Instruction(op, 0, names[words[1]], 0, 0)
     if op == Op.INT:
-        return Instruction(op, 0, 0, 0, 0) if words[1] == "pf" else Instruction(op, 1, _number(words[1]), 0, 0)
+        return Instruction(op, 0, 0, 0, 0) if words[1] == "pf" else Instruction(op, 1, number_of(words[1]), 0, 0)
     if op == Op.QSTEP:
-        return Instruction(op, int(words[1] == "tx"), _number(words[2]), 0, 0)
+        return Instruction(op, int(words[1] == "tx"), number_of(words[2]), 0, 0)
     if op == Op.LINK:
         return Instruction(op, int(words[1] == "up"), 0, 0, 0)
     if op == Op.LEND:
         return _lent(words)
-    return Instruction(op, 0, _number(words[1]) if op in (Op.UNLEND, Op.TX) else 0, 0, 0)
+    return Instruction(op, 0, number_of(words[1]) if op in (Op.UNLEND, Op.TX) else 0, 0, 0)
 
 
 def _lent(words: list[str]) -> Instruction:
     """`lend 3`, or `lend 0 to 255` of a recording."""
-    first, last = _number(words[1]), 0
+    first, last = number_of(words[1]), 0
     if len(words) > 2:
-        last = _number(words[3])
+        last = number_of(words[3])
         if words[2] != "to" or len(words) > 4 or not first < last < MOST_BLOCKS:
             raise ValueError(f"a range of blocks is as in `lend 0 to 255`, below {MOST_BLOCKS}")
     return Instruction(Op.LEND, 0, first, last, 0)
@@ -85,16 +87,14 @@ def _access(nic: Nic, one: Instruction) -> str:
     return _word(nic.vf(one.x).read32(one.a))
 
 
-def _of_memory(nic: Nic, one: Instruction, data: list[bytes]) -> str:
-    if one.op in (Op.PEEK, Op.POKE) and one.a % 16:
+def _of_memory(nic: Nic, one: Instruction) -> str:
+    if one.op == Op.PEEK and one.a % 16:
         return "misaligned"  # (the library takes every address)
     if one.op == Op.LEND:
         nic.lend(*one.blocks)
     elif one.op == Op.UNLEND:
         nic.take(one.x)
         return f"taken {one.x}"
-    elif one.op == Op.POKE:
-        nic.memory.write(one.a, data[one.x])
     else:
         return f"bytes {nic.memory.read(one.a, 16).hex()}"
     return "done"
@@ -124,19 +124,36 @@ REFUSALS = {
 }  # fmt: skip
 _REFUSED = tuple(REFUSALS)
 _ACCESSES = (Op.WRITE, Op.READ, Op.VF_WRITE, Op.VF_READ)
-_MEMORY = (Op.LEND, Op.UNLEND, Op.POKE, Op.PEEK)
+_MEMORY = (Op.LEND, Op.UNLEND, Op.PEEK)
 
 
-def played(nic: Nic, one: Instruction, data: list[bytes]) -> str:
+def poked(nic: Nic, bus: int, data: bytes) -> str:
+    """The reply to a write of 16 bytes of lent memory."""
+    if bus % 16:
+        return "misaligned"
+    try:
+        nic.memory.write(bus, data)
+    except _REFUSED as refused:
+        return REFUSALS[type(refused)]
+    return "done"
+
+
+def arrived(nic: Nic, frame: bytes) -> str:
+    """The reply to a frame that arrives."""
+    return printed(nic.arrive(frame) or True)
+
+
+def played(nic: Nic, one: Instruction, data: Sequence[bytes]) -> str:
     """The reply to an instruction, as `nicbench run` prints it."""
     try:
         if one.op in _ACCESSES:
             return _access(nic, one)
         if one.op in _MEMORY:
-            return _of_memory(nic, one, data)
+            return _of_memory(nic, one)
+        if one.op == Op.POKE:
+            return poked(nic, one.a, data[one.x])
         if one.op == Op.ARRIVE:
-            dropped = nic.arrive(data[one.x])
-            return printed(dropped or True)
+            return arrived(nic, data[one.x])
         return _step(nic, one)
     except _REFUSED as refused:
         return REFUSALS[type(refused)]

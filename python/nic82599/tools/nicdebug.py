@@ -13,9 +13,10 @@ from __future__ import annotations
 
 import argparse
 
+from .lines import Source
 from .prompt import of_bench, of_made, prompt
 from .recording import is_recording, read, refuse_sizes, traced
-from .script import Bench, Fault, read_bytes, text_of
+from .script import Bench, Fault, text_of
 from .tool import Parser, called, ended, limit, limit_of_script, sizes
 
 
@@ -31,13 +32,13 @@ def main() -> int:
     asked = words()
     if asked.script == "-":
         raise Fault("the prompt reads standard input, so the script has to be a file")
-    raw = read_bytes(asked.script)
-    if not is_recording(raw):
+    source = Source(asked.script)
+    if not is_recording(source):
         bench, most = Bench(asked.vfs, asked.fifo), limit_of_script(asked.limit)
-        prompt(of_bench(bench, asked.script, text_of(asked.script, raw), most))
+        prompt(of_bench(bench, asked.script, text_of(asked.script, source.whole()), most))
         return 0
     refuse_sizes(asked.script, asked.vfs, asked.fifo)
-    with traced(read(asked.script, raw), asked.limit) as made:
+    with traced(read(asked.script, source), asked.limit) as made:
         prompt(of_made(made))
     return 0
 

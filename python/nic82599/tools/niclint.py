@@ -19,11 +19,12 @@ from collections.abc import Callable
 
 from .advice import Advice, Warning
 from .forms import MOST_TOLD, Place, explained
+from .lines import Source
 from .printable import shortened
 from .recording import is_recording, of_recording, read, refuse_sizes
 from .refusals import most_of, refusals
 from .run import Run, of_trace
-from .script import Bench, Refused, Script, of_text, read_bytes, text_of
+from .script import Bench, Refused, Script, of_text, text_of
 from .tool import Parser, called, ended, limit, limit_of_script, sizes
 from .trace import Step, trace_of
 
@@ -106,9 +107,9 @@ def explain(path: str, run: Run, which: Callable[[Step], bool]) -> None:
             print(f"{where}: {run.shown(step.pc)}{name} -> {step.answer}: {'; '.join(held)}")
 
 
-def of_script(asked: argparse.Namespace, raw: bytes) -> int:
+def of_script(asked: argparse.Namespace, source: Source) -> int:
     """Looks at a script."""
-    text, most = text_of(asked.script, raw), limit_of_script(asked.limit)
+    text, most = text_of(asked.script, source.whole()), limit_of_script(asked.limit)
     bench = Bench(asked.vfs, asked.fifo)
     try:
         script = of_text(bench, asked.script, text)
@@ -122,22 +123,22 @@ def of_script(asked: argparse.Namespace, raw: bytes) -> int:
     return lint(asked.script, script, (lambda: of_trace(trace_of(bench, script, text, most))) if asked.trace else None)
 
 
-def of_recorded(asked: argparse.Namespace, raw: bytes) -> int:
+def of_recorded(asked: argparse.Namespace, source: Source) -> int:
     """Looks at a recording."""
     refuse_sizes(asked.script, asked.vfs, asked.fifo)
-    made = read(asked.script, raw)
+    made = read(asked.script, source)
     for fault in made.bad:
         print(fault)
     if made.bad:
         return 2
-    run = (lambda: of_recording(asked.script, asked.limit, raw)) if asked.trace else None
+    run = (lambda: of_recording(asked.script, asked.limit, source)) if asked.trace else None
     return lint(asked.script, made.script(), run)
 
 
 def main() -> int:
     asked = words()
-    raw = read_bytes(asked.script)
-    return of_recorded(asked, raw) if is_recording(raw) else of_script(asked, raw)
+    source = Source(asked.script)
+    return of_recorded(asked, source) if is_recording(source) else of_script(asked, source)
 
 
 def command() -> int:

@@ -26,9 +26,10 @@ import nic82599
 
 from . import draw, page, perfetto
 from .as_script import script
+from .lines import Source
 from .printable import printable
 from .recording import is_recording, read, refuse_sizes, run_of
-from .script import Bench, Fault, read_bytes
+from .script import Bench, Fault
 from .tool import MOST_STEPS, Parser, called, ended, limit, number, sizes
 
 
@@ -63,11 +64,11 @@ def write(path: str | None, text: str) -> None:
 
 def as_script(asked: argparse.Namespace) -> int:
     """Writes a recording as a script."""
-    raw = read_bytes(asked.script)
-    if not is_recording(raw):
+    source = Source(asked.script)
+    if not is_recording(source):
         raise Fault(f"{asked.script} is no recording, so there is nothing to make a script of")
     refuse_sizes(asked.script, asked.vfs, asked.fifo)
-    text, ended = script(read(asked.script, raw))
+    text, ended = script(read(asked.script, source))
     write(asked.o, text)
     if ended:
         print(f"{asked.script}: the script ends at {ended}", file=sys.stderr)

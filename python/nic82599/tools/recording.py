@@ -12,20 +12,24 @@ from __future__ import annotations
 import contextlib
 import copy
 import re
+from array import array
 from bisect import bisect_right
 from collections import deque
-from collections.abc import Iterator
+from collections.abc import Iterator, Sequence
 from dataclasses import dataclass, field, replace
+from itertools import islice
 
 import nic82599
 from nic82599 import BLOCK_BYTES, Nic, NicError, Snapshot
 
 from .advice import Advice
-from .library import MOST_BLOCKS, Library, instruction, played
+from .again import Again
+from .library import MOST_BLOCKS, Library, instruction, number_of, played
+from .lines import Lines, Source
 from .printable import shortened
 from .regs import ENABLE, OFFSETS, REGISTERS, first, register_at
 from .run import Run, bench_of, of_script, of_trace
-from .script import HEAD, Bench, Fault, Instruction, Op, Script, read_bytes, text_of
+from .script import HEAD, Bench, Fault, Instruction, Op, Script, text_of
 from .tool import MOST_STEPS, limit_of_script
 from .trace import Plan, Step, Trace
 from .trace import trace as of_text
@@ -43,34 +47,151 @@ RING = re.compile(r"guest: the ring of (\S+ \d+) is at [^;]*")
 RESTARTS = (["restore"], ["image"], ["text"])
 
 
-def is_recording(raw: bytes) -> bool:
+MOST_WORD = 0xFFFF_FFFF
+# Lines that occur again and again are kept, so many of them; of others the operation, and the file has the rest.
+MOST_KEPT = 1 << 16
+NOT_KEPT = 1 << 31
+# Lines that seldom occur again, by what they begin with: bytes stand in them, or the name of bytes.
+COLLECT = Instruction(Op.COLLECT, 0, 0, 0, 0)
+OF_BYTES = ("data ", "poke ", "arrive ")
+WITH_BYTES = (*OF_BYTES, "peek ", "collect")
+
+
+def is_recording(source: Source) -> bool:
     """Whether this is a recording, by its first line."""
-    return raw.startswith(b"#: nic ")
+    return source.head.startswith(b"#: nic ")
 
 
 # --- the file ---
 
 
+class Names:
+    """The names of data, by the lines that gave them: `d0`, `d1` .. in a row, as the library writes them, and others.
+    A name may be given again."""
+
+    def __init__(self) -> None:
+        self.count = 0
+        self.next = "d0"
+        self.others: dict[str, int] = {}
+        self.not_in_row: set[int] = set()
+
+    def add(self, name: str) -> None:
+        if name != self.next:
+            self.others[name] = self.count
+            self.not_in_row.add(self.count)
+        self.count += 1
+        self.next = f"d{self.count}"
+
+    def __getitem__(self, name: str) -> int:
+        if name in self.others:
+            return self.others[name]
+        number = int(name[1:])
+        if name != f"d{number}" or number >= self.count or number in self.not_in_row:
+            raise KeyError(name)
+        return number
+
+
+class Only(dict[str, int]):
+    """All names are those of the same data."""
+
+    def __init__(self, number: int) -> None:
+        super().__init__()
+        self.number = number
+
+    def __missing__(self, _name: str) -> int:
+        return self.number
+
+
+class Data(Sequence[bytes]):
+    """The data of a recording, by the lines that have it."""
+
+    def __init__(self, lines: Lines) -> None:
+        self.lines, self.places = lines, array("I")
+
+    def __len__(self) -> int:
+        return len(self.places)
+
+    def __getitem__(self, number: int) -> bytes:  # type: ignore[override]
+        line = self.lines[self.places[number] - 1]
+        words = line.split()
+        if len(words) == 3:
+            return bytes.fromhex(words[2])
+        text, reply = parts(line)
+        return bytes_of(text.split(), reply)
+
+
+class Events(Sequence[Instruction]):
+    """The instructions of a recording with their replies, and the number of the line of each."""
+
+    def __init__(self, lines: Lines) -> None:
+        self.lines = lines
+        self.line_of, self.codes, self.uses = array("I"), array("I"), array("I")
+        self.kept: list[tuple[Instruction, str]] = []
+
+    def add(self, number: int, code: int, data: int = 0) -> None:
+        self.line_of.append(number)
+        self.codes.append(code)
+        self.uses.append(data)
+
+    def keep(self, one: Instruction, reply: str) -> int:
+        """The code of a line that may occur again."""
+        self.kept.append((one, reply))
+        return len(self.kept) - 1
+
+    def both(self, event: int) -> tuple[Instruction, str]:
+        """An instruction, and its reply."""
+        if self.codes[event] < NOT_KEPT:
+            return self.kept[self.codes[event]]
+        words, reply = self.words(event)
+        if len(words) == 1 and words[0] == "collect":
+            return COLLECT, reply
+        return instruction(words, Only(self.uses[event])), reply
+
+    def words(self, event: int) -> tuple[list[str], str]:
+        """The words of a line that isn't kept, and its reply."""
+        text, reply = parts(self.lines[self.line_of[event] - 1])
+        return text.split(), reply
+
+    def __len__(self) -> int:
+        return len(self.codes)
+
+    def __getitem__(self, event: int) -> Instruction:  # type: ignore[override]
+        return self.both(event)[0]
+
+    def only(self, ops: frozenset[Op], end: int | None = None) -> Iterator[tuple[int, Instruction]]:
+        """The instructions of these operations, with their numbers; those before an event."""
+        kept = [one if one.op in ops else None for one, _ in self.kept]
+        for event, code in enumerate(self.codes if end is None else islice(self.codes, end)):
+            if code < NOT_KEPT:
+                if (one := kept[code]) is not None:
+                    yield event, one
+            elif code - NOT_KEPT in ops:
+                yield event, self[event]
+
+
 @dataclass
 class Recording:
-    """The lines of a file, without a last one that wasn't written to its end, and what they say. `line_of` has the
-    number of the line of each instruction, from 1 on, and `directives` those of the lines that no script can have.
-    `bad` are lines that say nothing."""
+    """The lines of a file, without a last one that wasn't written to its end, and what they say. `instructions` has
+    their replies too, and the number of the line of each, from 1 on; `directives` has those of the lines that no script
+    can have. `bad` are lines that say nothing."""
 
     path: str
-    lines: list[str]
+    lines: Lines
     vfs: int
     fifo: int
     blocks: int
-    instructions: list[Instruction] = field(default_factory=list)
-    replies: list[str] = field(default_factory=list)
-    line_of: list[int] = field(default_factory=list)
-    data: list[bytes] = field(default_factory=list)
+    instructions: Events
+    data: Data
     directives: list[tuple[int, list[str]]] = field(default_factory=list)
     bad: list[Fault] = field(default_factory=list)
     begin: int = 0  # so many lines come before those that are shown
     before: int = 0  # and so many events
     notes: list[str] = field(default_factory=list)
+    told: list[tuple[int, str]] = field(default_factory=list)  # what the program said, with the number of the line
+
+    @property
+    def line_of(self) -> array[int]:
+        return self.instructions.line_of
 
     def fault(self, number: int, fault: Exception) -> Fault:
         """That of a line."""
@@ -81,7 +202,8 @@ class Recording:
         """All of it as a script; the first of the bad lines."""
         if self.bad:
             raise self.bad[0]
-        return Script(self.path, self.lines, self.instructions, self.data, self.line_of, {}, [])
+        made = self.instructions
+        return Script(self.path, self.lines, made, self.data, made.line_of, {}, [])  # type: ignore[arg-type]
 
 
 def parts(line: str) -> tuple[str, str]:
@@ -108,44 +230,75 @@ def bytes_of(words: list[str], comment: str) -> bytes:
     return b"" if comment == EMPTY else bytes.fromhex("".join(words[2:]))
 
 
-def read(path: str, raw: bytes) -> Recording:
+def read(path: str, raw: Source | bytes) -> Recording:
     """A recording, all of which is shown; Fault."""
-    try:
-        text = raw.decode("ascii")
-    except UnicodeDecodeError as error:
-        raise Fault(f"{path} isn't ASCII from byte {error.start} on: a recording is text") from None
-    lines = text.split("\n")[:-1]
-    head = HEAD.fullmatch(lines[0]) if lines else None
+    lines = Lines(raw if isinstance(raw, Source) else Source.of(path, raw))
+    each = lines.read()
+    head = HEAD.fullmatch(next(each, ""))
     if not head:
         raise Fault(f"{path}:1: it has no whole first line: a recording begins as `#: nic vfs 0 fifo 64 blocks 256`")
-    made = Recording(path, lines, *(int(one) for one in head.groups()))
-    _take(made)
+    made = Recording(path, lines, *(int(one) for one in head.groups()), Events(lines), Data(lines))
+    _take(made, each)
     return made
 
 
-def _take(made: Recording) -> None:
-    """Takes in what the lines behind the first say."""
-    names: dict[str, int] = {}
-    known: dict[str, Instruction] = {}
-    for number, line in enumerate(made.lines[1:], 2):
-        text, reply = parts(line)
+def _take(made: Recording, each: Iterator[str]) -> None:
+    """Takes in what the lines after the first say."""
+    names, known = Names(), dict[str, int]()
+    line_of, codes, uses = made.instructions.line_of, made.instructions.codes, made.instructions.uses
+    for number, line in enumerate(each, 2):
+        code = known.get(line)
+        if code is not None:
+            line_of.append(number)
+            codes.append(code)
+            uses.append(0)
+            continue
         try:
-            if not text:
-                if line.startswith("#: "):
-                    made.directives.append((number, line[3:].split()))
-            elif text.startswith("data "):
-                words = text.split()
-                names[words[1]] = len(made.data)
-                made.data.append(bytes_of(words, reply))
-            else:
-                one = known.get(text) or instruction(text.split(), names)
-                if one.op not in (Op.POKE, Op.ARRIVE, Op.JMP):
-                    known[text] = one  # (a name may be given anew)
-                made.instructions.append(one)
-                made.replies.append(reply)
-                made.line_of.append(number)
+            if not (line.startswith(OF_BYTES) and _take_bytes(made, names, number, line)):
+                _take_line(made, names, known, number, line)
         except BAD as fault:
             made.bad.append(made.fault(number, fault))
+
+
+def _take_bytes(made: Recording, names: Names, number: int, line: str) -> bool:
+    """The same of the lines that are most of a recording, in their usual form; false: it is another one."""
+    words = line.split()
+    if words[0] == "data" and len(words) == 3:
+        bytes.fromhex(words[2])
+        names.add(words[1])
+        made.data.places.append(number)
+    elif words[0] == "poke" and len(words) == 5 and words[3] == "#":
+        number_of(words[1])
+        made.instructions.add(number, NOT_KEPT | Op.POKE, names[words[2]])
+    elif words[0] == "arrive" and len(words) == 4 and words[2] == "#":
+        made.instructions.add(number, NOT_KEPT | Op.ARRIVE, names[words[1]])
+    else:
+        return False
+    return True
+
+
+def _take_line(made: Recording, names: Names, known: dict[str, int], number: int, line: str) -> None:
+    """The same of a line that isn't known."""
+    text, reply = parts(line)
+    if not text:
+        if line.startswith("#: "):
+            made.directives.append((number, line[3:].split()))
+        elif line.startswith(NOTE):
+            made.told.append((number, line.removeprefix(NOTE)))
+        return
+    words = text.split()
+    if text.startswith("data "):
+        bytes_of(words, reply)
+        names.add(words[1])
+        made.data.places.append(number)
+        return
+    one = instruction(words, names)  # type: ignore[arg-type]
+    if one.b > MOST_WORD:
+        raise ValueError(f"0x{one.b:x} is no word of 32 bits")
+    code = NOT_KEPT | one.op
+    if one.op != Op.JMP and len(known) < MOST_KEPT and not text.startswith(WITH_BYTES):
+        code = known[line] = made.instructions.keep(one, reply)
+    made.instructions.add(number, code, one.x if one.op in (Op.POKE, Op.ARRIVE, Op.JMP) else 0)
 
 
 def in_place(made: Recording) -> set[int]:
@@ -167,6 +320,10 @@ def cut(made: Recording, limit: int) -> None:
     made.begin = max(made.line_of[made.before - 1] if made.before else 0, last)
     if made.before:
         made.notes.append(f"{made.before:,} events came before the first step that is shown")
+
+
+# What changes how many bytes there are.
+FOLLOWED = frozenset((Op.LEND, Op.UNLEND, Op.ARRIVE, Op.RX, Op.TX, Op.COLLECT))
 
 
 class TooMuch(ValueError):
@@ -193,8 +350,8 @@ class Held:
             self.lent += BLOCK_BYTES * len(one.blocks)
         elif one.op == Op.UNLEND and reply.startswith("taken"):
             self.lent -= BLOCK_BYTES
-        elif one.op == Op.ARRIVE and reply == "done":
-            self._arrive(len(data[one.x]))
+        elif one.op == Op.ARRIVE:
+            self.arrives(reply, len(data[one.x]))
         elif one.op == Op.RX and self.frames and not reply.startswith("idle") and not reply.endswith(" more"):
             self.waiting -= self.frames.popleft()
         elif one.op == Op.TX and reply.startswith("sent"):
@@ -203,8 +360,11 @@ class Held:
         elif one.op == Op.COLLECT and reply.startswith("frame"):
             self.out -= min(len(reply.split()[-1]) // 2, self.out)
 
-    def _arrive(self, length: int) -> None:
-        """A frame waits. (A reset, which lets go of all, isn't looked for: no more than the fifo has room for wait.)"""
+    def arrives(self, reply: str, length: int) -> None:
+        """A frame waits, where it does. (A reset, which lets go of all, isn't looked for: no more than the fifo has
+        room for wait.)"""
+        if reply != "done":
+            return
         self.frames.append(length)
         self.waiting += length
         if len(self.frames) > self.fifo:
@@ -243,6 +403,7 @@ class Player:
             self.nic = Nic(recording.vfs, recording.fifo, recording.blocks)
         except BAD as fault:
             raise Fault(f"{recording.path} can't be made again: {fault}") from None
+        self.again = Again(self.nic)
         self.snapshots: dict[str, Snapshot] = {}
         self.held = Held(recording.fifo)
         self.others = 0
@@ -264,11 +425,26 @@ class Player:
         made, at = self.recording, begin
         try:
             for at in range(begin, end):
-                reply = played(self.nic, made.instructions[at], made.data)
-                self.held.follow(made.instructions[at], reply, made.data)
-                self.others += reply != made.replies[at]
+                self._event(at)
         except BAD as fault:
             raise made.fault(made.line_of[at], fault) from None
+
+    def _event(self, event: int) -> None:
+        """Makes an event. Those that have bytes are most of a recording, and are made without an instruction."""
+        events, data, op = self.recording.instructions, self.recording.data, self.recording.instructions.codes[event]
+        if op == NOT_KEPT | Op.POKE:
+            words, recorded = events.words(event)
+            reply = self.again.poke(number_of(words[1]), data[events.uses[event]])
+        elif op == NOT_KEPT | Op.ARRIVE:
+            (_, recorded), frame = events.words(event), data[events.uses[event]]
+            reply = self.again.arrive(frame)
+            self.held.arrives(reply, len(frame))
+        else:
+            one, recorded = events.both(event)
+            reply = self.again.event(one, data)
+            if one.op in FOLLOWED:
+                self.held.follow(one, reply, data)
+        self.others += reply != recorded
 
     def _directive(self, words: list[str]) -> None:
         match words:
@@ -295,9 +471,8 @@ class Player:
 def _notes(recording: Recording) -> dict[int, str]:
     """What the program said of each event, by its number from 0 on: the notes between it and the one before."""
     told: dict[int, list[str]] = {}
-    for number, line in enumerate(recording.lines, 1):
-        if line.startswith(NOTE):
-            told.setdefault(bisect_right(recording.line_of, number), []).append(line.removeprefix(NOTE))
+    for number, text in recording.told:
+        told.setdefault(bisect_right(recording.line_of, number), []).append(text)
     return {event: "; ".join(texts) for event, texts in told.items()}
 
 
@@ -305,7 +480,8 @@ def _shown(recording: Recording) -> tuple[Script, list[str]]:
     """What is shown as a script, and the reply that each instruction had."""
     lines = [line[3:] if line.startswith("#: lend ") else line for line in recording.lines[recording.begin :]]
     made = Script(recording.path, lines, [], [], [], {}, [], recording.begin)
-    replies = recording.replies[recording.before :]
+    events = range(recording.before, len(recording.instructions))
+    replies = [recording.instructions.both(event)[1] for event in events]
     if recording.before:
         text = f"r 0x{first('STATUS'):05x}"
         lines.insert(0, f"{text}                    # after the {recording.before:,} events before")
@@ -313,7 +489,8 @@ def _shown(recording: Recording) -> tuple[Script, list[str]]:
         made.instructions.append(instruction(text.split(), {}))
         made.line_of.append(1)
         replies.insert(0, "after")
-    for one, number in zip(recording.instructions[recording.before :], recording.line_of[recording.before :]):
+    for event in events:
+        one, number = recording.instructions[event], recording.line_of[event]
         if one.op in (Op.POKE, Op.ARRIVE):
             made.data.append(recording.data[one.x])
             one = replace(one, x=len(made.data) - 1)
@@ -435,7 +612,7 @@ def trace(player: Player) -> Trace:
     made = Trace(bench, script, steps, start, f"ok {len(steps)}", recording.notes)
     made.lent, made.memory_before, made.waiting, made.out = lent, bench.before, waiting, out
     made.in_place = in_place(recording)
-    made.read = {one.a for one in recording.instructions[: recording.before] if one.op == Op.POKE}
+    made.read = {one.a for _, one in recording.instructions.only(frozenset((Op.POKE,)), recording.before)}
     made.warnings = [(one.line, one.text) for one in Advice(recording.script()).all()]
     return made
 
@@ -451,9 +628,9 @@ def traced(recording: Recording, limit: int) -> Iterator[Trace]:
         yield trace(player)
 
 
-def of_recording(path: str, limit: int = 4_096, raw: bytes | None = None) -> Run:
+def of_recording(path: str, limit: int = 4_096, raw: Source | bytes | None = None) -> Run:
     """The run of a recording's last events, of at most so many."""
-    with traced(read(path, read_bytes(path) if raw is None else raw), limit) as made:
+    with traced(read(path, Source(path) if raw is None else raw), limit) as made:
         return of_trace(made)
 
 
@@ -466,20 +643,20 @@ def refuse_sizes(path: str, vfs: int | None, fifo: int | None) -> None:
 @contextlib.contextmanager
 def trace_of(path: str, vfs: int | None, fifo: int | None, limit: int | None) -> Iterator[Trace]:
     """The trace of a script, of 4,096 steps, or of a whole recording; or of as many steps as `limit` says."""
-    raw = read_bytes(path)
-    if not is_recording(raw):
-        text = text_of(path, raw)
+    source = Source(path)
+    if not is_recording(source):
+        text = text_of(path, source.whole())
         yield of_text(bench_of(Bench(vfs, fifo), text), path, text, limit_of_script(limit or 4_096))
         return
     refuse_sizes(path, vfs, fifo)
-    with traced(read(path, raw), limit or MOST_STEPS) as made:
+    with traced(read(path, source), limit or MOST_STEPS) as made:
         yield made
 
 
 def run_of(path: str, vfs: int | None, fifo: int | None, limit: int) -> Run:
     """The run of a script or of a recording, or of its last events."""
-    raw = read_bytes(path)
-    if not is_recording(raw):
-        return of_script(Bench(vfs, fifo), path, limit_of_script(limit), raw)
+    source = Source(path)
+    if not is_recording(source):
+        return of_script(Bench(vfs, fifo), path, limit_of_script(limit), source.whole())
     refuse_sizes(path, vfs, fifo)
-    return of_recording(path, limit, raw)
+    return of_recording(path, limit, source)

@@ -7,6 +7,7 @@ import os
 import re
 import subprocess
 import sys
+from collections.abc import Iterator
 from concurrent.futures import ThreadPoolExecutor
 from dataclasses import dataclass
 from enum import IntEnum
@@ -233,6 +234,13 @@ class Script:
     labels: dict[str, int]
     data_names: list[str]
     before: int = 0
+
+    def only(self, *ops: Op) -> Iterator[tuple[int, Instruction]]:
+        """The instructions of these operations, with their numbers. Those of a recording find them without a look at
+        the others."""
+        if (found := getattr(self.instructions, "only", None)) is not None:
+            return found(frozenset(ops))
+        return ((pc, one) for pc, one in enumerate(self.instructions) if one.op in ops)
 
     @property
     def has_jumps(self) -> bool:

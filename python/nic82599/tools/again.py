@@ -1,0 +1,118 @@
+"""The calls that most of a long recording is made of, with the replies that `nicbench run` prints.
+
+They are those of library.py without what the package does for others on the way of each: what is made for a call is
+made once. What is rare, and what is refused, goes the package's way.
+"""
+
+from __future__ import annotations
+
+import ctypes
+
+import nic82599
+from nic82599 import Nic, statuses
+from nic82599.printed import printed
+
+from .library import REFUSALS, arrived, played, poked
+from .script import Instruction, Op
+
+ROOM = 16_384
+# What fits each number of a call; others are the package's to refuse.
+MOST_BUS, MOST_QUEUE = 0xFFFF_FFFF, 0xFFFF
+
+
+class Again:
+    """A controller whose events are made again."""
+
+    def __init__(self, nic: Nic) -> None:
+        self.nic, self.handle = nic, nic._handle
+        self.told, self.word, self.unit = nic82599._Told(), ctypes.c_uint32(), ctypes.create_string_buffer(16)
+        self.room = ctypes.create_string_buffer(ROOM)
+        self.at_told, self.at_word = ctypes.byref(self.told), ctypes.byref(self.word)
+        library = nic._library
+        self.reads, self.writes = library.nic_read32, library.nic_write32
+        self.peeks, self.pokes = library.nic_dma_read, library.nic_dma_write
+        self.arrives, self.collects, self.next_out = library.nic_arrive, library.nic_collect, library.nic_next_out
+        self.receives, self.transmits = library.nic_rx_step, library.nic_tx_step
+        self.ways = {
+            Op.READ: self._read, Op.WRITE: self._write, Op.PEEK: self._peek, Op.RX: self._rx, Op.TX: self._tx,
+            Op.COLLECT: self._collect,
+        }  # fmt: skip
+
+    def event(self, one: Instruction, data: object) -> str:
+        """The reply to an instruction that has no bytes."""
+        way = self.ways.get(one.op)
+        return way(one) if way else played(self.nic, one, data)  # type: ignore[arg-type]
+
+    def poke(self, bus: int, data: bytes) -> str:
+        """The reply to a write of 16 bytes of lent memory."""
+        if bus % 16 or bus > MOST_BUS:
+            return poked(self.nic, bus, data)
+        status = self.pokes(self.handle, bus, data, len(data))
+        return "done" if status == statuses.DONE else self._refused(status)
+
+    def arrive(self, frame: bytes) -> str:
+        """The reply to a frame that arrives."""
+        if len(frame) > ROOM:
+            return arrived(self.nic, frame)
+        status = self.arrives(self.handle, frame, len(frame), self.at_told)
+        return "done" if status == statuses.DONE else self._told(status, "tx")
+
+    def _refused(self, status: int) -> str:
+        refusal = nic82599._refused(status, "an event that is made again")
+        if type(refusal) not in REFUSALS:
+            raise refusal
+        return REFUSALS[type(refusal)]
+
+    def _told(self, status: int, step: str) -> str:
+        """The reply of what was told; those of most steps don't need an object for it."""
+        told = self.told
+        if status == statuses.IDLE:
+            return "idle"
+        if status == statuses.WROTE:
+            return f"wrote queue {told.queue} slot {told.slot} {'end' if told.end else 'more'}"
+        if status == statuses.SENT:
+            return f"sent queue {told.queue} len {told.len}"
+        if status == statuses.ADVANCED:
+            return f"advanced queue {told.queue} slot {told.slot}"
+        if status not in nic82599._TELLERS:
+            return self._refused(status)
+        told.step = statuses.STEPS.index(step)
+        return printed(nic82599._TELLERS[status](told))
+
+    def _read(self, one: Instruction) -> str:
+        if one.a > MOST_BUS:
+            return played(self.nic, one, ())
+        status = self.reads(self.handle, one.a, self.at_word)
+        if status > statuses.STRAY:
+            return self._refused(status)
+        return f"{'stray' if status else 'word'} 0x{self.word.value:08x}"
+
+    def _write(self, one: Instruction) -> str:
+        if one.a > MOST_BUS or one.b > MOST_BUS:
+            return played(self.nic, one, ())
+        status = self.writes(self.handle, one.a, one.b)
+        if status > statuses.STRAY:
+            return self._refused(status)
+        return "stray 0x00000000" if status else "done"
+
+    def _peek(self, one: Instruction) -> str:
+        if one.a % 16 or one.a > MOST_BUS:
+            return played(self.nic, one, ())
+        status = self.peeks(self.handle, one.a, self.unit, 16)
+        return f"bytes {self.unit.raw.hex()}" if status == statuses.DONE else self._refused(status)
+
+    def _rx(self, _one: Instruction) -> str:
+        return self._told(self.receives(self.handle, self.at_told), "rx")
+
+    def _tx(self, one: Instruction) -> str:
+        if one.x > MOST_QUEUE:
+            return played(self.nic, one, ())
+        return self._told(self.transmits(self.handle, one.x, self.at_told), "tx")
+
+    def _collect(self, one: Instruction) -> str:
+        if self.next_out(self.handle) > ROOM:
+            return played(self.nic, one, ())
+        status = self.collects(self.handle, self.room, ROOM, self.at_told)
+        if status != statuses.FRAME:
+            return "idle" if status == statuses.IDLE else self._refused(status)
+        return f"frame queue {self.told.queue} {ctypes.string_at(self.room, self.told.len).hex()}"

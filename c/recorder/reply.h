@@ -59,7 +59,7 @@ static inline void nicd_put_reply(struct nicd_text *it, uint8_t status, const ni
     }
 }
 
-/* The same with a 0 behind it. Answers the length of the text. */
+/* The same with a 0 at its end. Answers the length of the text. */
 static inline int nicd_reply(char *room, size_t size, uint8_t status, const nic_told *told)
 {
     struct nicd_text text = nicd_text_in(room, size);

@@ -43,7 +43,7 @@ static inline void nicd_put_number(struct nicd_text *it, uint64_t number)
     nicd_put_bytes(it, first, (size_t)(digits + sizeof digits - first));
 }
 
-/* In hexadecimal behind `0x`, so many digits at least. */
+/* In hexadecimal after `0x`, so many digits at least. */
 static inline void nicd_put_word(struct nicd_text *it, uint64_t word, unsigned least)
 {
     char digits[NICD_MOST_DIGITS], *first = digits + sizeof digits;

@@ -64,7 +64,7 @@ class Again:
         return REFUSALS[type(refusal)]
 
     def _told(self, status: int, step: str) -> str:
-        """The reply of what was told; those of most steps don't need an object for it."""
+        """The reply by what the call reported; those of most steps need no object for it."""
         told = self.told
         if status == statuses.IDLE:
             return "idle"

@@ -4,6 +4,7 @@
     nicdrive ./my_driver                the same with a program that is linked already
     nicdrive --list                     the rows, each with what is tried in it
     nicdrive --compare OLD NEW          two cards: what passes now, and what no longer does
+    nicdrive my_driver.c --require FILE the rows that a file lists, with points: whether they pass
 
 A driver is a source that names its functions in a struct (nic82599_drive.h) and calls nicd_main; or several sources,
 objects, or a program. The folder of the card gets card.html, card.txt, card.json and, for a gate, card.xml in the form
@@ -17,8 +18,12 @@ without an order between them fail a row. Where that can't be, the first line sa
 A row in which nothing failed passes if it came to what it tries: frames on each queue, a reset while some were on their
 way. Otherwise it is "not reached", with what never came up.
 
-Exit status: 0 each row that applies passed; 1 one failed or wasn't reached, or with --compare one that passed no longer
-does; 2 the driver or the words can't be taken, and one line says why.
+A file of --require lists rows, one on a line, each with its points (1 where they are left out); a comment begins with
+'#'. Its rows alone are made, beside those of --rows. The points are printed, and written to points.txt and, as JUnit,
+to points.xml. A row that isn't applicable has no points.
+
+Exit status: 0 each row that applies passed, with --require each row of its files; 1 one didn't, or with --compare one
+that passed no longer does; 2 the driver or the words can't be taken, and one line says why.
 """
 
 from __future__ import annotations
@@ -35,7 +40,7 @@ from pathlib import Path
 
 from nic82599.tools.tool import add_version, printable_output
 
-from . import page, report, where
+from . import page, report, require, where
 from .build import Words, build
 from .rows import FAILED, NOT_REACHED, Budget, Refused, Row, Runner, listed, make_all, name_of
 
@@ -61,6 +66,8 @@ def words() -> argparse.Namespace:
     parser.add_argument("-o", "--out", type=Path, default=Path("card"), metavar="FOLDER", help=folder)
     rows = "these rows alone, with commas between: names or families, or what names begin with"
     parser.add_argument("--rows", metavar="NAMES", help=rows)
+    wanted = "a file of rows that have to pass, with their points; may be given several times"
+    parser.add_argument("--require", type=Path, action="append", default=[], metavar="FILE", help=wanted)
     every = "tells the rows, and makes none; with a driver also which of them aren't applicable"
     parser.add_argument("--list", action="store_true", help=every)
     runs = "schedules by chance of a row (%(default)s)"
@@ -102,6 +109,16 @@ def chosen(rows: list[Row], names: str | None) -> list[Row]:
     if not wanted:
         raise Refused("--rows: it names no row")
     return [row for row in rows if row.name in wanted]
+
+
+def asked_for(rows: list[Row], given: argparse.Namespace, milestones: list[require.Milestone]) -> list[Row]:
+    """The rows of --rows and those of --require; all of them where there is neither."""
+    require.check_names(milestones, rows)
+    if given.rows is None and not milestones:
+        return rows
+    names = require.named(milestones)
+    names.update(row.name for row in chosen(rows, given.rows) if given.rows is not None)
+    return [row for row in rows if row.name in names]
 
 
 def draw(row: Row, folder: Path) -> None:
@@ -147,7 +164,7 @@ def list_all(given: argparse.Namespace) -> int:
         rows = listed(build([where.WHOLE], Path(folder), how_of(given)).program)
     for row in rows:
         row.lack = ""
-    return tell_names(chosen(rows, given.rows))
+    return tell_names(asked_for(rows, given, [require.read(path) for path in given.require]))
 
 
 def processor_seconds() -> float:
@@ -155,15 +172,24 @@ def processor_seconds() -> float:
     return used.ru_utime + used.ru_stime
 
 
+def mark(results: list[require.Result], folder: Path) -> int:
+    """Prints and writes the points; the status: whether each row of each list passed."""
+    require.write(results, folder)
+    print(require.text(results), end="")
+    print(f"the points are {folder / 'points.txt'}, for a gate points.xml")
+    return ONE_FAILED if any(result.missed for result in results) else ALL_PASSED
+
+
 def make(given: argparse.Namespace) -> int:
     folder: Path = given.out
+    milestones = [require.read(path) for path in given.require]
     try:
         folder.mkdir(parents=True, exist_ok=True)
     except OSError as fault:
         raise Refused(f"{folder}: it can't be made: {fault.strerror}") from fault
     built = build(given.driver, folder, how_of(given))
     program = built.program
-    rows = chosen(listed(program.resolve()), given.rows)
+    rows = asked_for(listed(program.resolve()), given, milestones)
     if given.list:
         return tell_names(rows)
     if built.blind:
@@ -181,6 +207,8 @@ def make(given: argparse.Namespace) -> int:
     (folder / "card.html").write_text(page.page(card))
     print(report.summary(card))
     print(f"the card is {folder / 'card.html'}, as text card.txt, for a gate card.xml")
+    if milestones:
+        return mark(require.results(milestones, rows), folder)
     return ONE_FAILED if card.count(FAILED) or card.count(NOT_REACHED) else ALL_PASSED
 
 

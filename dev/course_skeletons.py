@@ -1,0 +1,71 @@
+#!/usr/bin/env python3
+"""Writes the skeletons of course/ from the answers in c/drive/tests/course: the same text without what stands between
+a comment `TODO N: ..` and the next `END`. What `END: ..` has after its colon stands in the hole's place, a
+statement a line. `at` gives the text in which the holes up to a milestone are filled, for tests.
+
+    dev/course_skeletons.py [--check]
+"""
+
+from __future__ import annotations
+
+import re
+import sys
+from collections.abc import Iterator
+from pathlib import Path
+
+sys.dont_write_bytecode = True
+from generated import ROOT, keep  # noqa: E402
+
+ANSWERS, COURSE = ROOT / "c/drive/tests/course", ROOT / "course"
+SKELETONS = {
+    "driver.c": COURSE / "c/driver.c",
+    "driver.py": COURSE / "python/driver.py",
+    "driver.rs": COURSE / "rust/src/main.rs",
+}
+TODO = re.compile(r"\s*(/\*|//|#) TODO ([1-6]): ")
+END = re.compile(r"(\s*)(?:/\*|//|#) END(?:: (.*?))?(?: \*/)?\n")
+
+
+def comment(first: str, mark: str, lines: Iterator[str]) -> tuple[list[str], str]:
+    """The lines of a comment whose first one was read, and the line after it."""
+    found, line = [first], next(lines)
+    if mark == "/*":
+        while not found[-1].rstrip().endswith("*/"):
+            found.append(line)
+            line = next(lines)
+        return found, line
+    while line.strip().startswith(mark) and not END.fullmatch(line):
+        found.append(line)
+        line = next(lines)
+    return found, line
+
+
+def hole(line: str, lines: Iterator[str]) -> tuple[list[str], list[str]]:
+    """What fills a hole, and what stands in its place."""
+    inside = []
+    while not (end := END.fullmatch(line)):
+        inside.append(line)
+        line = next(lines)
+    instead = re.findall(r"[^;]+;|[^;]+$", end[2] or "")
+    return inside, [f"{end[1]}{one.strip()}\n" for one in instead]
+
+
+def at(text: str, milestone: int) -> str:
+    """An answer's text in which the holes of the milestones up to this one are filled; 0: the skeleton."""
+    lines, made = iter(text.splitlines(keepends=True)), []
+    for line in lines:
+        if not (todo := TODO.match(line)):
+            made.append(line)
+            continue
+        says, line = comment(line, todo[1], lines)
+        inside, instead = hole(line, lines)
+        made += inside if int(todo[2]) <= milestone else says + instead
+    return "".join(made)
+
+
+def texts() -> dict[Path, str]:
+    return {path: at((ANSWERS / name).read_text(), 0) for name, path in SKELETONS.items() if (ANSWERS / name).exists()}
+
+
+if __name__ == "__main__":
+    keep(__doc__, texts)

@@ -1,0 +1,215 @@
+#!/usr/bin/env python3
+"""Checks the recipes for CI: each is YAML that two readers read alike, and its lines are run here, in their order.
+
+    recipes/check.py        tries all of them; status 0: all passed; 1: one didn't
+
+What the lines name stands in a folder as in a runner: a repository with a driver, `apt-get`, which notes what is asked
+for, and `git`, which gives this clone in place of one that it fetches. The card is made. A search isn't: its words are
+read by drivers/qemu/search, which prints the workload of a seed. `make` of a module is noted, and makes an empty one.
+"""
+
+from __future__ import annotations
+
+import os
+import re
+import shutil
+import stat
+import subprocess
+import sys
+import tempfile
+from dataclasses import dataclass, field
+from pathlib import Path
+from typing import Any
+
+sys.dont_write_bytecode = True
+HERE = Path(__file__).resolve().parent
+ROOT = HERE.parent
+sys.path.insert(0, str(HERE))
+from yaml_subset import Refused, read  # noqa: E402
+
+# What the recipes install that build the bench, and what a search and a kernel's module need beside it.
+FOR_THE_BENCH = {"ca-certificates", "gcc", "git", "libc6-dev", "make", "python3", "rustc"}
+FOR_A_SEARCH = FOR_THE_BENCH | {"binutils", "bzip2", "linux-headers-amd64", "xz-utils"}
+
+# Rows of the driver in c/drive/examples/small.c, which passes one and fails the other.
+PASSES, FAILS = "receive-one\n", "setup-crc\n"
+
+# Texts that are no YAML of the kind that is written here.
+BAD = [
+    *("a: b: c\n", "a:\n  - b\n   - c\n", "a: 1\na: 2\n", "a: 'b'\n", "a: b # c\n", "a: *b\n", "a: {b: c}\n"),
+    "just words\n",
+]
+
+APT = """#!/bin/sh
+[ "$1" = update ] || echo "$*" >>"$NOTES/apt"
+"""
+GIT = """#!/bin/sh
+[ "$1 $2 $3 $4" = "clone --depth 1 https://git.example/nic82599.git" ] || exit 1
+mkdir "$5" "$5/drivers" "$5/drivers/qemu"
+ln -s "$BENCH_HERE/c" "$BENCH_HERE/python" "$BENCH_HERE/tools" "$5"
+cp "$NOTES/search" "$5/drivers/qemu/search"
+"""
+SEARCH = """#!/bin/sh
+"$BENCH_HERE/drivers/qemu/search" "$@" --workload 1 >"$NOTES/workload" || exit
+while [ "$1" != --out ]; do shift; done
+mkdir "$2" && echo "| Seed |" >"$2/summary.md" && echo "<testsuite/>" >"$2/junit.xml"
+"""
+# What builds the bench is here already; a module is noted.
+MAKE = """#!/bin/sh
+echo "$*" >>"$NOTES/make"
+case $* in *M=*ixgbe*) touch ixgbe/ixgbe.ko ;; esac
+"""
+LS = """#!/bin/sh
+[ "$1" = -d ] && echo /usr/src/linux-headers-6.1.0-0-amd64
+"""
+
+
+class Wrong(Exception):
+    """A recipe isn't what it should be."""
+
+
+@dataclass
+class Job:
+    """What a runner makes of a recipe: its variables, its lines in pieces, what is kept and read as JUnit."""
+
+    name: str
+    variables: dict[str, str]
+    pieces: list[str]
+    kept: list[str]
+    junit: list[str] = field(default_factory=list)
+
+
+def of_github(name: str, text: dict[str, Any]) -> Job:
+    (job,) = text["jobs"].values()
+    steps = job["steps"]
+    for step in steps:
+        if bool(step.get("run")) == bool(step.get("uses")):
+            raise Wrong(f"{name}: a step neither runs nor uses something, or does both: {step}")
+    kept = [step["with"]["path"] for step in steps if step.get("uses", "").startswith("actions/upload-artifact@")]
+    return Job(name, job["env"], [step["run"] for step in steps if "run" in step], kept)
+
+
+def of_gitlab(name: str, text: dict[str, Any]) -> Job:
+    """A runner joins before_script and script."""
+    (job,) = text.values()
+    lines = "\n".join([*job["before_script"], *job["script"]])
+    return Job(name, job["variables"], [lines], job["artifacts"]["paths"], [job["artifacts"]["reports"]["junit"]])
+
+
+def parsed(path: Path) -> dict[str, Any]:
+    """A recipe, by the reader here and, where it is installed, by PyYAML."""
+    text = path.read_text()
+    made: dict[str, Any] = read(text)
+    try:
+        import yaml
+    except ImportError:
+        return made
+    other = yaml.safe_load(text)
+    if True in other:  # (which reads `on` as a truth value; runners don't)
+        other["on"] = other.pop(True)
+    if other != made:
+        raise Wrong(f"{path}: PyYAML reads {other}, and the reader here {made}")
+    return made
+
+
+def write_program(folder: Path, name: str, text: str) -> None:
+    path = folder / name
+    path.write_text(text)
+    path.chmod(path.stat().st_mode | stat.S_IXUSR)
+
+
+def run_lines(job: Job, folder: Path, rows: str) -> None:
+    """The lines of a job in a repository with a driver, of which rows are required. Wrong where one of them fails."""
+    notes, programs, repository = (folder / name for name in ("notes", "programs", "repository"))
+    for it in (notes, programs, repository, repository / "ixgbe"):
+        it.mkdir(parents=True)
+    for name, text in {"apt-get": APT, "git": GIT, "make": MAKE, "ls": LS}.items():
+        write_program(programs, name, text)
+    write_program(notes, "search", SEARCH)
+    shutil.copy(ROOT / "c/drive/examples/small.c", repository / "driver.c")
+    (repository / "required.rows").write_text(rows)
+    how = {**os.environ, "PATH": f"{programs}:{os.environ['PATH']}", "NOTES": str(notes), "BENCH_HERE": str(ROOT)}
+    how |= {name: str(value) for name, value in job.variables.items()}
+    how |= {"GITHUB_STEP_SUMMARY": str(notes / "summary"), "CI_PROJECT_DIR": str(repository)}
+    for piece in job.pieces:
+        words = ["bash", "-e", "-o", "pipefail", "-c", piece]
+        made = subprocess.run(words, cwd=repository, env=how, capture_output=True, text=True, check=False)
+        if made.returncode:
+            raise Wrong(f"{job.name}: status {made.returncode} of\n{piece}\n{made.stdout}{made.stderr}")
+    check_left(job, folder)
+
+
+def check_left(job: Job, folder: Path) -> None:
+    """What is kept is there, and what was installed is what the bench needs."""
+    for name in [*job.kept, *job.junit]:
+        if not (folder / "repository" / name).exists():
+            raise Wrong(f"{job.name}: it keeps {name}, which no line makes")
+    asked = (folder / "notes/apt").read_text().split()
+    wanted = FOR_A_SEARCH if "search" in job.name else FOR_THE_BENCH
+    if asked[:3] != ["install", "-y", "--no-install-recommends"] or set(asked[3:]) != wanted:
+        raise Wrong(f"{job.name}: it installs {asked}; wanted: {sorted(wanted)}")
+    if "search" in job.name and not (folder / "notes/workload").read_text():
+        raise Wrong(f"{job.name}: drivers/qemu/search printed no workload")
+    summary = folder / "notes/summary"
+    if "github" in job.name and not summary.exists():
+        raise Wrong(f"{job.name}: no summary is shown")
+
+
+def check_container() -> None:
+    """The container file installs what the recipes do, and each of its lines is one that a builder knows."""
+    text = (HERE / "Containerfile").read_text().replace("\\\n", " ")
+    lines = [line for line in text.splitlines() if line and not line.startswith("#")]
+    kinds = [line.split()[0] for line in lines]
+    if kinds != ["FROM", "RUN", "COPY", "RUN", "WORKDIR", "ENTRYPOINT"]:
+        raise Wrong(f"Containerfile: its lines are {kinds}")
+    install = re.search(r"install -y --no-install-recommends ([a-z0-9 -]+?) +&&", re.sub(r" +", " ", lines[1]))
+    if not install or set(install[1].split()) != FOR_THE_BENCH:
+        raise Wrong(f"Containerfile: it installs {install and install[1]}")
+
+
+def check_reader() -> None:
+    for text in BAD:
+        try:
+            made = read(text)
+        except Refused:
+            continue
+        raise Wrong(f"the reader takes {text!r} for {made}")
+
+
+def check_jobs(path: Path) -> None:
+    """A recipe's job passes; the card's doesn't where a row that is required fails."""
+    name = f"{path.parent.name}/{path.name}"
+    job = (of_github if path.parent.name == "github" else of_gitlab)(name, parsed(path))
+    with tempfile.TemporaryDirectory() as folder:
+        run_lines(job, Path(folder), PASSES)
+    if "card" not in name:
+        return
+    with tempfile.TemporaryDirectory() as folder:
+        try:
+            run_lines(job, Path(folder), FAILS)
+        except Wrong as fault:
+            if f"status 1 of\n{job.pieces[-1 if 'gitlab' in name else -2]}" in str(fault):
+                return
+            raise
+    raise Wrong(f"{name}: the job passes, and a row that is required fails")
+
+
+def main() -> int:
+    if not shutil.which("cc") or not shutil.which("bash"):
+        print("recipes/check.py: not tried: cc or bash isn't installed")
+        return 0
+    recipes = sorted(HERE.glob("git*/*.yml"))
+    try:
+        check_reader()
+        check_container()
+        for path in recipes:
+            check_jobs(path)
+    except (Wrong, Refused) as fault:
+        print(f"recipes/check.py: FAILED: {fault}")
+        return 1
+    print(f"recipes/check.py: {len(recipes)} recipes and the container file passed")
+    return 0
+
+
+if __name__ == "__main__":
+    sys.exit(main())

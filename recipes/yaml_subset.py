@@ -1,0 +1,119 @@
+"""Reads the YAML that recipes/ is written in: mappings and lists by indentation, plain and quoted words, `[a, b]`, and
+blocks after `|` and `>-`. All else is refused with its line. PyYAML, which not every machine has, reads the same
+(recipes/check.py compares them)."""
+
+from __future__ import annotations
+
+import re
+from dataclasses import dataclass
+from typing import Any
+
+KEY = re.compile(r"([A-Za-z_][\w-]*):(?: +(.*))?$")
+
+
+class Refused(Exception):
+    """It isn't YAML of this kind."""
+
+
+@dataclass
+class Reader:
+    """The lines, and the one that is read next."""
+
+    lines: list[str]
+    at: int = 0
+
+    def skip(self) -> None:
+        while self.at < len(self.lines) and re.match(r" *(#|$)", self.lines[self.at]):
+            self.at += 1
+
+    def indent(self) -> int:
+        """How far the next line with something in it is indented; -1 at the end."""
+        self.skip()
+        if self.at == len(self.lines):
+            return -1
+        line = self.lines[self.at]
+        return len(line) - len(line.lstrip(" "))
+
+    def refuse(self, why: str) -> Refused:
+        return Refused(f"line {self.at + 1}: {why}")
+
+    def value(self, least: int) -> Any:
+        """The mapping or list that is indented by `least` at least; None where none is."""
+        indent = self.indent()
+        if indent < least:
+            return None
+        return self.items(indent) if self.lines[self.at].lstrip().startswith("- ") else self.mapping(indent)
+
+    def items(self, indent: int) -> list[Any]:
+        made = []
+        while self.indent() == indent and self.lines[self.at].startswith("- ", indent):
+            rest = self.lines[self.at][indent + 2 :]
+            if KEY.match(rest) and not rest.startswith('"'):
+                self.lines[self.at] = " " * (indent + 2) + rest
+                made.append(self.mapping(indent + 2))
+            else:
+                self.at += 1
+                made.append(self.scalar(rest, indent))
+        return made
+
+    def mapping(self, indent: int) -> dict[str, Any]:
+        made: dict[str, Any] = {}
+        while self.indent() == indent:
+            found = KEY.match(self.lines[self.at][indent:])
+            if not found or found[1] in made:
+                raise self.refuse("a key and a colon are expected, each key once")
+            self.at += 1
+            made[found[1]] = self.scalar(found[2], indent) if found[2] else self.nested(indent)
+        if self.indent() > indent:
+            raise self.refuse("this is indented too far")
+        return made
+
+    def nested(self, indent: int) -> Any:
+        """What stands below a key: a list may begin as far to the left as the key."""
+        next_one = self.indent()
+        if next_one == indent and self.lines[self.at].startswith("- ", indent):
+            return self.items(indent)
+        return self.value(indent + 1)
+
+    def scalar(self, text: str, indent: int) -> Any:
+        text = text.strip()
+        if text in ("|", ">-"):
+            return self.block(indent, text)
+        if found := re.fullmatch(r"\[(.*)\]", text):
+            return [plain(it.strip()) for it in found[1].split(",")]
+        return plain(text)
+
+    def block(self, indent: int, kind: str) -> str:
+        lines = []
+        for line in self.lines[self.at :]:
+            if line and not line.startswith(" " * (indent + 1)):
+                break
+            lines.append(line)
+            self.at += 1
+        while lines and not lines[-1]:
+            lines.pop()
+        depth = len(lines[0]) - len(lines[0].lstrip(" ")) if lines else 0
+        lines = [line[depth:] for line in lines]
+        return " ".join(lines) if kind == ">-" else "\n".join(lines) + "\n"
+
+
+def plain(text: str) -> Any:
+    """A word as what it stands for. Refused where a comment or something else could be meant."""
+    if re.fullmatch(r'"[^"\\]*"', text):
+        return text[1:-1]
+    if text in ("true", "false"):
+        return text == "true"
+    if re.fullmatch(r"[0-9]+", text):
+        return int(text)
+    if re.search(r"^[&*!|>%@`{}\[\],'\"?]|: | #|:$", text):
+        raise Refused(f"{text!r}: quotes are needed, or it isn't read here")
+    return text
+
+
+def read(text: str) -> Any:
+    """What a text holds. Refused."""
+    reader = Reader(text.splitlines())
+    made = reader.value(0)
+    if reader.indent() != -1:
+        raise reader.refuse("it isn't read here")
+    return made

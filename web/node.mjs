@@ -1,0 +1,25 @@
+#!/usr/bin/env node
+// The worker of the page in Node, for tests: it reads messages as lines of JSON, `{"what": .., "given": [..]}`, and
+// prints for each what the worker answers, `{"made": ..}` or `{"fault": ..}`. Bytes are `{"base64": ".."}` both ways.
+//
+//     web/node.mjs web/out/bench.html < messages
+
+import { readFileSync } from "node:fs";
+import { createInterface } from "node:readline";
+
+const page = readFileSync(process.argv[2], "utf8");
+const part = (id) => new RegExp(`<script type="text/plain" id="${id}">([^]*?)</script>`).exec(page)[1];
+const inward = (value) =>
+  value?.base64 === undefined ? value : new Uint8Array(Buffer.from(value.base64, "base64"));
+const outward = (key, value) => (value instanceof Uint8Array ? { base64: Buffer.from(value).toString("base64") } : value);
+
+let answer = null;
+const worker = { onmessage: null };
+const text = part("model").replace(/^onmessage = /m, "worker.onmessage = ");
+new Function("worker", "postMessage", text)(worker, (made) => (answer = made));
+worker.onmessage({ data: { id: 0, module: new WebAssembly.Module(Buffer.from(part("module"), "base64")) } });
+for await (const line of createInterface({ input: process.stdin })) {
+  const { what, given } = JSON.parse(line), began = process.cpuUsage();
+  worker.onmessage({ data: { id: 1, what, given: given.map(inward) } });
+  console.log(JSON.stringify({ ...answer, ms: process.cpuUsage(began).user / 1000 }, outward));
+}

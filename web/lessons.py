@@ -1,0 +1,173 @@
+#!/usr/bin/env python3
+"""The lessons of the page: web/lessons/NN-name.txt are their one source.
+
+    web/lessons.py check                     each answer solves its lesson, and no start does
+    web/lessons.py grade FILE.. > class.csv  what students handed in, run again: a line for each lesson of each file
+
+A file that is handed in is what the page saves: a JSON object with `student` and `lessons`, by number `script` and
+`outcome`. The outcome is checked again by ./nicbench here, whatever the file says.
+
+Status 0: done; 1: an answer doesn't solve its lesson, or a file can't be read, which its line says; 2: there is no
+program; 3: wrong words.
+"""
+
+from __future__ import annotations
+
+import argparse
+import csv
+import json
+import re
+import sys
+from dataclasses import dataclass, field
+from pathlib import Path
+from typing import Any
+
+HERE = Path(__file__).resolve().parent
+sys.path.insert(0, str(HERE.parent / "python"))
+LIMIT = 4096
+# A file of a student has at most so many bytes, and a script of one.
+MOST_FILE, MOST_SCRIPT = 1 << 22, 1 << 18
+PARTS = ("text", "task", "start", "check", "wants", "hint", "answer")
+
+
+class Bad(Exception):
+    """A lesson or a file that can't be read."""
+
+
+@dataclass
+class Lesson:
+    """A lesson: what is read, what is to do, what the editor has first, the lines that check it, what must have been
+    printed, a hint, an answer."""
+
+    number: int
+    title: str
+    vfs: int | None
+    parts: dict[str, str] = field(default_factory=dict)
+
+    @property
+    def wants(self) -> list[str]:
+        return [line for line in self.parts["wants"].splitlines() if line]
+
+
+def read_one(path: Path) -> Lesson:
+    """A lesson from its file: `NUMBER TITLE`, maybe `vfs N`, then its parts, each after a line `--- NAME`."""
+    head, *rest = re.split(r"^--- (\w+)\n", path.read_text(encoding="utf-8"), flags=re.M)
+    first, *more = head.strip().splitlines()
+    number, _, title = first.partition(" ")
+    vfs = next((int(line.split()[1]) for line in more if line.startswith("vfs ")), None)
+    parts = {name: text.strip("\n") for name, text in zip(rest[::2], rest[1::2])}
+    if missing := set(PARTS) ^ set(parts):
+        raise Bad(f"{path.name}: missing or unknown: {', '.join(sorted(missing))}")
+    read = {name: joined(text) if name in ("text", "task", "hint") else f"{text}\n" for name, text in parts.items()}
+    return Lesson(int(number), title, vfs, read)
+
+
+def joined(text: str) -> str:
+    """Paragraphs, each on one line."""
+    return "\n\n".join(" ".join(one.split()) for one in re.split(r"\n\s*\n", text))
+
+
+def read() -> list[Lesson]:
+    """All lessons, in order."""
+    found = [read_one(path) for path in sorted((HERE / "lessons").glob("*.txt"))]
+    if [it.number for it in found] != list(range(1, len(found) + 1)):
+        raise Bad("the lessons aren't numbered in their order")
+    return found
+
+
+def as_data(it: Lesson) -> dict[str, Any]:
+    """A lesson as the page has it."""
+    head = {"number": it.number, "title": it.title, "sizes": {"vfs": it.vfs, "fifo": None}}
+    return head | it.parts | {"wants": it.wants}
+
+
+def outcome(it: Lesson, script: str) -> str:
+    """`solved`, or why a script doesn't solve a lesson; web/model.js says the same in the page."""
+    from nic82599.tools.script import Bench, Fault, Refused, of_text
+
+    if len(script) > MOST_SCRIPT:
+        return "the script is too long"
+    bench, whole = Bench(it.vfs), f"{script.rstrip()}\n{it.parts['check']}\nr STATUS\n"
+    try:
+        loaded = of_text(bench, "lesson", whole)
+        *printed, last = bench.run(whole, LIMIT)
+    except Refused as refused:
+        return f"refused {refused.name} at line {refused.line}"
+    except Fault as fault:
+        return str(fault)
+    end = len(loaded.instructions) - 1
+    if not last.startswith("ok") or not any(line.startswith(f"{end} word ") for line in printed):
+        return last if last.startswith("failed") else "the script doesn't come to its end"
+    replies = {line.partition(" ")[2] for line in printed}
+    return next((f"no line printed: {want}" for want in it.wants if want not in replies), "solved")
+
+
+def check() -> int:
+    faults = 0
+    for it in read():
+        for name, wanted in (("answer", True), ("start", False)):
+            said = outcome(it, it.parts[name])
+            if (said == "solved") != wanted:
+                print(f"lesson {it.number}, {it.title}: its {name}: {said}")
+                faults += 1
+    print(f"lessons: {len(read())}, {faults} faults")
+    return 1 if faults else 0
+
+
+def cell(text: str) -> str:
+    """A text for a cell: none that a table calculator would take for a formula."""
+    return f"'{text}" if text[:1] in ("=", "+", "-", "@", "\t", "\r") else text
+
+
+def handed_in(path: Path) -> tuple[str, dict[str, Any]]:
+    """Who handed a file in, and the lessons in it. Bad."""
+    try:
+        if path.stat().st_size > MOST_FILE:
+            raise Bad(f"it has more than {MOST_FILE:,} bytes")
+        found = json.loads(path.read_text(encoding="utf-8"))
+        student, lessons = found["student"], found["lessons"]
+        if not isinstance(student, str) or not isinstance(lessons, dict):
+            raise Bad("it isn't what the page saves")
+        return student, lessons
+    except (OSError, ValueError, KeyError, TypeError, RecursionError) as fault:
+        raise Bad(f"it isn't what the page saves ({type(fault).__name__})") from None
+
+
+def grade(files: list[Path]) -> int:
+    """Writes the class as CSV: file, student, lesson, what the file says, what a run here says."""
+    out, known, status = csv.writer(sys.stdout, lineterminator="\n"), read(), 0
+    out.writerow(["file", "student", "lesson", "title", "said", "checked"])
+    for path in files:
+        try:
+            student, lessons = handed_in(path)
+        except Bad as fault:
+            out.writerow([cell(path.name), "", "", "", "", cell(str(fault))])
+            status = 1
+            continue
+        for it in known:
+            one = lessons.get(str(it.number))
+            one = one if isinstance(one, dict) else {}
+            script, said = one.get("script"), one.get("outcome")
+            checked = outcome(it, script) if isinstance(script, str) else "not handed in"
+            row = [path.name, student[:200], str(it.number), it.title, str(said or "")[:20], checked]
+            out.writerow(map(cell, row))
+    return status
+
+
+def main() -> int:
+    parser = argparse.ArgumentParser(description=__doc__, formatter_class=argparse.RawDescriptionHelpFormatter)
+    parser.add_argument("what", choices=("check", "grade"))
+    parser.add_argument("files", nargs="*", type=Path, metavar="FILE")
+    try:
+        given = parser.parse_args()
+    except SystemExit as end:
+        return 3 if end.code else 0
+    try:
+        return check() if given.what == "check" else grade(given.files)
+    except Bad as fault:
+        print(f"web/lessons.py: {fault}", file=sys.stderr)
+        return 1
+
+
+if __name__ == "__main__":
+    sys.exit(main())

@@ -1,0 +1,103 @@
+"use strict";
+// What the parts of the page have in common: elements, what is kept in the browser, the worker, files.
+const given = JSON.parse(document.getElementById("given").textContent);
+const element = (id) => document.getElementById(id);
+function make(tag, properties = {}, ...children) {
+  const made = document.createElement(tag);
+  for (const [name, value] of Object.entries(properties)) {
+    if (name in made && name !== "role") made[name] = value;
+    else made.setAttribute(name, value);
+  }
+  made.append(...children.filter((child) => child !== null && child !== undefined));
+  return made;
+}
+function notice(words = "") {
+  element("notice").textContent = words;
+  element("notice").hidden = !words;
+}
+
+// What is kept in this browser. Where it keeps nothing, the page says so, and works on.
+
+let isKept = true;
+function kept(name, other = null) {
+  try {
+    return JSON.parse(localStorage.getItem(`nic82599:${name}`)) ?? other;
+  } catch {
+    return other;
+  }
+}
+function keep(name, value) {
+  try {
+    localStorage.setItem(`nic82599:${name}`, JSON.stringify(value));
+  } catch {
+    if (isKept) notice("This browser keeps nothing for the page: save the script as a file before you close it.");
+    isKept = false;
+  }
+}
+
+// The worker. One that takes long is ended, and another takes its place.
+
+const LONG = 400;
+const source = URL.createObjectURL(new Blob([element("model").textContent], { type: "text/javascript" }));
+let compiled = null, worker = null, numbers = 0;
+const waiting = new Map();
+const octetsOf = (base64) => Uint8Array.from(atob(base64), (letter) => letter.charCodeAt(0));
+function begin() {
+  worker = new Worker(source);
+  worker.postMessage({ id: 0, module: compiled });
+  worker.onmessage = ({ data: { id, made, fault } }) => {
+    const asked = waiting.get(id);
+    waiting.delete(id);
+    if (fault) asked?.reject(Object.assign(new Error(fault.message), { name: fault.name }));
+    else asked?.resolve(made);
+    showBusy();
+  };
+  worker.onerror = (event) => notice(`The page met a fault in itself: ${event.message}`);
+}
+class Stopped extends Error {}
+// What runs a script; the rest is soon done.
+const RUNS = ["answers", "view", "solved", "reason"];
+// Ends the run of a script, which is reported to what waits for it. All else is asked again.
+function stop() {
+  worker.terminate();
+  begin();
+  for (const [id, { what, words, reject }] of [...waiting]) {
+    if (!RUNS.includes(what)) {
+      worker.postMessage({ id, what, given: words });
+      continue;
+    }
+    waiting.delete(id);
+    reject(new Stopped("stopped"));
+  }
+  showBusy();
+}
+function ask(what, ...words) {
+  const id = ++numbers;
+  return new Promise((resolve, reject) => {
+    waiting.set(id, { what, words, resolve, reject, since: performance.now() });
+    worker.postMessage({ id, what, given: words });
+    setTimeout(showBusy, LONG);
+  });
+}
+function isLate() {
+  return [...waiting.values()].some(({ what, since }) => RUNS.includes(what) && performance.now() - since > LONG - 5);
+}
+function showBusy() {
+  element("stop").hidden = !isLate();
+}
+
+// Files.
+
+function saved(name, ...parts) {
+  const link = make("a", { href: URL.createObjectURL(new Blob(parts)), download: name });
+  link.click();
+  setTimeout(() => URL.revokeObjectURL(link.href), 10000);
+}
+function chosenBy(button, input, use) {
+  element(button).addEventListener("click", () => element(input).click());
+  element(input).addEventListener("change", async () => {
+    const [file] = element(input).files;
+    element(input).value = "";
+    if (file) use(file);
+  });
+}

@@ -1,0 +1,157 @@
+// The script and its run: what the bench answers as one types, the page that nicview draws, steps and breakpoints.
+const PAUSE = 250;
+let latest = 0, shown = null, step = 0, frames = [], lessonNow = null, before = null;
+
+function sizes() {
+  const number = (id) => (element(id).value === "" ? null : Number(element(id).value));
+  return { vfs: number("vfs"), fifo: number("fifo") };
+}
+const scriptKey = () => (lessonNow === null ? "script" : `lesson:${lessonNow}`);
+const nameOf = () => (lessonNow === null ? kept("name", "script.nic") : `lesson-${lessonNow}.nic`);
+
+// The text was changed: it is kept, and asked about.
+function changed() {
+  setLines();
+  keep(scriptKey(), element("text").value);
+  drawRows();
+  asked();
+}
+// Puts another text into the editor. The one before can be taken back.
+function putText(text, name = null, isNew = true) {
+  if (isNew && element("text").value.trim() && element("text").value !== text) before = { text: element("text").value, lesson: lessonNow };
+  element("undo").hidden = !before;
+  element("text").value = text;
+  element("text").scrollTop = 0;
+  if (name) keep("name", name);
+  Object.assign(shownText, { replies: new Map(), refused: new Map(), here: 0 });
+  closeChoices();
+  changed();
+}
+
+async function asked() {
+  const number = ++latest, text = element("text").value;
+  if (isLate()) stop();
+  try {
+    const found = await ask("answers", nameOf(), text, sizes());
+    if (number !== latest) return;
+    showAnswers(found);
+    if (found.refused) return;
+    await new Promise((resolve) => setTimeout(resolve, PAUSE));
+    if (number === latest) showView(await ask("view", nameOf(), text, sizes()), number);
+  } catch (fault) {
+    if (!(fault instanceof Stopped) && number === latest) element("state").replaceChildren(make("span", { className: "bad" }, fault.message));
+  }
+}
+function showAnswers({ refused, last, replies }) {
+  const isRefused = Boolean(refused);
+  shownText.refused = new Map((refused ?? []).map((it) => [it.line, it]));
+  if (!isRefused) shownText.replies = new Map(replies);
+  element("replies").classList.toggle("old", isRefused);
+  element("views").classList.toggle("old", isRefused);
+  element("text").setAttribute("aria-invalid", String(isRefused));
+  if (isRefused) element("state").replaceChildren(...refused.slice(0, 3).map(refusalButton));
+  else element("state").replaceChildren(make("span", { className: last.startsWith("failed") ? "bad" : "" }, last));
+  drawRows();
+  showAbout();
+}
+function refusalButton({ line, column, name, words, near }) {
+  const close = near.length ? `; near: ${near.join(", ")}` : "";
+  const made = make("button", { className: "bad" }, `${line ? `line ${line}: ` : ""}refused ${name}: ${words}${close}`);
+  made.addEventListener("click", () => goTo(line, column));
+  return made;
+}
+function showAbout() {
+  element("about").textContent = explained(cursor());
+}
+
+// The page of the run, as nicview writes it: it is loaded out of sight, and then stands in place of the one before.
+
+function showView(run, number) {
+  const data = JSON.stringify(run).replaceAll("<", "\\u003c"), frame = make("iframe", { title: "the run, step by step" });
+  const [start, end] = given.view;
+  const isSame = shown && shown.name === run.name && step <= run.steps.length;
+  frame.srcdoc = start + data + end;
+  frame.addEventListener("load", () => {
+    if (number !== latest && frames.length) return frame.remove();
+    for (const old of frames) old.remove();
+    [frames, shown] = [[frame], run];
+    frame.classList.add("shown");
+    const at = frame.contentDocument.getElementById("at");
+    applyTheme();
+    frame.contentDocument.addEventListener("keydown", stepKeys, true);
+    new MutationObserver(() => followed(at)).observe(at, { childList: true, characterData: true, subtree: true });
+    if (isSame && wasMoved) frame.contentWindow.show(step);
+    followed(at);
+  });
+  element("views").append(frame);
+}
+let wasMoved = false;
+// The view is at another step: its line is the one here.
+function followed(at) {
+  const now = at.textContent.startsWith("start") ? 0 : parseInt(at.textContent, 10) + 1;
+  step = now;
+  shownText.here = now ? shown.line_of[shown.steps[now - 1][0]] : 0;
+  if (shownText.here && wasMoved) seeLine(shownText.here);
+  else drawRows();
+}
+function show(n) {
+  if (!frames.length) return;
+  wasMoved = true;
+  frames[0].contentWindow.show(Math.max(0, Math.min(shown.steps.length, n)));
+}
+const lineAt = (n) => shown.line_of[shown.steps[n - 1][0]];
+// On to the next step at whose line a breakpoint stands, or back; else to the end.
+function toBreakpoint(way) {
+  if (!shown) return;
+  let n = step + way;
+  while (n > 0 && n < shown.steps.length && !shownText.stops.has(lineAt(n))) n += way;
+  show(n);
+}
+function toggleStop(line) {
+  if (!shownText.stops.delete(line)) shownText.stops.add(line);
+  keep("stops", [...shownText.stops]);
+  element("about").textContent = `Line ${line}: ${shownText.stops.has(line) ? "a breakpoint" : "no breakpoint"}.`;
+  drawRows();
+}
+function stepKeys(event) {
+  const way = event.shiftKey ? -1 : 1;
+  const acts = { F10: () => show(step + way), F8: () => toBreakpoint(way), F1: () => element("helping").showModal() };
+  if (!acts[event.key] || event.ctrlKey || event.altKey) return;
+  event.preventDefault();
+  acts[event.key]();
+}
+function textKeys(event) {
+  if (open) {
+    const acts = {
+      ArrowDown: () => choose(open.chosen + 1), ArrowUp: () => choose(open.chosen - 1), Enter: () => takeChoice(),
+      Tab: () => takeChoice(), Escape: closeChoices,
+    };
+    if (acts[event.key]) return event.preventDefault(), event.stopPropagation(), acts[event.key]();
+  }
+  if (event.key === "F9") toggleStop(cursor().line);
+  else if (event.key === "F4") nextRefused();
+  else if (event.key === " " && event.ctrlKey) showChoices(true);
+  else return;
+  event.preventDefault();
+}
+function nextRefused() {
+  const lines = [...shownText.refused.keys()].sort((a, b) => a - b), { line } = cursor();
+  const found = lines.find((it) => it > line) ?? lines[0];
+  if (found) goTo(found, shownText.refused.get(found).column);
+}
+// The rings in front, as a picture of its own: the view's, with its colours.
+function picture() {
+  const frame = frames[0], svg = frame?.contentDocument.querySelector("#front svg");
+  if (!svg) return notice("There is no ring at this step to draw.");
+  notice();
+  const copy = svg.cloneNode(true), style = document.createElementNS("http://www.w3.org/2000/svg", "style");
+  const colours = frame.contentWindow.getComputedStyle(frame.contentDocument.documentElement);
+  for (const [from, to] of [[svg, copy], ...[...svg.querySelectorAll("*")].map((one, k) => [one, copy.querySelectorAll("*")[k]])]) {
+    const of = frame.contentWindow.getComputedStyle(from);
+    for (const name of ["fill", "stroke", "stroke-width", "font"]) to.style.setProperty(name, of.getPropertyValue(name));
+  }
+  style.textContent = `svg { background: ${colours.getPropertyValue("background-color")} }`;
+  copy.prepend(style);
+  copy.setAttribute("xmlns", "http://www.w3.org/2000/svg");
+  saved("ring.svg", copy.outerHTML);
+}

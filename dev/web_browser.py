@@ -1,0 +1,287 @@
+"""Drives the bench's page in a headless Chromium, for dev/check_web."""
+
+from __future__ import annotations
+
+import base64
+import json
+import time
+import zlib
+from collections.abc import Callable, Iterator
+from pathlib import Path
+from typing import Any
+
+from browser import Browser
+
+# A machine that is loaded may take so long for what takes a second.
+PATIENCE = 300.0
+BATCH = 50
+WIDTHS = (400, 560, 800, 1001, 1280, 1600)
+TABS = ("work", "lessons", "packets", "hash", "eeprom", "objects")
+HOSTILE = """# </script><script>window.hacked = 1</script>
+# <img src=x onerror=window.hacked=1>
+r STATUS # <b onclick='x'>
+"""
+# A word that has no name for a screen reader.
+NAMELESS = """[...document.querySelectorAll('button, input, select, textarea, iframe, [role=tabpanel]')].filter((it) =>
+!(it.textContent.trim() || it.ariaLabel || it.title || it.labels?.length || it.getAttribute('aria-labelledby')))
+.map((it) => it.outerHTML)"""
+
+
+class Wrong(Exception):
+    """The page isn't as it should be."""
+
+
+class Page:
+    """The page in a browser."""
+
+    def __init__(self, path: Path) -> None:
+        self.path, self.browser = path, Browser()
+        self.value = self.browser.value
+        self.browser.size(1400, 900, False)
+
+    def load(self, place: str = "") -> float:
+        """Loads the page, and says after how many seconds it shows a first answer."""
+        began = time.monotonic()
+        self.browser.load(self.path, place)
+        self.until("typeof latest === 'number' && document.getElementById('state').textContent !== ''")
+        return time.monotonic() - began
+
+    def until(self, holds: str) -> None:
+        began = time.monotonic()
+        while not self.value(holds):
+            if time.monotonic() - began > PATIENCE:
+                raise Wrong(f"after {PATIENCE:.0f} s this doesn't hold: {holds}; errors: {self.browser.errors[:3]}")
+            time.sleep(0.05)
+
+    def holds(self, what: str, expression: str) -> None:
+        if not (got := self.value(expression)):
+            raise Wrong(f"{what}: {expression} is {got!r}")
+
+    def put(self, text: str) -> None:
+        """Another script, until its run is shown, or its refusal."""
+        self.value(f"showTab('work'), shown = null, putText({json.dumps(text)}, 'it.nic', false), 0")
+        self.until("shownText.refused.size > 0 || shown !== null")
+
+    def type(self, text: str) -> None:
+        for letter in text:
+            self.browser.ask("Input.insertText", {"text": letter})
+
+    def click(self, selector: str) -> None:
+        self.value(f"document.querySelector({json.dumps(selector)}).click(), 0")
+
+
+def typing(page: Page) -> None:
+    """Completions by keys, the answer beside the line, a refusal at its place while the last run stays."""
+    page.put("")
+    page.value("element('text').focus(), 0")
+    page.type("w CTRL_E")
+    page.until("!element('choices').hidden")
+    page.holds("a register is completed", "element('choices').textContent.includes('CTRL_EXT')")
+    page.browser.press("Enter")
+    page.type(" DRV")
+    page.until("!element('choices').hidden")
+    page.browser.press("Enter")
+    page.holds("a bit is completed", "element('text').value === 'w CTRL_EXT 0x10000000'")
+    page.until("shownText.replies.get(1)?.[0] === 'done'")
+    page.holds("the line is explained", "element('about').textContent.includes('DRV_LOAD 1')")
+    page.type("\nr CTRL_EXX")
+    page.browser.press("Escape")
+    page.until("shownText.refused.has(2)")
+    page.holds("the refusal is in words", "element('state').textContent.includes('no register CTRL_EXX')")
+    page.holds("what comes near is named", "element('state').textContent.includes('near: CTRL_EXT')")
+    page.holds("the last run stays", "element('views').classList.contains('old') && shownText.replies.has(1)")
+    page.browser.press("F4")
+    page.holds("F4 goes to the word", "cursor().line === 2 && cursor().column === 2")
+
+
+def stepping(page: Page) -> None:
+    """Steps and breakpoints, and the line that goes with them."""
+    page.put(next(text for name, text in example_texts(page) if name == "receive.nic"))
+    page.value("show(0), shownText.stops = new Set(), goTo(30), 0")
+    page.until("step === 0")
+    page.browser.press("F9")
+    page.browser.press("F8")
+    page.until("step > 0")
+    is_there = "shownText.here === 30 && element('gutter').querySelector('.stop.here') !== null"
+    page.holds("F8 stops at the breakpoint", is_there)
+    page.browser.press("F10")
+    page.until("shownText.here === 31")
+    page.value("toggleStop(30), 0")
+
+
+def example_texts(page: Page) -> list[tuple[str, str]]:
+    return [(name, text) for name, text in page.value("given.examples.map((it) => [it.name, it.text])")]
+
+
+def all_examples(page: Page) -> None:
+    """Each example by the list, to its last step, without an error."""
+    for name, _ in example_texts(page):
+        page.value(f"shown = null, element('examples').value = {json.dumps(name)}, 0")
+        page.value("element('examples').dispatchEvent(new Event('change')), 0")
+        page.until("shownText.refused.size > 0 || shown !== null")
+        page.value("shown && show(shown.steps.length), 0")
+        page.holds(f"{name} runs", f"shownText.refused.size === 0 || {json.dumps(name)} === 'fault.nic'")
+
+
+def all_lessons(page: Page) -> None:
+    """Each lesson's start isn't solved and its answer is, by the button."""
+    for number in range(1, page.value("given.lessons.length") + 1):
+        page.value(f"openLesson({number}), 0")
+        for name, wanted in (("start", False), ("answer", True)):
+            page.value(f"putText(given.lessons[{number - 1}].{name}, null, false), 0")
+            page.value("element('lesson').querySelector('button').click(), 0")
+            page.until("element('lesson-said').textContent !== ''")
+            is_so = f"(element('lesson-said').textContent === 'Solved.') === {str(wanted).lower()}"
+            page.holds(f"lesson {number}'s {name}", is_so)
+            page.value("element('lesson-said').textContent = '', 0")
+    page.value("showTab('lessons'), 0")
+    is_kept = "Object.values(kept('lessons')).filter((it) => it.solved).length === given.lessons.length"
+    page.holds("progress is kept", is_kept)
+    page.value("backToScript(), 0")
+
+
+def deflated(data: bytes) -> str:
+    packer = zlib.compressobj(9, zlib.DEFLATED, -15)
+    return base64.urlsafe_b64encode(packer.compress(data) + packer.flush()).decode().rstrip("=")
+
+
+def links(page: Page) -> None:
+    """A link brings its script; one that is hostile says what is wrong, and brings nothing."""
+    page.put(HOSTILE)
+    page.value("setSizes(2, null), 0")
+    link = page.value("linkOf(element('text').value, sizes())")
+    page.put("r CTRL\n")
+    page.load(link)
+    page.until(f"element('text').value === {json.dumps(HOSTILE)}")
+    page.holds("its sizes come with it", "element('vfs').value === '2'")
+    bad = {
+        "AAAA": "cut off, or was changed",
+        "%3Cb%3E": "other letters",
+        deflated(bytes(50_000_000)): "more than 1,048,576",
+        deflated(b"\xff\xfe"): "can't be read",
+        "": "other letters",
+    }
+    for packed, why in bad.items():
+        page.value("element('notice').textContent = '', setSizes(null, null), 0")
+        page.load(f"#script={packed}&vfs=99999999")
+        page.until("element('notice').textContent !== ''")
+        page.holds(f"a bad link says {why}", f"element('notice').textContent.includes({json.dumps(why)})")
+        page.holds("a bad link's sizes don't count", "element('vfs').value === ''")
+
+
+def hostile(page: Page) -> None:
+    """Text that would be markup stays text, in the page and in its view."""
+    page.put(HOSTILE)
+    page.until("frames.length > 0")
+    page.value("show(1), 0")
+    page.holds("nothing was injected", "window.hacked === undefined && frames[0].contentWindow.hacked === undefined")
+    documents = "[document, frames[0].contentDocument]"
+    page.holds("no element came of it", f"{documents}.every((it) => !it.querySelector('img'))")
+    # (and what would get in by a fault of the page doesn't run: the policy names what may)
+    tried = "Object.assign(document.createElement('script'), { textContent: 'window.hacked = 1' })"
+    page.value(f"document.body.append({tried}), 0")
+    page.holds("the policy holds", "window.hacked === undefined")
+    page.browser.errors = [it for it in page.browser.errors if "Content Security Policy" not in it]
+
+
+def kept_text(page: Page) -> None:
+    """The text is there again after the page was closed."""
+    page.put("# kept\nr STATUS\n")
+    page.load()
+    page.until("element('text').value === '# kept\\nr STATUS\\n'")
+
+
+def stopped(page: Page) -> None:
+    """A run that takes long is ended, and the next one is answered."""
+    long = "".join(f"w RDT[{k % 128}] {k % 8}\n" for k in range(4096))
+    ended = ".catch((it) => (window.ended = it.message))"
+    page.value(f"window.ended = '', ask('view', 'x', {json.dumps(long)}, {{}}){ended}, 0")
+    page.value("stop(), 0")
+    page.until("window.ended === 'stopped'")
+    page.put("r STATUS\n")
+    page.holds("the next is answered", "shownText.replies.get(1)[0].startsWith('word')")
+
+
+def packets(page: Page) -> None:
+    """The form's frame becomes a line, and a capture becomes lines."""
+    page.value("showTab('packets'), element('packet-kind').value = 'udp', 0")
+    page.value("element('packet').dispatchEvent(new Event('input')), 0")
+    page.until("element('packet-said').textContent.includes('UDP 1000 to 80')")
+    page.put("r STATUS")
+    page.click("#packet-arrive")
+    page.until("element('text').value.endsWith('\\narrive frame\\n')")
+    header = bytes.fromhex("d4c3b2a1020004000000000000000000ffff000001000000")
+    record = bytes.fromhex("00000000000000003c0000003c000000") + bytes(60)
+    octets = base64.b64encode(header + record + record).decode()
+    page.put("r STATUS")
+    page.value(f"dropped(new File([octetsOf('{octets}')], 'a.pcap')), 0")
+    page.until("element('text').value.endsWith('arrive frame1\\narrive frame2\\n')")
+    page.value("dropped(new File([octetsOf('d4c3b2a100')], 'b.pcap')), 0")
+    page.until("element('notice').textContent.includes('b.pcap')")
+    page.value("notice(), 0")
+
+
+def by_keys(page: Page) -> None:
+    """The tabs go by arrows, all that acts has a name, and Tab leaves the editor."""
+    page.value("document.getElementById('tab-work').focus(), 0")
+    page.browser.press("ArrowRight")
+    is_next = "document.activeElement.id === 'tab-lessons' && !element('lessons').hidden"
+    page.holds("an arrow goes to the next tab", is_next)
+    page.browser.press("Home")
+    page.value("element('text').focus(), 0")
+    key = {"type": "keyDown", "key": "Tab", "code": "Tab", "windowsVirtualKeyCode": 9}
+    page.browser.ask("Input.dispatchKeyEvent", key)
+    page.holds("Tab leaves the editor", "document.activeElement !== element('text')")
+    for tab in TABS:
+        page.value(f"showTab('{tab}'), 0")
+        if nameless := page.value(NAMELESS):
+            raise Wrong(f"nothing says what these are: {nameless[:3]}")
+
+
+def looks(page: Page, folder: Path | None) -> None:
+    """Nothing is cut off at any width, in either theme."""
+    page.put(next(text for name, text in example_texts(page) if name == "receive.nic"))
+    page.until("frames.length > 0")
+    page.value("show(13), 0")
+    for width, is_dark in ((width, is_dark) for width in WIDTHS for is_dark in (False, True)):
+        page.browser.size(width, 900, is_dark)
+        for tab in TABS:
+            page.value(f"showTab('{tab}'), 0")
+            page.holds(f"{tab} fits into {width}", f"document.documentElement.scrollWidth <= {width}")
+            if folder and width in (400, 1280):
+                time.sleep(0.3)
+                name = f"{tab}-{width}{'-dark' if is_dark else ''}.png"
+                page.browser.picture(folder / name)
+    page.browser.size(1400, 900, False)
+    page.value("showTab('work'), 0")
+
+
+def in_chromium(page: Page, inputs: list[Any]) -> Iterator[tuple[int, bytes]]:
+    """The answers of the page's worker, with their statuses."""
+    for at in range(0, len(inputs), BATCH):
+        asked = [[words, base64.b64encode(data).decode()] for words, data in inputs[at : at + BATCH]]
+        every = f"{json.dumps(asked)}.map(([words, data]) => ask('bench', words, octetsOf(data)))"
+        packed = "made.map(({ status, bytes }) => [status, hexOf(bytes)])"
+        for status, out in page.value(f"Promise.all({every}).then((made) => {packed})"):
+            yield status, bytes.fromhex(out)
+
+
+def all_of(checks: Any, examples: list[Any], chance: list[Any], compared: Callable[..., None]) -> None:
+    """All that is tried in the browser; each part tells its fault and the next goes on."""
+    page, faults = Page(checks.page), []
+    if checks.given.pictures:
+        checks.given.pictures.mkdir(parents=True, exist_ok=True)
+    try:
+        print(f"browser: first answer after {page.load():.1f} s elapsed", flush=True)
+        inputs = examples + chance
+        compared(checks, "answers in Chromium", inputs, in_chromium(page, inputs))
+        parts = [typing, stepping, all_examples, all_lessons, links, hostile, kept_text, stopped, packets, by_keys]
+        for part in [*parts, lambda it: looks(it, checks.given.pictures)]:
+            try:
+                part(page)
+            except (Wrong, AssertionError) as fault:
+                faults.append(f"{getattr(part, '__name__', 'looks')}: {fault}")
+        faults += [f"the console says: {it}" for it in page.browser.errors]
+        checks.tell("browser", len(parts) + 1, faults)
+    finally:
+        page.browser.close()

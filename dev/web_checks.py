@@ -1,0 +1,294 @@
+"""The checks of dev/check_web."""
+
+from __future__ import annotations
+
+import argparse
+import base64
+import json
+import os
+import random
+import re
+import shutil
+import subprocess
+import sys
+import tempfile
+from collections.abc import Callable, Iterable
+from pathlib import Path
+from typing import Any
+
+import campaign_inputs
+from generated import ROOT
+from two_editions import Broken, Input, Missing, answer_of, link, plain_made
+
+sys.path[:0] = [str(ROOT / "python"), str(ROOT / "web")]
+os.environ["NICBENCH_QUIET"] = "1"
+import assemble  # noqa: E402
+import lessons  # noqa: E402
+from nic82599.tools import page, refusals, run, script  # noqa: E402
+from nic82599.tools.forms import explained  # noqa: E402
+
+MOST_BYTES, SHOWN, LIMIT = 4_000_000, 5, 4_096
+COMMANDS = ("run", "run", "run", "debug", "asm", "dis", "eeprom", "hash")
+
+
+class Failed(Exception):
+    """Something doesn't compile or doesn't run."""
+
+
+class Checks:
+    """What was found, and the page, the program and chance that the parts use."""
+
+    def __init__(self, given: argparse.Namespace, folder: Path) -> None:
+        self.given, self.folder, self.faults = given, folder, 0
+        self.page = given.page or made_page(folder)
+        self.program = link(plain_made("program"), str(folder / "nicbench"))
+        os.environ["NICBENCH"] = str(self.program)
+
+    def source(self) -> campaign_inputs.Inputs:
+        return campaign_inputs.Inputs(
+            random.Random(self.given.seed), ROOT, lambda words, data: answer_of(self.program, words, data).out
+        )
+
+    def tell(self, what: str, count: int, faults: list[str]) -> None:
+        """Prints how many were looked at and what is wrong, the first of it."""
+        print(f"{what}: {count} looked at, {len(faults)} faults", flush=True)
+        for line in faults[:SHOWN]:
+            print(f"  {line}")
+        self.faults += len(faults)
+
+
+def made_page(folder: Path) -> Path | str:
+    """The page, or why there is none."""
+    made = subprocess.run(
+        [ROOT / "web/make", "-o", folder / "bench.html"], capture_output=True, text=True, check=False
+    )
+    if made.returncode == 2:
+        return made.stderr.strip().splitlines()[-1].partition(": ")[2]
+    if made.returncode:
+        raise Failed(f"web/make ended with status {made.returncode}\n{made.stderr.strip()}")
+    return folder / "bench.html"
+
+
+# --- what is asked of the page's worker in Node ---
+
+
+def outward(value: Any) -> Any:
+    return {"base64": base64.b64encode(value).decode()} if isinstance(value, bytes) else value
+
+
+def asked_in_node(path: Path, messages: list[tuple[str, list[Any]]]) -> list[dict[str, Any]]:
+    """The worker's answers to these messages, in one process."""
+    lines = "".join(json.dumps({"what": what, "given": list(map(outward, given))}) + "\n" for what, given in messages)
+    command = ["node", ROOT / "web/node.mjs", path]
+    made = subprocess.run(command, input=lines, capture_output=True, text=True, check=False)
+    answers = made.stdout.splitlines()
+    if made.returncode or len(answers) != len(messages):
+        raise Failed(f"node ended with status {made.returncode} after {len(answers)} answers\n{made.stderr.strip()}")
+    return [json.loads(it) for it in answers]
+
+
+def examples() -> list[Input]:
+    """The inputs of examples/."""
+    found: list[Input] = []
+    for it in assemble.examples():
+        words = ["--vfs", str(it["vfs"])] if it["vfs"] else []
+        found += [(["run", *words], it["text"].encode()), (["asm"], it["text"].encode())]
+    folder = ROOT / "examples"
+    found += [(["debug"], path.read_bytes()) for path in sorted(folder.glob("*.debug"))]
+    found += [(["hash"], path.read_bytes()) for path in sorted(folder.glob("*.txt"))]
+    found += [(["eeprom"], path.read_bytes()) for path in sorted(folder.glob("*.eeprom"))]
+    found += [(["eeprom", "--load"], bytes.fromhex(path.read_text())) for path in sorted(folder.glob("*.hex"))]
+    return found + [(["dis"], bytes.fromhex(path.read_text())) for path in sorted(folder.glob("*.object"))]
+
+
+def by_chance(checks: Checks) -> list[Input]:
+    source = checks.source()
+    return [source.of(COMMANDS[number % len(COMMANDS)]) for number in range(checks.given.inputs)]
+
+
+def compared(checks: Checks, what: str, inputs: list[Input], got: Iterable[tuple[int, bytes]]) -> None:
+    """The page's statuses and bytes beside those of the program."""
+    faults = []
+    for (words, data), (status, out) in zip(inputs, got, strict=True):
+        want = answer_of(checks.program, words, data)
+        if (status, out) != (want.status, want.out):
+            faults.append(f"nicbench {' '.join(words)} of {len(data)} bytes: {status} {out[-80:]!r}, and {want}")
+    checks.tell(what, len(inputs), faults)
+
+
+def answers(checks: Checks) -> None:
+    inputs = examples() + by_chance(checks)
+    found = asked_in_node(checks.page, [("bench", [words, data]) for words, data in inputs])
+    got = ((it["made"]["status"], base64.b64decode(it["made"]["bytes"]["base64"])) for it in found)
+    compared(checks, "answers", inputs, got)
+
+
+# --- the tools, in Python and in the page ---
+
+
+def sizes_of(words: list[str]) -> dict[str, int]:
+    """The sizes among the words of a command."""
+    pairs = dict(zip(words, words[1:]))
+    given = {name: pairs.get(f"--{name}", "") for name in ("vfs", "fifo")}
+    return {name: int(word) for name, word in given.items() if word.isdigit() and int(word) <= 63 and int(word) > 0}
+
+
+def scripts(checks: Checks) -> list[tuple[str, dict[str, int]]]:
+    """The scripts of examples/ and of dev/views/, and some by chance."""
+    found = [(it["text"], {"vfs": it["vfs"]} if it["vfs"] else {}) for it in assemble.examples()]
+    found += [(path.read_text(), {}) for path in sorted((ROOT / "dev/views").glob("*.nic"))]
+    source = checks.source()
+    for _ in range(checks.given.scripts):
+        words, data = source.of("run")
+        found.append((data.decode(errors="ignore"), sizes_of(words)))
+    return found
+
+
+def by_python(text: str, sizes: dict[str, int]) -> Any:
+    """What the tools say of a script: the data of nicview's page, or the refusals."""
+    bench = script.Bench(sizes.get("vfs"), sizes.get("fifo"))
+    try:
+        return page.Data(run.of_script(bench, "it.nic", LIMIT, text.encode())).whole()
+    except script.Refused as first:
+        shown = script.script_part(text)
+        places = [(it.name, explained(other, it)) for it, other in refusals.refusals(bench, shown, first)]
+        return sorted(([it.line, name, it.text, list(it.near)] for name, it in places[:20]), key=lambda it: it[0])
+    except script.Fault as fault:
+        return str(fault)
+
+
+def by_page(view: dict[str, Any], answered: dict[str, Any]) -> Any:
+    """The same of the page's answers."""
+    if "fault" not in view:
+        return view["made"]
+    if refused := answered.get("made", {}).get("refused"):
+        return [[it["line"], it["name"], it["words"], it["near"]] for it in refused]
+    return view["fault"]["message"]
+
+
+def tools(checks: Checks) -> None:
+    given, faults = scripts(checks), []
+    messages = [(what, ["it.nic", *it]) for it in given for what in ("view", "answers")]
+    found = asked_in_node(checks.page, messages)
+    for (text, sizes), view, answered in zip(given, found[::2], found[1::2]):
+        want, got = json.loads(json.dumps(by_python(text, sizes))), by_page(view, answered)
+        if want != got:
+            parts = sorted(it for it in want if want[it] != got.get(it)) if isinstance(got, dict) else [str(got)[:300]]
+            faults.append(f"{text[:60]!r} {sizes}: {', '.join(parts)}; Python: {str(want)[:300]}")
+    checks.tell("tools", len(given), faults)
+
+
+# --- the page as a file, and the lessons ---
+
+
+def file_faults(text: str) -> list[str]:
+    """What of the page reaches outside, or would run what isn't its own."""
+    faults = [] if len(text.encode()) <= MOST_BYTES else [f"{len(text.encode()):,} bytes"]
+    outside = re.findall(r"""(?:src|href|action)\s*=\s*["'](?!data:,)[^"']*["']|@import|url\(\s*["']?http""", text)
+    faults += [f"it reaches {it}" for it in outside]
+    policy = re.search(r'http-equiv="Content-Security-Policy" content="([^"]*)"', text)
+    scripts = policy[1].partition("script-src")[2].partition(";")[0] if policy else "'unsafe-inline'"
+    if not policy or "default-src 'none'" not in policy[1] or "'unsafe-inline'" in scripts:
+        return [*faults, "its policy lets scripts run that aren't its own"]
+    own = re.findall(r"<script>([\s\S]*?)</script>", text)
+    return faults + ["its policy doesn't name its script" for it in own if assemble.hash_of(it) not in policy[1]]
+
+
+def page_part(checks: Checks) -> None:
+    checks.tell("page", 1, file_faults(checks.page.read_text(encoding="utf-8")))
+
+
+def graded(folder: Path) -> list[str]:
+    """What is wrong with the grading of four files: right, false, hostile, none."""
+    known = lessons.read()
+    answered = {str(it.number): {"script": it.parts["answer"], "outcome": "open"} for it in known}
+    claimed = {str(it.number): {"script": it.parts["start"], "outcome": "solved"} for it in known}
+    files = {
+        "right.json": json.dumps({"student": "Ada", "lessons": answered}),
+        "false.json": json.dumps({"student": "=1+1", "lessons": claimed}),
+        "hostile.json": json.dumps({"student": "x", "lessons": {"1": {"script": 5}, "2": {"script": "w " * 200_000}}}),
+        "none.json": "[" * 100_000,
+    }
+    for name, text in files.items():
+        (folder / name).write_text(text)
+    command = [ROOT / "web/lessons.py", "grade", *(folder / name for name in files)]
+    made = subprocess.run(command, capture_output=True, text=True, check=False)
+    rows = [line.split(",") for line in made.stdout.splitlines()[1:]]
+    of = {name: [row for row in rows if row[0] == name] for name in files}
+    faults = [f"right: {row}" for row in of["right.json"] if row[-1] != "solved"]
+    faults += [f"false: {row}" for row in of["false.json"] if row[-1] == "solved" or row[1] != "'=1+1"]
+    faults += [f"hostile: {row}" for row in of["hostile.json"] if row[-1] == "solved"]
+    lengths = [len(it) for it in of.values()]
+    wanted = [len(known)] * 3 + [1]
+    return faults if lengths == wanted and made.returncode == 1 else [*faults, f"{lengths}, status {made.returncode}"]
+
+
+def lessons_part(checks: Checks) -> None:
+    known, faults = lessons.read(), []
+    for it in known:
+        for name, wanted in (("answer", True), ("start", False)):
+            said = lessons.outcome(it, it.parts[name])
+            if (said == "solved") != wanted:
+                faults.append(f"lesson {it.number}: its {name}: {said}")
+    checks.tell("lessons", 2 * len(known), faults)
+    checks.tell("grading", 4, graded(checks.folder))
+    if shutil.which("node") and isinstance(checks.page, Path):
+        messages = [("solved", [it.parts[name], lessons.as_data(it)]) for it in known for name in ("answer", "start")]
+        found = [it["made"]["is"] for it in asked_in_node(checks.page, messages)]
+        wrong = [f"message {k}" for k, it in enumerate(found) if it != (k % 2 == 0)]
+        checks.tell("lessons in the page", len(found), wrong)
+
+
+def browser_part(checks: Checks) -> None:
+    import web_browser
+
+    web_browser.all_of(checks, examples(), by_chance(checks), compared)
+
+
+PARTS: dict[str, Callable[[Checks], None]] = {
+    "page": page_part, "lessons": lessons_part, "tools": tools, "answers": answers, "browser": browser_part,
+}  # fmt: skip
+IN_NODE, IN_BROWSER = ("tools", "answers"), ("browser",)
+
+
+def missing(part: str, checks: Checks) -> str | None:
+    """Why a part is left out, if it is."""
+    from browser import browser_program
+
+    if isinstance(checks.page, str) and part != "lessons":
+        return checks.page
+    if part in IN_NODE and not shutil.which("node"):
+        return "node isn't installed"
+    return "Chromium isn't installed" if part in IN_BROWSER and not browser_program() else None
+
+
+def main(doc: str) -> int:
+    parser = argparse.ArgumentParser(description=doc, formatter_class=argparse.RawDescriptionHelpFormatter)
+    parser.add_argument("parts", nargs="*", metavar="PART")
+    parser.add_argument("--inputs", type=int, default=1000, metavar="N")
+    parser.add_argument("--scripts", type=int, default=40, metavar="N")
+    parser.add_argument("--seed", type=int, default=82599, metavar="S")
+    parser.add_argument("--page", type=lambda it: Path(it).resolve(), metavar="FILE")
+    parser.add_argument("--pictures", type=Path, metavar="FOLDER")
+    try:
+        given = parser.parse_args()
+        if unknown := set(given.parts) - set(PARTS):
+            parser.error(f"no part {' '.join(sorted(unknown))}: {', '.join(PARTS)}")
+    except SystemExit as end:
+        return 3 if end.code else 0
+    try:
+        with tempfile.TemporaryDirectory() as folder:
+            checks = Checks(given, Path(folder))
+            for part in given.parts or PARTS:
+                if why := missing(part, checks):
+                    print(f"{part}: left out: {why}")
+                else:
+                    PARTS[part](checks)
+    except Missing as why:
+        print(f"web: left out: {why}")
+        return 0
+    except (Failed, Broken) as why:
+        print(f"dev/check_web: {why}", file=sys.stderr)
+        return 1
+    print(f"web: {checks.faults} faults")
+    return 1 if checks.faults else 0

@@ -83,7 +83,7 @@ def asked_in_node(path: Path, messages: list[tuple[str, list[Any]]]) -> list[dic
     lines = "".join(json.dumps({"what": what, "given": list(map(outward, given))}) + "\n" for what, given in messages)
     command = ["node", ROOT / "web/node.mjs", path]
     made = subprocess.run(command, input=lines, capture_output=True, text=True, check=False)
-    answers = made.stdout.splitlines()
+    answers = made.stdout.split("\n")[:-1]
     if made.returncode or len(answers) != len(messages):
         raise Failed(f"node ended with status {made.returncode} after {len(answers)} answers\n{made.stderr.strip()}")
     return [json.loads(it) for it in answers]

@@ -142,6 +142,15 @@ install_package() {
 # out_folder NAME: where this checkout of the repository compiles to; another one has another.
 out_folder() { echo "$WORK/$1-$(printf %s "$ROOT" | sha256sum | cut -c 1-8)"; }
 
+# has_sanitizers FOLDER: whether a program with the compiler's sanitizers is linked here and runs. Under an emulator it
+# doesn't, nor where tracing is refused.
+has_sanitizers() {
+    echo 'int main(void) { return 0; }' >"$1/empty.c"
+    gcc -fsanitize=address,undefined -o "$1/empty" "$1/empty.c" 2>/dev/null && "$1/empty" 2>/dev/null && return
+    say "no sanitizers: a program with them isn't linked here, or doesn't run, so all runs plain"
+    return 1
+}
+
 # The C library: its header's folder and the archive.
 find_library() {
     INCLUDE=${NIC82599_INCLUDE:-$ROOT/c/include}

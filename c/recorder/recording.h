@@ -41,8 +41,8 @@ struct recording *nicd_enter_dropped(nic_kept kept, uint32_t *number);
 
 /* --- text --- */
 
-/* Where text of at most NICD_LINE bytes goes on; and where that ended. Of two texts the first one ends before the second
-   one begins. */
+/* Where text of at most NICD_LINE bytes goes on; and where that ended. Of two texts the first ends before the second
+   begins. */
 struct nicd_text nicd_text_of(struct recording *it);
 void nicd_text_ends(struct recording *it, const struct nicd_text *text);
 /* The same for one text, for two with a number between them, and for printf's forms. */

@@ -53,7 +53,8 @@ void channel_end(struct channel *it);
 
 /* Takes in what has come, as much as there is room for. */
 enum channel_state channel_receive(struct channel *it);
-/* The next whole message: true, with *state as it was. False: there is none now, or (*state says so) there will be none. */
+/* The next whole message: true, with *state as it was. False: there is none now, or (*state says so) there will be
+   none. */
 bool channel_next(struct channel *it, struct message *message, enum channel_state *state);
 /* Closes the files that are left of a message. */
 void message_drop_files(struct message *message);

@@ -26,8 +26,8 @@ struct options {
 
 enum options_status { OPTIONS_GO, OPTIONS_END, OPTIONS_WRONG };
 
-/* Reads the words. OPTIONS_END: something was asked that is printed now (help, version), and that is all. OPTIONS_WRONG: a
-   line on standard error says which word isn't known. */
+/* Reads the words. OPTIONS_END: something was asked that is printed now (help, version), and that is all.
+   OPTIONS_WRONG: a line on standard error says which word isn't known. */
 enum options_status options_read(struct options *it, int count, char **words);
 
 #endif

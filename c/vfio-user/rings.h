@@ -1,7 +1,7 @@
-/* Guests' memory of any size, reached through the device's 128 MiB of bus addresses. On the guest's side base registers and
-   descriptors hold the guest's addresses, on the device's side the device's: each ring has a place of its own length
-   there, and each queue a place for the buffer that it is at. The first descriptors that a tail gives away are read
-   then, as the card prefetches, the others when their turn comes; a buffer when the device acts on it.
+/* Guests' memory of any size, reached through the device's 128 MiB of bus addresses. On the guest's side base
+   registers and descriptors hold the guest's addresses, on the device's side the device's: each ring has a place of
+   its own length there, and each queue a place for the buffer that it is at. The first descriptors that a tail gives
+   away are read then, as the card prefetches, the others when their turn comes; a buffer when the device acts on it.
 
    A ring is its client's who set it up: its descriptors and buffers lie in that client's memory and in no other's. Once
    another client writes the base or the length, all of it is forgotten. Where another writes the tail or how large

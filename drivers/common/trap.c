@@ -157,7 +157,8 @@ static void on_fault(int signal_number, siginfo_t *info, void *context)
 
 bool trap_open(const struct trap_hooks *given)
 {
-    /* A hook, or what the bus calls, may fault itself: that is reported too, so the process never ends without a word. */
+    /* A hook, or what the bus calls, may fault itself: that is reported too, so the process doesn't end without a
+       word. */
     struct sigaction action = {.sa_sigaction = on_fault, .sa_flags = SA_SIGINFO | SA_NODEFER};
     hooks = given ? *given : (struct trap_hooks){0};
     count = 0;

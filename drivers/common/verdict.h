@@ -15,7 +15,8 @@ bool same(const char *what, uint64_t told, uint64_t counted);
 /* Prints "nothing is wrong", or how many things are; the run's status, 0 or 1. */
 int verdict(void);
 
-/* A number in decimal digits, from `least` to `most`; false for any other word, also a number with something after it. */
+/* A number in decimal digits, from `least` to `most`; false for any other word, also a number that something
+   follows. */
 bool read_number(const char *word, unsigned long least, unsigned long most, unsigned int *number);
 
 /* A PCI device's number, as "10fb"; false: it is none. */

@@ -7,9 +7,9 @@
                [--scalar] [--turn in | out] [--strays FILE] [--trace FILE] [--loud]
 
    Answers of the shim are SWSM and ANLP1, given by default, EICS, EERD and ABSENT. Courses: `whole` (of a
-   host with two functions), `traffic` (frames alone), and three differences from the card that docs/CARD.md tells,
-   which must come out as it says there. Status 0 where all was as it should be, else 1; 2 where a file can't be written; 3
-   for words that it doesn't know. */
+   host with two functions), `traffic` (frames alone), and three differences from the card that docs/CARD.md has,
+   which must come out as it says there. Status 0 where all was as it should be, else 1; 2 where a file can't be
+   written; 3 for words that it doesn't know. */
 #include <errno.h>
 #include <inttypes.h>
 #include <stdio.h>

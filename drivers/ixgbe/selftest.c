@@ -1,7 +1,7 @@
 /* The register self-test of Linux's ixgbe driver, on the bench: the driver's table and patterns (table.py), the steps
-   in our own code. The driver ends its test with the first register that fails; this one goes on, and tells of each row of
-   the table how many of its registers pass, and what is unlike in the others. After each write the device makes all
-   steps that it can, as a card does by itself.
+   in our own code. The driver ends its test with the first register that fails; this one continues, and prints for
+   each row of the table how many of its registers pass, and what differs in the others. After each write the device
+   makes all steps that it can, as a card does by itself.
 
      selftest [--turn]        --turn: one bit of one word that is read is turned, to try what is reported of it
 

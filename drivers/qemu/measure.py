@@ -3,8 +3,8 @@
 
     measure.py FETCHED OUT SERVER TURNS
 
-drivers/qemu/run --measure calls it. The cards take turns, and of each figure the best of all turns is printed, since other
-work on the machine makes each of them only worse. What is printed is a table in Markdown.
+drivers/qemu/run --measure calls it. The cards take turns, and of each figure the best of all turns is printed,
+since other work on the machine makes each of them only worse. What is printed is a table in Markdown.
 """
 
 from __future__ import annotations

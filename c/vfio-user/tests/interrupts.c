@@ -1,5 +1,5 @@
-/* Interrupts go to the client that set their vectors up, no matter who accessed a register last: a virtual function has two
-   sockets, its guest's and the shadow that the host's guest has of it. */
+/* Interrupts go to the client that set their vectors up, no matter who accessed a register last: a virtual function has
+   two sockets, its guest's and the shadow that the host's guest has of it. */
 #define _GNU_SOURCE
 #include <stdlib.h>
 #include <string.h>

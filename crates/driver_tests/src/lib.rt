@@ -35,6 +35,8 @@ mod others;
 #[cfg(test)]
 mod outcome;
 #[cfg(test)]
+mod premises;
+#[cfg(test)]
 mod queues;
 #[cfg(test)]
 mod random;

@@ -1,7 +1,7 @@
 -- Which other events leave a queue alone, and which entries of a history count.
 use Rattle.std.proofs.Common.{◌≡◌, ℕ, false, eqb, List, [], ◌∷◌, ◌++◌, refl, ap, sym, ◌∙◌}
 use Rattle.std.proofs.lemmas.Bool.{both_ways, or_parts}
-use Rattle.lock_laws.specs.Leaving.{HistoriesLeave, HistoriesLeaveQueues, OthersLeaveQueues}
+use Rattle.lock_laws.specs.Leaving.{HistoriesLeave, HistoriesLeaveQueues, OthersLeaveQueues, BlocksAreOfTheirPass, SparingIsEnough}
 use Rattle.lock_laws.specs.Prelude.{Entry, Watched, has_begun}
 
 pub others_leave : OthersLeaveQueues
@@ -49,7 +49,16 @@ histories_leave_one w h e = record {
       (begins_no_earlier w.pass h before after e other split not_yet) begun);
   register = λ after begun differs ends leaves. ends ((leaves h e after refl begun).registers differs);
   block = λ after begun differs ends leaves. ends ((leaves h e after refl begun).blocks differs);
+  step = λ after begun ends leaves. ends ((leaves h e after refl begun).steps);
 }
 
 pub histories_leave : HistoriesLeaveQueues
 histories_leave w h e = histories_leave_one w h e
+
+pub blocks_of_pass : BlocksAreOfTheirPass
+blocks_of_pass pass number h e = record { none = refl; one_more = refl }
+
+pub sparing_suffices : SparingIsEnough
+sparing_suffices w h each before e after split begun =
+    let spares = each before e after split begun in
+    record { registers = spares.registers; blocks = spares.blocks; steps = spares.step }

@@ -1,10 +1,10 @@
 -- Which events of other passes leave the queue of a driver alone, by the names of registers and the bits of words.
 use Rattle.std.specs.Prelude.{◌≡◌, ◌≢◌, ◌↔◌, ◌+◌, ◌/◌, ◌%◌, ◌<◌, ◌≤◌, ◌==◌, ◌||◌, ℕ, Bool, true, false}
-use Rattle.std.specs.Prelude.{List, [], ◌∷◌, ◌++◌, Some, None}
+use Rattle.std.specs.Prelude.{List, [], ◌∷◌, ◌++◌, ◌&&◌, nat_lt, Some, None}
 use Rattle.device_lock.specs.NicDevice.RegTable.declared.rows.RowId.TheVariants as row
 use Rattle.device_lock.specs.NicDevice.VfMap.declared.mode.Mode.TheVariants.{Off, Pools16, Pools32, Pools64}
 use Rattle.device_lock.specs.NicDevice.declared.event.Event.TheVariants as event
-use Rattle.lock_laws.specs.Prelude.{Place, RowId, Mode, Block, Event, Port, Pf, Wrote, Advanced, Sent}
+use Rattle.lock_laws.specs.Prelude.{Place, RowId, Mode, Block, Event, Port, Pf, Reply, Done, Wrote, Advanced, Sent}
 use Rattle.lock_laws.specs.Prelude.{Blocks, LeavesAlone, LeavesBlocks, LeavesRegisters, WritesOutside, lent_by}
 use Rattle.lock_laws.specs.Prelude.{has_begun, mode_through, place_at, Watched, Entry}
 
@@ -110,14 +110,43 @@ abbrev pub OthersLeaveQueues : Type 0
 OthersLeaveQueues =
     (w : Watched) (mode : Mode) (mine : Blocks) → BlocksLeave w mode mine × StepsLeave w.queue mine
 
+-- whether an event lends a block: it is asked to, and done
+abbrev pub lends_one : Event Block → Reply Block → ℕ → Bool
+lends_one (event.Lend block) Done number = block.number == number
+lends_one event reply number = false
+
+-- the blocks of a driver's pass are those below 65,536 that an entry of it lends, wherever it is in the history
+pub record BlocksAreOfPass (pass number : ℕ) (h : List Entry) (e : Entry) : Type 0 where
+  pub none : lent_by pass [] number ≡ false
+  pub one_more : lent_by pass (e ∷ h) number
+      ≡ ((nat_lt number 65536 && ((e.pass == pass) && lends_one e.event e.reply number)) || lent_by pass h number)
+
+abbrev pub BlocksAreOfTheirPass : Type 0
+BlocksAreOfTheirPass = (pass number : ℕ) (h : List Entry) (e : Entry) → BlocksAreOfPass pass number h e
+
+-- an entry leaves the registers, these blocks and the queue's steps alone
+pub record EntrySpares (w : Watched) (h before : List Entry) (e : Entry) : Type 0 where
+  pub registers : e.pass ≢ w.pass → LeavesRegisters w (mode_through w.vfs Off before) e.event
+  pub blocks : e.pass ≢ w.pass → LeavesBlocks (lent_by w.pass h) e.event
+  pub step : WritesOutside w.queue (lent_by w.pass h) e.reply
+
+-- and no more is asked of a history than that each entry after the first one of the driver's pass does so
+abbrev pub SparingIsEnough : Type 0
+SparingIsEnough =
+    (w : Watched) (h : List Entry) →
+    ((before : List Entry) (e : Entry) (after : List Entry) → h ≡ before ++ e ∷ after →
+    has_begun w.pass before ≡ true → EntrySpares w h before e) → LeavesAlone w h
+
 -- only entries after the first one of the driver's pass count, and one of another pass that doesn't leave the queue's
--- registers or the pass's blocks alone ends it
+-- registers or the pass's blocks alone ends it, as does one of any pass whose step of another queue writes into these
 pub record HistoriesLeave (w : Watched) (h : List Entry) (e : Entry) : Type 0 where
   pub before : has_begun w.pass h ≡ false → LeavesAlone w (h ++ e ∷ [])
   pub register : (after : List Entry) → has_begun w.pass h ≡ true → e.pass ≢ w.pass →
       (LeavesRegisters w (mode_through w.vfs Off h) e.event → ⊥) → LeavesAlone w (h ++ e ∷ after) → ⊥
   pub block : (after : List Entry) → has_begun w.pass h ≡ true → e.pass ≢ w.pass →
       (LeavesBlocks (lent_by w.pass (h ++ e ∷ after)) e.event → ⊥) → LeavesAlone w (h ++ e ∷ after) → ⊥
+  pub step : (after : List Entry) → has_begun w.pass h ≡ true →
+      (WritesOutside w.queue (lent_by w.pass (h ++ e ∷ after)) e.reply → ⊥) → LeavesAlone w (h ++ e ∷ after) → ⊥
 
 abbrev pub HistoriesLeaveQueues : Type 0
 HistoriesLeaveQueues = (w : Watched) (h : List Entry) (e : Entry) → HistoriesLeave w h e

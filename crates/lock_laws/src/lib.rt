@@ -5,7 +5,7 @@
 #![tactic(auto)]
 
 ghost use Rattle.lock_laws.specs.Ending.{ClosingHasAnOrder, PositionsAreExact};
-ghost use Rattle.lock_laws.specs.Leaving.{AddressesLeaveQueues, HistoriesLeaveQueues, OthersLeaveQueues, WritesLeaveQueues};
+ghost use Rattle.lock_laws.specs.Leaving.{AddressesLeaveQueues, BlocksAreOfTheirPass, HistoriesLeaveQueues, OthersLeaveQueues, SparingIsEnough, WritesLeaveQueues};
 
 /// A write of another pass leaves a driver's queue alone but for these: one of CTRL, HLREG0, MAXFRS or GCR_EXT,
 /// whatever it writes; one of a register of the queue's own rings; and one of PVFCTRL[v] with bit 26, where pool v has
@@ -24,10 +24,20 @@ pub fn other_events_leave_queues_alone()
 {}
 
 /// A history up to the first entry of a driver's pass leaves its queue alone. One write after that entry, or one access
-/// to a block, by which another pass doesn't leave it alone is enough that the whole history doesn't.
-#[tactic(auto, using(crate::proofs::Others::histories_leave))]
+/// to a block, by which another pass doesn't leave it alone is enough that the whole history doesn't; and so is one
+/// step of another queue, by any pass, that writes into such a block. Nothing else is: a history without all these
+/// leaves the queue alone.
+#[tactic(auto, using(crate::proofs::Others::histories_leave, crate::proofs::Others::sparing_suffices))]
 pub fn histories_leave_queues_alone()
-    ensures { HistoriesLeaveQueues }
+    ensures history { HistoriesLeaveQueues }
+    ensures enough { SparingIsEnough }
+{}
+
+/// The blocks of a driver's pass are those below 65,536 that an entry of it lends, with reply `Done`, anywhere in the
+/// history.
+#[tactic(auto, using(crate::proofs::Others::blocks_of_pass))]
+pub fn blocks_are_of_their_pass()
+    ensures { BlocksAreOfTheirPass }
 {}
 
 /// A closing reports the lowest tag that no pass of the bench has, whatever else is wrong with the passes; and where

@@ -1,7 +1,7 @@
 -- The bytes of each instruction.
 use Rattle.std.proofs.Common.{refl}
-use Rattle.program.specs.Object.{laid_out}
-use Rattle.script_laws.specs.Objects.{InstructionsAreBytes, ObjectsAreBytes}
+use Rattle.program.specs.Object.{laid_out, header_in, string_in, strings_in, all_fields_in, meanings, read_of}
+use Rattle.script_laws.specs.Objects.{InstructionsAreBytes, ObjectsAreBytes, ObjectsHaveFaults}
 
 pub instructions : InstructionsAreBytes
 instructions = record {
@@ -35,3 +35,52 @@ instructions = record {
 pub objects : ObjectsAreBytes
 unfolding laid_out
 objects = refl
+
+pub faults : ObjectsHaveFaults
+unfolding read_of header_in string_in strings_in all_fields_in meanings
+faults = record {
+  headers = record {
+    none = refl;
+    three = refl;
+    four = refl;
+    five = refl;
+    six = refl;
+    fifteen = refl;
+    all = refl;
+    magic = refl;
+    version = refl;
+    next_version = refl;
+    unused = refl;
+    too_many = refl;
+    too_few = refl;
+    instructions = refl;
+    instruction = refl;
+    strings = refl;
+    empty_string = refl;
+    short_string = refl;
+    more = refl;
+  };
+  instructions = record {
+    none = refl;
+    after_all = refl;
+    first = refl;
+    second = refl;
+    operation = refl;
+    kind = refl;
+    number = refl;
+    word = refl;
+    other_word = refl;
+    function = refl;
+    no_function = refl;
+    no_group = refl;
+    no_word = refl;
+    no_kind_of_int = refl;
+    no_kind_of_qstep = refl;
+    no_kind_of_link = refl;
+    no_string = refl;
+    short_poke = refl;
+    target = refl;
+    no_target = refl;
+    operand = refl;
+  };
+}

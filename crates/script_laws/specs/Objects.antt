@@ -1,10 +1,12 @@
 -- The twelve bytes of each instruction in an object, one by one.
-use Rattle.std.specs.Prelude.{ℕ, ◌≡◌, ◌/◌, ◌%◌, true, false, List, [], ◌∷◌}
+use Rattle.std.specs.Prelude.{ℕ, ◌≡◌, ◌/◌, ◌%◌, true, false, List, [], ◌∷◌, ◌++◌, take, Ok, Err}
 use Rattle.program.specs.Bytes.{bytes_of_fields}
 use Rattle.program.specs.DmaRing.declared.dir.Dir.TheVariants.{Rx, Tx}
 use Rattle.program.specs.Encoding.{fields_of}
 use Rattle.program.specs.IntrUnit.declared.group.Group.TheVariants.{Pf, Vf}
-use Rattle.program.specs.Object.{object_of}
+use Rattle.program.specs.Object.{object_of, read_of}
+use Rattle.program.specs.declared.fault.ObjectFault.{ObjectFault}
+use Rattle.program.specs.declared.fault.ObjectFault.TheVariants.{Magic, Version, Length, Opcode, Operand, Target}
 use Rattle.program.specs.declared.instruction.Instruction.{Instruction}
 use Rattle.program.specs.declared.instruction.Instruction.TheVariants as instr
 
@@ -55,3 +57,72 @@ ObjectsAreBytes =
     ∷ 9 ∷ 0 ∷ 0 ∷ 0 ∷ 0 ∷ 0 ∷ 0 ∷ 0 ∷ 0 ∷ 0 ∷ 0 ∷ 0
     ∷ 22 ∷ 0 ∷ 0 ∷ 0 ∷ 0 ∷ 0 ∷ 0 ∷ 0 ∷ 0 ∷ 0 ∷ 0 ∷ 0
     ∷ 3 ∷ 0 ∷ 0xAA ∷ 0xBB ∷ 0xCC ∷ []
+
+-- the header of an object of so many instructions, data strings and bytes, each below 256
+abbrev pub head : (instructions strings total : ℕ) → List ℕ
+head instructions strings total =
+    0x4e ∷ 0x42 ∷ 0x53 ∷ 0x43 ∷ 1 ∷ 0 ∷ instructions ∷ 0 ∷ strings ∷ 0 ∷ 0 ∷ 0 ∷ total ∷ 0 ∷ 0 ∷ 0 ∷ []
+
+-- an instruction of this operation, kind and 16-bit number, and of words below 256
+abbrev pub code : (op sub x a b : ℕ) → List ℕ
+code op sub x a b = op ∷ sub ∷ x ∷ 0 ∷ a ∷ 0 ∷ 0 ∷ 0 ∷ b ∷ 0 ∷ 0 ∷ 0 ∷ []
+
+-- bytes are refused for this, as no object
+abbrev pub IsRefused : List ℕ → ObjectFault → Type 0
+IsRefused bytes fault = read_of bytes ≡ Err fault
+
+-- the object of one instruction
+abbrev pub one : List ℕ → List ℕ
+one instruction = head 1 0 28 ++ instruction
+
+-- what is wrong with the header comes first: its first four bytes, the next two, and then each of its numbers; bytes
+-- that are missing are wrong
+pub record HeadersAreFirst : Type 0 where
+  pub none : IsRefused [] Magic
+  pub three : IsRefused (take 3 (head 0 0 16)) Magic
+  pub four : IsRefused (take 4 (head 0 0 16)) Version
+  pub five : IsRefused (take 5 (head 0 0 16)) Version
+  pub six : IsRefused (take 6 (head 0 0 16)) Length
+  pub fifteen : IsRefused (take 15 (head 0 0 16)) Length
+  pub all : read_of (head 0 0 16) ≡ Ok (record { strings = []; instructions = [] })
+  pub magic : IsRefused (0x4e ∷ 0x42 ∷ 0x53 ∷ 0x44 ∷ 2 ∷ 0 ∷ []) Magic
+  pub version : IsRefused (0x4e ∷ 0x42 ∷ 0x53 ∷ 0x43 ∷ 2 ∷ 0 ∷ []) Version
+  pub next_version : IsRefused (0x4e ∷ 0x42 ∷ 0x53 ∷ 0x43 ∷ 1 ∷ 1 ∷ []) Version
+  pub unused : IsRefused (take 10 (head 0 0 16) ++ 1 ∷ 0 ∷ 16 ∷ 0 ∷ 0 ∷ 0 ∷ []) Length
+  pub too_many : IsRefused (head 0 0 17) Length
+  pub too_few : IsRefused (head 0 0 15) Length
+  pub instructions : IsRefused (head 1 0 16) Length
+  pub instruction : IsRefused (head 1 0 27 ++ take 11 (code 23 0 0 0 0)) Length
+  pub strings : IsRefused (head 1 1 28 ++ code 23 0 0 0 0) Length
+  pub empty_string : IsRefused (head 1 1 30 ++ code 23 0 0 0 0 ++ 0 ∷ 0 ∷ []) Length
+  pub short_string : IsRefused (head 1 1 32 ++ code 23 0 0 0 0 ++ 3 ∷ 0 ∷ 1 ∷ 2 ∷ []) Length
+  pub more : IsRefused (head 1 0 29 ++ code 23 0 0 0 0 ++ 0 ∷ []) Length
+
+-- then the first faulty instruction decides, with its number: by its operation, then by what isn't 0 that it doesn't
+-- use, or a number out of its range, and then by its target
+pub record InstructionsAreNext : Type 0 where
+  pub none : IsRefused (one (code 0 0 0 0 0)) (Opcode 0)
+  pub after_all : IsRefused (one (code 23 0 0 0 0)) (Opcode 0)
+  pub first : IsRefused (head 2 0 40 ++ code 22 1 0 0 0 ++ code 23 0 0 0 0) (Operand 0)
+  pub second : IsRefused (head 2 0 40 ++ code 22 0 0 0 0 ++ code 23 0 0 0 0) (Opcode 1)
+  pub operation : IsRefused (one (code 23 1 0 0 0)) (Opcode 0)
+  pub kind : IsRefused (one (code 22 1 0 0 0)) (Operand 0)
+  pub number : IsRefused (one (code 22 0 1 0 0)) (Operand 0)
+  pub word : IsRefused (one (code 22 0 0 1 0)) (Operand 0)
+  pub other_word : IsRefused (one (code 2 0 0 0 1)) (Operand 0)
+  pub function : read_of (one (code 4 0 62 0 0)) ≡ Ok (record { strings = []; instructions = instr.VfRead 62 0 ∷ [] })
+  pub no_function : IsRefused (one (code 4 0 63 0 0)) (Operand 0)
+  pub no_group : IsRefused (one (code 12 1 63 0 0)) (Operand 0)
+  pub no_word : IsRefused (one (code 8 4 0 0 0)) (Operand 0)
+  pub no_kind_of_int : IsRefused (one (code 12 2 0 0 0)) (Operand 0)
+  pub no_kind_of_qstep : IsRefused (one (code 13 2 0 0 0)) (Operand 0)
+  pub no_kind_of_link : IsRefused (one (code 15 2 0 0 0)) (Operand 0)
+  pub no_string : IsRefused (one (code 9 0 0 0 0)) (Operand 0)
+  pub short_poke : IsRefused (head 1 1 33 ++ code 7 0 0 0 0 ++ 3 ∷ 0 ∷ 1 ∷ 2 ∷ 3 ∷ []) (Operand 0)
+  pub target : read_of (one (code 21 0 1 0 0)) ≡ Ok (record { strings = []; instructions = instr.Jump 1 ∷ [] })
+  pub no_target : IsRefused (one (code 21 0 2 0 0)) (Target 0)
+  pub operand : IsRefused (one (code 21 1 2 0 0)) (Operand 0)
+
+pub record ObjectsHaveFaults : Type 0 where
+  pub headers : HeadersAreFirst
+  pub instructions : InstructionsAreNext

@@ -8,7 +8,7 @@
 ghost use Rattle.std.specs.Prelude.{◌≡◌, Ok, Err, IfOk, IfErr};
 ghost use Rattle.dma_arena.specs.Numbers.{all_free};
 ghost use Rattle.script_laws.specs.Commands.{BreakpointsAreBounded, SessionsGoBack};
-ghost use Rattle.script_laws.specs.Objects.{InstructionsAreBytes, ObjectsAreBytes};
+ghost use Rattle.script_laws.specs.Objects.{InstructionsAreBytes, ObjectsAreBytes, ObjectsHaveFaults};
 ghost use Rattle.script_laws.specs.Steps.{InstructionsAct, InstructionsMakeEvents};
 
 use dma_arena::{Arena, ArenaFault};
@@ -23,6 +23,15 @@ use std::alloc::Global;
 pub fn instructions_are_bytes()
     ensures each { InstructionsAreBytes }
     ensures object { ObjectsAreBytes }
+{}
+
+/// Bytes that are no object have the first of these faults: in their first four bytes, in the version, in the
+/// numbers of the header or the parts, and then, with its number, in the first faulty instruction. That has its
+/// first fault too: its operation, then an operand out of its range or one that isn't used and not 0, and then its
+/// target. Missing bytes of the header are wrong ones.
+#[tactic(auto, using(crate::proofs::Objects::faults))]
+pub fn objects_have_an_order_of_faults()
+    ensures { ObjectsHaveFaults }
 {}
 
 /// A step of a machine that runs makes the event of its next instruction, with the operands of that instruction, and

@@ -273,7 +273,7 @@ const BESIDE: [Beside<'static>; 66] = [
     ("the last 16 bytes of block 5 poked", 0, (OTHER, Deed::Pokes(0x2FF0)), 2, false),
     ("the first 16 bytes after block 5 poked", 0, (OTHER, Deed::Pokes(0x3000)), 2, true),
     ("block 5 looked at", 0, (OTHER, Deed::Peeks(0x2800)), 2, true),
-    // steps of other queues, whoever makes them
+    // steps of other queues, by any pass
     ("64 bytes up to block 5", 0, (OTHER, Deed::Wrote(1, 0x8000, 0x27C0, 64)), 2, true),
     ("65 bytes into block 5", 0, (OTHER, Deed::Wrote(1, 0x8000, 0x27C0, 65)), 2, false),
     ("4,096 bytes over blocks 4 to 6", 0, (OTHER, Deed::Wrote(1, 0x8000, 0x27FF, 4096)), 2, false),

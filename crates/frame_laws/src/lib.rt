@@ -99,7 +99,8 @@ pub fn slots_have_their_faults()
 /// A receive step that writes a slot leaves the descriptor with these 16 bytes: RSS type, IPv4 and IPv6 in bits 3 to 0,
 /// 4 and 6 of byte 0, TCP and UDP in bits 0 and 1 of byte 1, the hash in bytes 4 to 7, DD and EOP in bits 0 and 1 of
 /// byte 8, the number of bytes in bytes 12 and 13, the lower byte first, and 0 in all others. The buffer, at the
-/// address that the descriptor had in bytes 0 to 7 with bit 0 ignored, has the next bytes of the frame.
+/// address that the descriptor had in bytes 0 to 7 with bit 0 ignored, has the next bytes of the frame, where it has no
+/// byte in common with the descriptor.
 pub fn descriptors_are_written_back()
     ensures { DescriptorsAreWrittenBack }
 {}
@@ -184,9 +185,10 @@ pub fn oldest_is_collected()
     ensures { OldestIsCollected }
 {}
 
-/// A block is lent exactly where none is lent under its number, and else comes back. A `Take`, a `Peek16` and a
-/// `Poke16` get the reply `NotLent`, and change nothing, exactly where the block isn't lent. A lent block comes back
-/// with the bytes that it has then, once; a `Peek16` at a multiple of 16 returns 16 of them, and changes nothing.
+/// A block is lent exactly where none is lent under its number, and else comes back. A `Take`, and at a multiple of
+/// 16 a `Peek16` and a `Poke16`, get the reply `NotLent`, and change nothing, exactly where the block isn't lent. A
+/// lent block comes back with the bytes that it has then, once; a `Peek16` at a multiple of 16 returns 16 of them,
+/// and changes nothing.
 #[tactic(auto, using(crate::proofs::Memory::calls_answer))]
 pub fn memory_calls_answer()
     ensures { MemoryCallsAnswer }

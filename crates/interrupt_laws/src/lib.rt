@@ -34,8 +34,7 @@ pub fn interrupt_registers_have_addresses()
 
 /// A write of EICS or PVTEICS sets in EICR or PVTEICR the causes of the bits that are written as 1 and that its address
 /// shows; and in EIMS or PVTEIMS those of them that EIAM or PVTEIAM has, of the physical function only while GPIE bit
-/// 30 is 0. It changes no other bit of these registers, of EIAC and of EIAM, and no other group's. EICS and PVTEICS
-/// read as 0.
+/// 30 is 0. It changes no other bit of these registers, of EIAC and of EIAM, and no other group's.
 #[tactic(auto, using(crate::proofs::Causes::cause_set_sets))]
 pub fn causes_are_set()
     ensures { WriteOfCauseSetSets }
@@ -148,10 +147,11 @@ pub fn heads_move_on()
     ensures { HeadsMoveOn }
 {}
 
-/// A frame's end on queue q raises the cause that byte 2(q mod 2) of IVAR[q/2] names in EICR, and a report of the queue
-/// the cause that the next byte names. For queue x of virtual function v with k queues the bytes are those of
-/// PVTIVAR[v*k/2 + x/2], and the cause is in PVTEICR[v]. A byte names the cause in its bits 5 to 0 where bit 7 is 1: at
-/// most 15 in EICR, at most 2 in PVTEICR[v]. No other bit of EICR, EIMS, EIAC and EIAM changes, in no group.
+/// A frame's end on queue q, which no virtual function has, raises the cause that byte 2(q mod 2) of IVAR[q/2] names in
+/// EICR, and a report of the queue the cause that the next byte names. For queue x of virtual function v with k queues
+/// the bytes are those of PVTIVAR[v*k/2 + x/2], and the cause is in PVTEICR[v]. A byte names the cause in its bits 5 to
+/// 0 where bit 7 is 1: at most 15 in EICR, at most 2 in PVTEICR[v]. No other bit of EICR, EIMS, EIAC and EIAM changes,
+/// in no group.
 #[tactic(auto, using(crate::proofs::Raising::ivar_names, crate::proofs::Raising::pvtivar_names))]
 pub fn vectors_name_causes()
     ensures ivar { IvarNamesCauses }

@@ -18,7 +18,7 @@ use Rattle.eeprom_image.proofs.Sections.{csr_inside}
 use Rattle.eeprom_image.proofs.TripleLists.{length-triples_in}
 use Rattle.datasheet_laws.specs.Eeprom.{nth, names_none, following, FileIsRead, WritesStand, IsLaidOutSo}
 use Rattle.datasheet_laws.specs.Eeprom.{ImagesAreByNumber, FilesAreByNumber, WritesAreByNumber}
-use Rattle.datasheet_laws.specs.Eeprom.{TextsPoint, WordsPoint, TextsAreByNumber}
+use Rattle.datasheet_laws.specs.Eeprom.{TextsPoint, WordsPoint, TextsAreByNumber, TextsHaveFaults, WordsAreRead}
 
 pub images : ImagesAreByNumber
 unfolding pointers
@@ -189,3 +189,44 @@ laid_out content = go content.triples refl where
 
 pub texts : TextsAreByNumber
 texts content = laid_out content
+
+pub faults : TextsHaveFaults
+unfolding content_fault points_inside
+faults = record {
+  twice = record { lowest = refl; apart = refl; reserved = refl; outside = refl };
+  reserved = record {
+    pointer = refl;
+    checksum = refl;
+    lowest = refl;
+    beside = refl;
+    first = refl;
+    last = refl;
+    second = refl;
+    without = refl;
+    outside = refl;
+  };
+  fitting = record {
+    index = refl;
+    within = refl;
+    none_in_64 = refl;
+    all_of_128 = refl;
+    more_than_128 = refl;
+    last_of_128 = refl;
+    after_128 = refl;
+    before_pointers = refl;
+  };
+}
+
+-- a word inside is what stands there, and outside there is none
+word_inside : (words : List ℕ) (n : ℕ) → n < length words → get_or words n 0xFFFF ≡ get_or words n 0
+word_inside [] n h = absurd (omega arith)
+word_inside (w ∷ words) zero h = refl
+word_inside (w ∷ words) (suc n) h = word_inside words n (omega arith)
+
+word_outside : (words : List ℕ) (n : ℕ) → length words ≤ n → get_or words n 0xFFFF ≡ 0xFFFF
+word_outside [] n h = refl
+word_outside (w ∷ words) zero h = absurd (omega arith)
+word_outside (w ∷ words) (suc n) h = word_outside words n (omega arith)
+
+pub words_read : WordsAreRead
+words_read words n = record { inside = word_inside words n; outside = word_outside words n }

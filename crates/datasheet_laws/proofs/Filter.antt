@@ -14,7 +14,7 @@ use Rattle.rx_filter.proofs.Tests.{both_hold, both_right, both_true}
 use Rattle.rx_filter.proofs.Unicast.{unicast_in}
 use Rattle.datasheet_laws.specs.Prelude.{Registers, has_bit, word_of}
 use Rattle.datasheet_laws.specs.Accesses.{word, holds}
-use Rattle.datasheet_laws.specs.Filter.{vector_of, IsAddress, IsAddressedBy, IsAddressed, IsListed, IsLetIn, FramesAreLetIn, ChoosesPools, PoolsAreChosen}
+use Rattle.datasheet_laws.specs.Filter.{vector_of, IsAddress, IsAddressedBy, IsAddressed, IsListed, IsLetIn, FramesAreLetIn, IsFirst, has_pool, ChoosesPools, PoolsAreChosen}
 use Rattle.datasheet_laws.proofs.Accesses.{word-at}
 
 -- a frame is let in where it passes
@@ -198,6 +198,19 @@ module _ (r : Registers) (frame : List ℕ) (bytes : (k : ℕ) → slice_index f
   unmatched : (i : ℕ) → i < 128 → ¬ IsAddressedBy r frame i → matches r frame i ≡ false
   unmatched i there apart = false_from_ne_true (matches r frame i) (λ e. apart (matched i there e))
 
+  first_match_at : (i : ℕ) → IsFirst r frame i → law.IsFirstMatch r frame i
+  first_match_at i f = record {
+    within = f.within;
+    matched = matching i f.within f.addressed;
+    first = λ lower below. let inside = f.within in
+        unmatched lower (omega (arith, inside, below)) (f.first lower below);
+  }
+
+  none_selected : (i : ℕ) → i < 128 → ((pool : ℕ) → pool < 64 → ¬ has_pool r i pool) → (pool : ℕ) → pool < 64
+      → selects r i pool ≡ false
+  none_selected i there none pool small =
+      false_from_ne_true (selects r i pool) (λ e. none pool small (sym (selected i pool there small) ∙ e))
+
   pools : ChoosesPools r frame
   pools = record {
     parts = sym (ap (has_bit 0) (word-at r row.VtCtl 0 (lit< tt)));
@@ -221,6 +234,13 @@ module _ (r : Registers) (frame : List ℕ) (bytes : (k : ℕ) → slice_index f
         ∙ ap (λ w. Some (w / 128 % 64)) (sym (word-at r row.VtCtl 0 (lit< tt)));
     none = λ nobody on.
         pool_of_a_frame.none r frame (inl (λ i there. unmatched i there (λ a. nobody (i, (there, a)))))
+        (sym (ap (has_bit 29) (word-at r row.VtCtl 0 (lit< tt))) ∙ on);
+    poolless = λ i f none off.
+        pool_of_a_frame.default r frame (inr (i, (first_match_at i f, none_selected i f.within none)))
+        (sym (ap (has_bit 29) (word-at r row.VtCtl 0 (lit< tt))) ∙ off)
+        ∙ ap (λ w. Some (w / 128 % 64)) (sym (word-at r row.VtCtl 0 (lit< tt)));
+    poolless_none = λ i f none on.
+        pool_of_a_frame.none r frame (inr (i, (first_match_at i f, none_selected i f.within none)))
         (sym (ap (has_bit 29) (word-at r row.VtCtl 0 (lit< tt))) ∙ on);
     takes = λ pool small. sym (ap (has_bit (pool % 32)) (word-at r row.Vfre (pool / 32) (omega arith)));
   }

@@ -1,9 +1,9 @@
 -- EEPROM images, by the numbers of their words and bytes.
 use Rattle.std.specs.Prelude.{ℕ, ◌≡◌, ◌≢◌, ◌<◌, ◌≤◌, ◌^◌, ◌↔◌, ◌+◌, ◌*◌, ◌/◌, ◌%◌, ◌==◌, ◌||◌, ◌&&◌, not, nat_le, nat_lt, Bool, true, false, IsTrue}
 use Rattle.std.specs.Prelude.{if◌then◌else◌, Option, Some, None, List, [], ◌∷◌, length, take, drop, sum, sum_by}
-use Rattle.std.specs.Prelude.{get_or, slice_get, slice_index}
+use Rattle.std.specs.Prelude.{get_or, replicate, slice_get, slice_index}
 use Rattle.std.specs.List.{list_all}
-use Rattle.eeprom_image.specs.Bytes.{words_of}
+use Rattle.eeprom_image.specs.Bytes.{word_at, words_of}
 use Rattle.eeprom_image.specs.Content.{Content}
 use Rattle.eeprom_image.specs.Fault.{plain_word, points_inside, content_fault}
 use Rattle.eeprom_image.specs.File.{file_fault}
@@ -13,7 +13,7 @@ use Rattle.eeprom_image.specs.Triples.{triples_of}
 use Rattle.eeprom_image.specs.declared.file.LoadFault.{LoadFault}
 use Rattle.eeprom_image.specs.declared.file.LoadFault.TheVariants.{OddLength, BadSize, SectionOutside, BadChecksum, NotTriples}
 use Rattle.eeprom_image.specs.declared.text.AsmFault.{AsmFault}
-use Rattle.eeprom_image.specs.declared.text.AsmFault.TheVariants.{Reserved, PointerOutside}
+use Rattle.eeprom_image.specs.declared.text.AsmFault.TheVariants.{TwoValues, Reserved, DoesNotFit, PointerOutside}
 use Rattle.datasheet_laws.specs.Prelude.{list_any}
 
 -- word n of an image, 0xFFFF where it has none
@@ -146,3 +146,52 @@ pub record IsLaidOutSo (content : Content) : Type 0 where
 
 abbrev pub TextsAreByNumber : Type 0
 TextsAreByNumber = (content : Content) → IsLaidOutSo content
+
+-- the fault of a text that gives these values to words, of so many, and so many times the same register write
+abbrev pub text_fault : (size : ℕ) → List (ℕ × ℕ) → (writes : ℕ) → Option AsmFault
+text_fault size words writes =
+    content_fault (record { size = size; words = words; triples = replicate writes (0x05080, 0x400) })
+
+-- the lowest index that is given twice, the same value or not, is reported whatever else is wrong
+pub record TwiceIsFirst : Type 0 where
+  pub lowest : text_fault 64 ((0x05, 1) ∷ (0x05, 1) ∷ (0x01, 1) ∷ (0x01, 2) ∷ []) 0 ≡ Some (TwoValues 0x01)
+  pub apart : text_fault 64 ((0x05, 1) ∷ (0x06, 1) ∷ (0x05, 2) ∷ []) 0 ≡ Some (TwoValues 0x05)
+  pub reserved : text_fault 64 ((0x0D, 1) ∷ (0x3F, 1) ∷ (0x3F, 1) ∷ []) 0 ≡ Some (TwoValues 0x3F)
+  pub outside : text_fault 64 ((0x03, 5) ∷ (0x40, 1) ∷ (0x40, 1) ∷ []) 1 ≡ Some (TwoValues 0x40)
+
+-- then the lowest index of 0x0D, 0x3F and of the section of the register writes: three words each from 0x41 on, after
+-- word 0x40, and no words where there are none
+pub record ReservedIsSecond : Type 0 where
+  pub pointer : text_fault 64 ((0x0D, 0xFFFF) ∷ []) 0 ≡ Some (Reserved 0x0D)
+  pub checksum : text_fault 64 ((0x3F, 0xFFFF) ∷ []) 0 ≡ Some (Reserved 0x3F)
+  pub lowest : text_fault 64 ((0x3F, 1) ∷ (0x0D, 1) ∷ []) 0 ≡ Some (Reserved 0x0D)
+  pub beside : text_fault 128 ((0x0C, 0) ∷ (0x0E, 0) ∷ (0x3E, 1) ∷ (0x44, 1) ∷ []) 1 ≡ None
+  pub first : text_fault 128 ((0x40, 1) ∷ []) 1 ≡ Some (Reserved 0x40)
+  pub last : text_fault 128 ((0x43, 1) ∷ []) 1 ≡ Some (Reserved 0x43)
+  pub second : text_fault 128 ((0x46, 1) ∷ []) 2 ≡ Some (Reserved 0x46)
+  pub without : text_fault 128 ((0x40, 1) ∷ (0x43, 1) ∷ []) 0 ≡ None
+  pub outside : text_fault 64 ((0x40, 1) ∷ (0x3F, 1) ∷ []) 0 ≡ Some (Reserved 0x3F)
+
+-- then what doesn't fit: an index from the size on, or a section that ends after the last word
+pub record FittingIsThird : Type 0 where
+  pub index : text_fault 64 ((0x40, 1) ∷ []) 0 ≡ Some DoesNotFit
+  pub within : text_fault 64 ((0x3E, 1) ∷ []) 0 ≡ None
+  pub none_in_64 : text_fault 64 [] 1 ≡ Some DoesNotFit
+  pub all_of_128 : text_fault 128 [] 21 ≡ None
+  pub more_than_128 : text_fault 128 [] 22 ≡ Some DoesNotFit
+  pub last_of_128 : text_fault 128 ((0x7F, 1) ∷ []) 0 ≡ None
+  pub after_128 : text_fault 128 ((0x80, 1) ∷ []) 0 ≡ Some DoesNotFit
+  pub before_pointers : text_fault 64 ((0x03, 5) ∷ (0x40, 1) ∷ []) 0 ≡ Some DoesNotFit
+
+pub record TextsHaveFaults : Type 0 where
+  pub twice : TwiceIsFirst
+  pub reserved : ReservedIsSecond
+  pub fitting : FittingIsThird
+
+-- a word that an image hasn't is 0xFFFF, for whoever asks for it
+pub record OutsideReadsOnes (words : List ℕ) (n : ℕ) : Type 0 where
+  pub inside : n < length words → word_at words n ≡ slice_index words n
+  pub outside : length words ≤ n → word_at words n ≡ 0xFFFF
+
+abbrev pub WordsAreRead : Type 0
+WordsAreRead = (words : List ℕ) (n : ℕ) → OutsideReadsOnes words n

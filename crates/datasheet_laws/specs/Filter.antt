@@ -67,14 +67,29 @@ pub record IsChosen (r : Registers) (frame : List ℕ) (i pool : ℕ) : Type 0 w
   pub selected : has_pool r i pool
   pub lowest : (lower : ℕ) → lower < pool → ¬ has_pool r i lower
 
--- VT_CTL bit 0 distributes frames among pools; a frame without a pool of its own is for that of bits 12 to 7, or with
--- bit 29 for none; VFRE says which pools take frames
+-- the first of the 128 that is a frame's destination
+pub record IsFirst (r : Registers) (frame : List ℕ) (i : ℕ) : Type 0 where
+  pub within : i < 128
+  pub addressed : IsAddressedBy r frame i
+  pub first : (lower : ℕ) → lower < i → ¬ IsAddressedBy r frame lower
+
+-- the default pool: VT_CTL bits 12 to 7
+abbrev pub default_of : Registers → ℕ
+default_of r = word r 0x051B0 / 128 % 64
+
+-- VT_CTL bit 0 distributes frames among pools; a frame without a pool of its own is for the default, or with bit 29
+-- for none: one that no address is for, and one whose first address has no pool, whatever others have; VFRE says which
+-- pools take frames
 pub record ChoosesPools (r : Registers) (frame : List ℕ) : Type 0 where
   pub parts : uses_pools r ≡ holds r 0x051B0 0
   pub matched : (i pool : ℕ) → IsChosen r frame i pool → selected_pool r frame ≡ Some pool
   pub default : ¬ IsAddressed r frame → holds r 0x051B0 29 ≡ false →
-      selected_pool r frame ≡ Some (word r 0x051B0 / 128 % 64)
+      selected_pool r frame ≡ Some (default_of r)
   pub none : ¬ IsAddressed r frame → holds r 0x051B0 29 ≡ true → selected_pool r frame ≡ None
+  pub poolless : (i : ℕ) → IsFirst r frame i → ((pool : ℕ) → pool < 64 → ¬ has_pool r i pool) →
+      holds r 0x051B0 29 ≡ false → selected_pool r frame ≡ Some (default_of r)
+  pub poolless_none : (i : ℕ) → IsFirst r frame i → ((pool : ℕ) → pool < 64 → ¬ has_pool r i pool) →
+      holds r 0x051B0 29 ≡ true → selected_pool r frame ≡ None
   pub takes : (pool : ℕ) → pool < 64 → takes_frames r pool ≡ holds r (0x051E0 + 4 * (pool / 32)) (pool % 32)
 
 abbrev pub PoolsAreChosen : Type 0

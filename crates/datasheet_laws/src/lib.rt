@@ -7,7 +7,7 @@
 
 ghost use Rattle.datasheet_laws.specs.Choice.{TypesAreChosen, QueuesAreChosen, ResetsAreAsked};
 ghost use Rattle.datasheet_laws.specs.Eeprom.{ImagesAreByNumber, FilesAreByNumber, WritesAreByNumber};
-ghost use Rattle.datasheet_laws.specs.Eeprom.{TextsAreByNumber, TextsPoint, WordsPoint};
+ghost use Rattle.datasheet_laws.specs.Eeprom.{TextsAreByNumber, TextsHaveFaults, TextsPoint, WordsAreRead, WordsPoint};
 ghost use Rattle.datasheet_laws.specs.Filter.{FramesAreLetIn, PoolsAreChosen};
 ghost use Rattle.datasheet_laws.specs.Hash.{HashIsOfTheKey};
 ghost use Rattle.datasheet_laws.specs.ByKind.{WordsAreStored, RingsAreHeld, KindsAreRead, SidesAreAsked, EepromIsRead};
@@ -107,7 +107,8 @@ pub fn frames_are_let_in()
 
 /// VT_CTL, at 0x051B0, distributes frames among pools by bit 0. A frame's pool is the lowest one of the first receive
 /// address that is its destination: for address i the bits of 0x0A600 + 8i are pools 0 to 31, those of the next word
-/// pools 32 to 63. A frame without such an address is for the pool in bits 12 to 7 of VT_CTL, or for none with bit 29.
+/// pools 32 to 63. A frame without such an address, or whose first one has no pool, is for the pool in bits 12 to 7 of
+/// VT_CTL, or for none with bit 29.
 /// Pool p has reception enabled by bit p mod 32 of 0x051E0 + 4(p/32).
 pub fn pools_are_chosen()
     ensures { PoolsAreChosen }
@@ -122,10 +123,10 @@ pub fn types_are_chosen()
 {}
 
 /// The queue of a frame, by MRQC bits 3 to 0, at 0x05818, and GCR_EXT bits 1 to 0, at 0x11050: with MRQC at 1 the
-/// entry; for pool p 2p with 8, 4p and two bits of the entry with 0xA, and 2p and one bit with 0xB; while GCR_EXT bits
-/// 1 to 0 are 1, 8p with 8, and 8p and three bits of the entry with 0xA and 0xB. The entry of a frame with a type is in
-/// bits 8(n mod 4) + 3 to 8(n mod 4) of 0x05C00 + 4(n/4), n the low seven bits of its hash. The hash is reported where
-/// RXCSUM bit 13, at 0x05000, is 1, else 0.
+/// entry; for pool p, while VT_CTL bit 0 is 1, 2p with 8, 4p and two bits of the entry with 0xA, and 2p and one bit
+/// with 0xB; while GCR_EXT bits 1 to 0 are 1, 8p with 8, and 8p and three bits of the entry with 0xA and 0xB. The entry
+/// of a frame with a type is in bits 8(n mod 4) + 3 to 8(n mod 4) of 0x05C00 + 4(n/4), n the low seven bits of its
+/// hash. The hash is reported where RXCSUM bit 13, at 0x05000, is 1, else 0.
 #[tactic(auto, using(crate::proofs::Choice::queues_chosen))]
 pub fn queues_are_chosen()
     ensures { QueuesAreChosen }
@@ -213,4 +214,19 @@ pub fn texts_are_laid_out()
     ensures pointers { TextsPoint }
     ensures examples { WordsPoint }
     ensures text { TextsAreByNumber }
+{}
+
+/// A text that gives values to words has the first of these faults. An index has two values: the lowest such is
+/// reported. An index is reserved: 0x0D, 0x3F, and 0x40 to 0x40 + 3k of a text with k register writes; the lowest such
+/// is reported. An index, or the last of these words, isn't below the size: 21 register writes fit 128 words, and 22
+/// don't. A pointer points outside.
+#[tactic(auto, using(crate::proofs::Eeprom::faults))]
+pub fn texts_have_an_order_of_faults()
+    ensures { TextsHaveFaults }
+{}
+
+/// A word from the end of an image on is 0xFFFF.
+#[tactic(auto, using(crate::proofs::Eeprom::words_read))]
+pub fn words_outside_are_ones()
+    ensures { WordsAreRead }
 {}

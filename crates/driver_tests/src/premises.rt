@@ -212,8 +212,8 @@ fn written(rt: &impl Hand, made: &[(u8, Deed)]) -> Vec<Entry> {
     history
 }
 
-/// What the driver of queue 0 does: a read, the lending of block 5, which has addresses 0x2800 to 0x2FFF, and the taking
-/// of it.
+/// What the driver of queue 0 does: a read, the lending of block 5, which has addresses 0x2800 to 0x2FFF, and the
+/// taking of it.
 const OWN: [(u8, Deed); 3] = [
     (DRIVER, Deed::Reads),
     (DRIVER, Deed::Lends(5)),
@@ -315,17 +315,18 @@ fn beside(rt: &impl Hand, mode: u32, more: (u8, Deed), after: usize) -> Vec<Entr
     history
 }
 
+/// Each row is as it says.
+fn check_beside(rt: &impl Hand, rows: &[Beside<'_>]) {
+    for (name, mode, more, after, wanted) in rows {
+        let history = beside(rt, *mode, *more, *after);
+        let is_alone = left_alone(WATCHED, history.as_slice());
+        holds(rt, name, "left alone", is_alone == *wanted);
+    }
+}
+
 #[test]
 fn entries_leave_a_queue_alone_or_not(rt: HostRuntime) {
-    for (name, mode, more, after, wanted) in BESIDE {
-        let history = beside(&rt, mode, more, after);
-        holds(
-            &rt,
-            name,
-            "left alone",
-            left_alone(WATCHED, history.as_slice()) == wanted,
-        );
-    }
+    check_beside(&rt, &BESIDE);
 }
 
 /// Three entries before the driver's first read, and one after it.
@@ -352,38 +353,50 @@ const BEGINS: [Begins<'static>; 22] = [
     ("as reset leaves it", [NOTHING, NOTHING, NOTHING, NOTHING], 0, PHYSICAL, true),
     ("for frames of 1,519 bytes", [NOTHING, NOTHING, NOTHING, NOTHING], 0, Given { frame: 1519, ..PHYSICAL }, false),
     ("jumbo frames of 1,518 bytes", [NOTHING, JUMBO, NOTHING, NOTHING], 0, PHYSICAL, true),
-    ("MAXFRS of 1,519 without jumbo frames", [NOTHING, (OTHER, Deed::Sets(MAXFRS, 0x05EF_0000)), NOTHING, NOTHING], 0, PHYSICAL, true),
-    ("jumbo frames of 1,519 bytes", [JUMBO, (OTHER, Deed::Sets(MAXFRS, 0x05EF_0000)), NOTHING, NOTHING], 0, PHYSICAL, false),
-    ("and a driver of such", [JUMBO, (OTHER, Deed::Sets(MAXFRS, 0x05EF_0000)), NOTHING, NOTHING], 0, Given { frame: 1519, ..PHYSICAL }, true),
+    ("MAXFRS of 1,519 without jumbo frames", [NOTHING, (OTHER, Deed::Sets(MAXFRS, 0x05EF_0000)), NOTHING, NOTHING],
+     0, PHYSICAL, true),
+    ("jumbo frames of 1,519 bytes", [JUMBO, (OTHER, Deed::Sets(MAXFRS, 0x05EF_0000)), NOTHING, NOTHING],
+     0, PHYSICAL, false),
+    ("and a driver of such", [JUMBO, (OTHER, Deed::Sets(MAXFRS, 0x05EF_0000)), NOTHING, NOTHING],
+     0, Given { frame: 1519, ..PHYSICAL }, true),
     ("MAXFRS's low bits", [JUMBO, (OTHER, Deed::Sets(MAXFRS, 0x05EE_FFFF)), NOTHING, NOTHING], 0, PHYSICAL, true),
-    ("a reset afterwards", [JUMBO, (OTHER, Deed::Sets(MAXFRS, 0x05EF_0000)), (OTHER, Deed::Sets(CTRL, 8)), NOTHING], 0, PHYSICAL, true),
-    ("CTRL without a reset afterwards", [JUMBO, (OTHER, Deed::Sets(MAXFRS, 0x05EF_0000)), (OTHER, Deed::Sets(CTRL, 4)), NOTHING], 0, PHYSICAL, false),
-    ("jumbo frames of 1,519 bytes too late", [NOTHING, (OTHER, Deed::Sets(MAXFRS, 0x05EF_0000)), NOTHING, JUMBO], 0, PHYSICAL, true),
-    ("after a call of the pass", [(DRIVER, Deed::Reads), JUMBO, (OTHER, Deed::Sets(MAXFRS, 0x05EF_0000)), NOTHING], 0, PHYSICAL, true),
-    ("after one that isn't its driver's", [(DRIVER, Deed::Reads), JUMBO, (OTHER, Deed::Sets(MAXFRS, 0x05EF_0000)), NOTHING], 1, PHYSICAL, false),
-    ("after a step by the pass", [(DRIVER, Deed::Steps), JUMBO, (OTHER, Deed::Sets(MAXFRS, 0x05EF_0000)), NOTHING], 0, PHYSICAL, false),
+    ("a reset afterwards", [JUMBO, (OTHER, Deed::Sets(MAXFRS, 0x05EF_0000)), (OTHER, Deed::Sets(CTRL, 8)), NOTHING],
+     0, PHYSICAL, true),
+    ("CTRL without a reset afterwards",
+     [JUMBO, (OTHER, Deed::Sets(MAXFRS, 0x05EF_0000)), (OTHER, Deed::Sets(CTRL, 4)), NOTHING], 0, PHYSICAL, false),
+    ("jumbo frames of 1,519 bytes too late", [NOTHING, (OTHER, Deed::Sets(MAXFRS, 0x05EF_0000)), NOTHING, JUMBO],
+     0, PHYSICAL, true),
+    ("after a call of the pass", [(DRIVER, Deed::Reads), JUMBO, (OTHER, Deed::Sets(MAXFRS, 0x05EF_0000)), NOTHING],
+     0, PHYSICAL, true),
+    ("after one that isn't its driver's",
+     [(DRIVER, Deed::Reads), JUMBO, (OTHER, Deed::Sets(MAXFRS, 0x05EF_0000)), NOTHING], 1, PHYSICAL, false),
+    ("after a step by the pass", [(DRIVER, Deed::Steps), JUMBO, (OTHER, Deed::Sets(MAXFRS, 0x05EF_0000)), NOTHING],
+     0, PHYSICAL, false),
     ("no entry of its own", [JUMBO, (OTHER, Deed::Sets(MAXFRS, 0x05EF_0000)), NOTHING, NOTHING], 2, PHYSICAL, true),
     ("queue 1", [NOTHING, NOTHING, NOTHING, NOTHING], 0, Given { queue: 1, ..PHYSICAL }, false),
     ("queue 128", [NOTHING, NOTHING, NOTHING, NOTHING], 0, Given { queue: 128, ..PHYSICAL }, false),
     ("a function without pools", [NOTHING, NOTHING, NOTHING, NOTHING], 0, FUNCTION, false),
     ("a function with 64 pools", [NOTHING, (OTHER, Deed::Sets(GCR_EXT, 3)), NOTHING, NOTHING], 0, FUNCTION, true),
-    ("its second queue", [NOTHING, (OTHER, Deed::Sets(GCR_EXT, 3)), NOTHING, NOTHING], 0, Given { queue: 1, ..FUNCTION }, false),
+    ("its second queue", [NOTHING, (OTHER, Deed::Sets(GCR_EXT, 3)), NOTHING, NOTHING],
+     0, Given { queue: 1, ..FUNCTION }, false),
     ("a function with 16 pools", [NOTHING, (OTHER, Deed::Sets(GCR_EXT, 1)), NOTHING, NOTHING], 0, FUNCTION, true),
-    ("one that isn't there", [NOTHING, (OTHER, Deed::Sets(GCR_EXT, 3)), NOTHING, NOTHING], 0, Given { port: Port::Vf(1), ..FUNCTION }, false),
+    ("one that isn't there", [NOTHING, (OTHER, Deed::Sets(GCR_EXT, 3)), NOTHING, NOTHING],
+     0, Given { port: Port::Vf(1), ..FUNCTION }, false),
     ("pools too late", [NOTHING, NOTHING, NOTHING, (OTHER, Deed::Sets(GCR_EXT, 3))], 0, FUNCTION, false),
 ];
 
+/// Each row is as it says.
+fn check_begins(rt: &impl Hand, rows: &[Begins<'_>]) {
+    for (name, made, from, given, wanted) in rows {
+        let history = around(rt, *made);
+        let is_well = begins_well(WATCHED, *from, *given, history.as_slice());
+        holds(rt, name, "begins well", is_well == *wanted);
+    }
+}
+
 #[test]
 fn a_driver_begins_well_or_not(rt: HostRuntime) {
-    for (name, made, from, given, wanted) in BEGINS {
-        let history = around(&rt, made);
-        holds(
-            &rt,
-            name,
-            "begins well",
-            begins_well(WATCHED, from, given, history.as_slice()) == wanted,
-        );
-    }
+    check_begins(&rt, &BEGINS);
 }
 
 /// Entries, how many of the driver's pass come before its first own one, and whether the queue was never asked on.
@@ -395,33 +408,39 @@ const ON: u32 = 0x0200_0000;
 #[rattlefmt::skip]
 const ASKED: [Asked<'static>; 15] = [
     ("RXDCTL of queue 0 with bit 25", [NOTHING, (OTHER, Deed::Sets(RXDCTL_0, ON)), NOTHING, NOTHING], 0, false),
-    ("RXDCTL of queue 0 with bits 24 and 26", [NOTHING, (OTHER, Deed::Sets(RXDCTL_0, 0x0500_0000)), NOTHING, NOTHING], 0, true),
+    ("RXDCTL of queue 0 with bits 24 and 26", [NOTHING, (OTHER, Deed::Sets(RXDCTL_0, 0x0500_0000)), NOTHING, NOTHING],
+     0, true),
     ("RXDCTL of queue 1 with bit 25", [NOTHING, (OTHER, Deed::Sets(RXDCTL_1, ON)), NOTHING, NOTHING], 0, true),
     ("TXDCTL of queue 0 with bit 25", [NOTHING, (OTHER, Deed::Sets(TXDCTL_0, ON)), NOTHING, NOTHING], 0, false),
     ("TXDCTL of queue 1 with bit 25", [NOTHING, (OTHER, Deed::Sets(TXDCTL_1, ON)), NOTHING, NOTHING], 0, true),
     ("RDT of queue 0 with bit 25", [NOTHING, (OTHER, Deed::Sets(RDT_0, ON)), NOTHING, NOTHING], 0, true),
-    ("on, and off again", [(OTHER, Deed::Sets(RXDCTL_0, ON)), (OTHER, Deed::Sets(RXDCTL_0, 0)), NOTHING, NOTHING], 0, false),
+    ("on, and off again", [(OTHER, Deed::Sets(RXDCTL_0, ON)), (OTHER, Deed::Sets(RXDCTL_0, 0)), NOTHING, NOTHING],
+     0, false),
     ("on, and a reset", [(OTHER, Deed::Sets(RXDCTL_0, ON)), (OTHER, Deed::Sets(CTRL, 8)), NOTHING, NOTHING], 0, false),
     ("on, after the driver's first", [NOTHING, NOTHING, NOTHING, (OTHER, Deed::Sets(RXDCTL_0, ON))], 0, true),
-    ("the function's first queue", [(OTHER, Deed::Sets(GCR_EXT, 3)), (OTHER, Deed::Writes(Port::Vf(0), RXDCTL_0, ON)), NOTHING, NOTHING], 0, false),
-    ("the function's second queue", [(OTHER, Deed::Sets(GCR_EXT, 3)), (OTHER, Deed::Writes(Port::Vf(0), RXDCTL_1, ON)), NOTHING, NOTHING], 0, true),
+    ("the function's first queue",
+     [(OTHER, Deed::Sets(GCR_EXT, 3)), (OTHER, Deed::Writes(Port::Vf(0), RXDCTL_0, ON)), NOTHING, NOTHING], 0, false),
+    ("the function's second queue",
+     [(OTHER, Deed::Sets(GCR_EXT, 3)), (OTHER, Deed::Writes(Port::Vf(0), RXDCTL_1, ON)), NOTHING, NOTHING], 0, true),
     ("without pools", [NOTHING, (OTHER, Deed::Writes(Port::Vf(0), RXDCTL_0, ON)), NOTHING, NOTHING], 0, true),
-    ("by its pass, before its driver's first", [NOTHING, NOTHING, (DRIVER, Deed::Sets(RXDCTL_0, ON)), NOTHING], 1, false),
+    ("by its pass, before its driver's first", [NOTHING, NOTHING, (DRIVER, Deed::Sets(RXDCTL_0, ON)), NOTHING],
+     1, false),
     ("by its driver", [NOTHING, NOTHING, (DRIVER, Deed::Sets(RXDCTL_0, ON)), NOTHING], 0, true),
     ("by others, and no entry of its own", [NOTHING, (OTHER, Deed::Sets(RXDCTL_0, ON)), NOTHING, NOTHING], 2, true),
 ];
 
+/// Each row is as it says.
+fn check_asked(rt: &impl Hand, rows: &[Asked<'_>]) {
+    for (name, made, from, wanted) in rows {
+        let history = around(rt, *made);
+        let never = never_asked_on(WATCHED, *from, history.as_slice());
+        holds(rt, name, "never asked on", never == *wanted);
+    }
+}
+
 #[test]
 fn a_queue_was_never_asked_on_or_was(rt: HostRuntime) {
-    for (name, made, from, wanted) in ASKED {
-        let history = around(&rt, made);
-        holds(
-            &rt,
-            name,
-            "never asked on",
-            never_asked_on(WATCHED, from, history.as_slice()) == wanted,
-        );
-    }
+    check_asked(&rt, &ASKED);
 }
 
 /// Entries around the first of a driver that has blocks 4 to 11, how many of its pass come before that, and whether
@@ -439,18 +458,25 @@ const LENT: [Asked<'static>; 14] = [
     ("block 4 by its pass, before it", [NOTHING, NOTHING, (DRIVER, Deed::Lends(4)), NOTHING], 1, false),
     ("block 12 by its pass, before it", [NOTHING, NOTHING, (DRIVER, Deed::Lends(12)), NOTHING], 1, true),
     ("block 4 by its pass, and taken", [NOTHING, (DRIVER, Deed::Lends(4)), (DRIVER, Deed::Takes(4)), NOTHING], 2, true),
-    ("block 4 by its pass, and another taken", [NOTHING, (DRIVER, Deed::Lends(4)), (DRIVER, Deed::Takes(5)), NOTHING], 2, false),
-    ("block 4 by its pass, which is there already", [NOTHING, NOTHING, (DRIVER, Deed::LendsTwice(4)), NOTHING], 1, true),
+    ("block 4 by its pass, and another taken", [NOTHING, (DRIVER, Deed::Lends(4)), (DRIVER, Deed::Takes(5)), NOTHING],
+     2, false),
+    ("block 4 by its pass, which is there already", [NOTHING, NOTHING, (DRIVER, Deed::LendsTwice(4)), NOTHING],
+     1, true),
     ("block 4 taken by others", [NOTHING, NOTHING, (OTHER, Deed::Takes(4)), NOTHING], 0, true),
 ];
 
+/// Each row is as it says.
+fn check_lent(rt: &impl Hand, rows: &[Asked<'_>]) {
+    for (name, made, from, wanted) in rows {
+        let history = around(rt, *made);
+        let none = others_lend_none(WATCHED, *from, 4, 8, history.as_slice());
+        holds(rt, name, "others lend none", none == *wanted);
+    }
+}
+
 #[test]
 fn others_lend_blocks_or_none(rt: HostRuntime) {
-    for (name, made, from, wanted) in LENT {
-        let history = around(&rt, made);
-        let answer = others_lend_none(WATCHED, from, 4, 8, history.as_slice());
-        holds(&rt, name, "others lend none", answer == wanted);
-    }
+    check_lent(&rt, &LENT);
 }
 
 /// What is wrong with a history, of which the first is named.
@@ -492,15 +518,20 @@ fn doubt(given: Given, history: &[Entry]) -> Option<Doubt> {
     }
 }
 
-#[test]
-fn the_first_doubt_is_named(rt: HostRuntime) {
-    for (name, made, given, wanted) in JUDGED {
-        let history = around(&rt, made);
+/// Each row is as it says.
+fn check_judged(rt: &impl Hand, rows: &[Judged<'_>]) {
+    for (name, made, given, wanted) in rows {
+        let history = around(rt, *made);
         holds(
-            &rt,
+            rt,
             name,
             "doubt",
-            doubt(given, history.as_slice()) == wanted,
+            doubt(*given, history.as_slice()) == *wanted,
         );
     }
+}
+
+#[test]
+fn the_first_doubt_is_named(rt: HostRuntime) {
+    check_judged(&rt, &JUDGED);
 }

@@ -114,7 +114,24 @@ def check_places(kit: Kit, program: Path) -> str:
             raise Wrong(f"by {name}: the two lines of a helper aren't told:\n{said}")
         if not name and "told.c:" in said:
             raise Wrong(f"there is nobody to ask for lines, and there are some:\n{said}")
+    if found_resolvers:
+        check_late_lines(kit, program, found_resolvers[0])
     return f"lines by {' and '.join(found_resolvers) or 'nothing, which is here'}"
+
+
+def check_late_lines(kit: Kit, program: Path, name: str) -> None:
+    """Lines that come late, as on a busy machine, are waited for. They are part of a failure's words, so where one
+    search has them and the next one doesn't, the two differ as where `begin` leaves something behind."""
+    folder, out = kit.folder / "late", kit.out("late-out")
+    shutil.rmtree(folder, ignore_errors=True)
+    folder.mkdir()
+    late = folder / name
+    late.write_text(f'#!/bin/sh\n{shutil.which("sleep")} 2.5\nexec {shutil.which(name)} "$@"\n')
+    late.chmod(0o755)
+    words = [program, "names", "--no-shrink", "--quiet", "--jobs", 1, "--out", out]
+    said = ran(words, 1, env={**os.environ, "PATH": str(folder)})
+    if "told.c:" not in (out / "told.schedule").read_text() or "misuse" in said:
+        raise Wrong(f"lines that come late aren't waited for:\n{said}")
 
 
 PARTS = {

@@ -6,6 +6,7 @@
 #include <elf.h>
 #include <fcntl.h>
 #include <link.h>
+#include <signal.h>
 #include <stdint.h>
 #include <stdio.h>
 #include <stdlib.h>
@@ -290,14 +291,21 @@ static unsigned ask(uintptr_t at, struct source_line *lines, unsigned most)
     return count;
 }
 
+/* The clock's signal waits meanwhile: it ends a read that has a limit of time, whatever SA_RESTART says. */
 unsigned nicxi_lines(const void *instruction, struct source_line *lines, unsigned most)
 {
     struct module module;
+    sigset_t tick, before;
     if (!find_module(instruction, &module))
         return 0;
+    sigemptyset(&tick);
+    sigaddset(&tick, SIGALRM);
+    pthread_sigmask(SIG_BLOCK, &tick, &before);
     if (strcmp(asked.path, module.path) != 0)
         begin_asking(module.path);
-    return asked.is_absent ? 0 : ask(module.at, lines, most);
+    unsigned count = asked.is_absent ? 0 : ask(module.at, lines, most);
+    pthread_sigmask(SIG_SETMASK, &before, NULL);
+    return count;
 }
 
 bool nicxi_source(const struct source_line *line, char *room, size_t size)

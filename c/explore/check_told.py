@@ -121,16 +121,18 @@ def check_places(kit: Kit, program: Path) -> str:
 
 def check_late_lines(kit: Kit, program: Path, name: str) -> None:
     """Lines that come late, as on a busy machine, are waited for. They are part of a failure's words, so where one
-    search has them and the next one doesn't, the two differ as where `begin` leaves something behind."""
-    folder, out = kit.folder / "late", kit.out("late-out")
-    shutil.rmtree(folder, ignore_errors=True)
-    folder.mkdir()
+    search has them and the next one doesn't, the two differ as where `begin` doesn't make all again."""
+    folder, out = kit.folder / "late", kit.folder / "late-out"
+    for made in (folder, out):
+        shutil.rmtree(made, ignore_errors=True)
+        made.mkdir()
     late = folder / name
     late.write_text(f'#!/bin/sh\n{shutil.which("sleep")} 2.5\nexec {shutil.which(name)} "$@"\n')
     late.chmod(0o755)
     words = [program, "names", "--no-shrink", "--quiet", "--jobs", 1, "--out", out]
     said = ran(words, 1, env={**os.environ, "PATH": str(folder)})
-    if "told.c:" not in (out / "told.schedule").read_text() or "misuse" in said:
+    (schedule,) = out.glob("*.schedule")
+    if f"{SOURCE.name}:" not in schedule.read_text() or "misuse" in said:
         raise Wrong(f"lines that come late aren't waited for:\n{said}")
 
 

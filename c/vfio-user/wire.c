@@ -70,8 +70,9 @@ void wire_cut(struct wire *it, bool is_cut)
     if (it->options.kind != WIRE_STREAM && it->options.kind != WIRE_LISTEN)
         return;
     it->is_cut = is_cut;
-    it->had_end = false;
-    hang_up(it);
+    if (is_cut)
+        hang_up(it);
+    it->had_end = it->file >= 0;
 }
 
 bool wire_is_gone(const struct wire *it)

@@ -62,7 +62,8 @@ struct wire {
 bool wire_open(struct wire *it, const struct wire_options *options);
 void wire_close(struct wire *it);
 
-/* The card's link goes down: the other end of a stream is let go, and nobody comes until it is up again. */
+/* The card's link goes down: the other end of a stream is let go, and nobody comes until it is up again. Where it is up
+   already nothing happens, but that an end which has gone counts as one that was never there. */
 void wire_cut(struct wire *it, bool is_cut);
 /* Whether the other end of a stream was there and has gone. */
 bool wire_is_gone(const struct wire *it);

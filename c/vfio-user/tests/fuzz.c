@@ -429,13 +429,13 @@ static void reopen(struct peer *it, const char *path)
 }
 
 /* One client, a wire and a control socket, each of them new: on what is sent by chance the server may hang up late. It
-   answers once it has accepted the three. */
+   answers once it has accepted the three, the wire where the link is up. */
 static void connect_anew(void)
 {
     struct peer *peer = &clients[0].peer;
     reopen(&wire, wire_path);
     reopen(&control, control_path);
-    CHECK(strstr(peer_request(control.file, "go"), "ok"));
+    CHECK(strstr(peer_request(control.file, "go"), "ok") && strstr(peer_request(control.file, "link up"), "ok"));
     peer_open(peer, clients[0].path);
     CHECK(peer_version(peer) == 0);
 }

@@ -404,7 +404,8 @@ def check_address(kit: Kit) -> None:
     if not (found := ADDRESS.search((ADAPTER_FOLDER / "driver.c").read_text())):
         raise Wrong("c/examples/adapter/driver.c writes no address")
     told(ran([adapter(kit, found[0], silent)], 1), "no RAL and RAH with AV 1 matched", "a driver with no address")
-    page = (C.parent / "docs/port.md").read_text()
+    ran([kit.build(HERE / "tests/ported.c")])
+    page = (HERE / "tests/ported.c").read_text()
     lines = re.findall(r"^    (?:static const char image|uint64_t line;|nic_install_text).*\n", page, re.M)
     if ran([adapter(kit, found[0], silent, opened="".join(lines))]) != (ADAPTER_FOLDER / "adapter.out").read_text():
         raise Wrong("examples/adapter with port.md's EEPROM image prints something else than adapter.out")

@@ -431,11 +431,11 @@ class FromAThread(Both):
 
 
 class StateLeft(Both):
-    count = 0
+    calls = 0
 
     def receive(self, queue: int) -> bytes | tuple[bytes, int] | None:
-        StateLeft.count += 1
-        return None if StateLeft.count > 60 else super().receive(queue)
+        StateLeft.calls += 1
+        return None if StateLeft.calls > 60 else super().receive(queue)
 
 
 # --- for the card's list: a driver that has all functions but those that it sets to what Driver has ---

@@ -856,7 +856,7 @@ def check_assembly(kit: Kit) -> str:
         said = ran([kit.build_form(source, f"BARRIER={define}", of_memory=True), *words])
         wanted = rf"assembly: inline assembly isn't seen, so {name} at assembly\.c:\d+ orders nothing"
         told(said.splitlines()[0], wanted, define)
-    distance = ["BARRIER=DISTANCE"] if os.uname().machine == "x86_64" else []
+    distance = ["BARRIER=DISTANCE", "PADDED"] if os.uname().machine == "x86_64" else []
     if "inline assembly" in ran([kit.build_form(source, *distance, of_memory=True), *words]):
         raise Wrong("assembly.c: the distance of a call is taken for a barrier")
     for right in (source, HERE / "tests/points.c", HERE / "examples/forwarder.c"):

@@ -17,8 +17,12 @@ static int count;
         int old = 0;                                                                                                   \
         __asm__ volatile("lock; cmpxchgl %2,%1" : "+a"(old), "+m"(count) : "r"(1) : "memory", "cc");                   \
     } while (0)
-/* No barrier: the distance of a call, with a barrier's bytes in it. */
+/* No barrier: the distance of a call, with a barrier's bytes in it. It leads 0x751F1 bytes back, so there has to be
+   something: the room that PADDED makes, whatever the program consists of besides. */
 #define DISTANCE __asm__ volatile("jmp 1f\n .byte 0xE8, 0x0F, 0xAE, 0xF8, 0xFF\n 1:" ::: "memory")
+#ifdef PADDED
+__asm__(".text\n .skip 0x80000\n");
+#endif
 #elif defined __aarch64__
 #define DMB __asm__ volatile("dmb ish" ::: "memory")
 #define DSB __asm__ volatile("dsb st" ::: "memory")

@@ -94,7 +94,7 @@ class Browser:
         self.ask("Emulation.setEmulatedMedia", {"features": [scheme]})
 
     def load(self, path: Path, place: str = "") -> None:
-        """Loads a page anew and waits until it is there."""
+        """Loads a page afresh and waits until it is there."""
         for url in ("about:blank", path.resolve().as_uri() + place):
             self.loaded = False
             self.ask("Page.navigate", {"url": url})

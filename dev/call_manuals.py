@@ -33,7 +33,7 @@ STATUS = re.compile(r"^    NIC_(?P<name>\w+) = \d+,?(?: +/\* (?P<words>.*?) \*/)
 
 @dataclass(frozen=True)
 class Function:
-    """A function: what it gives, its name, what it takes, and what stands behind it on its line."""
+    """A function: what it gives, its name, what it takes, and what follows it on its line."""
 
     type: str
     name: str
@@ -73,7 +73,7 @@ def function_of(found: re.Match[str]) -> Function:
 
 
 def groups_of(header: str) -> list[Group]:
-    """The functions of a header by the comments that they stand behind."""
+    """The functions of a header by the comments that they follow."""
     text, groups, section, at = text_of(f"c/include/{header}"), [], "", 0
     group = Group("", "")
     marks = sorted([*COMMENT.finditer(text), *FUNCTION.finditer(text)], key=lambda it: it.start())
@@ -85,7 +85,7 @@ def groups_of(header: str) -> list[Group]:
             group.functions.append(function_of(mark))
             continue
         is_first_on_line = text.rfind("\n", 0, mark.start()) + 1 == mark.start()
-        # (what stands behind an enum without a comment of its own isn't for callers)
+        # (what follows an enum without a comment of its own isn't for callers)
         is_of_enum = text[mark.end() :].lstrip().startswith("enum")
         titled = SECTION.fullmatch(mark[0])
         section = titled["title"] if titled else section

@@ -75,7 +75,7 @@ def offset_macros() -> str:
 
 
 def c_header() -> str:
-    """c/include/nic82599_regs.h, from behind its function on."""
+    """c/include/nic82599_regs.h, from the end of its function on."""
     rows = "".join(f"/* {row.meaning} */\n" + address_macro(row) + field_macros(row) + "\n" for row in TABLE)
     rows += f"/* offsets of a virtual function, for nic_vf_read32 and nic_vf_write32 */\n{offset_macros()}"
     return with_each_macro_once(replaced(HEADER.read_text(), "(i - count);\n}\n\n", rows, "\n#endif\n"))
@@ -146,7 +146,7 @@ def rust_offsets() -> str:
 
 
 def rust_module() -> str:
-    """src/regs.rs of the crate, from behind its macros on."""
+    """src/regs.rs of the crate, from the end of its macros on."""
     tables = rust_registers() + rust_fields() + rust_offsets()
     return replaced((CRATE / "src/regs.rs").read_text(), BEGIN_RUST, tables, END_RUST)
 

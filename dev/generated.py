@@ -25,7 +25,7 @@ def git(*words: str, given: str | None = None) -> str:
 
 
 def crate_rows() -> list[tuple[list[str], list[str]]]:
-    """The lines of crates.txt: the words in front of the colon, a crate's name first, and the libraries behind it."""
+    """The lines of crates.txt: the words in front of the colon, a crate's name first, and the libraries after it."""
     lines = [line.partition("#")[0] for line in text_of("crates.txt").splitlines()]
     parted = [line.partition(":") for line in lines if line.strip()]
     return [(head.split(), tail.replace(",", " ").split()) for head, _, tail in parted]
@@ -38,7 +38,7 @@ def crates_below() -> dict[str, list[str]]:
 
 
 def with_below(names: Iterable[str], uses: dict[str, list[str]]) -> list[str]:
-    """These crates and those that they stand on, each behind all that it stands on."""
+    """These crates and those that they stand on, each after all that it stands on."""
     found: list[str] = []
 
     def walk(name: str) -> None:

@@ -19,7 +19,7 @@ def words(selector: str) -> str:
 
 
 class Look:
-    """A page in the browser, with its data and what is told of a fault."""
+    """A page in the browser, with its data and where a fault is reported."""
 
     def __init__(self, browser: Browser, file: Path, name: str, data: dict[str, Any], expect: Expect) -> None:
         self.browser, self.file, self.name, self.data, self.told = browser, file, name, data, expect
@@ -87,7 +87,7 @@ def check_finding(look: Look) -> None:
     shown = look.browser.value("document.getElementById('finding').innerText")
     look.expect(found["words"] in shown and found["outcome"] in shown, f"its finding isn't on top: {shown}")
     title = look.browser.value("document.getElementById('now-title').innerText")
-    look.expect("task poll" in title, f"who acts isn't told: {title}")
+    look.expect("task poll" in title, f"the title doesn't say who acts: {title}")
     look.browser.load(look.file, "#start")
     look.browser.value("document.querySelector('#finding button').click()")
     look.is_at(found["step"], "the finding's button")
@@ -102,7 +102,7 @@ def check_next(look: Look) -> None:
         look.is_at(number, "next fault")
     if numbers:
         browser.press("f")
-        look.is_at(numbers[-1], "next fault behind the last")
+        look.is_at(numbers[-1], "next fault after the last")
     boxes = browser.value(
         "[...document.querySelectorAll('#marks button')].map((one) => { const box = one.getBoundingClientRect();"
         " return [box.x, box.y, box.width, box.height, one.className, one.title]; })"
@@ -179,7 +179,7 @@ def check_when(look: Look) -> None:
         parts = re.match(r"(\w+) frames? waits? to be received[^;]*;(?: before this step (\w+))?", panel)
         shown = (parts[1], parts[2]) if parts else ("No", None)
         wanted = (str(waiting or "No"), None if waiting == before else str(before or "none"))
-        look.expect(shown == wanted, f"step {number}: frames are told as {panel}, and not {wanted}")
+        look.expect(shown == wanted, f"step {number}: frames are shown as {panel}; expected {wanted}")
 
 
 def check_outside(look: Look, number: int) -> None:
@@ -189,18 +189,18 @@ def check_outside(look: Look, number: int) -> None:
         found = look.browser.value(f"document.querySelectorAll({selector!r}).length")
         look.expect(found == 1, f"step {number}: {found} of {selector}")
     told = look.browser.value(words("#front svg text.bad"))
-    look.expect(told == ["tail 16: no slot"], f"step {number}: the tail is told as {told}")
+    look.expect(told == ["tail 16: no slot"], f"step {number}: the tail is shown as {told}")
 
 
 def check_slots(look: Look, number: int, told: list[str]) -> None:
     """That at this step the slots in front are in these forms."""
     look.browser.load(look.file, f"#{number}")
     forms = sorted(set(look.browser.value(words(".descriptors td b"))))
-    look.expect(forms == told, f"step {number}: slots are told as {forms}, not as {told}")
+    look.expect(forms == told, f"step {number}: slots are shown as {forms}, not as {told}")
 
 
 def check_warnings(look: Look, warned: dict[int, str]) -> None:
-    """That these steps, and no others, are told to be warned of, by a sign at the line, a mark and in words."""
+    """That these steps, and no others, are warned of, by a sign at the line, a mark and in words."""
     browser = look.browser
     browser.size(1_280, 800, False)
     browser.load(look.file, "#start")
@@ -211,7 +211,7 @@ def check_warnings(look: Look, warned: dict[int, str]) -> None:
         look.expect(any(text in one for one in told), f"step {number} is warned of by {told}")
         look.expect(browser.value(words("#lines li.here .sign")) == ["\u26a0"], f"step {number}: no sign at its line")
     browser.press("w")
-    look.is_at(list(warned)[-1], "next warning behind the last")
+    look.is_at(list(warned)[-1], "next warning after the last")
     look.expect(browser.value("document.querySelectorAll('#lines .sign').length") == len(warned), "other signs")
     browser.load(look.file, "#start")
     look.expect(not browser.value(words(".warned li")), "at the start there is a warning")

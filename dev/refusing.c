@@ -2,7 +2,7 @@
    write of the program that it is loaded into, by its number, and tells at the end what it saw.
 
    REFUSE_GROWTH, REFUSE_THREAD, FAIL_IO and SHORT_IO are numbers, counted from 1. Where REFUSE_WITHIN is set, growths
-   count only behind a line `call` and before the line that follows it, on standard output. The first REFUSE_SKIP
+   count only after a line `call` and before the line that follows it, on standard output. The first REFUSE_SKIP
    growths don't count: they are those of a language's own start, before the program's. Where REFUSE_OWN is set, growths
    count only of a thread that wrote a line `call`: others are those of what runs the tests. Where LATE_THREADS is set,
    each thread is made as asked and begins so many seconds later, as on a busy machine. At the end a line goes to
@@ -174,7 +174,7 @@ ssize_t read(int file, void *bytes, size_t count)
     return some < 0 ? some : real(file, bytes, (size_t)some);
 }
 
-/* Growths count behind a line `call` and before the next line. */
+/* Growths count after a line `call` and before the next line. */
 static void look(const char *bytes, size_t count)
 {
     static char line[8];

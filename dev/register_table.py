@@ -320,7 +320,7 @@ ANSWERS = {4: "words", 8: "pairs", 64: "queues"}
 
 class Part:
     """A range of addresses that one branch answers: the words of one run, or runs at equal steps that lie among one
-    another and are told apart by the address's remainder. Each run comes with its row."""
+    another and are distinguished by the address's remainder. Each run comes with its row."""
 
     def __init__(self, low: int, high: int, members: list[Member]) -> None:
         self.low, self.high, self.members = low, high, members

@@ -65,7 +65,7 @@ ENDS = {
     "counted.nic": (0, "w RQSMR[0] 3\n" + RECEIVES.format(**SLOT) + "r QPRC[3]\nr QPRC[3]\n"),
     # Frames that came before wait too: one is for a function that resets itself, and one is in front.
     "waits.nic": (2, WAITS.format(frame=FRAME, other=FRAME[:11] + "3" + FRAME[12:])),
-    # A function resets what it wrote before, and writes it anew.
+    # A function resets what it wrote before, and writes it again.
     "reset.nic": (1, "w GCR_EXT 3\nvw 0 0x108 7\nvw 0 0x120 0x8281\nvw 0 0 0x04000000\nvw 0 0x108 1\nvw 0 0x104 2\n"),
 }
 # Words, standard input, and what is expected: status, and a part of what is printed.

@@ -121,7 +121,7 @@ def compare(script: Path, vfs: int | None, recording: Path, expect: Expect) -> N
 
 
 def last(run: Run) -> tuple[dict[int, int], dict[int, bytes | None]]:
-    """The registers and the memory behind the last step, as far as they are known."""
+    """The registers and the memory after the last step, as far as they are known."""
     words, memory = dict(run.start), {}
     for step in run.steps:
         words.update({address: new for address, _, new in step.changes})
@@ -182,7 +182,7 @@ def check_ends(folder: Path, expect: Expect) -> None:
 
 
 def check_refused(folder: Path, expect: Expect) -> None:
-    """Files that can't be drawn are told in a line with status 2."""
+    """Files that can't be drawn are reported in a line with status 2."""
     for text, part in REFUSED.items():
         file = folder / "bad.recording"
         file.write_text(text, encoding="latin-1")
@@ -202,7 +202,7 @@ def check_refused(folder: Path, expect: Expect) -> None:
 
 
 def check_restored(folder: Path, expect: Expect) -> None:
-    """Behind a restored snapshot the steps begin anew, with what was there then."""
+    """After a restored snapshot the steps begin again, with what was there then."""
     file = folder / "restored.recording"
     with recorded(file) as nic:
         nic["RXCTRL"] = 1
@@ -547,7 +547,7 @@ def mutated(lines: list[str], chance: random.Random) -> bytes:
 
 
 def check_hostile(folder: Path, chance: random.Random, expect: Expect) -> None:
-    """A recording that someone changed is shown or told of in a line, and ends no tool otherwise."""
+    """A recording that someone changed is shown or reported in a line, and ends no tool otherwise."""
     file = cut_recording(folder)
     assert file is not None
     lines = [*file.read_text().split("\n"), *HOSTILE]

@@ -97,7 +97,7 @@ def check_capture(folder: Path, expect: Expect) -> None:
         line = next(k for k, _ in enumerate(lines, 1) if f"line {k}" == comment.split(", ")[-1])
         is_it = lines[line - 1].startswith("arrive" if way == 1 else "tx 2")
         expect(is_it, f"nic2pcap: {comment} names the line {lines[line - 1]}")
-        expect(comment == f"{want}, step {time}, line {line}", f"nic2pcap: {comment}, and not {want}")
+        expect(comment == f"{want}, step {time}, line {line}", f"nic2pcap: {comment}; expected {want}")
         expect(way == (1 if want.startswith("in") else 2), f"nic2pcap: the way of {comment}")
     check_tshark(made, got, expect)
     for words, says in (([made, file, "--queue", 2], "0 frames in, 2 out"), ([made, file, "--limit", 3], "0 in")):
@@ -120,7 +120,7 @@ def check_tshark(made: Path, got: list[tuple[int, int, str]], expect: Expect) ->
         words += ["-e", field]
     read = subprocess.run([*map(str, words)], capture_output=True, text=True, check=False).stdout.splitlines()
     want = [f"{time / 1e6:.9f}|0x{way:08x}|{comment}|82599" for time, way, comment in got]
-    expect(read == want, f"tshark reads {read}, and not {want}")
+    expect(read == want, f"tshark reads {read}; expected {want}")
 
 
 def of_track(events: list[dict[str, Any]], track: int) -> list[dict[str, Any]]:

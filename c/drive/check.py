@@ -1,5 +1,5 @@
 """Checks the report card: a right driver passes each row, each bug of the corpus fails a row that names it, and what a
-driver does that is no driver's to do is told, with the other rows going on.
+driver does that is no driver's to do is reported, and the other rows go on.
 
 `c/test` calls these; `c/drive/table` takes the bugs from here too.
 """
@@ -36,7 +36,7 @@ class Bug:
 
 
 def wrongs(table: str) -> dict[str, tuple[str, ...]]:
-    """The rows of a table of bugs: what stands behind the name of each."""
+    """The rows of a table of bugs: what follows the name of each."""
     rows = re.findall(r"^WRONG\((\w+), (.*?)\)$", (HERE / table).read_text(), re.MULTILINE | re.DOTALL)
     return {name: ast.literal_eval(f"({words})") for name, words in rows}
 
@@ -62,7 +62,7 @@ REFUSALS = {
 }
 
 
-# Adapters that can't be taken: what stands in the struct beside a name and the functions, and what is told.
+# Adapters that can't be taken: what stands in the struct beside a name and the functions, and what is printed.
 ADAPTER = """#include "nic82599_drive.h"
 static bool my_open(const nicd_setup *setup) { return setup->slots == 8; }
 static void my_close(void) { }
@@ -125,7 +125,7 @@ class Kit:
 
 def expect(row: dict[str, Any], cause: str, what: str) -> None:
     if row["state"] != "failed" or not re.search(cause, row["cause"]):
-        raise Wrong(f"{what}: row {row['name']} is {row['state']} by \"{row['cause']}\", and not by \"{cause}\"")
+        raise Wrong(f"{what}: row {row['name']} is {row['state']} by \"{row['cause']}\"; expected \"{cause}\"")
 
 
 def none_failed(rows: dict[str, dict[str, Any]]) -> list[dict[str, Any]]:
@@ -265,7 +265,7 @@ def check_kept(kit: Kit, each: int = 1) -> str:
 
 
 def check_faults(kit: Kit, each: int = 1) -> str:
-    """What no driver may do is told in its row, and the other rows go on."""
+    """What no driver may do is reported in its row, and the other rows go on."""
     for mode in list(FAULTS)[::each]:
         name, cause = FAULTS[mode]
         program = kit.build(HERE / "tests/faulty.c", f"MODE={mode}")
@@ -608,15 +608,15 @@ command.draw_all([Row("a", "b", "", "c", "d", "e", state=FAILED)], Path())
 
 
 def check_pages() -> str:
-    """It is told that ./nicbench is compiled for the pages, where that is so."""
+    """A line says that ./nicbench is compiled for the pages, where that is so."""
     folders = ", ".join(repr(str(path)) for path in (HERE, C.parent / "python"))
     told = "nicdrive: compiling ./nicbench for the pages, once, some minutes\n"
     for there, wanted in (("/nowhere", told), ("/", "")):
         words = [sys.executable, "-B", "-c", PAGES.replace("FOLDERS", folders), there]
         made = subprocess.run(words, capture_output=True, text=True, check=False)
         if (made.stdout, made.stderr) != ("drawn\n", wanted):
-            raise Wrong(f"of pages, with ./nicbench's program at {there}, it is told: {made.stdout}{made.stderr}")
-    return "what is told of pages"
+            raise Wrong(f"of pages, with ./nicbench's program at {there}, it prints: {made.stdout}{made.stderr}")
+    return "what is printed of pages"
 
 
 # How long a row may take, by --hang, and what is said of one that takes longer.
@@ -650,13 +650,13 @@ def check_refusals(kit: Kit) -> str:
         given = [it.format(source=HERE / "examples/small.c", broken=broken) for it in words.split()]
         printed = nicdrive(kit.folder / "refused", given, 2)
         if not re.search(wanted, printed):
-            raise Wrong(f"nicdrive {words}: it isn't told that \"{wanted}\":\n{printed}")
+            raise Wrong(f"nicdrive {words}: it doesn't print \"{wanted}\":\n{printed}")
     for fields, wanted in ADAPTERS.items():
         source = kit.folder / "refused.c"
         source.write_text(ADAPTER.replace("FIELDS", fields))
         told = nicdrive(kit.folder / "refused", [source], 2)
         if wanted not in told:
-            raise Wrong(f"an adapter with {fields}: it isn't told that \"{wanted}\":\n{told}")
+            raise Wrong(f"an adapter with {fields}: it doesn't print \"{wanted}\":\n{told}")
     return f"{len(REFUSALS) + len(ADAPTERS)} refusals"
 
 

@@ -15,7 +15,7 @@
    Pointers: none may be null, also not for a buffer whose length is 0. Each points to what its type says, a buffer to
    as many bytes or items as the length after it says, and they don't overlap. Of a controller that nic_close ended, or
    that was never opened ({0}), each call answers CLOSED, and so it does of a snapshot that was dropped or never made. A
-   copy of the struct doesn't know that the other one was closed, so it must not be used any more. Every other argument
+   copy of the struct doesn't know that the other one was closed, so it must no longer be used. Every other argument
    may have any value: the call checks it, and returns a status. */
 #ifndef NIC82599_H
 #define NIC82599_H
@@ -312,8 +312,8 @@ typedef struct nic_settling {
                handle(told.vector);
 
    MORE: *told is what happened, with its `status`, `step` and `of`. DONE: none of a whole round had anything to do; the
-   next call begins anew. OUT_OF_MEMORY: a transmit step found none, and the next call tries it again. NO_QUEUE if
-   `queues` is above 128. If nothing else is called in between, the steps and their order are those of nic_settle. */
+   next call begins a new round. OUT_OF_MEMORY: a transmit step found none, and the next call tries it again. NO_QUEUE
+   if `queues` is above 128. If nothing else is called in between, the steps and their order are those of nic_settle. */
 uint8_t nic_next_step(nic *n, nic_settling *where, nic_told *told);
 
 /* --- why nothing happens --- */
@@ -321,15 +321,15 @@ uint8_t nic_next_step(nic *n, nic_settling *where, nic_told *told);
 /* What is in the way of what waits, in lines of text that end with '\n': of each frame that waits, each queue that
    isn't at rest, each cause that has no message, and a read of the EEPROM. A line names registers and bits with their
    values, as tools/niclint --trace does: "rx 3: RDH[3] 0, RDT[3] 0: head and tail meet, no slot is the device's until
-   the driver moves the tail". No text: nothing waits, and nothing was dropped. What was sent waits no more; frames
-   that were dropped are counted by what dropped them, since the controller was made or a snapshot was restored into it.
-   A queue that a fault switched off has its reason as long as the slot is there. Of an address that isn't lent, and is
-   a pointer into memory of the caller's that is, the text says which bus address it stands for.
-   As snprintf it writes at most `size` bytes with the 0 behind them, and returns how long the whole text is without it;
-   a line that has no room as a whole isn't written, and none after it. `size` may be 0. A closed controller has none.
-   Nothing changes. Registers don't show which frames wait, what was asked of a queue, and what was told: this is found
-   out on a copy of the controller, which takes memory as a snapshot and a restored one do, 4,096 bytes for each lent
-   block, for the time of the call. Without that memory the last line says so, and those that need it are missing. */
+   the driver moves the tail". No text: nothing waits, and nothing was dropped. What was sent waits no more; frames that
+   were dropped are counted by what dropped them, since the controller was made or a snapshot was restored into it. A
+   queue that a fault switched off has its reason as long as the slot is there. Of an address that isn't lent, and is a
+   pointer into memory of the caller's that is, the text says which bus address it stands for. As snprintf it writes at
+   most `size` bytes with the 0 after them, and returns how long the whole text is without it; a line that has no room
+   as a whole isn't written, and none after it. `size` may be 0. A closed controller has none. Nothing changes.
+   Registers don't show which frames wait, what was asked of a queue, and what was reported: this is found out on a copy
+   of the controller, which takes memory as a snapshot and a restored one do, 4,096 bytes for each lent block, for the
+   time of the call. Without that memory the last line says so, and those that need it are missing. */
 size_t nic_why(nic *n, char *text, size_t size);
 
 /* --- the EEPROM --- */

@@ -16,8 +16,8 @@
    nicx_point. Each of them is a point at which anybody may act. DMA memory it takes by nicd_dma_alloc, below. It names
    no tasks, handlers or frames: the card does.
 
-   Each schedule begins with `open`, on a controller as after power-up: what the driver keeps is made anew there, or in
-   `begin`. What a schedule leaves behind isn't ended: take memory from nicd_alloc, which gives it back by itself, or
+   Each schedule begins with `open`, on a controller as after power-up: what the driver keeps is reset there, or in
+   `begin`. What a schedule leaves isn't ended: take memory from nicd_alloc, which gives it back by itself, or
    have it static.
 
    This part is tested, not proved. */
@@ -112,10 +112,10 @@ typedef struct nicd_driver {
     uint16_t slots;   /* the fewest that `open` takes, 8, 16, .. 64; 0 stands for 8 */
     uint32_t frame;   /* the longest frame that it takes; 0 stands for 1,514 */
 
-    /* A schedule begins: what the driver keeps is made anew. It makes no access, and may be null. */
+    /* A schedule begins: what the driver keeps is reset. It makes no access, and may be null. */
     void (*begin)(void);
     /* Sets the controller up, from power-up or from what `close` left, and answers when frames can come and go. False
-       where it can't, as where memory is refused: then nothing is left behind, and it may be called again. */
+       where it can't, as where memory is refused: then nothing is kept of it, and it may be called again. */
     bool (*open)(const nicd_setup *setup);
     /* Ends it: on return the device touches no memory of the driver's, which is given back, and sends no message. */
     void (*close)(void);
@@ -144,7 +144,7 @@ typedef struct nicd_driver {
     bool (*rss)(const nicd_rss *rss);
     bool (*mtu)(uint32_t frame);    /* the longest frame from now on; frames on their way may be lost */
     bool (*resize)(uint16_t slots); /* other rings; the same */
-    bool (*reset)(void);            /* makes all anew after a fault; the same, and the setup stays */
+    bool (*reset)(void);            /* sets all up again after a fault; the same, and the setup stays */
     bool (*suspend)(void);          /* the device rests: no frame, no message, no access until `resume`, but by a
                                        handler that runs as it returns */
     bool (*resume)(void);
@@ -166,20 +166,20 @@ typedef struct nicd_driver {
 
 /* --- in the driver's functions --- */
 
-/* DMA memory: the bus address of its first byte, a multiple of 128, and its bytes are 0. Behind it nothing is lent, so
-   an access of the driver or the device there is told. 0: it is refused, by a scenario that tries that or since all is
-   taken. There is room for 123 pieces of 2 KB, or for one of 503,808 bytes. `open` is asked for at most two queues of
-   16 slots, or four of 8, or two of the fewest slots that the driver takes; two of 64, with 2 KB for each slot both
+/* DMA memory: the bus address of its first byte, a multiple of 128, and its bytes are 0. After it nothing is lent, so
+   an access of the driver or the device there is reported. 0: it is refused, by a scenario that tries that or since all
+   is taken. There is room for 123 pieces of 2 KB, or for one of 503,808 bytes. `open` is asked for at most two queues
+   of 16 slots, or four of 8, or two of the fewest slots that the driver takes; two of 64, with 2 KB for each slot both
    ways, have no room. `bytes` is 1 to 524,288. */
 uint64_t nicd_dma_alloc(size_t bytes);
-/* Gives it back: by its first address. The device must not touch it any more. */
+/* Gives it back: by its first address. The device must no longer touch it. */
 void nicd_dma_free(uint64_t bus);
 
 /* Where byte `bus` of nicd_dma_alloc's memory lies in this process, for a driver that works in its memory by pointers:
    until nicd_dma_free, and what one nicd_dma_alloc gave in one piece. What the device writes is there at once. What the
    driver stores reaches the device at the driver's next call of nic82599_explore.h, a barrier too: before that call
    each run of bytes that changed is written at a point of its own, as by nicx_dma_write. Loads are no points, so a loop
-   that waits for memory alone calls nicx_pause. A store behind the end of a piece, or into one that was given back,
+   that waits for memory alone calls nicx_pause. A store beyond the end of a piece, or into one that was given back,
    fails the schedule at that call; with -fsanitize=address it is reported where it is made. Null, and the schedule
    fails, where nicd_dma_alloc gave no such byte. This is no point. */
 void *nicd_dma_pointer(uint64_t bus);
@@ -193,7 +193,7 @@ void nicd_deliver(uint16_t queue, const uint8_t *bytes, uint32_t length);
 
 /* --- a whole program --- */
 
-/* PROGRAM --list tells the scenarios; PROGRAM --row NAME makes one, by the options of nicx_main behind it. Status as
+/* PROGRAM --list prints the scenarios; PROGRAM --row NAME makes one, by the options of nicx_main after it. Status as
    nicx_main's; 4: the scenario isn't applicable. c/drive/nicdrive makes all, and the card. */
 int nicd_main(int argc, char **argv, const nicd_driver *driver);
 

@@ -20,7 +20,7 @@ uint8_t nicd_exchange(nic *n, uint32_t block, struct memory memory, struct memor
 __attribute__((weak)) bool nicxi_refuses_memory(const nic *n);
 
 /* The memory of a lent block is another from now on; its former one, or null where the library met a fault of its own,
-   now or where it should have told the memory that is handed in. */
+   now or where it should have returned the memory that is handed in. */
 static uint8_t *exchange(nic *n, uint32_t block, uint8_t *bytes)
 {
     struct memory former = {NULL};

@@ -1,5 +1,5 @@
 /* For recordings: what a replay has where the caller's memory is in place. The caller changes that without a call, so
-   before a call reads some of it the recording is told what changed there. */
+   before a call reads some of it the recording gets what changed there. */
 #ifndef NICD_SHADOW_H
 #define NICD_SHADOW_H
 

@@ -86,7 +86,7 @@ static __attribute__((noinline)) bool is_callers(uintptr_t address)
     return is_there;
 }
 
-/* What the archive frees its memory by. What it is told of a caller's memory is that it may be freed, as its own; so
+/* What the archive frees its memory by. The archive means to free a caller's memory too, as if it were its own; so
    that is let be. No caller's memory lies outside the borders, also while another thread moves them. */
 void nicd_dealloc(void *piece)
 {

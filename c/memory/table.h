@@ -33,7 +33,7 @@ bool nicd_table_bus_of(const struct nicd_table *it, uint64_t address, uint64_t *
 /* An address of the caller's memory with this low half, which is all that there is of it. False: none. */
 bool nicd_table_low_half(const struct nicd_table *it, uint64_t low, uint64_t *address);
 
-/* All tables are held while the process forks, behind what else is held then. */
+/* All tables are held while the process forks, after what else is held then. */
 void nicd_table_hold(void);
 void nicd_table_let_go(void);
 

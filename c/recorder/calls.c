@@ -368,7 +368,7 @@ uint8_t nic_unlend_memory(nic *n, uint64_t bus, size_t bytes)
     return status;
 }
 
-/* Block by block, as the call itself does: so those blocks that it lends are told. */
+/* Block by block, as the call itself does: so those blocks that it lends are recorded. */
 COLD uint8_t lend_all(nic *n)
 {
     struct recording *it = nicd_enter(n);
@@ -415,7 +415,7 @@ static void peeked(struct recording *it, uint64_t at, unsigned word, const uint8
     nicd_add_text(it, "\n");
 }
 
-/* A read looks at each sixteen that it touches; the first four are told. */
+/* A read looks at each sixteen that it touches; the first four are recorded. */
 COLD uint8_t read_memory(nic *n, uint64_t bus, uint8_t *bytes, size_t length)
 {
     uint8_t unit[UNIT];
@@ -451,7 +451,7 @@ static void poke(struct recording *it, uint64_t at, const uint8_t unit[UNIT], ui
     reply(it, nic_status_name(status));
 }
 
-/* A write is a poke of each sixteen that it touches, as they are behind it. */
+/* A write is a poke of each sixteen that it touches, as they are after it. */
 COLD uint8_t write_memory(nic *n, uint64_t bus, const uint8_t *bytes, size_t length)
 {
     uint8_t unit[UNIT] = {0};
@@ -582,7 +582,7 @@ uint8_t nic_rx_step(nic *n, nic_told *told)
     struct recording *it = nicd_enter(n);
     nicd_before_receive(it, n);
     uint8_t status = counted(n, nicd_rx_step(n, told), told);
-    nicd_behind_step(it, n, told);
+    nicd_after_step(it, n, told);
     nicd_tell_step(n, told, false);
     return stepped(it, status, told, "rx");
 }
@@ -598,7 +598,7 @@ uint8_t nic_tx_step(nic *n, uint16_t queue, nic_told *told)
     nicd_before_transmit(it, n, queue);
     uint8_t status = nicd_tx_step(n, queue, told);
     if (status != NIC_NO_QUEUE && status != NIC_OUT_OF_MEMORY) {
-        nicd_behind_step(it, n, told);
+        nicd_after_step(it, n, told);
         nicd_tell_step(n, told, true);
     }
     return stepped(it, status, told, line);
@@ -672,7 +672,7 @@ COLD uint8_t settle(nic *n, uint16_t queues, nic_told *told, size_t length, size
     nicd_before_settle(it, n, queues);
     uint8_t status = nicd_settle(n, queues, told, length, count);
     for (size_t k = 0; k < *count; k++) {
-        nicd_behind_step(it, n, &told[k]);
+        nicd_after_step(it, n, &told[k]);
         nicd_tell_step(n, &told[k], told[k].step == NIC_TRANSMIT);
         if (it)
             settled(it, &told[k]);
@@ -695,7 +695,7 @@ uint8_t nic_settle(nic *n, uint16_t queues, nic_told *told, size_t length, size_
 
 enum { GROUPS = 64 };
 
-/* Makes the step at a place of the round. Behind the first group that isn't there are no further ones. */
+/* Makes the step at a place of the round. After the first group that isn't there are no further ones. */
 static uint8_t step_at(nic *n, uint16_t queues, uint16_t at, nic_told *told)
 {
     uint16_t enables = (uint16_t)(2 * queues), place = (uint16_t)(at - enables);
@@ -759,7 +759,7 @@ COLD uint8_t watched_step(nic *n, nic_settling *where, nic_told *told)
     nicd_before_settle(it, n, where->queues);
     uint8_t status = next_step(n, where, told);
     if (status == NIC_MORE) {
-        nicd_behind_step(it, n, told);
+        nicd_after_step(it, n, told);
         nicd_tell_step(n, told, told->step == NIC_TRANSMIT);
         if (it)
             settled(it, told);

@@ -1,5 +1,5 @@
-/* A step reads a descriptor where its ring's head is, and what a transmit descriptor points at. It is told here what
-   that is: where a step of the device reads more one day, a replay of calls by chance (c/test) differs. */
+/* A step reads a descriptor where its ring's head is, and what a transmit descriptor points at. What that is
+   is recorded here: where a step of the device reads more one day, a replay of calls by chance (c/test) differs. */
 #include "catch_up.h"
 
 #include "../memory/shadow.h"
@@ -113,7 +113,7 @@ void nicd_before_settle(struct recording *it, nic *n, uint32_t queues)
     }
 }
 
-/* Behind a transmit step it was the descriptor, or the head, elsewhere. */
+/* After a transmit step it was the descriptor, or the head, elsewhere. */
 static void note_write_back(nic *n, const nic_told *told)
 {
     struct nicd_ring ring = nicd_ring_of(n, true, told->queue);
@@ -121,7 +121,7 @@ static void note_write_back(nic *n, const nic_told *told)
     nicd_shadow_note(n, told->at, is_slot ? NIC_DESC_BYTES : HEAD_BYTES);
 }
 
-void nicd_behind_step(const struct recording *it, nic *n, const nic_told *told)
+void nicd_after_step(const struct recording *it, nic *n, const nic_told *told)
 {
     if (!is_in_place(it, n))
         return;

@@ -14,7 +14,7 @@ void nicd_before_receive(struct recording *it, nic *n);
 void nicd_before_transmit(struct recording *it, nic *n, uint32_t queue);
 void nicd_before_settle(struct recording *it, nic *n, uint32_t queues);
 
-/* Behind a step: the device wrote what it told, and a replay's does too. */
-void nicd_behind_step(const struct recording *it, nic *n, const nic_told *told);
+/* After a step: the device wrote what it reported, and a replay's does too. */
+void nicd_after_step(const struct recording *it, nic *n, const nic_told *told);
 
 #endif

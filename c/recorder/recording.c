@@ -256,7 +256,7 @@ void nicd_begin(const nic *n, uint8_t vfs, uint16_t fifo, uint32_t blocks)
         nicd_add(it, "# recorded by the %s library %s; nicbench run --vfs %u --fifo %u\n", nic_edition(), nic_version(),
                  vfs, fifo);
         put_out(it);
-    } else if (it) { /* it is told once, and not of each controller */
+    } else if (it) { /* reported once, not for each controller */
         free(it);
         take_path(NULL);
     }
@@ -460,7 +460,7 @@ void nicd_add_reply(struct recording *it)
 }
 
 /* Takes back the last line, of blocks that were lent; where it is in the file already, the text takes its place. A file
-   that can't be written anew, as a pipe, keeps it. */
+   that can't be written again, as a pipe, keeps it. */
 static bool is_taken_back(struct recording *it)
 {
     if (it->used >= LENT)

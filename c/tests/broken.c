@@ -8,7 +8,7 @@
 
 static unsigned broken;
 
-/* A status that is told; after the first BROKEN none is another. */
+/* A status that is printed; after the first BROKEN none is another. */
 static void told(uint8_t status)
 {
     CHECK(!broken || status == NIC_BROKEN);

@@ -39,7 +39,7 @@ static void frame_of(const kind *it, uint8_t *frame, size_t length)
     frame[it->ether_type == 0x0800 ? 23 : 20] = it->protocol;
 }
 
-/* One receive queue behind every entry of the redirection table, and one transmit queue. */
+/* One receive queue for every entry of the redirection table, and one transmit queue. */
 static void bring_up(nic *n)
 {
     nic_told told[8];

@@ -359,7 +359,7 @@ static void step_by_chance(void)
     }
 }
 
-/* What a call of settle is to have made: a step of a round, which told something or was idle. */
+/* What a call of settle is to have made: a step of a round, which reported something or was idle. */
 static size_t settled(const nic_told *told, size_t at, size_t count, enum nic_step step, uint16_t of, bool known)
 {
     if (at < count && told[at].step == step && told[at].of == of) {
@@ -459,7 +459,7 @@ static void post(bool transmit, uint32_t queue, uint32_t slot)
     write_range(block * 2048 + 16 * slot, bytes, 16);
 }
 
-/* Descriptors into the slots from the tail on, and the tail behind them. */
+/* Descriptors into the slots from the tail on, and the tail after them. */
 static void refill(bool transmit, uint32_t queue)
 {
     uint32_t count = 1 + below(4), tail = nic_get(&n, transmit ? NIC_TDT(queue) : NIC_RDT(queue));

@@ -228,7 +228,7 @@ static void lend_others(nic *n)
     ANSWERS(NIC_DONE, nic_put64(n, 0, 99));
 }
 
-/* Blocks 1 and 3 have their words again, the others are free again, and one of these is lent anew with bytes of 0. */
+/* Blocks 1 and 3 have their words again, the others are free again, and one of these is lent again with bytes of 0. */
 static void has_two_blocks(nic *n)
 {
     uint64_t got = 0;
@@ -270,7 +270,7 @@ static void keeps_its_blocks(void)
     nic_close(&n);
 }
 
-/* How many bytes of address space the process has, or 0 where that isn't told. */
+/* How many bytes of address space the process has, or 0 where the system doesn't say. */
 static size_t space(void)
 {
     size_t pages = 0;

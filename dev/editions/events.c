@@ -89,7 +89,7 @@ static bool is_refusal(const struct answer *answer)
     return event_alike(&event, answer, &wanted);
 }
 
-/* Refuses request 1, 2, 3 .. of the call, until it isn't refused any more. */
+/* Refuses request 1, 2, 3 .. of the call, until it is no longer refused. */
 static void make_refused(size_t k)
 {
     for (long at = 1;; at++) {

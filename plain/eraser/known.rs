@@ -116,7 +116,7 @@ pub fn check(source: &Source) -> Result<(), Fault> {
     Ok(())
 }
 
-/// Whether a word with `!` behind it is a macro's call.
+/// Whether a word with `!` after it is a macro's call.
 fn is_call(source: &Source, at: usize) -> bool {
     let behind = source.after(source.after(at));
     ["(", "[", "{"].contains(&source.at(behind)) || source.at(at) == "macro_rules"

@@ -79,7 +79,7 @@ fn joined(lines: &[String], at: usize) -> Option<(String, usize)> {
     (is_one && width(&line) <= WIDTH).then(|| (line, end + 1))
 }
 
-/// A struct that is alone in brackets, as rustfmt has it: `A(B {`, and not the `B` in a line of its own.
+/// A struct that is alone in brackets, as rustfmt has it: `A(B {`, not the `B` on a line of its own.
 fn embraced(lines: &[String]) -> Vec<String> {
     let mut lines = lines.to_vec();
     let mut at = 0;
@@ -193,7 +193,7 @@ pub fn split(text: &str) -> Vec<String> {
     found.iter().map(|it| it.trim().to_string()).filter(|it| !it.is_empty()).collect()
 }
 
-/// Words in lines that are as full as can be, each with a comma behind it.
+/// Words in lines that are as full as can be, each with a comma after it.
 pub fn filled(words: &[String], indent: &str) -> Vec<String> {
     let mut lines: Vec<String> = Vec::new();
     for (at, word) in words.iter().enumerate() {

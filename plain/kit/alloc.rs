@@ -2,8 +2,8 @@
 //!
 //! `Global` has no size: Rust's allocator is what allocates. Where the library for C is made (feature `c`), that is the
 //! heap of the calls `rattle_alloc`, `rattle_realloc` and `rattle_dealloc`, which `c/Makefile` links and renames
-//! (`c/heap.syms`): so whoever counts or refuses the library's growths there meets each of them, as in a library that
-//! Rattle's compiler made.
+//! (`c/heap.syms`): so a program that counts or refuses the library's growths there meets all of them, as in a library
+//! that Rattle's compiler made.
 
 use core::fmt;
 

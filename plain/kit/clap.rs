@@ -177,7 +177,7 @@ impl<'a> Arg<'a> {
         }
     }
 
-    /// The option's name on a command line, behind `--`. Here it is also the name of its value.
+    /// The option's name on a command line, after `--`. Here it is also the name of its value.
     pub fn long(self, name: &'a str) -> Self {
         Arg { name, ..self }
     }

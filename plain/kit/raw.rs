@@ -49,7 +49,7 @@ pub(super) fn shrunk<T>(items: Vec<T>) -> Vec<T> {
     }
     let mut items = ManuallyDrop::new(items);
     let at = items.as_mut_ptr();
-    // SAFETY: the block is the vector's, which isn't used any more, and of this layout, since it was made with it. The
+    // SAFETY: the block is the vector's, which is no longer used, and of this layout, since it was made with it. The
     // new size isn't 0, and what `realloc` returns has the elements and is of that size; or it is null, and the block
     // is as it was.
     unsafe {

@@ -21,11 +21,11 @@ WRONG(RS_ON_EVERY_FOURTH, "send-one",
       "1 frame of queue 0 hasn't gone out, and all have: slot 0 was never reclaimed, which has no RS",
       "Every fourth descriptor asks for a report, and the others wait for it")
 WRONG(RSTD_TOLD_ONCE, "mailbox-ready-once", "deadlock: ready waits",
-      "RSTD is told by one read, and another thread reads it")
+      "One read clears RSTD, and another thread reads it")
 WRONG(STOP_THAT_DOES_NOT_WAIT, "close-amid-frames", "queue 0 is on, and the driver is closed|isn't lent",
       "A stop that doesn't wait until the queue is off")
 WRONG(TAIL_BEFORE_DESCRIPTOR, "receive-wrap", "fault: queue 0: 0x\\w+ isn't lent",
-      "The tail moves before the descriptor behind it is written")
+      "The tail moves before the descriptor that it covers is written")
 WRONG(TAIL_MEETS_HEAD, "receive-burst", "head and tail meet", "A driver that gives the device every slot gives it none")
 WRONG(TWO_THREADS_ONE_RING, "send-two-threads", "slot \\d of queue 0 sent|frame \\d",
       "Two threads send by one ring, and nothing keeps them apart")
@@ -40,13 +40,13 @@ WRONG(MAILBOX_WITHDRAWN_REQUEST, "host-withdrawn-request", "it was mixed or over
 WRONG(RING_RESIZE_JUMBO, "resize-amid-chains", "frame \\d of 5000 bytes is handed up with|other bytes",
       "Half a frame is left over as a ring is replaced")
 WRONG(TRANSMIT_WATCHDOG, "send-one", "sent frame 0 went out a second time",
-      "A watchdog gives a queue anew what went out before it is off")
+      "A watchdog gives a queue again what went out before it is off")
 WRONG(SLOT_WITHOUT_DD, "receive-empty", "receive answers true, and no frame came", "A slot is taken without DD")
 WRONG(SLOT_TAKEN_TWICE, "receive-one", "frame 0 is handed up a second time", "A slot is taken twice")
 WRONG(ACCEPTED_AND_DROPPED, "send-full", "never went out|reclaim says that all of queue 0 went out",
       "A full ring: the frame is accepted, and dropped")
 WRONG(IDLE_TOLD_EARLY, "send-wrap", "reclaim says that all of queue 0 went out, and frame \\d in slot \\d hasn't",
-      "All is told to be out after the first of several")
+      "All is reported to be out after the first of several")
 WRONG(CAUSE_READ_AWAY, "setup-cause-read", "a read of EICR takes the causes 0x0001 of queues",
       "A handler reads EICR, which the card keeps with MSI-X")
 WRONG(EIMS_OF_ALL_QUEUES, "interrupt-rearm-alone", "rearm of queue 0 enables the cause of queue 1 too",
@@ -91,7 +91,7 @@ WRONG(RETA_OF_TWO_QUEUES, "rss-four-queues",
 WRONG(IVAR_OF_TWO_QUEUES, "rss-four-vectors", "of queue [23], and was never handed up: its byte of IVAR isn't valid",
       "The vectors of queues 0 and 1 are written, and those of 2 and 3 aren't")
 WRONG(MISSING_WMB, "send-one", "fault: queue 0: legacy",
-      "The write of a tail overtakes the store of the descriptor behind it", "weak")
+      "The write of a tail overtakes the store of the descriptor that it covers", "weak")
 WRONG(MISSING_RMB, "receive-one", "frame 0 is handed up with other bytes", "The bytes of a frame are read before DD",
       "weak")
 WRONG(VECTORS_AFTER_RECEPTION, "open-amid-interrupts",

@@ -536,7 +536,7 @@ static bool find(struct ring *ring, unsigned *last)
         if (!is_done)
             return false;
         if (BUG != MISSING_RMB)
-            nicx_rmb(); /* the bytes are read behind DD */
+            nicx_rmb(); /* the bytes are read after DD */
         *last = slot;
         if (second & NIC_RXWB_EOP || BUG == SLOT_WITHOUT_DD)
             return true;

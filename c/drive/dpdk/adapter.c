@@ -22,7 +22,7 @@ enum {
 
 static uint64_t memory;
 
-/* --- DPDK's state: what a schedule left is forgotten, without giving back packets of a pool that is made anew --- */
+/* --- DPDK's state: what a schedule left is forgotten, without giving back packets of a pool that is made again --- */
 
 static void keep_packet(struct rte_mempool *pool, void *is_kept, void *packet, unsigned int number)
 {

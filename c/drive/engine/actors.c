@@ -174,12 +174,12 @@ uint16_t nicd_let_one_come(void)
 
 /* --- receiving --- */
 
-static void judge_behind(uint16_t queue)
+static void judge_beyond(uint16_t queue)
 {
-    const uint8_t *behind = nicd.room[queue].behind;
-    for (unsigned k = 0; k < sizeof nicd.room[queue].behind; k++)
-        if (behind[k])
-            nicd_failed("receive of queue %u writes behind the bytes of its frame", queue);
+    const uint8_t *beyond = nicd.room[queue].beyond;
+    for (unsigned k = 0; k < sizeof nicd.room[queue].beyond; k++)
+        if (beyond[k])
+            nicd_failed("receive of queue %u writes beyond the bytes of its frame", queue);
 }
 
 bool nicd_receive(uint16_t queue)
@@ -189,7 +189,7 @@ bool nicd_receive(uint16_t queue)
     nicd_calls(OF_QUEUE);
     bool is_there = nicd.driver->receive(queue, frame);
     nicd_called(OF_QUEUE);
-    judge_behind(queue);
+    judge_beyond(queue);
     if (!is_there)
         return false;
     nicd_deliver(queue, frame->bytes, frame->length);
@@ -635,7 +635,7 @@ static void forget(void)
     sender_count = 0;
     memset(nicd.pollers, 0, sizeof nicd.pollers);
     for (unsigned k = 0; k < NICD_QUEUES; k++)
-        memset(nicd.room[k].behind, 0, sizeof nicd.room[k].behind);
+        memset(nicd.room[k].beyond, 0, sizeof nicd.room[k].beyond);
     for (uint16_t k = 0; k < NICD_QUEUES; k++) {
         nicd.pollers[k].queue = k;
         nicd.pollers[k].lock.name = "queue";

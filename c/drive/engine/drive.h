@@ -163,7 +163,7 @@ struct scenario {
     const struct reached *reached;                         /* of a row that isn't in the table */
 };
 
-/* A row of a family's table; by name behind it what else a scenario has. */
+/* A row of a family's table; by name after it what else a scenario has. */
 #define ROW(row, what, words, section, need, ...)                                                                      \
     {                                                                                                                  \
         .name = row, .title = what, .rule = words, .source = section, .needs = need, __VA_ARGS__                       \
@@ -281,14 +281,14 @@ struct drive {
     uint32_t accepted_now[NICD_QUEUES], went_now[NICD_QUEUES]; /* the same since the last interruption */
     struct went out_slots[NICD_QUEUES][MOST_OUT];
     bool is_refused[NICD_QUEUES], is_awaited[NICD_QUEUES]; /* send answered false; somebody waits until all went out */
-    uint32_t out[NICD_QUEUES];                             /* as reclaim told last, and what was taken since */
+    uint32_t out[NICD_QUEUES];                             /* as reclaim said last, and what was taken since */
     uint32_t numbers;
 
     struct poller pollers[NICD_QUEUES];
     int timers[16]; /* of the vectors, in a scenario of late or frequent messages */
     struct {
         nicd_frame frame;
-        uint8_t behind[64]; /* what the driver must not write */
+        uint8_t beyond[64]; /* what the driver must not write */
     } room[NICD_QUEUES];
 };
 
@@ -371,7 +371,7 @@ const char *nicd_judge_end(void);
 uint32_t nicd_make(const struct come *come, uint16_t number, uint8_t *bytes);
 void nicd_make_sent(uint16_t number, uint32_t length, uint8_t *bytes);
 
-/* As the host of a function: 64 pools of two queues, each function's frames to its own. It is told that all is ready,
+/* As the host of a function: 64 pools of two queues, each function's frames to its own. It says that all is ready,
    or not yet. */
 void nicd_set_up_host(unsigned function, bool is_ready);
 

@@ -1,4 +1,4 @@
-/* Frames that tell which they are: each byte behind the head depends on the number and its place. */
+/* Frames that tell which they are: each byte after the head depends on the number and its place. */
 #include <string.h>
 
 #include "drive.h"
@@ -25,7 +25,7 @@ static void fill(uint8_t *bytes, uint32_t from, uint32_t length, uint16_t number
     put16(bytes + length - 2, number);
 }
 
-/* The addresses of a flow, and behind them its ports; what is hashed, in this order. */
+/* The addresses of a flow, and after them its ports; what is hashed, in this order. */
 static uint32_t put_flow(uint8_t *at, uint16_t flow, uint32_t each)
 {
     for (uint32_t k = 0; k < 2 * each; k++)

@@ -55,7 +55,7 @@ static bool is_frame(uint16_t number, const uint8_t *bytes, uint32_t length)
     return nicd_make(&nicd.coming[number], number, whole) == length && !memcmp(whole, bytes, length);
 }
 
-/* One that the device wrote behind the one that is to come next in its queue. */
+/* One that the device wrote after the one that is to come next in its queue. */
 static void tell_too_early(uint16_t queue, uint16_t number)
 {
     uint16_t next = nicd.written[queue][nicd.next[queue]];
@@ -229,7 +229,7 @@ static void tell_strange_out(unsigned queue, uint16_t slot, uint64_t length, uin
                   first_other(&sent[next], length));
 }
 
-/* One that went out, as number `count` of its queue, is the next of it, or one behind where those between may be lost.
+/* One that went out, as number `count` of its queue, is the next of it, or a later one where those between may be lost.
  */
 static void judge_out(const nic_told *told, uint32_t next[NICD_QUEUES], uint32_t count[NICD_QUEUES])
 {
@@ -283,7 +283,7 @@ static const char *tell_kept(unsigned queue)
     bool has_head = nicd_peek(NIC_TDWBAL(nicd.base + queue)) & NIC_TDWBAL_HEAD_WB_EN;
     snprintf(words, sizeof words, ": slot %u was never reclaimed, %s", it->slot,
              !it->back  ? "which has no RS, so no DD"
-             : has_head ? "though the head behind it was written"
+             : has_head ? "though the head after it was written"
                         : "though it has DD");
     return words;
 }

@@ -1,4 +1,4 @@
-/* The driver's memory: pieces of packet memory that end where a block does, with a block behind that isn't lent; and
+/* The driver's memory: pieces of packet memory that end where a block does, with a block after it that isn't lent; and
    memory of its own. Both are counted, and both can be refused. */
 #include <stdio.h>
 #include <string.h>
@@ -26,7 +26,7 @@ static bool is_refused(void)
     return ++nicd.allocations == nicd.refuse;
 }
 
-/* Whether blocks first .. first + count, the one behind included, are nobody's. */
+/* Whether blocks first .. first + count, the one after them included, are nobody's. */
 static bool is_free(uint32_t first, uint32_t count)
 {
     for (unsigned k = 0; k < MOST_PIECES; k++) {
@@ -165,7 +165,7 @@ const char *nicd_memory_near(uint64_t bus)
     }
     if (!below)
         return "no memory of nicd_dma_alloc lies below it";
-    snprintf(words, sizeof words, "%llu bytes behind the %u at 0x%llx, which %s asked for",
+    snprintf(words, sizeof words, "%llu bytes beyond the %u at 0x%llx, which %s asked for",
              (unsigned long long)(bus - below->bus - below->bytes), (unsigned)below->bytes,
              (unsigned long long)below->bus, below->by);
     return words;

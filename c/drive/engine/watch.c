@@ -210,7 +210,7 @@ static void judge_lent(const struct step *step)
                   step->kind == STEP_LEND ? "lends" : "takes back", (unsigned)step->address);
 }
 
-/* Of an access of the driver to memory that isn't lent, where that lies. The explorer ends its thread behind this. */
+/* Of an access of the driver to memory that isn't lent, where that lies. The explorer ends its thread after this. */
 static void judge_memory(const struct step *step)
 {
     bool reads = step->kind == STEP_PEEK;
@@ -230,7 +230,7 @@ static bool is_unwritten(uint64_t slot)
     return is_lent && !first && !second;
 }
 
-/* Behind the explorer's words of a fault: the slot, and what of it, the descriptor or its buffer. */
+/* After the explorer's words of a fault: the slot, and what of it, the descriptor or its buffer. */
 static void tell_fault(const struct step *step)
 {
     bool sends = step->kind == STEP_TX;

@@ -45,7 +45,7 @@ struct nicp_driver {
 
 static struct nicp_driver python;
 static char words[WORDS];
-/* How many functions in Python are amid on this thread. */
+/* How many functions in Python are running on this thread. */
 static __thread unsigned depth;
 
 void nicp_told(const char *told);
@@ -191,7 +191,7 @@ static int64_t refuse_thread(void)
     return NICP_OVER;
 }
 
-/* The thread comes back here too where the schedule is over amid the call. */
+/* The thread comes back here too where the schedule ends during the call. */
 #define ANSWER_OF(expression)                                                                                          \
     struct nicp_way way;                                                                                               \
     struct nicp_way **ways = nicp_way();                                                                               \
@@ -218,7 +218,7 @@ static int64_t refuse_thread(void)
         ANSWER_OF(expression);                                                                                         \
     }
 
-/* Waits for a condition in Python, by its number. A condition that raises fails the schedule, and whoever asked goes
+/* Waits for a condition in Python, by its number. A condition that raises fails the schedule, and the caller goes
    on. */
 static bool holds(void *number)
 {

@@ -1,8 +1,8 @@
 /* The stacks of explore/engine/fiber.h as threads of the process, in place of explore/engine/fiber.c. A switch wakes
    one, and waits for its own turn.
 
-   A thread that a schedule leaves amid something is unwound as the schedule is over, so that what Python keeps of it
-   ends. Threads aren't there in a process that was forked: there they are made once more. */
+   A thread that a schedule leaves in the middle of something is unwound when the schedule ends, so that what Python
+   keeps of it ends. Threads aren't there in a process that was forked: there they are made once more. */
 #define _GNU_SOURCE
 #include "../../explore/engine/fiber.h"
 
@@ -122,7 +122,7 @@ static void wait_outside(void)
     take_over();
 }
 
-/* A thread that is to leave what it is amid doesn't return. */
+/* A thread that is to leave what it is in doesn't return. */
 static void wait_for_turn(struct host *host)
 {
     while (sem_wait(&host->turn) != 0)
@@ -194,7 +194,7 @@ static bool take_stack(struct fiber *fiber, size_t room)
     return true;
 }
 
-/* The main thread has one leave what it is amid: it stands at its beginning when this returns. One that goes on is left
+/* The main thread has one leave what it is in: it stands at its beginning when this returns. One that goes on is left
    where it is, with its stack, and another thread takes its place. */
 static void unwind(struct host *host)
 {
@@ -254,7 +254,7 @@ void nicxi_fiber_begin(struct fiber *fiber, void (*function)(void *), void *argu
         abort();
 }
 
-/* The schedule is over: its threads leave what they are amid. */
+/* The schedule is over: its threads leave what they are in. */
 static void unwind_all(void)
 {
     for (int k = 0; k < MOST_THREADS; k++) {

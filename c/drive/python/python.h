@@ -11,11 +11,11 @@
 
 /* Answers of a function in Python, and of a call that a driver makes, beside what they answer. */
 enum {
-    NICP_RAISED = -1, /* the function raised, and its words are told by nicp_told */
-    NICP_OVER = -2    /* the schedule is over: the thread leaves what it is amid */
+    NICP_RAISED = -1, /* the function raised, and nicp_told has its words */
+    NICP_OVER = -2    /* the schedule is over: the thread leaves what it is in */
 };
 
-/* Where a thread goes that leaves what it is amid: to the innermost call that it makes, whose frames of Python then end
+/* Where a thread goes that leaves what it is in: to the innermost call that it makes, whose frames of Python then end
    by an exception; or else to its beginning. */
 struct nicp_way {
     jmp_buf place;
@@ -26,7 +26,7 @@ struct nicp_way {
 struct nicp_way **nicp_way(void);
 /* Leaves by the innermost way. */
 void nicp_leave(void);
-/* Whether the thread that runs is leaving what it is amid; and it made a call all the same. One that goes on making
+/* Whether the thread that runs is leaving what it is in; and it made a call all the same. One that goes on making
    them stays in here. */
 bool nicp_is_left(void);
 void nicp_calls_on(void);

@@ -1,4 +1,4 @@
-/* Link, reset, faults, other lengths and other rings, amid traffic. */
+/* Link, reset, faults, other lengths and other rings, during traffic. */
 #include "../engine/drive.h"
 
 enum { MOST_REFUSED = 6 }; /* one of so many requests for memory, from the first one on */
@@ -89,7 +89,7 @@ static bool is_over(void *transmit)
     return is_gone || is_off(*(bool *)transmit);
 }
 
-/* The ring's block is away until the queue has met the fault; then it is there again, and the driver is told. */
+/* The ring's block is away until the queue has met the fault; then it is there again, and the driver is called. */
 static void break_and_reset(bool transmit)
 {
     uint32_t block = ring_block(transmit);
@@ -232,7 +232,7 @@ static const char *judge_rings(void)
 }
 
 static const char reset_rule[] =
-    "A reset ends all queues, masks and filters: software sets all up anew, and throws away "
+    "A reset ends all queues, masks and filters: software sets all up again, and throws away "
     "what was on its way";
 static const char resize_rule[] =
     "While a queue is on its base and length don't change, and its memory is the device's";
@@ -241,7 +241,7 @@ const struct scenario nicd_link[] = {
     ROW("link-down", "the link goes down, and the driver knows",
         "A change of the link raises LSC; LINKS says how it is", "Link Status", RECEIVES | LINK | INTERRUPTS,
         .setup = {.interrupts = true}, .takes = true, .links = 1, .end = nicd_judge_link),
-    ROW("link-down-up", "down and up amid traffic", "A change of the link raises LSC; LINKS says how it is",
+    ROW("link-down-up", "down and up during traffic", "A change of the link raises LSC; LINKS says how it is",
         "Link Status", RECEIVES | LINK | INTERRUPTS, .ways = LOSSY | DROPS, .setup = {.interrupts = true},
         .takes = true, .sends = 3, .comes = 4, .links = 2, .end = nicd_judge_link),
     ROW("link-amid-reset", "the link goes down while the device is reset",
@@ -255,7 +255,7 @@ const struct scenario nicd_resets[] = {
         .ways = LOSSY | DROPS, .control = reset_once, .takes = true, .comes = 4, .late = 2),
     ROW("reset-amid-send", "a reset while frames are sent", reset_rule, "Software Reset", SENDS | RESET,
         .ways = LOSSY | DROPS, .control = reset_once, .sends = 6),
-    ROW("reset-amid-interrupts", "a reset amid both, with interrupts", reset_rule, "Software Reset",
+    ROW("reset-amid-interrupts", "a reset during both, with interrupts", reset_rule, "Software Reset",
         RECEIVES | RESET | INTERRUPTS, .ways = LOSSY | DROPS, .setup = {.interrupts = true}, .control = reset_once,
         .takes = true, .sends = 3, .comes = 4, .late = 2),
     ROW("reset-twice", "two resets, and traffic after them", reset_rule, "Software Reset", RECEIVES | RESET,
@@ -268,23 +268,24 @@ const struct scenario nicd_resets[] = {
         "A reset that takes memory gives back what it had", "reset of the adapter", RESET, .ways = LOSSY | DROPS,
         .control = reset_and_count, .takes = true, .comes = 2),
     ROW("fault-receive", "a receive queue met a fault, and is reset",
-        "A queue that met a fault is off until software sets it up anew", "reset of the adapter", PULLS | RESET,
+        "A queue that met a fault is off until software sets it up again", "reset of the adapter", PULLS | RESET,
         .ways = LOSSY | DROPS | FAULTY, .control = break_receive, .comes = 1, .late = 2, .end = judge_recovery),
     ROW("fault-send", "a transmit queue met a fault, and is reset",
-        "A queue that met a fault is off until software sets it up anew", "reset of the adapter", SENDS | RESET,
+        "A queue that met a fault is off until software sets it up again", "reset of the adapter", SENDS | RESET,
         .ways = LOSSY | DROPS | FAULTY, .control = break_send, .end = judge_recovery),
     {0}};
 
 const struct scenario nicd_changes[] = {
-    ROW("mtu-grows", "longer frames from now on, amid traffic", "MAXFRS and JUMBOEN are set before longer frames come",
-        "Maximum Frame Size", RECEIVES | MTU, .ways = LOSSY | DROPS, .control = grow_frames, .begin = come_longer),
-    ROW("mtu-shrinks", "shorter frames from now on, amid traffic", "A frame above MAXFRS is dropped",
+    ROW("mtu-grows", "longer frames from now on, during traffic",
+        "MAXFRS and JUMBOEN are set before longer frames come", "Maximum Frame Size", RECEIVES | MTU,
+        .ways = LOSSY | DROPS, .control = grow_frames, .begin = come_longer),
+    ROW("mtu-shrinks", "shorter frames from now on, during traffic", "A frame above MAXFRS is dropped",
         "Maximum Frame Size", RECEIVES | MTU, .ways = LOSSY | DROPS, .setup = {.frame = 4096}, .control = shrink_frames,
         .begin = come_shorter, .end = judge_shrunk),
-    ROW("resize-amid-traffic", "other rings amid traffic", resize_rule, "Dynamic Disabling of Receive Queues",
+    ROW("resize-amid-traffic", "other rings during traffic", resize_rule, "Dynamic Disabling of Receive Queues",
         RECEIVES | RESIZE, .ways = LOSSY | DROPS, .control = make_rings_longer, .takes = true, .sends = 3, .comes = 4,
         .late = 12, .end = judge_rings, .see = nicd_see_held),
-    ROW("resize-amid-chains", "other rings amid frames of several buffers",
+    ROW("resize-amid-chains", "other rings during frames of several buffers",
         "A frame whose end was lost with its ring is thrown away", "Dynamic Disabling of Receive Queues",
         RECEIVES | RESIZE, .ways = LOSSY | DROPS, .setup = {.frame = 5000}, .control = make_rings_longer, .takes = true,
         .comes = 2, .late = 2, .length = 5000, .end = judge_rings, .see = nicd_see_held),

@@ -98,7 +98,7 @@ static void let_second_in(void)
     set(&one);
 }
 
-/* What was let in before isn't any more. */
+/* What was let in before no longer is. */
 static void let_in_and_out(void)
 {
     static const nicd_filter all = {
@@ -142,7 +142,7 @@ const struct scenario nicd_filters[] = {
     FILTER_ROW("filter-second", "a second address of its own", let_second_in,
                "Each of 128 receive addresses counts where its AV is 1", "Receive Address"),
     FILTER_ROW("filter-no-longer", "all were let in, and no longer are", let_in_and_out,
-               "What isn't wanted any more is taken out of the filters", "filter of the adapter"),
+               "What is no longer wanted is taken out of the filters", "filter of the adapter"),
     FILTER_ROW("filter-multicast-no-longer", "multicast addresses were let in, and no longer are", let_multicast_out,
                "What is no longer wanted is taken out of the table, and a receive address that held it is the next "
                "one's",

@@ -88,7 +88,7 @@ static bool is_asked(void)
     return true;
 }
 
-/* Two words that belong together, of message k; the host's and the function's are told apart. */
+/* Two words that belong together, of message k; the host's and the function's differ. */
 static uint32_t word(bool of_host, uint32_t k, uint32_t number)
 {
     return (of_host ? 0xB0000000u : 0xF0000000u) | k << 8 | number;
@@ -332,25 +332,25 @@ const struct scenario nicd_functions[] = {
     ROW("function-two-queues", "a function with both queues of its pool", "A function has the queues of its pool",
         "Virtual Function Registers", FUNCTIONS | RECEIVES, .setup = {.port = PORT, .queues = 2},
         .begin = use_both_queues, .see = see_foreign),
-    ROW("function-close", "a function closes amid traffic",
+    ROW("function-close", "a function closes during traffic",
         "A queue that is asked to go off may receive and send until ENABLE reads 0; only then is its memory software's",
         "Dynamic Disabling of Receive Queues", FUNCTIONS | RECEIVES, .ways = LOSSY | DROPS, .setup = {.port = PORT},
         .control = close_it, .takes = true, .sends = 4, .comes = 5, .see = see_foreign),
-    ROW("function-reset-under-it", "its host resets its pool amid traffic",
-        "A reset of the pool ends its queues; the function sets them up anew", "Virtual Function Reset",
+    ROW("function-reset-under-it", "its host resets its pool during traffic",
+        "A reset of the pool ends its queues; the function sets them up again", "Virtual Function Reset",
         FUNCTIONS | RECEIVES | RESET, .ways = LOSSY | DROPS, .setup = {.port = PORT}, .control = be_reset,
         .begin = begin_host, .takes = true, .comes = 3, .late = 2, .see = see_foreign),
     ROW("mailbox-function-sends", "two messages to the host",
         "A side takes the mailbox before it writes, and writes the next message once the last one is acknowledged",
         "Mailbox", FUNCTIONS | MAILBOX, .setup = {.port = PORT}, .begin = send_messages, .end = judge_mail,
         .see = see_foreign),
-    ROW("mailbox-function-receives", "two messages of the host", "PFSTS is told by one read: what is read once is kept",
+    ROW("mailbox-function-receives", "two messages of the host", "One read clears PFSTS: what is read once is kept",
         "Mailbox", FUNCTIONS | MAILBOX, .setup = {.port = PORT}, .begin = receive_messages, .end = judge_mail,
         .see = see_foreign),
     ROW("mailbox-function-collides", "both sides send at once",
         "VFU and PFU are never both 1: who comes second tries again", "Mailbox", FUNCTIONS | MAILBOX,
         .setup = {.port = PORT}, .begin = collide, .end = judge_mail, .see = see_foreign),
     ROW("mailbox-ready-once", "the device's reset is done, while another thread reads the mailbox",
-        "RSTD is told by one read, whoever reads it", "Mailbox", FUNCTIONS | MAILBOX | READY_BIT,
+        "One read clears RSTD, no matter which thread reads it", "Mailbox", FUNCTIONS | MAILBOX | READY_BIT,
         .setup = {.port = PORT}, .begin = be_ready_once, .see = see_foreign),
     {0}};

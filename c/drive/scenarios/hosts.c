@@ -77,7 +77,7 @@ static void function_withdraws(void)
     nicx_vf_write32(0, NIC_VFCTRL, NIC_PVFCTRL_RST);
     kept[0] = 0;
     while (!function_puts(0, 1)) {
-        was_told(0, NIC_PVFMAILBOX_PFSTS); /* an answer to the first one is of no interest any more */
+        was_told(0, NIC_PVFMAILBOX_PFSTS); /* an answer to the first one is of no interest by now */
         nicx_wait();
     }
     while (answer != word(0, true, 1, 0)) {
@@ -266,6 +266,6 @@ const struct scenario nicd_hosts[] = {
     HOST_ROW("host-collides", "both sides send at once",
              "VFU and PFU are never both 1: who comes second tries again, and a request that waits isn't overwritten",
              collide, judge),
-    HOST_ROW("host-withdrawn-request", "a function resets itself and asks anew",
+    HOST_ROW("host-withdrawn-request", "a function resets itself and asks again",
              "An answer to a request that was withdrawn doesn't overwrite the next one", withdraw, judge_answer),
     {0}};

@@ -1,4 +1,4 @@
-/* Messages: amid a poll, late, lost to a mask, spurious. */
+/* Messages: during a poll, late, lost to a mask, spurious. */
 #include "../engine/drive.h"
 
 static bool has_begun(void *unused)

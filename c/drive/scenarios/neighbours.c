@@ -1,4 +1,4 @@
-/* Another driver has the queue behind the driver's last one, with memory, a vector and a mask of its own. */
+/* Another driver has the queue after the driver's last one, with memory, a vector and a mask of its own. */
 #include "../engine/drive.h"
 
 enum { VECTOR = 15, SLOTS = 8, RING = OTHERS * NIC_BLOCK_BYTES };

@@ -1,4 +1,4 @@
-/* Receive side scaling: each type to each queue, and another table amid traffic. */
+/* Receive side scaling: each type to each queue, and another table during traffic. */
 #include <stdio.h>
 
 #include "../engine/drive.h"

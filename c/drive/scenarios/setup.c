@@ -403,7 +403,7 @@ const struct scenario nicd_setup_rows[] = {
         "Extended Interrupt Cause", RECEIVES | INTERRUPTS | PHYSICAL, .setup = {.interrupts = true}, .takes = true,
         .comes = 3, .see = see_cause_read),
     ROW("setup-tails-in-use", "tails stay within the ring, also over a wrap",
-        "A tail is a slot of the ring; behind the last comes slot 0", "Receive Descriptor Tail", RECEIVES | PHYSICAL,
+        "A tail is a slot of the ring; after the last comes slot 0", "Receive Descriptor Tail", RECEIVES | PHYSICAL,
         .takes = true, .rings = 1, .sends = 2, .comes = 2, .see = see_ring),
     CHECKS("setup-long-frames", PHYSICAL, "the limit for longer frames", check_length,
            "Frames above 1,518 bytes on the wire want HLREG0.JUMBOEN, and MAXFRS counts the check sequence",
@@ -412,10 +412,10 @@ const struct scenario nicd_setup_rows[] = {
            "RXCSUM.PCSD chooses the hash in place of the checksum of a fragment", "Receive Checksum Control",
            .queues = 2),
     CHECKS("setup-drop", RECEIVES | PHYSICAL, "with several queues a full one drops", check_drop,
-           "With DROP_EN a frame that finds no descriptor is dropped; without it all behind it wait",
+           "With DROP_EN a frame that finds no descriptor is dropped; without it all after it wait",
            "Split Receive Control", .queues = 2),
     CHECKS(
-        "setup-loaded", PHYSICAL, "the firmware is told that a driver is there", check_loaded,
+        "setup-loaded", PHYSICAL, "the firmware learns that a driver is there", check_loaded,
         "DRV_LOAD is set by a driver when it is loaded, and cleared when it is unloaded; it has no effect on the bench",
         "Extended Device Control", .queues = 1),
     {0}};

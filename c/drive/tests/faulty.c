@@ -25,7 +25,7 @@ static struct {
     nicx_mutex lock;
 } driver;
 
-static int calls; /* of receive, over all schedules: open doesn't make it anew */
+static int calls; /* of receive, over all schedules: open doesn't reset it */
 
 static void *touch(void *unused)
 {

@@ -65,7 +65,7 @@ impl<'a> Place<'_, 'a> {
         Ok(())
     }
 
-    /// A message, with the usage where options are told of which it is.
+    /// A message, with the usage line where the options given say which it is.
     pub(super) fn refusal(
         &self,
         kind: ErrorKind,

@@ -13,8 +13,8 @@ impl Drop for Call {
     }
 }
 
-/// Makes a call of which a panic frees nothing: what it owns then is lost, and whoever still knows a piece of it knows
-/// one that nobody freed. (What another thread drops by a panic of its own meanwhile is lost too.)
+/// Makes a call of which a panic frees nothing: what it owns then is lost, and code that still knows a piece of it
+/// knows one that nobody freed. (What another thread drops by a panic of its own meanwhile is lost too.)
 #[inline]
 pub(in crate::kit) fn keeping<R>(call: impl FnOnce() -> R) -> R {
     CALLS.fetch_add(1, Ordering::Relaxed);

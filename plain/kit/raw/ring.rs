@@ -30,7 +30,7 @@ impl<T> Ring<T> {
     pub(in crate::kit) fn of(from: Vec<T>) -> Self {
         let mut from = ManuallyDrop::new(from);
         let (at, len, room) = (from.as_mut_ptr(), from.len(), from.capacity());
-        // SAFETY: the block is the vector's, which isn't used any more. A slot may hold nothing, so all of them count.
+        // SAFETY: the block is the vector's, which is no longer used. A slot may hold nothing, so all of them count.
         let slots = unsafe { Vec::from_raw_parts(at.cast::<MaybeUninit<T>>(), room, room) };
         Ring { slots, head: 0, len }
     }
@@ -41,7 +41,7 @@ impl<T> Ring<T> {
         let len = core::mem::replace(&mut self.len, 0);
         let mut slots = ManuallyDrop::new(core::mem::take(&mut self.slots));
         let (at, room) = (slots.as_mut_ptr(), slots.capacity());
-        // SAFETY: the block is the slots', which aren't used any more; the elements lie in its first `len` slots.
+        // SAFETY: the block is the slots', which are no longer used; the elements lie in its first `len` slots.
         unsafe { Vec::from_raw_parts(at.cast::<T>(), len, room) }
     }
 

@@ -26,6 +26,20 @@ struct module {
     bool is_found;
 };
 
+/* The program's own file by a descriptor that is kept: an emulator of another processor answers /proc/self/exe in the
+   process that asks, and what reads lines is another process. Where the file is replaced the descriptor keeps the old
+   one. */
+static void name_program(char *path, size_t size)
+{
+    static int own = -1;
+    if (own < 0)
+        own = open("/proc/self/exe", O_RDONLY | O_CLOEXEC);
+    if (own >= 0)
+        snprintf(path, size, "/proc/%ld/fd/%d", (long)getpid(), own);
+    else
+        snprintf(path, size, "/proc/%ld/exe", (long)getpid());
+}
+
 static int look_at_module(struct dl_phdr_info *info, size_t size, void *argument)
 {
     struct module *module = argument;
@@ -39,7 +53,7 @@ static int look_at_module(struct dl_phdr_info *info, size_t size, void *argument
         if (info->dlpi_name && *info->dlpi_name)
             snprintf(module->path, sizeof module->path, "%s", info->dlpi_name);
         else
-            snprintf(module->path, sizeof module->path, "/proc/%ld/exe", (long)getpid());
+            name_program(module->path, sizeof module->path);
         return 1;
     }
     return 0;

@@ -42,7 +42,7 @@ fn main() {
     let text = match found {
         Ok(()) => String::new(),
         Err(why) => {
-            // (a file that is never there: so this is asked anew at each build)
+            // (a file that is never there: so this is asked again at each build)
             println!("cargo:rerun-if-changed=no-library");
             format!("compile_error!({:?});\n", format!("nic82599: {why}"))
         }

@@ -1,4 +1,4 @@
-//! What driver code does with the device, whoever makes its steps.
+//! What driver code does with the device, whatever makes its steps.
 
 use crate::desc::Descriptor;
 use crate::error::Error;

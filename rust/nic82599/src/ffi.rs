@@ -89,7 +89,7 @@ fn unbroken(status: u8) -> u8 {
 }
 
 /// Calls on a controller that are given numbers alone and return a status: the declaration of each, and a method of the
-/// handle that makes it. Those of `answering` also have a place for an answer, which comes behind the status.
+/// handle that makes it. Those of `answering` also have a place for an answer, which comes after the status.
 macro_rules! plain_calls {
     (
         plain { $($call:ident as $name:ident($($word:ident: $kind:ty),*);)+ }

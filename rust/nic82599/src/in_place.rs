@@ -67,7 +67,7 @@ impl<'a> InPlace<'a> {
     pub fn lend_memory(&self, bus: u64, memory: &'a [Cell<u8>]) -> Result<(), Error> {
         let first = NonNull::from(memory).cast::<u8>();
         // SAFETY: the bytes are there for 'a, which the controller doesn't outlive, also where it is forgotten: then no
-        // call is made any more. Cells may be written by others of this thread, and neither they nor the controller
+        // further call is made. Cells may be written by others of this thread, and neither they nor the controller
         // are shared with another one. While 'a lasts no reference but to cells leads there.
         unsafe { self.nic.memory().lend(bus, first, memory.len()) }
     }

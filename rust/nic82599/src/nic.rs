@@ -54,7 +54,7 @@ pub struct Frame {
     pub data: Vec<u8>,
 }
 
-/// The state of a controller, from [`Nic::snapshot`]. It doesn't depend on that controller any more.
+/// The state of a controller, from [`Nic::snapshot`]. It no longer depends on that controller.
 ///
 /// Like a controller it may be moved to another thread, and not be used by two at once.
 #[derive(Debug)]
@@ -336,7 +336,7 @@ impl Nic {
 
     /// Makes steps until none has anything to do, round by round: for each queue below `queues` its receive enable,
     /// then its transmit enable; the EEPROM; one transmit step of each such queue; one receive step; one message of
-    /// each function. Gives what happened, in order. After each 256 events a round begins anew.
+    /// each function. Gives what happened, in order. After each 256 events a new round begins.
     ///
     /// All steps are made when the call returns. [`Nic::steps`] makes each when it is asked for. A
     /// queue that isn't below `queues` is never enabled, and a driver that polls its RXDCTL or

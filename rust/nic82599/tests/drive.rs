@@ -313,7 +313,7 @@ const fn unless<T: Copy>(left_out: bool, function: T) -> Option<T> {
     }
 }
 
-/// The number behind those of functions: it lacks none, and says what it never does.
+/// The number after those of functions: it lacks none, and says what it never does.
 const NEVER: usize = 18;
 const NEVER_DOES: Can =
     Can::NO_MODERATION.and(Can::NO_HEADS).and(Can::ONE_VECTOR).and(Can::ONE_BUFFER).and(Can::NO_ADDRESS);
@@ -427,7 +427,7 @@ fn a_right_driver_passes(folder: &Path) {
     }
 }
 
-/// A driver that lacks a function is told so, and nothing else: the struct has each where C has it.
+/// Of a driver that lacks a function that is said, and nothing else: the struct has each where C has it.
 fn what_is_left_out_is_told(_folder: &Path) {
     for (number, lack) in LACKS.iter().enumerate() {
         let (status, list) = ran(&format!("without-{number}"), &["--list"]);
@@ -450,7 +450,7 @@ fn what_it_never_does_is_told(_folder: &Path) {
     }
 }
 
-/// A wrong driver fails in the row that names what is wrong, and what none may do is told; beside it another passes.
+/// A wrong driver fails in the row that names what is wrong, and what none may do is reported; another one passes.
 fn what_is_wrong_is_told(folder: &Path) {
     let faults = [
         (SLOT_WITHOUT_DD, "receive-empty", "check: receive answers true, and no frame came"),

@@ -1,4 +1,4 @@
-//! The search: each kind of failure is found and told, and what is right passes.
+//! The search: each kind of failure is found and reported, and what is right passes.
 
 #[path = "common/device.rs"]
 mod device;
@@ -99,7 +99,7 @@ fn searched(scenario: Simple, words: &[&str]) -> (Outcome, String) {
     (outcome, text)
 }
 
-/// A failure of this kind, told in words with these.
+/// A failure of this kind, reported in words with these.
 fn fails(scenario: Simple, kind: &str, words: &str) -> String {
     let (outcome, schedule) = searched(scenario, &["--runs", "300"]);
     assert_eq!(outcome, Outcome::Failure, "{}", scenario.name);
@@ -302,7 +302,7 @@ impl Drop for Counted {
     }
 }
 
-/// What a schedule leaves behind doesn't grow without end: the closure of a service that never ends is dropped when the
+/// What a schedule leaves doesn't grow without end: the closure of a service that never ends is dropped when the
 /// next schedule begins.
 #[test]
 fn what_is_left_behind_is_given_back() {
@@ -315,13 +315,13 @@ fn what_is_left_behind_is_given_back() {
     };
     let end = |_: &State, _: &Look<'_>| match LIVE.load(Ordering::Relaxed) {
         1 => Ok(()),
-        other => Err(format!("{other} are left behind")),
+        other => Err(format!("{other} are left")),
     };
     let right = Simple { name: "left", tasks: 1, begin, end, ..SIMPLE };
     assert_eq!(searched(right, &["--runs", "100"]).0, Outcome::Nothing);
 }
 
-/// Devices one after the other, of which some outlive those behind them, until the search is over; `count` is how many.
+/// Devices one after the other, of which some outlive those after them, until the search is over; `count` is how many.
 fn make_devices(is_over: &AtomicBool, count: &AtomicU32) {
     let (mut kept, mut made) = (VecDeque::new(), 0);
     while !is_over.load(Ordering::Acquire) {

@@ -92,7 +92,7 @@ fn by_a_pointer() {
     // SAFETY: no call is made meanwhile.
     assert_eq!(unsafe { (first.read(), first.add(1).read()) }, (4, 5));
     nic.memory().unlend(2048, 2048).unwrap();
-    // SAFETY: it came from a box, and nothing has it any more.
+    // SAFETY: it came from a box, and nothing else has it by now.
     drop(unsafe { Box::from_raw(first.cast::<[u8; 2048]>()) });
 }
 

@@ -48,9 +48,9 @@
 //! panic's words and place, and the other rows go on.
 //!
 //! Each call of a [`Platform`] is a point at which another function of the driver may run: `receive` of one queue
-//! amid `send` of another, a handler amid both. So the functions take `&self`, and what the driver keeps lies in a
+//! during `send` of another, a handler during both. So the functions take `&self`, and what the driver keeps lies in a
 //! `Cell`. No guard of a `RefCell` is held over a call of the platform, and no lock of `std`: locks are
-//! [`explore::Lock`](crate::explore::Lock). A function that a schedule leaves amid a call is ended by a panic, as
+//! [`explore::Lock`](crate::explore::Lock). A function that a schedule leaves during a call is ended by a panic, as
 //! [`explore`](crate::explore) says.
 
 mod raw;
@@ -90,11 +90,11 @@ pub trait Driver: Sized + 'static {
     /// Bytes of the longest frame that it takes: 1,514 to [`MOST_FRAME`].
     const FRAME: u32 = 1514;
 
-    /// What the driver keeps, anew for each schedule. It makes no access.
+    /// What the driver keeps, new for each schedule. It makes no access.
     fn new() -> Self;
 
     /// Sets the controller up, from power-up or from what `close` left, and answers when frames can come and go. False
-    /// where it can't, as where memory is refused: then nothing is left behind, and it may be called again.
+    /// where it can't, as where memory is refused: then nothing is kept of it, and it may be called again.
     fn open(&self, platform: &Platform, setup: &Setup) -> bool;
 
     /// Ends it: on return the device touches no memory of the driver's, which is given back, and sends no message.
@@ -122,7 +122,7 @@ pub trait Driver: Sized + 'static {
     const MTU: Option<fn(&Self, &Platform, u32) -> bool> = None;
     /// Rings of so many slots from now on; the same.
     const RESIZE: Option<fn(&Self, &Platform, u16) -> bool> = None;
-    /// Makes all anew after a fault; the same, and the setup stays.
+    /// Sets all up again after a fault; the same, and the setup stays.
     const RESET: Option<Plain<Self>> = None;
     /// The device rests: no frame, no message, no access until `RESUME`.
     const SUSPEND: Option<Plain<Self>> = None;
@@ -299,14 +299,14 @@ impl Platform {
     }
 
     /// DMA memory of 1 to 524,288 bytes: the bus address of its first byte, a multiple of 128, and its bytes are 0.
-    /// Behind it nothing is lent, so an access of the driver or the device there is told. `None`: it is refused, by a
-    /// scenario that tries that or since all is taken. There is room for 123 pieces of 2 KB, or for one of 503,808
+    /// After it nothing is lent, so an access of the driver or the device there is reported. `None`: it is refused, by
+    /// a scenario that tries that or since all is taken. There is room for 123 pieces of 2 KB, or for one of 503,808
     /// bytes.
     pub fn dma_alloc(&self, bytes: usize) -> Option<u64> {
         Some(raw::dma_alloc(bytes)).filter(|it| *it != 0)
     }
 
-    /// Gives DMA memory back, by its first address. The device must not touch it any more.
+    /// Gives DMA memory back, by its first address. The device must no longer touch it.
     pub fn dma_free(&self, bus: u64) {
         raw::dma_free(bus);
     }
@@ -322,7 +322,7 @@ impl Platform {
     }
 
     /// Memory of the driver's own with a value in it, as `Box::try_new`: `None` where a scenario refuses it. It is
-    /// given back as it is dropped, and what is left once `close` has returned is told.
+    /// given back as it is dropped, and what is left once `close` has returned is reported.
     pub fn own<T>(&self, value: T) -> Option<Own<T>> {
         let token = raw::Token::take(std::mem::size_of::<T>())?;
         Some(Own { value: Box::new(value), _token: token })
@@ -360,8 +360,8 @@ impl<T> DerefMut for Own<T> {
     }
 }
 
-/// A whole program, as the words of the command line say: `--list` tells the scenarios; `--row NAME` makes one, by the
-/// options of a search behind it. Status 0: nothing was found; 1: a failure was; 2: the driver or the words can't be
+/// A whole program, as the words of the command line say: `--list` prints the scenarios; `--row NAME` makes one, by the
+/// options of a search after it. Status 0: nothing was found; 1: a failure was; 2: the driver or the words can't be
 /// taken; 4: the scenario isn't applicable; 5: `open` makes no end. `c/drive/nicdrive` makes all, and the card.
 pub fn main<D: Driver>() -> ExitCode {
     ExitCode::from(raw::run::<D>(env::args().collect()))

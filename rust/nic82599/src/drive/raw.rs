@@ -112,7 +112,7 @@ extern "C" {
 thread_local! {
     /// What the driver keeps in this schedule.
     static DRIVER: RefCell<Option<Rc<dyn Any>>> = const { RefCell::new(None) };
-    /// Virtual functions of the device, as far as `open` was told.
+    /// Virtual functions of the device, as `open` was given them.
     static FUNCTIONS: Cell<u8> = const { Cell::new(0) };
 }
 
@@ -162,7 +162,7 @@ extern "C" fn close<D: Driver>() {
     called::<D, _>((), |driver, platform| driver.close(platform));
 }
 
-/// A frame that is too long has its length told, and as many bytes as there is room for.
+/// A frame that is too long has its length reported, and as many bytes as there is room for.
 fn put(frame: &Frame, room: &mut RawFrame) {
     let length = frame.bytes.len().min(MOST_FRAME);
     room.bytes[..length].copy_from_slice(&frame.bytes[..length]);

@@ -2,7 +2,7 @@
 
 use super::{raw, Begin, Bus};
 
-/// A frame of 60 to 16,384 bytes that tells its number in each of its bytes behind the header; `None` for another
+/// A frame of 60 to 16,384 bytes that tells its number in each of its bytes after the header; `None` for another
 /// length.
 pub fn numbered_frame(length: usize, number: u32) -> Option<Vec<u8>> {
     let mut frame = vec![0; length];
@@ -79,12 +79,12 @@ impl Bus {
         raw::host_sends(vf, words);
     }
 
-    /// Whether the function told something, which is told once: then so many words are read, and acknowledged.
+    /// Whether the function sent something, which one read clears: then so many words are read, and acknowledged.
     pub fn host_receives(&self, vf: u8, words: &mut [u32]) -> bool {
         raw::host_receives(vf, words)
     }
 
-    /// Whether the function acknowledged what was sent, which is told once.
+    /// Whether the function acknowledged what was sent, which one read clears.
     pub fn host_is_acked(&self, vf: u8) -> bool {
         raw::host_is_acked(vf)
     }
@@ -112,12 +112,12 @@ impl Mailbox {
         raw::function_sends(&mut self.raw, words);
     }
 
-    /// Whether the host told something, which is told once: then so many words are read, and acknowledged.
+    /// Whether the host sent something, which one read clears: then so many words are read, and acknowledged.
     pub fn receive(&mut self, _bus: &Bus, words: &mut [u32]) -> bool {
         raw::function_receives(&mut self.raw, words)
     }
 
-    /// Whether the host acknowledged what was sent, which is told once.
+    /// Whether the host acknowledged what was sent, which one read clears.
     pub fn is_acked(&mut self, _bus: &Bus) -> bool {
         raw::function_is_acked(&mut self.raw)
     }

@@ -127,7 +127,7 @@ pub trait Scenario: 'static {
         false
     }
 
-    /// The driver's own state, anew for each schedule.
+    /// The driver's own state, new for each schedule.
     fn state(&self) -> Self::State;
 
     /// Makes the device ready, once in each process. The calls are no points here.
@@ -162,9 +162,9 @@ pub trait Scenario: 'static {
 pub struct MemoryOrder {
     /// Stores may be late, and loads old, until a barrier. Without it the others count by `--memory weak` alone.
     pub is_weak: bool,
-    /// A write of a register comes behind all stores before it, as `writel()` of Linux does.
+    /// A write of a register comes after all stores before it, as `writel()` of Linux does.
     pub writes_order: bool,
-    /// No load behind a read of a register is older than it, as behind `readl()` of Linux.
+    /// No load after a read of a register is older than it, as after `readl()` of Linux.
     pub reads_order: bool,
 }
 
@@ -190,8 +190,9 @@ pub fn main(scenario: impl Scenario) -> ExitCode {
 }
 
 /// Searches as the words say, for a test: `search(Race, &["--runs", "500", "--out", "target"])`. One search of the
-/// process runs at a time; one that a task or a panic begins is refused. A panic of a task is told with its file and
-/// line, and isn't printed but by `--replay`: the first search puts a hook in front of the one that the process has.
+/// process runs at a time; one that a task or a panic begins is refused. A panic of a task is reported with its file
+/// and line, and isn't printed but by `--replay`: the first search puts a hook in front of the one that the process
+/// has.
 pub fn search(scenario: impl Scenario, words: &[&str]) -> Outcome {
     let program = env::args().next().unwrap_or_default();
     run(scenario, std::iter::once(program).chain(words.iter().map(|&it| it.to_owned())).collect())
@@ -282,7 +283,7 @@ pub enum Where {
 pub enum When {
     /// When nobody else can act.
     AtRest,
-    /// At any of so many points behind the one at which it was armed, at the last of them before all others.
+    /// At any of so many points after the one at which it was armed, at the last of them before all others.
     Within(NonZeroU32),
 }
 
@@ -502,7 +503,7 @@ impl Bus {
         raw::wmb();
     }
 
-    /// A load behind it isn't older than it.
+    /// A load after it isn't older than it.
     pub fn rmb(&self) {
         raw::rmb();
     }
@@ -518,7 +519,7 @@ impl Bus {
         raw::choose(bound)
     }
 
-    /// Arms a timer, anew if it is armed.
+    /// Arms a timer, again if it is armed.
     pub fn arm(&self, timer: Timer) {
         raw::arm(timer.0);
     }

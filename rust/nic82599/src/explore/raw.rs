@@ -2,9 +2,9 @@
 //!
 //! The explorer is one for the whole process, and runs on the thread that called `nicx_main`: [`run`] lets one caller
 //! in at a time, and `Bus` and `Look` are made here alone, for functions that the explorer calls. Tasks have stacks of
-//! their own. A schedule that is over unwinds each task that it leaves amid a call, before others use its stack
+//! their own. A schedule that is over unwinds each task that it leaves during a call, before others use its stack
 //! (`c/explore/engine/left.h`): the call returns, and [`at_point`] begins a panic that drops what lies on the stack.
-//! While a task panics its calls do nothing, so no other task runs amid a panic. No panic leaves a function that C
+//! While a task panics its calls do nothing, so no other task runs during a panic. No panic leaves a function that C
 //! calls: each is caught where it came in, with its payload.
 #![allow(unsafe_code)]
 
@@ -66,7 +66,7 @@ impl Unmade for u8 {
     const UNMADE: u8 = status::DONE;
 }
 
-/// The panic of a task that its schedule leaves behind.
+/// The panic of a task that its schedule leaves.
 struct Left;
 
 /// Makes a call at which the schedule may leave the task that makes it: then it doesn't return.
@@ -245,7 +245,7 @@ struct Running {
     threads: RefCell<Vec<Rc<Thread>>>,
     /// Names, which the explorer keeps by their address.
     names: RefCell<BTreeMap<String, CString>>,
-    /// The words that were told last.
+    /// The words that were returned last.
     words: RefCell<CString>,
 }
 
@@ -257,7 +257,7 @@ thread_local! {
 
 static ONE: Mutex<()> = Mutex::new(());
 
-/// A text as C has it; what can't be told stands as a question mark.
+/// A text as C has it; what C can't have stands as a question mark.
 pub(crate) fn text(words: &str) -> CString {
     CString::new(words.replace('\0', "?")).unwrap_or_default()
 }
@@ -268,7 +268,7 @@ impl Running {
         names.entry(name.to_owned()).or_insert_with(|| text(name)).as_ptr()
     }
 
-    /// Words that stay until the next ones are told, in one line, as the files of a failure have them.
+    /// Words that stay until the next ones are returned, in one line, as the files of a failure have them.
     fn tell(&self, words: &str) -> *const c_char {
         *self.words.borrow_mut() = text(&words.split_whitespace().collect::<Vec<_>>().join(" "));
         self.words.borrow().as_ptr()
@@ -313,7 +313,7 @@ fn running<T>(action: impl FnOnce(&Running) -> T) -> T {
     action(unsafe { &*it })
 }
 
-/// What the scenario does; a panic of it is told as what is wrong.
+/// What the scenario does; a panic of it is reported as what is wrong.
 fn driven(action: impl FnOnce(&dyn Driven) -> Option<String>) -> *const c_char {
     // SAFETY: `run` has it by reference as long as the search runs.
     let told = running(|it| caught(|| action(unsafe { &*it.driven })));
@@ -410,7 +410,7 @@ pub(crate) fn unwinding<T>(action: impl FnOnce() -> T) -> T {
     done
 }
 
-/// Words as the explorer takes them, which stay until the next ones are told.
+/// Words as the explorer takes them, which stay until the next ones are returned.
 pub(crate) fn told(words: String) -> *const c_char {
     running(|it| it.tell(&words))
 }
@@ -430,7 +430,7 @@ extern "C" fn holds<F: Fn() -> bool>(argument: *mut c_void) -> bool {
     caught(condition).unwrap_or_else(|_| if is_left() { false } else { std::process::abort() })
 }
 
-/// The words of a command line as C has them: the pointers are those of the texts, and one that is null behind them.
+/// The words of a command line as C has them: the pointers are those of the texts, and one that is null after them.
 pub(crate) fn arguments(words: &[CString]) -> Vec<*mut c_char> {
     words.iter().map(|it| it.as_ptr() as *mut c_char).chain([ptr::null_mut()]).collect()
 }
@@ -440,7 +440,7 @@ pub(crate) fn why_not() -> Option<&'static str> {
     if is_running() {
         Some("a task of a search begins another one")
     } else if thread::panicking() {
-        Some("it is begun amid a panic, in which tasks make no calls")
+        Some("it is begun during a panic, in which tasks make no calls")
     } else if cfg!(panic = "abort") {
         Some("the profile has panic = \"abort\", and a task that a schedule leaves is ended by a panic")
     } else {
@@ -624,7 +624,7 @@ impl Lock {
         // SAFETY: as above.
         at_point(|| unsafe { nicx_unlock(self.parts.raw.get()) });
         if is_left() {
-            // SAFETY: the schedule is over, so the explorer doesn't look at its locks any more.
+            // SAFETY: the schedule is over, so the explorer no longer looks at its locks.
             unsafe { (*self.parts.raw.get()).kept = 0 };
         }
     }

@@ -543,7 +543,7 @@ impl Run {
         self.write_range(u64::from(block * 2048 + 16 * slot), &bytes);
     }
 
-    /// Descriptors into the slots from the tail on, and the tail behind them.
+    /// Descriptors into the slots from the tail on, and the tail after them.
     fn refill(&mut self, side: Side, queue: u16) {
         let (_, lengths, _, tails, _) = names(side);
         let count = 1 + self.chance.below(4);

@@ -1,0 +1,148 @@
+"""The other end of the small kernel's wire: each frame that is sent comes back right, also after the wire was away.
+
+drivers/small/run calls it with the script that boots a kernel, the kernel, and how many frames are sent. The wire is
+QEMU's format of `-netdev stream`: each frame after its length, four bytes with the high one first.
+"""
+
+from __future__ import annotations
+
+import contextlib
+import os
+import random
+import re
+import select
+import socket
+import subprocess
+import sys
+import tempfile
+import time
+from pathlib import Path
+
+SECONDS = 120.0  # for a line of the kernel, or a frame
+FETCHING = 3600.0  # until QEMU is there
+ON_THE_WAY = 32  # frames that may be on the way at a time: fewer than the kernel's ring has slots
+LATER = 200  # frames after the wire was plugged in again
+OWN = bytes.fromhex("020000000001")
+
+
+class Wrong(Exception):
+    """Something isn't as it should be."""
+
+
+class Kernel:
+    """QEMU with the kernel on its card, and what they print."""
+
+    def __init__(self, run: str, kernel: str, wire: Path) -> None:
+        words = [run, "--kernel", kernel, "--server=--interrupts=intx", f"--server=--wire=listen:{wire}"]
+        pipe = subprocess.PIPE
+        self.process = subprocess.Popen(words, stdin=pipe, stdout=pipe, stderr=subprocess.STDOUT, bufsize=0)
+        self.text, self.at = "", 0
+
+    def read(self, seconds: float) -> bool:
+        """Reads what is there, or comes within so many seconds; false at the end."""
+        assert self.process.stdout
+        if not select.select([self.process.stdout], [], [], seconds)[0]:
+            return True
+        came = os.read(self.process.stdout.fileno(), 65536)
+        self.text += came.decode(errors="replace").replace("\r", "")
+        return bool(came)
+
+    def wait_for(self, pattern: str, seconds: float = SECONDS) -> re.Match[str]:
+        """The next line of this form, after those that were waited for."""
+        limit = time.monotonic() + seconds
+        while not (found := re.compile(pattern, re.MULTILINE).search(self.text, self.at)):
+            if time.monotonic() > limit or not self.read(1.0):
+                raise Wrong(f"the kernel doesn't print {pattern!r}; so far:\n{self.text}")
+        self.at = found.end()
+        return found
+
+    def end(self) -> str:
+        """Ends QEMU by the keys of its console, and returns what the server prints then."""
+        assert self.process.stdin
+        with contextlib.suppress(BrokenPipeError):
+            self.process.stdin.write(b"\x01x")
+        limit = time.monotonic() + SECONDS
+        while self.read(1.0) and time.monotonic() < limit:
+            pass
+        self.process.terminate()
+        self.process.wait(timeout=SECONDS)
+        return self.text[self.at :]
+
+
+class Wire:
+    """A connection to the card's wire."""
+
+    def __init__(self, path: Path) -> None:
+        self.socket = socket.socket(socket.AF_UNIX)
+        self.socket.settimeout(SECONDS)
+        self.socket.connect(str(path))
+
+    def send(self, frame: bytes) -> None:
+        self.socket.sendall(len(frame).to_bytes(4, "big") + frame)
+
+    def receive(self) -> bytes:
+        return self.exactly(int.from_bytes(self.exactly(4), "big"))
+
+    def exactly(self, count: int) -> bytes:
+        came = b""
+        while len(came) < count:
+            part = self.socket.recv(count - len(came))
+            if not part:
+                raise Wrong("the card hung up")
+            came += part
+        return came
+
+
+def echo_all(wire: Wire, card: bytes, count: int, chance: random.Random) -> None:
+    """Sends so many frames of 60 to 1,514 bytes, and compares each that comes back, in order."""
+    waiting: list[bytes] = []
+    for number in range(count):
+        rest = b"\x88\xb5" + number.to_bytes(4, "big") + chance.randbytes(chance.randint(42, 1_496))
+        wire.send(card + OWN + rest)
+        waiting.append(OWN + card + rest)
+        if len(waiting) == ON_THE_WAY:
+            compare(wire.receive(), waiting.pop(0))
+    while waiting:
+        compare(wire.receive(), waiting.pop(0))
+
+
+def compare(came: bytes, wanted: bytes) -> None:
+    if came != wanted:
+        number = int.from_bytes(wanted[14:18], "big")
+        raise Wrong(f"frame {number}: {len(came)} bytes came back, {came[:24].hex()}..; sent: {wanted[:24].hex()}..")
+
+
+def run(kernel: Kernel, path: Path, frames: int) -> None:
+    chance = random.Random(82599)
+    kernel.wait_for("^kernel: started$", FETCHING)
+    card = bytes.fromhex(kernel.wait_for(r"^kernel: card ([0-9a-f:]{17})$")[1].replace(":", ""))
+    kernel.wait_for("^kernel: link up$")
+    wire = Wire(path)
+    began = time.monotonic()
+    echo_all(wire, card, frames, chance)
+    print(f"{frames:,} frames came back, each right, in {time.monotonic() - began:.1f} s", flush=True)
+    wire.socket.close()
+    kernel.wait_for("^kernel: link down$")
+    wire = Wire(path)
+    kernel.wait_for("^kernel: link up$")
+    echo_all(wire, card, LATER, chance)
+    print(f"the wire went and came back, and so did {LATER} frames more", flush=True)
+    wire.socket.close()
+
+
+def main(script: str, elf: str, frames: int) -> int:
+    with tempfile.TemporaryDirectory(prefix="small-") as folder:
+        path = Path(folder) / "wire"
+        kernel = Kernel(script, elf, path)
+        try:
+            run(kernel, path, frames)
+        except (Wrong, OSError) as fault:
+            print(f"drivers/small/run: {fault}", file=sys.stderr)
+            kernel.end()
+            return 1
+        print(kernel.end().strip())
+    return 0
+
+
+if __name__ == "__main__":
+    sys.exit(main(sys.argv[1], sys.argv[2], int(sys.argv[3])))

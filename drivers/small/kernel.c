@@ -1,0 +1,63 @@
+/* A kernel that does one thing: it finds an 82599, and sends each frame back to its sender. */
+#include "card.h"
+
+enum { ADDRESS = 6, TYPE_AT = 12 };
+
+static void say_address(const uint8_t *address)
+{
+    for (unsigned k = 0; k < ADDRESS; k++) {
+        if (k)
+            say(":");
+        say_hex(address[k], 2);
+    }
+}
+
+static void say_link(void)
+{
+    say(card_has_link() ? "kernel: link up\n" : "kernel: link down\n");
+}
+
+/* The frame goes back: its sender is whom it is to. */
+static void turn_round(uint8_t *frame)
+{
+    for (unsigned k = 0; k < ADDRESS; k++) {
+        frame[k] = frame[ADDRESS + k];
+        frame[ADDRESS + k] = card_address()[k];
+    }
+}
+
+/* Sends back what came, until no frame is left or no slot is free; a frame without a slot stays where it is. */
+static void echo(void)
+{
+    static bool is_turned; /* the oldest frame was turned round, and found no slot */
+    uint16_t length;
+    for (uint8_t *frame = card_frame(&length); frame; frame = card_frame(&length)) {
+        if (!is_turned)
+            turn_round(frame);
+        is_turned = !card_send(frame, length);
+        if (is_turned)
+            return;
+        card_next();
+    }
+}
+
+void kernel(void)
+{
+    say("\nkernel: started\n");
+    if (!card_open()) {
+        say("kernel: there is no card\n");
+        return;
+    }
+    say("kernel: card ");
+    say_address(card_address());
+    say("\n");
+    say_link();
+    for (;;) {
+        if (card_causes() & CARD_LINK)
+            say_link();
+        echo();
+        /* What came since the last look raises the line at once, so no frame is left lying. */
+        card_unmask();
+        sleep_until_interrupt();
+    }
+}

@@ -1,0 +1,39 @@
+/* What a kernel has of its machine, a PC: ports, a serial line, PCI configuration, and one interrupt line. */
+#ifndef MACHINE_H
+#define MACHINE_H
+
+#include <stdbool.h>
+#include <stddef.h>
+#include <stdint.h>
+
+/* A function of a PCI device; `found` is false where there is none. */
+struct pci_function {
+    uint8_t bus, device, function;
+    bool found;
+};
+
+/* Writes a text on the first serial line, and a number in hex with so many digits. */
+void say(const char *text);
+void say_hex(uint32_t number, unsigned digits);
+
+/* The first function with these numbers, over all buses that the firmware set up. */
+struct pci_function pci_find(uint16_t vendor, uint16_t device);
+uint32_t pci_read(struct pci_function it, uint8_t offset);
+void pci_write(struct pci_function it, uint8_t offset, uint32_t word);
+
+/* Takes the line `number` (0 to 15) of the interrupt controller: `line_is_up` is called while it is up. */
+void take_line(uint8_t number);
+/* Acknowledges an interrupt of that line at the interrupt controller. */
+void end_of_interrupt(uint8_t number);
+/* Lets interrupts in, and sleeps until one came; on return they are off. Call it with interrupts off, after a look at
+   what the handler changes: an interrupt between look and sleep ends the sleep. */
+void sleep_until_interrupt(void);
+
+/* Waits at least so many microseconds. */
+void wait_us(unsigned count);
+
+/* Called by boot.S: the driver's own, and this file's. */
+void line_is_up(void);
+void end_of_spurious(void);
+
+#endif

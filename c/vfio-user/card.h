@@ -66,6 +66,7 @@ struct card {
     void *sink_to;
     struct arrivals arrivals;
     uint64_t lost_writes; /* of registers, while the card was being reset */
+    uint64_t long_by_tag; /* frames that came in though their tag made them longer than the device takes */
     uint32_t told_lost;   /* by clients' sockets: the first of them was reported */
 };
 

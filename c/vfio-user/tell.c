@@ -91,8 +91,9 @@ void tell_counts(const struct server *it, FILE *to)
         const struct offload_counts *offload = &it->card.offload->counts;
         fprintf(to,
                 "offloads: checksums in %" PRIu64 " frames, tags in %" PRIu64 "; %" PRIu64 " large sends in %" PRIu64
-                " segments, dropped %" PRIu64 ", given up %" PRIu64 "\n",
-                offload->sums, offload->tags, offload->large, offload->segments, offload->dropped, offload->given_up);
+                " segments, dropped %" PRIu64 ", given up %" PRIu64 "; received longer by a tag %" PRIu64 "\n",
+                offload->sums, offload->tags, offload->large, offload->segments, offload->dropped, offload->given_up,
+                it->card.long_by_tag);
     }
     if (memory_map_cuts())
         fprintf(to, "memory: %lu times a client cut a file that it had given\n", memory_map_cuts());

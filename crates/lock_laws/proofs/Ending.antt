@@ -7,12 +7,13 @@ use Rattle.std.proofs.lemmas.List.Elements.{All-contains}
 use Rattle.std.proofs.lemmas.List.Kept.{AllPairs-cons}
 use Rattle.std.proofs.lemmas.List.Recursion.{is_count_by}
 use Rattle.std.proofs.lemmas.Option.{none-some, same_Some, slice_get_within}
-use Rattle.device_lock.specs.Closing.{Answers, tag_count}
+use Rattle.device_lock.specs.Closing.{Answers, AreAll, Closes, IsMismatch, StandsIn, tag_count}
 use Rattle.device_lock.specs.Pass.{IsOwn}
 use Rattle.device_lock.specs.Positions.{positions_from, positions_of}
-use Rattle.device_lock.specs.declared.fault.CloseFault.TheVariants.{Mismatch, OutOfMemory}
-use Rattle.lock_laws.specs.Ending.{is_there, ClosingTells, ClosingHasAnOrder, PositionsAre, PositionsAreExact}
-use Rattle.lock_laws.specs.Prelude.{PassValue, Entry, CloseFault, MissingPass, ForeignPass}
+use Rattle.device_lock.specs.declared.fault.CloseFault.TheVariants.{OutOfMemory}
+use Rattle.lock_laws.specs.Ending.{is_there, ClosingTells, ClosingCompares, ClosingHasAnOrder, ClosingIsCompared}
+use Rattle.lock_laws.specs.Ending.{PositionsAre, PositionsAreExact}
+use Rattle.lock_laws.specs.Prelude.{PassValue, Entry, CloseFault, MissingPass, ForeignPass, Mismatch}
 
 -- how many passes have the tag, one by one
 how_many : (bench tag : ℕ) → List PassValue → ℕ
@@ -61,14 +62,14 @@ module _ (bench count : ℕ) (h : List Entry) (ps : List PassValue) where
   missing (Some (Mismatch t)) a tag below none lowest = absurd (omega (arith, absent tag none, a.0.once tag below))
   missing (Some OutOfMemory) a tag below none lowest = absurd a
 
-  -- a pass that isn't one of the bench's
+  -- the passes aren't those of the bench, one of each tag
   surplus : (answer : Option CloseFault) → Answers bench count h ps answer →
-      ((tag : ℕ) → tag < count → is_there bench tag ps ≡ true) → (All (IsOwn bench count) ps → ⊥) →
+      ((tag : ℕ) → tag < count → is_there bench tag ps ≡ true) → (AreAll bench count ps → ⊥) →
       answer ≡ Some ForeignPass
-  surplus None a all none = absurd (none a.all.own)
+  surplus None a all none = absurd (none a.all)
   surplus (Some (MissingPass t)) a all none = absurd (omega (arith, a.absent, present t (all t a.below)))
   surplus (Some ForeignPass) a all none = refl
-  surplus (Some (Mismatch t)) a all none = absurd (none a.0.own)
+  surplus (Some (Mismatch t)) a all none = absurd (none a.0)
   surplus (Some OutOfMemory) a all none = absurd a
 
 closing_tells_one : (bench count : ℕ) (h : List Entry) (ps : List PassValue) (answer : Option CloseFault) →
@@ -76,14 +77,31 @@ closing_tells_one : (bench count : ℕ) (h : List Entry) (ps : List PassValue) (
 closing_tells_one bench count h ps answer a = record {
   missing = missing bench count h ps answer a;
   foreign = λ all p there differs.
-      surplus bench count h ps answer a all (λ own. differs (All-contains (IsOwn bench count) ps p own there).0);
+      surplus bench count h ps answer a all (λ are.
+      differs (All-contains (IsOwn bench count) ps p are.own there).0);
   untagged = λ all p there above.
-      surplus bench count h ps answer a all (λ own.
-      absurd (omega (arith, above, (All-contains (IsOwn bench count) ps p own there).1)));
+      surplus bench count h ps answer a all (λ are.
+      absurd (omega (arith, above, (All-contains (IsOwn bench count) ps p are.own there).1)));
+}
+
+closing_compares : (bench count : ℕ) (h : List Entry) (ps : List PassValue) (answer : Option CloseFault) →
+    Answers bench count h ps answer → ClosingCompares bench count h ps answer
+closing_compares bench count h ps answer a = record {
+  twice = λ all tag below two.
+      surplus bench count h ps answer a all (λ are. absurd (omega (arith, two, are.once tag below)));
+  noticed = λ p there differs is.
+      let closes : Closes bench count h ps = subst (Answers bench count h ps) is a in
+      differs (All-contains (StandsIn h) ps p closes.stand there);
+  lowest = λ tag is p there below.
+      let first : AreAll bench count ps × IsMismatch h ps tag = subst (Answers bench count h ps) is a in
+      All-contains (λ q. q.tag ≡ p.tag → StandsIn h q) ps p (first.1.lowest p.tag below).own there refl;
 }
 
 pub closing_tells : ClosingHasAnOrder
 closing_tells bench count h ps answer a = closing_tells_one bench count h ps answer a
+
+pub closing_is_compared : ClosingIsCompared
+closing_is_compared bench count h ps answer a = closing_compares bench count h ps answer a
 
 -- what is listed from a position on: an entry with the tag, so much further on
 pub record IsListed (at tag q : ℕ) (h : List Entry) : Type 0 where

@@ -1,7 +1,8 @@
 -- Which other events leave a queue alone, and which entries of a history count.
 use Rattle.std.proofs.Common.{◌≡◌, ℕ, false, eqb, List, [], ◌∷◌, ◌++◌, refl, ap, sym, ◌∙◌}
 use Rattle.std.proofs.lemmas.Bool.{both_ways, or_parts}
-use Rattle.lock_laws.specs.Leaving.{HistoriesLeave, HistoriesLeaveQueues, OthersLeaveQueues, BlocksAreOfTheirPass, SparingIsEnough}
+use Rattle.lock_laws.specs.Leaving.{HistoriesLeave, HistoriesLeaveQueues, OthersLeaveQueues, BlocksAreOfTheirPass}
+use Rattle.lock_laws.specs.Leaving.{NothingElseCounts, SparingIsEnough}
 use Rattle.lock_laws.specs.Prelude.{Entry, Watched, has_begun}
 
 pub others_leave : OthersLeaveQueues
@@ -19,6 +20,42 @@ others_leave w mode mine = (
     sent_head = λ q len back other. (λ h. h other, λ h differs. h);
     no_head = λ q slot. tt;
     no_sent_head = λ q len. tt;
+  },
+)
+
+pub nothing_else : NothingElseCounts
+nothing_else w mode mine = (
+  record {
+    lend = λ block. tt;
+    take = λ number. tt;
+    poke = λ address bytes. tt;
+    read = λ port number. (tt, tt);
+    peek = λ address. (tt, tt);
+    arrive = λ frame. (tt, tt);
+    rx = (tt, tt);
+    tx = λ queue. (tt, tt);
+    int = λ group. (tt, tt);
+    switch = λ dir queue. (tt, tt);
+    eeprom = (tt, tt);
+    link = λ up. (tt, tt);
+    collect = (tt, tt);
+  },
+  record {
+    word = λ word. tt;
+    stray = λ word. tt;
+    done = tt;
+    bytes = λ bytes. tt;
+    buf = λ block. tt;
+    twice = λ block. tt;
+    not_lent = tt;
+    misaligned = tt;
+    no_queue = tt;
+    no_group = tt;
+    idle = tt;
+    dropped = λ why. tt;
+    fault = λ q fault. tt;
+    message = λ group vector. tt;
+    frame = λ q bytes. tt;
   },
 )
 

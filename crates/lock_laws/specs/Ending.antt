@@ -1,10 +1,11 @@
 -- How a history is closed, by the passes that are there, and where the entries of a pass are.
 use Rattle.std.specs.Prelude.{◌≡◌, ◌≢◌, ◌↔◌, ◌<◌, ◌≤◌, ◌==◌, ◌&&◌, ℕ, Bool, true, false, List, length, Contains, AllPairs}
-use Rattle.std.specs.Prelude.{slice_get, Option, Some}
+use Rattle.std.specs.Prelude.{count_by, slice_get, Option, Some, None}
 use Rattle.std.specs.List.{list_any}
 use Rattle.device_lock.specs.Closing.{Answers}
+use Rattle.device_lock.specs.History.{calls_of}
 use Rattle.device_lock.specs.Positions.{positions_of}
-use Rattle.lock_laws.specs.Prelude.{PassValue, Entry, CloseFault, MissingPass, ForeignPass}
+use Rattle.lock_laws.specs.Prelude.{PassValue, Entry, CloseFault, MissingPass, ForeignPass, Mismatch}
 
 -- whether a pass of the bench has this tag
 abbrev pub is_there : ℕ → ℕ → List PassValue → Bool
@@ -22,10 +23,25 @@ pub record ClosingTells (bench count : ℕ) (h : List Entry) (passes : List Pass
   pub untagged : ((tag : ℕ) → tag < count → is_there bench tag passes ≡ true) → (p : PassValue) →
       Contains passes p → count ≤ p.tag → answer ≡ Some ForeignPass
 
+-- where each tag is there, a tag of which there are two passes is reported too; and calls of a pass that the history
+-- hasn't are noticed, of the lowest such tag first
+pub record ClosingCompares (bench count : ℕ) (h : List Entry) (passes : List PassValue) (answer : Option CloseFault) :
+    Type 0 where
+  pub twice : ((tag : ℕ) → tag < count → is_there bench tag passes ≡ true) → (tag : ℕ) → tag < count →
+      1 < count_by (λ p. p.bench == bench && p.tag == tag) passes → answer ≡ Some ForeignPass
+  pub noticed : (p : PassValue) → Contains passes p → calls_of p.tag h ≢ p.calls → answer ≢ None
+  pub lowest : (tag : ℕ) → answer ≡ Some (Mismatch tag) → (p : PassValue) → Contains passes p → p.tag < tag →
+      calls_of p.tag h ≡ p.calls
+
 abbrev pub ClosingHasAnOrder : Type 0
 ClosingHasAnOrder =
     (bench count : ℕ) (h : List Entry) (passes : List PassValue) (answer : Option CloseFault) →
     Answers bench count h passes answer → ClosingTells bench count h passes answer
+
+abbrev pub ClosingIsCompared : Type 0
+ClosingIsCompared =
+    (bench count : ℕ) (h : List Entry) (passes : List PassValue) (answer : Option CloseFault) →
+    Answers bench count h passes answer → ClosingCompares bench count h passes answer
 
 -- position p is listed exactly where entry p, of which the first is entry 0, has the tag; and in ascending order
 pub record PositionsAre (tag : ℕ) (h : List Entry) : Type 0 where

@@ -4,6 +4,8 @@ use Rattle.std.specs.Prelude.{List, [], ◌∷◌, ◌++◌, ◌&&◌, nat_lt, S
 use Rattle.device_lock.specs.NicDevice.RegTable.declared.rows.RowId.TheVariants as row
 use Rattle.device_lock.specs.NicDevice.VfMap.declared.mode.Mode.TheVariants.{Off, Pools16, Pools32, Pools64}
 use Rattle.device_lock.specs.NicDevice.declared.event.Event.TheVariants as event
+use Rattle.device_lock.specs.NicDevice.declared.event.Reply.TheVariants as reply
+use Rattle.lock_laws.specs.Prelude.{Dir, Group, RingFault, Why}
 use Rattle.lock_laws.specs.Prelude.{Place, RowId, Mode, Block, Event, Port, Pf, Reply, Done, Wrote, Advanced, Sent}
 use Rattle.lock_laws.specs.Prelude.{Blocks, LeavesAlone, LeavesBlocks, LeavesRegisters, WritesOutside, lent_by}
 use Rattle.lock_laws.specs.Prelude.{has_begun, mode_through, place_at, Watched, Entry}
@@ -83,7 +85,7 @@ pub record AddressesLeave (w : Watched) (mode : Mode) (word : ℕ) : Type 0 wher
 abbrev pub AddressesLeaveQueues : Type 0
 AddressesLeaveQueues = (w : Watched) (mode : Mode) (word : ℕ) → AddressesLeave w mode word
 
--- no other event touches a register, and of these the first three touch the block that they name alone
+-- to lend, to take and to poke touches the block that is named, and to write touches none
 pub record BlocksLeave (w : Watched) (mode : Mode) (mine : Blocks) : Type 0 where
   pub lend : (block : Block) → LeavesBlocks mine (event.Lend block) ↔ (mine block.number ≡ false)
   pub take : (number : ℕ) → LeavesBlocks mine (event.Take number) ↔ (mine number ≡ false)
@@ -106,9 +108,52 @@ pub record StepsLeave (queue : ℕ) (mine : Blocks) : Type 0 where
   pub no_head : (q slot : ℕ) → WritesOutside queue mine (Advanced q slot None)
   pub no_sent_head : (q len : ℕ) → WritesOutside queue mine (Sent q len None)
 
+-- an event touches no register of the queue and none of these blocks
+abbrev pub Leaves : Watched → Mode → Blocks → Event Block → Type 0
+Leaves w mode mine e = LeavesRegisters w mode e × LeavesBlocks mine e
+
+-- what lends, takes and pokes touches no register, and no other event than these and a write touches anything: not a
+-- read and not a look at a block, and no step of the device, whose reply alone counts
+pub record EventsLeave (w : Watched) (mode : Mode) (mine : Blocks) : Type 0 where
+  pub lend : (block : Block) → LeavesRegisters w mode (event.Lend block)
+  pub take : (number : ℕ) → LeavesRegisters w mode (event.Take number)
+  pub poke : (address : ℕ) (bytes : List ℕ) → LeavesRegisters w mode (event.Poke16 address bytes)
+  pub read : (port : Port) (number : ℕ) → Leaves w mode mine (event.Read port number)
+  pub peek : (address : ℕ) → Leaves w mode mine (event.Peek16 address)
+  pub arrive : (frame : List ℕ) → Leaves w mode mine (event.Arrive frame)
+  pub rx : Leaves w mode mine event.RxStep
+  pub tx : (queue : ℕ) → Leaves w mode mine (event.TxStep queue)
+  pub int : (group : Group) → Leaves w mode mine (event.IntStep group)
+  pub switch : (dir : Dir) (queue : ℕ) → Leaves w mode mine (event.QueueStep dir queue)
+  pub eeprom : Leaves w mode mine event.EepromStep
+  pub link : (up : Bool) → Leaves w mode mine (event.Link up)
+  pub collect : Leaves w mode mine event.Collect
+
+-- no other reply reports that a block was written into, whichever queue it is of
+pub record RepliesLeave (queue : ℕ) (mine : Blocks) : Type 0 where
+  pub word : (word : ℕ) → WritesOutside queue mine (reply.Word word)
+  pub stray : (word : ℕ) → WritesOutside queue mine (reply.Stray word)
+  pub done : WritesOutside queue mine reply.Done
+  pub bytes : (bytes : List ℕ) → WritesOutside queue mine (reply.Bytes bytes)
+  pub buf : (block : Block) → WritesOutside queue mine (reply.Buf block)
+  pub twice : (block : Block) → WritesOutside queue mine (reply.Twice block)
+  pub not_lent : WritesOutside queue mine reply.NotLent
+  pub misaligned : WritesOutside queue mine reply.Misaligned
+  pub no_queue : WritesOutside queue mine reply.NoQueue
+  pub no_group : WritesOutside queue mine reply.NoGroup
+  pub idle : WritesOutside queue mine reply.Idle
+  pub dropped : (why : Why) → WritesOutside queue mine (reply.Dropped why)
+  pub fault : (q : ℕ) (fault : RingFault) → WritesOutside queue mine (reply.Fault q fault)
+  pub message : (group : Group) (vector : ℕ) → WritesOutside queue mine (reply.Message group vector)
+  pub frame : (q : ℕ) (bytes : List ℕ) → WritesOutside queue mine (reply.Frame q bytes)
+
 abbrev pub OthersLeaveQueues : Type 0
 OthersLeaveQueues =
     (w : Watched) (mode : Mode) (mine : Blocks) → BlocksLeave w mode mine × StepsLeave w.queue mine
+
+abbrev pub NothingElseCounts : Type 0
+NothingElseCounts =
+    (w : Watched) (mode : Mode) (mine : Blocks) → EventsLeave w mode mine × RepliesLeave w.queue mine
 
 -- whether an event lends a block: it is asked to, and done
 abbrev pub lends_one : Event Block → Reply Block → ℕ → Bool

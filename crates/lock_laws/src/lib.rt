@@ -4,8 +4,8 @@
 //! Each law is the contract of a function that does nothing.
 #![tactic(auto)]
 
-ghost use Rattle.lock_laws.specs.Ending.{ClosingHasAnOrder, PositionsAreExact};
-ghost use Rattle.lock_laws.specs.Leaving.{AddressesLeaveQueues, BlocksAreOfTheirPass, HistoriesLeaveQueues, OthersLeaveQueues, SparingIsEnough, WritesLeaveQueues};
+ghost use Rattle.lock_laws.specs.Ending.{ClosingHasAnOrder, ClosingIsCompared, PositionsAreExact};
+ghost use Rattle.lock_laws.specs.Leaving.{AddressesLeaveQueues, BlocksAreOfTheirPass, HistoriesLeaveQueues, NothingElseCounts, OthersLeaveQueues, SparingIsEnough, WritesLeaveQueues};
 
 /// A write of another pass leaves a driver's queue alone but for these: one of CTRL, HLREG0, MAXFRS or GCR_EXT,
 /// whatever it writes; one of a register of the queue's own rings; and one of PVFCTRL[v] with bit 26, where pool v has
@@ -17,10 +17,13 @@ pub fn writes_leave_queues_alone()
 {}
 
 /// To lend, to take and to poke a block leaves a driver's queue alone exactly where the block is none that its pass
-/// lends. A step of another queue does exactly where what it wrote, as its reply reports, is in none of them.
-#[tactic(auto, using(crate::proofs::Others::others_leave))]
+/// lends. A step of another queue does exactly where what it wrote, as its reply reports, is in none of them. Every
+/// other event but a write leaves it alone, as a read, a look at a block, a frame that arrives or a change of the link,
+/// and so does a step with every other reply, as a fault.
+#[tactic(auto, using(crate::proofs::Others::others_leave, crate::proofs::Others::nothing_else))]
 pub fn other_events_leave_queues_alone()
-    ensures { OthersLeaveQueues }
+    ensures others { OthersLeaveQueues }
+    ensures nothing_else { NothingElseCounts }
 {}
 
 /// A history up to the first entry of a driver's pass leaves its queue alone. One write after that entry, or one access
@@ -41,10 +44,12 @@ pub fn blocks_are_of_their_pass()
 {}
 
 /// A closing reports the lowest tag that no pass of the bench has, whatever else is wrong with the passes; and where
-/// each tag is there a pass of another bench, or without a tag of this one.
-#[tactic(auto, using(crate::proofs::Ending::closing_tells))]
+/// each tag is there a pass of another bench, or without a tag of this one, or two passes of one tag. It notices each
+/// pass whose calls aren't those that the history has of its tag, and reports no such pass where one of a lower tag is.
+#[tactic(auto, using(crate::proofs::Ending::closing_tells, crate::proofs::Ending::closing_is_compared))]
 pub fn closing_has_an_order()
-    ensures { ClosingHasAnOrder }
+    ensures order { ClosingHasAnOrder }
+    ensures compared { ClosingIsCompared }
 {}
 
 /// A position is listed for a pass exactly where the entry there, the first being at 0, has its tag. They ascend.

@@ -1,3 +1,4 @@
+pub mod Arenas
 pub mod Commands
 pub mod Objects
 pub mod Steps

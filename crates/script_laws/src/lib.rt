@@ -7,6 +7,7 @@
 
 ghost use Rattle.std.specs.Prelude.{◌≡◌, Ok, Err, IfOk, IfErr};
 ghost use Rattle.dma_arena.specs.Numbers.{all_free};
+ghost use Rattle.script_laws.specs.Arenas.{ArenasAreSplit};
 ghost use Rattle.script_laws.specs.Commands.{BreakpointsAreBounded, SessionsGoBack};
 ghost use Rattle.script_laws.specs.Objects.{InstructionsAreBytes, ObjectsAreBytes, ObjectsHaveFaults};
 ghost use Rattle.script_laws.specs.Steps.{InstructionsAct, InstructionsMakeEvents};
@@ -68,6 +69,13 @@ pub fn last_block_is_there(alloc: Global) -> Result<Arena, ArenaFault>
 {
     Arena::new(alloc, 65_535, 1)
 }
+
+/// An arena is split at each of its numbers but the first, and at no other: the lower numbers are in the first half,
+/// and it is the first of the second.
+#[tactic(auto, using(crate::proofs::Arenas::split_so))]
+pub fn arenas_are_split_inside()
+    ensures { ArenasAreSplit }
+{}
 
 /// There is no arena with block 65,536.
 pub fn no_block_is_after_it(alloc: Global) -> Result<Arena, ArenaFault>

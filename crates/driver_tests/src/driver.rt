@@ -201,21 +201,24 @@ fn start_beside(rt: &impl Hand, steps: Steps, size: u16, numbers: (u32, u32)) ->
     }
 }
 
-/// A start on a queue that the device can't have: the size of a ring and the number of blocks are looked at before.
-type Unnamed<'a> = (&'a str, u16, u32, Why);
+/// A start on a queue that the device can't have: the size of a ring, how long frames may be and the number of blocks
+/// are looked at before.
+type Unnamed<'a> = (&'a str, u16, u16, u32, Why);
 
 #[rattlefmt::skip]
-const UNNAMED: [Unnamed<'static>; 3] = [
-    ("a ring of twelve with too few blocks", 12, 8, Why::BadSize),
-    ("eight blocks for a ring of eight", 8, 8, Why::NoBuffer),
-    ("enough blocks", 8, 32, Why::DeviceFault),
+const UNNAMED: [Unnamed<'static>; 5] = [
+    ("a ring of twelve with too few blocks", 12, 1518, 8, Why::BadSize),
+    ("frames of 1,517 bytes with too few blocks", 8, 1517, 8, Why::BadSize),
+    ("frames of 9,729 bytes with too few blocks", 8, 9729, 8, Why::BadSize),
+    ("eight blocks for a ring of eight", 8, 1518, 8, Why::NoBuffer),
+    ("enough blocks", 8, 1518, 32, Why::DeviceFault),
 ];
 
 /// A start on queue 128 is refused as its row says, and lends nothing.
-fn check_unnamed(rt: &impl Hand, (name, size, count, wanted): Unnamed<'_>) {
+fn check_unnamed(rt: &impl Hand, (name, size, frame, count, wanted): Unnamed<'_>) {
     let mut direct = opened(rt, 64, 0);
     let arena = done(rt, Arena::new(rt.alloc(), 0, count));
-    let start = Pmd::start(rt.alloc(), &mut direct, Port::Pf, 128, size, 1518, arena);
+    let start = Pmd::start(rt.alloc(), &mut direct, Port::Pf, 128, size, frame, arena);
     let (why, is_lent) = come_home(rt, &mut direct, refused(rt, start));
     holds(rt, name, "refused", why == wanted && !is_lent);
     end(rt, in_hand(direct));
@@ -261,11 +264,16 @@ fn packet_of(block: Buf) -> Packet {
     }
 }
 
-/// Checks that the driver refuses to send a packet whose block isn't its own, and returns the packet.
-fn foreign_sent(rt: &impl Hand, rig: &mut Rig, packet: Packet) -> Packet {
-    let sent = rig.pmd.tx(rt.alloc(), &mut rig.direct, packet);
-    let TxFault { fault, packet } = refused(rt, sent);
-    is_why(rt, &fault, Why::ForeignBlock);
+/// Checks that the driver refuses to send a packet for this reason, and returns the packet.
+pub fn unsent<N: Nic>(
+    rt: &impl Hand,
+    nic: &mut N,
+    pmd: &mut Pmd,
+    packet: Packet,
+    wanted: Why,
+) -> Packet {
+    let TxFault { fault, packet } = refused(rt, pmd.tx(rt.alloc(), nic, packet));
+    is_why(rt, &fault, wanted);
     some(rt, packet)
 }
 
@@ -286,11 +294,11 @@ fn foreign_released(rt: &impl Hand, pmd: &mut Pmd, packet: Packet) -> Buf {
 }
 
 /// A packet of another arena's block comes back.
-fn foreign_comes_back(rt: &impl Hand, rig: &mut Rig) {
+pub fn foreign_comes_back<N: Nic>(rt: &impl Hand, nic: &mut N, pmd: &mut Pmd) {
     let mut other = done(rt, Arena::new(rt.alloc(), 100, 1));
     let packet = packet_of(some(rt, other.take()));
-    let packet = foreign_sent(rt, rig, packet);
-    let block = foreign_released(rt, &mut rig.pmd, packet);
+    let packet = unsent(rt, nic, pmd, packet, Why::ForeignBlock);
+    let block = foreign_released(rt, pmd, packet);
     done(rt, other.give(block));
     done(rt, other.close());
 }
@@ -299,7 +307,7 @@ fn foreign_comes_back(rt: &impl Hand, rig: &mut Rig) {
 fn a_packet_of_another_arena_comes_back(rt: HostRuntime) {
     let rt = &rt;
     let mut rig = Rig::new(rt, 8, (4, 32));
-    foreign_comes_back(rt, &mut rig);
+    foreign_comes_back(rt, &mut rig.direct, &mut rig.pmd);
     rig.end(rt, (0, 0));
 }
 

@@ -1,9 +1,10 @@
 //! A driver among foreign events that are given in advance.
 
 use crate::bench::{
-    end, frame_of, holds_frame, in_hand, is_done, is_frame, make, opened, reap, reap_once,
+    Why, end, frame_of, holds_frame, in_hand, is_done, is_frame, make, opened, reap, reap_once,
     received, release, send, started, stepped, stop_times_out, stops, taken_apart,
 };
+use crate::driver::{foreign_comes_back, unsent};
 use crate::outcome::{Hand, done, emptied, empty, fail, none, push, same, sees, some};
 use crate::rig::Rig;
 use crate::schedule::{Left, Schedule, all_home, finish, push_switches, take_all};
@@ -57,7 +58,16 @@ fn is_full(rt: &impl Hand, nic: &mut Interleaved, pmd: &mut Pmd) {
     }
 }
 
-/// A driver whose ring accepts seven packets, which aren't sent, and whose stop times out.
+/// A packet without bytes comes back.
+fn empty_comes_back(rt: &impl Hand, nic: &mut Interleaved, pmd: &mut Pmd) {
+    let mut packet = own_packet(rt, pmd);
+    packet.len = 0;
+    let packet = unsent(rt, nic, pmd, packet, Why::BadSize);
+    release(rt, pmd, packet);
+}
+
+/// A driver whose ring accepts seven packets, which aren't sent, and whose stop times out. What else is wrong with a
+/// packet is reported before the full ring.
 fn seven_are_taken(rt: &impl Hand, nic: &mut Interleaved, pmd: Pmd) -> Pmd {
     let mut pmd = pmd;
     for _packet in 0..7 {
@@ -65,6 +75,8 @@ fn seven_are_taken(rt: &impl Hand, nic: &mut Interleaved, pmd: Pmd) -> Pmd {
         send(rt, nic, &mut pmd, packet);
     }
     is_full(rt, nic, &mut pmd);
+    empty_comes_back(rt, nic, &mut pmd);
+    foreign_comes_back(rt, nic, &mut pmd);
     stop_times_out(rt, nic, pmd)
 }
 

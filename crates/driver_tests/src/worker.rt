@@ -97,6 +97,12 @@ fn frame(rt: &impl Hand) -> Vec<u8> {
     bytes
 }
 
+/// That frame after one of 59 bytes, which is too short to be let in.
+fn frames(rt: &impl Hand) -> Vec<Vec<u8>> {
+    let short = done(rt, Vec::from_array(rt.alloc(), [0xFF; 59]));
+    done(rt, Vec::from_array(rt.alloc(), [short, frame(rt)]))
+}
+
 /// Sets the device up for the longest frames.
 fn set_up(rt: &impl Hand, bench: &Bench, pass: Pass) -> Pass {
     let mut nic = ThroughLock::new(rt, bench, pass, 0);
@@ -121,7 +127,7 @@ fn job(rt: &impl Hand, pass: Pass) -> Vec<Job> {
     jobs
 }
 
-/// Runs the job while the frame arrives. Returns the worker's end.
+/// Runs the job while both frames arrive, of which one is let in. Returns the worker's end.
 fn run<G: Gate + Sync>(
     rt: &impl Hand,
     gate: &G,
@@ -129,11 +135,9 @@ fn run<G: Gate + Sync>(
     jobs: Vec<Job>,
     host: &mut Pass,
 ) -> WorkerEnd {
-    let mut frames = empty(rt);
-    push(rt, &mut frames, frame(rt));
     let Ran { mut ends, fed } = done(
         rt,
-        run_workers(rt, rt.alloc(), gate, bench, jobs, host, frames),
+        run_workers(rt, rt.alloc(), gate, bench, jobs, host, frames(rt)),
     );
     same(rt, fed, 1);
     let end = some(rt, ends.pop());

@@ -799,6 +799,49 @@ def check_races(kit: Kit) -> str:
     return f"{len(modes)} orders of accesses"
 
 
+# What is reported of memory that was freed, by the mode of tests/freed.c; each begins with who does it and where.
+FREED_BY = r"freed by \w+ at freed\.c:\d+; allocated at freed\.c:\d+\n"
+FREED = {
+    "poll": rf"use after free: receive at freed\.c:\d+ < freed\.c:\d+ reads 4 bytes that were {FREED_BY}",
+    "lock": rf"use after free: receive at \S+ < \S+ calls pthread_mutex_lock with what was {FREED_BY}",
+    "copy": rf"use after free: receive at \S+ < \S+ reads 32 bytes that were {FREED_BY}",
+    "reuse": rf"use after free: receive at \S+ < \S+ reads 4 bytes that were {FREED_BY}",
+    "timer": r"use after free: receive at \S+ < \S+ reads 4 bytes that were freed by watchdog at freed\.c:\d+; ",
+    "rcu": r"race: memory from malloc.*: stop at freed\.c:\d+.* frees, and receive at freed\.c:\d+.* read it before",
+    "twice": r"double free: \w+ frees at \S+ < \S+ what stop freed at freed\.c:\d+; allocated at freed\.c:\d+\n",
+    "moves": rf"use after free: receive at \S+ < \S+ writes 8 bytes that were {FREED_BY}",
+    "aligned": rf"use after free: receive at \S+ < \S+ writes 32 bytes that were {FREED_BY}",
+    "past": r"out of bounds: receive at \S+ < \S+ writes 8 bytes at offset 24 of 24 bytes, allocated at freed\.c:\d+\n",
+    "before": r"out of bounds: receive at .* writes 4 bytes at offset -4 of 24 bytes, allocated at freed\.c:\d+\n",
+    "middle": r"bad free: receive frees at .* what begins 16 bytes into what was allocated at freed\.c:\d+\n",
+    "kinds": "",
+}
+
+
+def check_freed(kit: Kit) -> str:
+    """Memory that is used after it was freed is found though a lock orders the two, and so is what is freed twice or
+    used beyond its end; each by its schedule again, and none where the driver is right."""
+    source, out = HERE / "tests/freed.c", kit.out("freed")
+    words = ["--quiet", "--jobs", 2, "--out", out]
+    if set(modes_of(source)) != set(FREED):
+        raise Wrong(f"freed.c has the modes {', '.join(modes_of(source))}")
+    for compiler in filter(shutil.which, ("gcc", "clang")):
+        it = replace(kit, folder=kit.out(compiler), compiler=compiler)
+        wrong, right = (it.build_form(source, *defines, of_memory=True) for defines in ([], ["FIXED"]))
+        for mode, wanted in FREED.items():
+            ran([right, mode, *words, "--runs", 10_000 if wanted else 200])
+            if not wanted:
+                continue
+            wanted = f"FAILED {wanted if wanted.startswith('race') else f'memory: {wanted}'}"
+            told(ran([wrong, mode, *words], 1), wanted, mode)
+            told(ran([wrong, mode, "--replay", out / "freed.schedule"], 1), wanted, f"{mode}, again")
+            told(ran([right, mode, "--replay", out / "freed.schedule", "--lenient"]), ": fine", f"{mode}, fixed")
+    bounds = ["--strategy", "exhaustive", "--preemptions", 2]
+    told(ran([wrong, "timer", *words, *bounds], 1), "FAILED memory: use after free", "timer, exhaustive")
+    told(ran([right, "timer", *words, *bounds]), "these are all schedules", "timer, fixed")
+    return f"{len(FREED) - 1} uses of freed memory"
+
+
 UNSEEN = "plain accesses and atomics aren't seen, so no bug in their order is found: compile with -fsanitize=thread"
 
 # What is told of each of these drivers, which break only where somebody acts just before a call has its effect.
@@ -964,7 +1007,7 @@ AMOUNTS = {
 
 def check_forms(kit: Kit, runs: int) -> list[str]:
     """A driver's own threads and memory: their archive has no sanitizers' checks in it."""
-    checks = (check_form, check_points, check_own_memory, check_assembly, check_cpp, check_races)
+    checks = (check_form, check_points, check_own_memory, check_assembly, check_cpp, check_races, check_freed)
     return [*(check(kit) for check in checks), check_program(kit, runs)]
 
 

@@ -117,20 +117,10 @@ static const struct thread *thread_of(uint16_t actor, const struct step *step)
     return is_thread ? &nicxi.threads[it->of] : NULL;
 }
 
-void nicxi_place(uint16_t actor, const struct step *step, struct place *place)
+/* Of the thread that runs, by its stack. */
+static void place_here(const struct thread *thread, struct place *place)
 {
     struct frames frames = {{NULL}, 0};
-    memset(place, 0, sizeof *place);
-    const struct thread *thread = thread_of(actor, step);
-    if (!thread)
-        return;
-    if (step->kind == STEP_START || (step->kind == STEP_LOCAL && step->word == LOCAL_BEGIN)) {
-        add_lines(place, function_of(thread));
-        place->count = place->count ? 1 : 0;
-        return;
-    }
-    if (nicxi.self != thread)
-        return;
     place->count = nicxi_ask_for_lines ? nicxi_ask_for_lines(place->calls, MOST_CALLS) : 0;
     if (place->count)
         return;
@@ -142,6 +132,33 @@ void nicxi_place(uint16_t actor, const struct step *step, struct place *place)
     end_at_adapter(place);
     if (first >= end)
         place->function = function_of(thread);
+}
+
+void nicxi_place(uint16_t actor, const struct step *step, struct place *place)
+{
+    memset(place, 0, sizeof *place);
+    const struct thread *thread = thread_of(actor, step);
+    if (!thread)
+        return;
+    if (step->kind == STEP_START || (step->kind == STEP_LOCAL && step->word == LOCAL_BEGIN)) {
+        add_lines(place, function_of(thread));
+        place->count = place->count ? 1 : 0;
+    } else if (nicxi.self == thread) {
+        place_here(thread, place);
+    }
+}
+
+const char *nicxi_place_here(char room[MOST_PLACE])
+{
+    struct place place;
+    memset(&place, 0, sizeof place);
+    room[0] = 0;
+    if (!nicxi_is_in_thread())
+        return room;
+    place_here(nicxi.self, &place);
+    if (place.count > 2)
+        place.count = 2;
+    return nicxi_place_words(&place, room);
 }
 
 static const char *base_name(const char *path)

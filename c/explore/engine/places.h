@@ -24,6 +24,10 @@ void nicxi_place(uint16_t actor, const struct step *step, struct place *place);
 /* "race.c:31"; of helpers "card.h:110 < tail.c:42". "" where nothing is known. */
 const char *nicxi_place_words(const struct place *place, char room[MOST_PLACE]);
 
+/* The same of the thread that runs: its line, and that of the call by which it came there. "" where no thread runs, and
+   where nothing is known. */
+const char *nicxi_place_here(char room[MOST_PLACE]);
+
 /* A step in words, "locks driver.lock", and what it locks or waits for, or "". */
 void nicxi_step_words(const struct step *step, const struct place *place, char room[MOST_TOLD], char about[MOST_TOLD]);
 

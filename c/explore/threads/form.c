@@ -6,6 +6,7 @@
 #include <stdio.h>
 #include <string.h>
 
+#include "../engine/places.h"
 #include "../engine/symbols.h"
 #include "races.h"
 
@@ -66,6 +67,16 @@ const char *nicxi_line(const void *at, char room[MOST_NAMED])
     } else if (!nicxi_symbol(at, room, MOST_NAMED)) {
         snprintf(room, MOST_NAMED, "an unknown place");
     }
+    return room;
+}
+
+const char *nicxi_line_now(const void *at, char room[MOST_NAMED])
+{
+    char place[MOST_PLACE];
+    if (*nicxi_place_here(place))
+        snprintf(room, MOST_NAMED, "%.90s", place);
+    else
+        nicxi_line(at, room);
     return room;
 }
 

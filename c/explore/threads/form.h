@@ -78,6 +78,8 @@ void nicxi_refuse(const char *call, const void *at);
 
 /* "driver.c:31", or the function; an object's name, or what it is. */
 const char *nicxi_line(const void *at, char room[MOST_NAMED]);
+/* The same of a call that the thread makes now, of which the call before it is known too: "regs.h:9 < driver.c:31". */
+const char *nicxi_line_now(const void *at, char room[MOST_NAMED]);
 const char *nicxi_name(const void *object, const char *kind, char room[MOST_NAMED]);
 
 /* Waits until the condition holds; what it waits for is told in a deadlock. */

@@ -9,6 +9,7 @@
 #include "../engine/symbols.h"
 #include "../engine/weak.h"
 #include "form.h"
+#include "taken.h"
 
 /* --- clocks --- */
 
@@ -272,7 +273,7 @@ void nicxi_race_fence(int order)
 
 /* --- accesses: of each eight bytes the last ones that count --- */
 
-enum { MOST_CELLS = 8, WRITTEN_BACK = 1 << 2 };
+enum { MOST_CELLS = 8, WRITTEN_BACK = 1 << 2, FREES = 1 << 3 };
 
 /* Packet memory lies above all addresses of the process. */
 #define BUS_SPACE ((uint64_t)1 << 62)
@@ -280,7 +281,7 @@ enum { MOST_CELLS = 8, WRITTEN_BACK = 1 << 2 };
 struct cell {
     const void *call;
     uint32_t time;
-    uint8_t who, mask, access; /* which of the bytes; enum access, and WRITTEN_BACK */
+    uint8_t who, mask, access; /* which of the bytes; enum access, WRITTEN_BACK and FREES */
 };
 
 struct granule {
@@ -382,6 +383,8 @@ static const char *verb_of(const struct cell *cell, bool is_past)
 {
     if (cell->access & WRITTEN_BACK)
         return is_past ? "wrote back" : "writes back";
+    if (cell->access & FREES)
+        return is_past ? "freed" : "frees";
     if (cell->access & ATOMIC)
         return is_past ? "accessed atomically" : "accesses atomically";
     return cell->access & WRITES ? is_past ? "wrote" : "writes" : is_past ? "read" : "reads";
@@ -421,7 +424,7 @@ static const char *place_words(uint64_t at, char room[MOST_NAMED])
         snprintf(room, MOST_NAMED, "packet memory 0x%llx", (unsigned long long)(at & ~BUS_SPACE));
     else if (owner)
         snprintf(room, MOST_NAMED, "a variable on the stack of %.40s", owner->name);
-    else if (nicxi_state_is_heap(at))
+    else if (nicxi_is_taken(at))
         snprintf(room, MOST_NAMED, "memory from malloc");
     else if (!nicxi_symbol((const void *)(uintptr_t)at, room, MOST_NAMED))
         snprintf(room, MOST_NAMED, "0x%llx", (unsigned long long)at);
@@ -520,7 +523,7 @@ void nicxi_race_free(const void *at, size_t length, const void *call)
         return;
     for (uint64_t key = (uintptr_t)at >> 3; key <= ((uintptr_t)at + length - 1) >> 3; key++)
         if (known(key) && known(key)->count)
-            access(key << 3, 8, WRITES, call);
+            access(key << 3, 8, WRITES | FREES, call);
     nicxi_race_forget(at, length);
 }
 
@@ -636,6 +639,8 @@ static void accessed_itself(const struct step *step)
         take_by_condition(nicxi.self);
     else if (step->word == LOCAL_ARM)
         give(SIDE, TIMERS + step->of); /* what armed a timer comes before what it does */
+    else if (step->word == LOCAL_CALL)
+        nicxi_judge_object((const void *)(uintptr_t)step->bus, step->call, NULL);
 }
 
 static void told(const struct step *step)

@@ -37,6 +37,5 @@ bool nicxi_race_is_shared(uint64_t at);
 
 /* Whether an address is one of the program's variables of each thread, which two threads never share. */
 bool nicxi_state_is_local(uint64_t at);
-bool nicxi_state_is_heap(uint64_t at);
 
 #endif

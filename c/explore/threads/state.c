@@ -3,13 +3,12 @@
 #define _GNU_SOURCE
 #include <errno.h>
 #include <link.h>
-#include <malloc.h>
 #include <stdlib.h>
 #include <string.h>
 
-#include "../engine/piece.h"
 #include "form.h"
 #include "races.h"
+#include "taken.h"
 #include "threads.h"
 
 /* --- variables: what is of the driver's objects stands together, by nic82599_threads.ld --- */
@@ -116,136 +115,12 @@ void nicxi_state_goes(const struct thread *from, const struct thread *to)
     memcpy(local.block, local.of[nicxi_number(to)], local.size);
 }
 
-/* --- malloc --- */
-
-static struct piece *heap;
-static char *kept_heap;
-static size_t kept_size;
-
-/* Under the address sanitizer malloc stays the sanitizer's, so that it sees what is wrong; then what a schedule leaves
-   is lost. */
-void __asan_init(void) __attribute__((weak));
-
-static bool is_of_heap(void)
-{
-    return heap && nicxi_is_ours();
-}
-
-bool nicxi_state_is_heap(uint64_t at)
-{
-    return piece_has(heap, (const void *)(uintptr_t)at);
-}
-
-void *__real_malloc(size_t size);
-void *__wrap_malloc(size_t size)
-{
-    if (!is_of_heap())
-        return __real_malloc(size);
-    void *taken = piece_take(heap, size);
-    if (taken)
-        nicxi_race_forget(taken, piece_size(taken));
-    else
-        errno = ENOMEM;
-    return taken;
-}
-
-void __real_free(void *taken);
-void __wrap_free(void *taken)
-{
-    if (!piece_has(heap, taken)) {
-        __real_free(taken);
-        return;
-    }
-    nicxi_race_free(taken, piece_size(taken), HERE);
-    piece_give(heap, taken);
-}
-
-void *__real_calloc(size_t count, size_t size);
-void *__wrap_calloc(size_t count, size_t size)
-{
-    if (!is_of_heap())
-        return __real_calloc(count, size);
-    if (size && count > PIECE_ROOM / size) {
-        errno = ENOMEM;
-        return NULL;
-    }
-    void *taken = __wrap_malloc(count * size);
-    if (taken)
-        memset(taken, 0, count * size);
-    return taken;
-}
-
-void *__real_realloc(void *taken, size_t size);
-void *__wrap_realloc(void *taken, size_t size)
-{
-    if (taken && !piece_has(heap, taken))
-        return __real_realloc(taken, size);
-    if (!taken)
-        return __wrap_malloc(size);
-    void *moved = __wrap_malloc(size);
-    if (!moved)
-        return NULL;
-    memcpy(moved, taken, piece_size(taken) < size ? piece_size(taken) : size);
-    __wrap_free(taken);
-    return moved;
-}
-
-void *__real_reallocarray(void *taken, size_t count, size_t size);
-void *__wrap_reallocarray(void *taken, size_t count, size_t size)
-{
-    if (size && count > PIECE_ROOM / size) {
-        errno = ENOMEM;
-        return NULL;
-    }
-    return __wrap_realloc(taken, count * size);
-}
-
-char *__real_strdup(const char *text);
-char *__wrap_strdup(const char *text)
-{
-    if (!is_of_heap())
-        return __real_strdup(text);
-    char *copied = __wrap_malloc(strlen(text) + 1);
-    return copied ? strcpy(copied, text) : NULL;
-}
-
-/* All of it lies at multiples of 16. For more than that as much more is taken, and in it lies a piece of the class of
-   `size`, after a head of its own. Once freed it is one of that class; what is around it is lost until the schedule
-   ends. */
-static void *aligned(size_t alignment, size_t size)
-{
-    if (size > PIECE_ROOM || alignment > PIECE_ROOM)
-        return NULL;
-    if (alignment <= HEAD)
-        return __wrap_malloc(size);
-    unsigned k = piece_class(size);
-    char *taken = __wrap_malloc(piece_whole(k) + alignment);
-    if (!taken)
-        return NULL;
-    char *inside = (char *)(((uintptr_t)taken + alignment) & ~(uintptr_t)(alignment - 1));
-    memcpy(inside - HEAD, &k, sizeof k);
-    return inside;
-}
-
-int __real_posix_memalign(void **taken, size_t alignment, size_t size);
-int __wrap_posix_memalign(void **taken, size_t alignment, size_t size)
-{
-    if (!is_of_heap())
-        return __real_posix_memalign(taken, alignment, size);
-    *taken = aligned(alignment, size);
-    return *taken ? 0 : ENOMEM;
-}
-
-TURNED_WHERE(is_of_heap(), void *, aligned_alloc, (size_t alignment, size_t size), (alignment, size),
-             aligned(alignment, size))
-
 /* --- the whole --- */
 
 void nicxi_state_open(void)
 {
     dl_iterate_phdr(find_local, NULL);
-    if (!__asan_init)
-        heap = piece_open();
+    nicxi_taken_open();
     memset(&nicxi_keys, 0, sizeof nicxi_keys);
 }
 
@@ -254,12 +129,7 @@ void nicxi_state_keep(void)
     kept_data = kept_of(nicxi_data_begin, nicxi_data_end);
     kept_bss = kept_of(nicxi_bss_begin, nicxi_bss_end);
     kept_keys = nicxi_keys;
-    if (heap)
-        kept_heap = malloc(heap->used);
-    if (kept_heap) {
-        kept_size = heap->used;
-        memcpy(kept_heap, heap, kept_size);
-    }
+    nicxi_taken_keep();
     if (has_local())
         local.kept = kept_of(local.block, local.block + local.size);
 }
@@ -271,8 +141,7 @@ void nicxi_state_back(void)
     if (kept_bss)
         copy(nicxi_bss_begin, kept_bss, (size_t)(nicxi_bss_end - nicxi_bss_begin));
     nicxi_keys = kept_keys;
-    if (kept_heap)
-        memcpy(heap, kept_heap, kept_size);
+    nicxi_taken_back();
     memset(own_errno, 0, sizeof own_errno);
     begin_local();
 }
@@ -281,13 +150,10 @@ void nicxi_state_close(void)
 {
     free(kept_data);
     free(kept_bss);
-    free(kept_heap);
     free(local.kept);
     for (unsigned k = 0; k < MOST_THREADS; k++)
         free(local.of[k]);
     memset(&local, 0, sizeof local);
-    kept_data = kept_bss = kept_heap = NULL;
-    if (heap)
-        munmap(heap, PIECE_ROOM);
-    heap = NULL;
+    kept_data = kept_bss = NULL;
+    nicxi_taken_close();
 }

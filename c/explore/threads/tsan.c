@@ -8,6 +8,7 @@
 #include "form.h"
 #include "memory.h"
 #include "races.h"
+#include "taken.h"
 
 /* Whether stores of the code that runs may be late. */
 static inline bool is_weak_here(void)
@@ -24,6 +25,7 @@ static inline void access(const void *at, size_t length, unsigned how, const voi
         nicxi_memory_points((uintptr_t)at, length, how, call);
     if (is_weak_here())
         nicxi_land_own((uintptr_t)at, length);
+    nicxi_look_at_taken((uintptr_t)at, length, how & WRITES, call);
     nicxi_race_access((uintptr_t)at, length, how, call);
 }
 
@@ -130,6 +132,7 @@ static void atomic_point(const volatile void *at, unsigned size, unsigned how, c
 {
     if (nicxi_is_in_thread())
         nicxi_memory_point(LOCAL_ATOMIC, (uintptr_t)at, size);
+    nicxi_look_at_taken((uintptr_t)at, size, how & WRITES, call);
     nicxi_race_access((uintptr_t)at, size, how | ATOMIC, call);
 }
 
@@ -164,6 +167,7 @@ static bool stores_late(volatile void *at, const void *value, unsigned size, int
         slot = nicxi_store_point((uintptr_t)at, value, size, releases(order));
     else if (nicxi_is_in_thread())
         nicxi_memory_point(LOCAL_ATOMIC, (uintptr_t)at, size);
+    nicxi_look_at_taken((uintptr_t)at, size, true, call);
     nicxi_race_access((uintptr_t)at, size, WRITES | ATOMIC, call);
     if (slot >= 0) {
         nicxi_race_store_late(slot, order);

@@ -251,7 +251,7 @@ FAULTS = {
     "memory_in_place": "misuse: faulty calls nic_lend_memory, whose stores no search sees",
     "memory_elsewhere": "misuse: faulty calls nic_lend_memory, whose stores no search sees",
     "held": "misuse: faulty ends and holds second",
-    "left": "misuse: begin doesn't make all of the driver's state anew: .* check: the twentieth schedule",
+    "left": "misuse: begin doesn't initialize all of the driver's state: .* check: the twentieth schedule",
     "beyond": r"deadlock: faulty waits at faulty\.c:\d+, and nobody can act; if that is a delay, call nicx_pause there",
 }
 
@@ -317,15 +317,15 @@ REFUSALS = {
 }
 
 WORDS = {
-    "--runs": "--runs: it wants a word behind it",
+    "--runs": "--runs: it wants a word after it",
     "--runs 0": '"0" is no number of 1 to',
     "--runs 12x": '"12x" is no number of 1 to',
     "--seconds -1": '--seconds: "-1" is no number of seconds above 0 and up to 1000000000',
     "--seconds 0x10": '"0x10" is no number of seconds',
     "--seconds nan": '"nan" is no number of seconds',
     "--seconds 1e10": '"1e10" is no number of seconds',
-    "--seconds": "--seconds: it wants a word behind it",
-    "--strategy": "--strategy: it wants a word behind it",
+    "--seconds": "--seconds: it wants a word after it",
+    "--strategy": "--strategy: it wants a word after it",
     "--strategy best": "--strategy: it is random, priorities, exhaustive or mixed",
     "--depth 17": '"17" is no number of 1 to 16',
     "--jobs 257": '"257" is no number of 1 to 256',
@@ -334,11 +334,11 @@ WORDS = {
     "--frames 3": "--frames: there is no such option",
     "--nonsense 1": "--nonsense: there is no such option",
     "words": "words: there is no such option",
-    "--memory": "--memory: it wants a word behind it",
+    "--memory": "--memory: it wants a word after it",
     "--memory week": "--memory: it is weak, tso or strong",
     "--seed 18446744073709551616": "is no number of 0 to",
     "--preemptions 1001": '"1001" is no number of 0 to 1000',
-    "--shard": "--shard: it wants a word behind it",
+    "--shard": "--shard: it wants a word after it",
     "--shard 2": "--shard: it is K/N, as 1/4",
     "--shard /2": "--shard: it is K/N, as 1/4",
     "--shard 1/": "--shard: it is K/N, as 1/4",
@@ -349,14 +349,14 @@ WORDS = {
     "--hang 0": '"0" is no number of 1 to 86400',
     "--out /nowhere": "there is no such folder",
     "--out /dev/null": "there is no such folder",
-    "--out": "--out: it wants a word behind it",
+    "--out": "--out: it wants a word after it",
     "--out " + "./" * 510: "--out: the path of the folder is too long",
     "--junit /nowhere/result.xml": "--junit: /nowhere/result.xml can't be written",
     "--junit /tmp": "--junit: /tmp can't be written",
-    "--junit": "--junit: it wants a word behind it",
-    "--result": "--result: it wants a word behind it",
+    "--junit": "--junit: it wants a word after it",
+    "--result": "--result: it wants a word after it",
     "--result /tmp": "--result: /tmp can't be written",
-    "--merge": "--merge: it wants a word behind it",
+    "--merge": "--merge: it wants a word after it",
     "--lenient": "--lenient: it is for --replay",
     "--replay /tmp": "/tmp: it can't be read",
     "--replay /nowhere": "/nowhere: it can't be read",
@@ -532,7 +532,7 @@ def check_shards(kit: Kit) -> str:
         said = ran([fixed, "--quiet", "--jobs", jobs, "--out", out, *words])
         if "exhaustive" in words and "these are all schedules" not in said:
             raise Wrong(f"a shard doesn't come to its end:\n{said}")
-        return int(re.findall(r": (\d+) schedules", said)[0])
+        return int(re.findall(r": (\d+) schedules?,", said)[0])
 
     every = ["--strategy", "exhaustive", "--preemptions", 1, "--no-sleep"]
     parts = [made(*every, "--shard", f"{k}/{shards}") for k in range(1, shards + 1)]
@@ -665,7 +665,7 @@ def check_apart(kit: Kit) -> str:
     for mode in ("fine", "free"):
         said = ran([program, mode, *words])
         told(said, "these are all schedules", f"apart {mode}")
-        counts.append(int(re.findall(r": (\d+) schedules", said)[0]))
+        counts.append(int(re.findall(r": (\d+) schedules?,", said)[0]))
         told(ran([program, mode.replace("fine", "bug").replace("free", "bug-free"), *words], 1), "didn't go out", mode)
     if counts[1] * 3 > counts[0]:
         raise Wrong(f"apart: {counts[0]} schedules, and {counts[1]} where it is race-free")

@@ -16,8 +16,8 @@ RACE = HERE / "examples/race.c"
 
 def numbers(said: str) -> dict[str, int]:
     """How many schedules, points and distinct schedules are told."""
-    found = re.search(r"(\d+) schedules, (\d+) points", said)
-    distinct = re.search(r"(\d+) distinct schedules", said)
+    found = re.search(r"(\d+) schedules?, (\d+) points?", said)
+    distinct = re.search(r"(\d+) distinct schedules?", said)
     if not found:
         raise Wrong(f"it isn't told how many schedules were made:\n{said}")
     return {"schedules": int(found[1]), "points": int(found[2]), "distinct": int(distinct[1]) if distinct else 0}
@@ -132,7 +132,7 @@ def check_refused(kit: Kit, tries: int) -> str:
     for text, wanted in {
         "": ":1: it ends here, before its end",
         "".join(lines): "it ends here, before its end",
-        file.read_text() + "\n": "there is more behind its end",
+        file.read_text() + "\n": "there is more after its end",
         file.read_text().replace("seed 1\n", "seed 2\n"): "sum: it isn't that of the lines before it",
         "x" * 600: ":1: the line has no end",
         "nicx-result 1\nscenario \x01\n": ":2: it is no text",
@@ -140,7 +140,7 @@ def check_refused(kit: Kit, tries: int) -> str:
         bad.write_text(text)
         told(ran([race, "--merge", bad, "--out", out], 2), re.escape(wanted), repr(text[:40]))
     told(ran([race, "--merge", "/nowhere"], 2), "/nowhere: it can't be read", "no file")
-    told(ran([race, "--merge"], 2), "--merge: it wants a word behind it", "no word")
+    told(ran([race, "--merge"], 2), "--merge: it wants a word after it", "no word")
     told(ran([race, "--result", "/nowhere/file"], 2), "--result: /nowhere/file can't be written", "no folder")
     chance, taken = random.Random(1), 0
     for _ in range(tries):

@@ -14,7 +14,7 @@ from typing import Any
 from explore.check import CRASHES, HERE, NO_HANG, Kit, Wrong, ran, told
 
 SOURCE = HERE / "tests/told.c"
-FOUND = r"found by .*, (\d+) points and (\d+) switches; shrunk by \d+ tries to (\d+) and (\d+)"
+FOUND = r"found by .*, (\d+) points? and (\d+) switch(?:es)?; shrunk by \d+ tr(?:y|ies) to (\d+) and (\d+)"
 RESOLVERS = ("addr2line", "llvm-symbolizer")
 
 
@@ -228,7 +228,7 @@ def check_lenient(kit: Kit, program: Path) -> str:
 
 
 def made(said: str) -> int:
-    return int(re.findall(r": (\d+) schedules", said)[0])
+    return int(re.findall(r": (\d+) schedules?,", said)[0])
 
 
 def check_same_answer(kit: Kit) -> str:

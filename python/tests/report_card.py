@@ -68,7 +68,7 @@ WRONG = {
     "AbortsInClose": ("open-close", "crash: the process was ended by signal 6"),
     "PieceLeft": ("open-close", "1 piece of nicd_alloc wasn't given back"),
     "FromAThread": ("receive-one", "a call comes from a thread that the driver made itself"),
-    "StateLeft": ("receive-wrap", "misuse: begin doesn't make all of the driver's state anew"),
+    "StateLeft": ("receive-wrap", "misuse: begin doesn't initialize all of the driver's state"),
 }
 # Their rows end before the first schedule, so no other passes.
 NONE_PASSES = ("RaisesInOpen", "RaisesInInit", "OpenAnswersNone")

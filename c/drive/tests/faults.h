@@ -26,4 +26,4 @@ WRONG(STORE_IN_OPEN, "receive-one",
       "a pointer of the driver's writes 0x\\w+, which isn't lent: 0 bytes beyond the 128 at")
 WRONG(POINTER_TO_NOTHING, "receive-one", "nicd_dma_pointer of 0x10, which isn't lent: no memory of nicd_dma_alloc lies")
 WRONG(LENDS_IN_PLACE, "open-close", "misuse: control calls nic_lend_memory")
-WRONG(STATE_LEFT, "receive-wrap", "misuse: begin doesn't make all of the driver's state anew")
+WRONG(STATE_LEFT, "receive-wrap", "misuse: begin doesn't initialize all of the driver's state")

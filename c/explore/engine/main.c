@@ -86,10 +86,10 @@ static void tell_merged(const struct merged *merged)
     const char *name = nicxi.scenario->name;
     const struct totals *totals = &merged->sum.totals;
     double longest = merged->longest > 0 ? merged->longest : 1e-3;
-    printf("%s: %" PRIu32 " results, %" PRIu64 " schedules, %" PRIu64 " points, %.1f s in all, %.1f s the longest"
+    printf("%s: %" PRIu32 " result%s, %" PRIu64 " schedule%s, %" PRIu64 " point%s, %.1f s in all, %.1f s the longest"
            " (%.0f schedules a second, if they ran at once)\n",
-           name, merged->results, totals->runs, totals->points, totals->seconds, merged->longest,
-           (double)totals->runs / longest);
+           name, merged->results, nicxi_s(merged->results), totals->runs, nicxi_s(totals->runs), totals->points,
+           nicxi_s(totals->points), totals->seconds, merged->longest, (double)totals->runs / longest);
     if (*merged->missing)
         printf("%s: note: shards that aren't there: %s\n", name, merged->missing);
     if (totals->is_whole && merged->sum.options.strategy == EXHAUSTIVE)

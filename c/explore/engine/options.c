@@ -56,7 +56,7 @@ static const char *refused(const char *word, const char *what)
 
 static const char *without_word(const char *word)
 {
-    return refused(word, "it wants a word behind it");
+    return refused(word, "it wants a word after it");
 }
 
 /* --- one option --- */

@@ -438,7 +438,7 @@ static void read_all(struct form *it, struct result *result)
     if (!*it->fault && (strlen(told) != 16 || hexadecimal(it, "sum", told, 16) != sum))
         wrong(it, "sum: it isn't that of the lines before it");
     if (!*it->fault && fgetc(it->file) != EOF)
-        wrong(it, "there is more behind its end");
+        wrong(it, "there is more after its end");
     if (ferror(it->file))
         wrong(it, "it can't be read");
 }

@@ -12,6 +12,7 @@
 #include <unistd.h>
 
 #include "exhaustive.h"
+#include "words.h"
 
 /* The exhaustive search allows no preemption first, then one more each time, and from SLOWLY on all that it may. */
 enum {
@@ -227,7 +228,7 @@ static bool search_within(struct post *post, const struct job *job, uint32_t pre
     }
     if (state && nicxi_exhaustive_is_strange(state)) {
         static const nicx_result strange = {
-            NICX_MISUSE, 0, 0, "a schedule went another way than before: begin doesn't make the driver's state anew"};
+            NICX_MISUSE, 0, 0, "a schedule went another way than before: begin doesn't initialize the driver's state"};
         post->result = strange;
         post->is_found = post->is_stale = true;
     }
@@ -312,7 +313,8 @@ static void tell(struct search *search)
         return;
     search->told = seconds;
     sum(search);
-    fprintf(stderr, "%s: %" PRIu64 " schedules, %.0f s\n", nicxi.scenario->name, search->totals->runs, seconds);
+    fprintf(stderr, "%s: %" PRIu64 " schedule%s, %.0f s\n", nicxi.scenario->name, search->totals->runs,
+            nicxi_s(search->totals->runs), seconds);
 }
 
 static void bury(struct search *search, pid_t process, int status)

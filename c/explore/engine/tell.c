@@ -34,12 +34,13 @@ bool nicxi_tell_nothing(const struct options *options, const struct totals *tota
     const struct coverage *coverage = &totals->coverage;
     bool allows_faults = (nicxi.scenario->allowed & NICX_FAULTS) != 0;
     if (has_distinct)
-        printf("%s: %s%" PRIu64 " distinct schedules\n", name, totals->is_exact ? "" : "about ", totals->distinct);
+        printf("%s: %s%" PRIu64 " distinct schedule%s\n", name, totals->is_exact ? "" : "about ", totals->distinct,
+               nicxi_s(totals->distinct));
     else if (!totals->is_whole)
         tell_part(options, totals);
     if (coverage->faults)
-        printf("%s: note: %" PRIu64 " faults, which are allowed, the first: %s\n", name, coverage->faults,
-               coverage->fault);
+        printf("%s: note: %" PRIu64 " fault%s, which %s allowed, the first: %s\n", name, coverage->faults,
+               nicxi_s(coverage->faults), coverage->faults == 1 ? "is" : "are", coverage->fault);
     else if (allows_faults)
         printf("%s: note: faults are allowed, and none was met\n", name);
     uint32_t never = nicxi_never(coverage, tell_never, stdout);
@@ -81,14 +82,14 @@ void nicxi_tell_totals(const struct options *options, const struct totals *total
     double seconds = totals->seconds > 0 ? totals->seconds : 1e-9;
     tell_unseen();
     tell_unpointed(&totals->unpointed);
-    printf("%s: %" PRIu64 " schedules, %" PRIu64 " points, %.1f s (%.0f schedules a second), %s, seed %" PRIu64 "\n",
-           nicxi.scenario->name, totals->runs, totals->points, totals->seconds, (double)totals->runs / seconds,
-           nicxi_strategy_name(options->strategy), options->seed);
+    printf("%s: %" PRIu64 " schedule%s, %" PRIu64 " point%s, %.1f s (%.0f schedules a second), %s, seed %" PRIu64 "\n",
+           nicxi.scenario->name, totals->runs, nicxi_s(totals->runs), totals->points, nicxi_s(totals->points),
+           totals->seconds, (double)totals->runs / seconds, nicxi_strategy_name(options->strategy), options->seed);
     if (options->strategy != EXHAUSTIVE || !totals->is_whole)
         return;
     printf("%s: these are all schedules", nicxi.scenario->name);
     if (options->preemptions != UNBOUNDED)
-        printf(" with at most %" PRIu32 " preemptions", options->preemptions);
+        printf(" with at most %" PRIu32 " preemption%s", options->preemptions, nicxi_s(options->preemptions));
     if (options->shards > 1)
         printf(" of shard %" PRIu32 "/%" PRIu32, options->shard + 1, options->shards);
     printf("\n");
@@ -142,12 +143,12 @@ void nicxi_tell_failure(const struct failure *failure, const nicx_result *found,
     char where[80];
     const char *name = nicxi.scenario->name;
     printf("%s: FAILED %s: %s\n", name, nicxi_outcome_name(failure->result.outcome), failure->result.words);
-    printf("%s: found by %s, %" PRIu32 " points and %" PRIu32 " switches", name, nicxi_where(failure, where),
-           found->points, found->switches);
+    printf("%s: found by %s, %" PRIu32 " point%s and %" PRIu32 " switch%s", name, nicxi_where(failure, where),
+           found->points, nicxi_s(found->points), found->switches, found->switches == 1 ? "" : "es");
     if (tries) /* a schedule of fewer switches may have more points */
-        printf("; %s by %" PRIu32 " tries to %" PRIu32 " and %" PRIu32,
-               failure->result.points > found->points ? "reordered" : "shrunk", tries, failure->result.points,
-               failure->result.switches);
+        printf("; %s by %" PRIu32 " %s to %" PRIu32 " and %" PRIu32,
+               failure->result.points > found->points ? "reordered" : "shrunk", tries, tries == 1 ? "try" : "tries",
+               failure->result.points, failure->result.switches);
     if (failure->cycle)
         printf(", the last %" PRIu32 " over and over", failure->cycle);
     tell_omitted(&failure->omitted);

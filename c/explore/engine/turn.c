@@ -171,7 +171,7 @@ const char *nicxi_turn_words(const struct turn *turn, char room[MOST_TURN])
     room[0] = 0;
     if (turn->kind == TURN_FOUND && turn->tried)
         snprintf(room, MOST_TURN,
-                 "here it goes wrong: had %.120s, it could end well; behind this step none of %u schedules does",
+                 "here it goes wrong: had %.120s, it could end well; after this step none of %u schedules does",
                  nicxi_turn_other(turn, other), (unsigned)turn->tried);
     else if (turn->kind == TURN_FOUND)
         snprintf(room, MOST_TURN, "here it goes wrong: had %.120s, it could end well", nicxi_turn_other(turn, other));

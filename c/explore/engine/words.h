@@ -17,6 +17,12 @@ const char *nicxi_outcome_name(uint8_t outcome);
 /* Words that say why something was refused. They stay until the next refusal, and may be given to it. */
 const char *nicxi_why(const char *form, ...) __attribute__((format(printf, 1, 2)));
 
+/* The end of a word for so many: "1 schedule", "2 schedules". */
+static inline const char *nicxi_s(uint64_t count)
+{
+    return count == 1 ? "" : "s";
+}
+
 /* Words of the driver's for a line of a file: what is no printable ASCII is a question mark. */
 void nicxi_plain(const char *words, char *room, unsigned size);
 /* Lines become one, with "; " between them. */

@@ -32,7 +32,7 @@ class Turn:
             return f"# all {self.tried} tried schedules fail: the order of the steps doesn't matter"
         been = "been chosen" if self.other.startswith("value ") else "acted"
         return (
-            f"# here it goes wrong: had {self.other} {been}, it could end well; behind this step none of {self.tried} "
+            f"# here it goes wrong: had {self.other} {been}, it could end well; after this step none of {self.tried} "
             "schedules does"
         )
 

@@ -235,7 +235,7 @@ FAULTS = {
     "waits": r"deadlock: faulty waits( at faulty\.c:\d+)?, and nobody can act\n",
     "endless": r"endless: no end after 200 points; last came task faulty: does its loop need nicx_wait\?",
     "ticks": r"endless: no end after 200 points; last came .*: tick fires over and over: is it armed each time\?",
-    "memory": "memory: faulty reads 0x0, which isn't lent",
+    "memory": r"memory: faulty at faulty\.c:\d+ reads 0x0, which isn't lent\n",
     "unlock": "misuse: faulty unlocks first, which it doesn't hold",
     "interrupts": "misuse: faulty ends with its interrupts off",
     "check": "check: the head moved",
@@ -800,15 +800,15 @@ def check_races(kit: Kit) -> str:
 
 
 # What is reported of memory that was freed, by the mode of tests/freed.c; each begins with who does it and where.
-FREED_BY = r"freed by \w+ at freed\.c:\d+; allocated at freed\.c:\d+\n"
+FREED_BY = r"freed by \w+ at freed\.c:\d+ < \S+; allocated at freed\.c:\d+\n"
 FREED = {
-    "poll": rf"use after free: receive at freed\.c:\d+ < freed\.c:\d+ reads 4 bytes that were {FREED_BY}",
+    "poll": rf"use after free: receive at freed\.c:\d+ < freed\.c:\d+ (reads|writes) 4 bytes that were {FREED_BY}",
     "lock": rf"use after free: receive at \S+ < \S+ calls pthread_mutex_lock with what was {FREED_BY}",
     "copy": rf"use after free: receive at \S+ < \S+ reads 32 bytes that were {FREED_BY}",
-    "reuse": rf"use after free: receive at \S+ < \S+ reads 4 bytes that were {FREED_BY}",
-    "timer": r"use after free: receive at \S+ < \S+ reads 4 bytes that were freed by watchdog at freed\.c:\d+; ",
-    "rcu": r"race: memory from malloc.*: stop at freed\.c:\d+.* frees, and receive at freed\.c:\d+.* read it before",
-    "twice": r"double free: \w+ frees at \S+ < \S+ what stop freed at freed\.c:\d+; allocated at freed\.c:\d+\n",
+    "reuse": rf"use after free: receive at \S+ < \S+ (reads|writes) 4 bytes that were {FREED_BY}",
+    "timer": r"use after free: receive at \S+ < \S+ \w+ 4 bytes that were freed by watchdog at freed\.c:\d+ < ",
+    "rcu": r"race: malloc\(freed\.c:\d+\)\+0x\w+, \d+ bytes: stop at freed\.c.* frees, and receive at .* read it",
+    "twice": r"double free: \w+ frees at \S+ < \S+ what stop freed at freed\.c:\d+ < \S+; allocated at freed\.c:\d+\n",
     "moves": rf"use after free: receive at \S+ < \S+ writes 8 bytes that were {FREED_BY}",
     "aligned": rf"use after free: receive at \S+ < \S+ writes 32 bytes that were {FREED_BY}",
     "past": r"out of bounds: receive at \S+ < \S+ writes 8 bytes at offset 24 of 24 bytes, allocated at freed\.c:\d+\n",
@@ -842,13 +842,90 @@ def check_freed(kit: Kit) -> str:
     return f"{len(FREED) - 1} uses of freed memory"
 
 
+# What is told in each mode of tests/named.c, what stands in its schedule, and what its page follows.
+NAMED: dict[str, tuple[str, list[str], str]] = {
+    "atomics": (
+        "check: shown",
+        [
+            r"loads ready \(relaxed\): 0",
+            r"stores ready \(release\): 1",
+            r"atomic_thread_fence \(seq_cst\)",
+            r"changes count \(acq_rel\): 0 to 0x11170",
+            r"compares owner \(seq_cst\): 0, expected 7",
+            r"changes owner \(seq_cst\): 0 to 1",
+        ],
+        "owner",
+    ),
+    "signals": (
+        "check: shown",
+        ["pthread_cond_signal changed, and nobody waits", "pthread_cond_broadcast changed, and nobody waits"],
+        "condition changed",
+    ),
+    "helper": (
+        r"race: flag, 4 bytes: \w+ at named\.c:\d+ < named\.c:\d+ (reads|writes), and \w+ at named\.c:\d+ < "
+        r"named\.c:\d+ (read|wrote) it before, with no order between them",
+        [],
+        "",
+    ),
+    "locks": (
+        r"deadlock: receive waits for lock at named\.c:\d+ < named\.c:\d+, held by stop since named\.c:\d+ < "
+        r"named\.c:\d+; stop waits for malloc\(named\.c:\d+\)\+0x8 at ",
+        [r"pthread_mutex_lock lock", r"pthread_mutex_lock malloc\(named\.c:\d+\)\+0x8"],
+        "lock lock",
+    ),
+    "heap": (r"race: malloc\(named\.c:\d+\), 4 bytes: ", [], ""),
+    "slot": (
+        r"race: packet memory 0x818, queue 0's receive slot 1, 8 bytes: \w+ at named\.c:\d+ < \S+ writes, and ",
+        ["poke 0x00818, 8 bytes"],
+        "rx 0 slot 1",
+    ),
+    "lent": (
+        r"memory: watchdog at named\.c:\d+ reads 0x818, queue 0's receive slot 1, which isn't lent; receive took block "
+        r"1 back at named\.c:\d+\n",
+        [r"peek 0x00818, 8 bytes \(not lent\)"],
+        "rx 0 slot 1",
+    ),
+}
+
+# A page's own choice of what it follows first, by its script alone.
+FOLLOWED = """
+const [html] = process.argv.slice(1).map((path) => require("fs").readFileSync(path, "utf8"));
+const [, text, script] = /id="data">\\n(.*?)<\\/script>\\s*<script>(.*?)<\\/script>/s.exec(html);
+const part = script.slice(script.indexOf("function namedObject"), script.indexOf("function aboutStep"));
+const data = JSON.parse(text.replace(/,\\s*\\]\\}\\s*$/, "]}"));
+console.log(new Function("data", part + "return namedObject();")(data) ?? "");
+"""
+
+
+def check_named(kit: Kit) -> str:
+    """A failure's words name the call that led to a helper, a ring's slot, what gave memory back, and a signal that
+    woke nobody; its schedule has each atomic operation with its value, and its page what the words are about."""
+    source, out = HERE / "tests/named.c", kit.out("named")
+    program = kit.build_form(source, of_memory=True)
+    if list(dict.fromkeys(modes_of(source))) != list(NAMED):
+        raise Wrong(f"named.c has the modes {', '.join(modes_of(source))}")
+    for mode, (words, lines, followed) in NAMED.items():
+        said = ran([program, mode, "--quiet", "--jobs", 1, "--out", out], 1)
+        told(said, f"FAILED {words}", mode)
+        schedule, page = (out / "named.schedule").read_text(), out / "named.html"
+        for line in lines:
+            told(schedule, rf"# {line} at named\.c:\d+", mode)
+        if followed and f'"{followed}"' not in page.read_text():
+            raise Wrong(f"{mode}: nothing on its page is about {followed}")
+        if followed and "check" not in words and shutil.which("node"):
+            told(ran(["node", "-e", FOLLOWED, page]), f"^{re.escape(followed)}$", f"{mode}, its page")
+    told(ran([program, "helper", "--quiet", "--runs", 1, "--jobs", 1], None), r": 1 schedule, \d+ points?, ", "one")
+    return f"{len(NAMED)} failures by names"
+
+
 UNSEEN = "plain accesses and atomics aren't seen, so no bug in their order is found: compile with -fsanitize=thread"
 
 # What is told of each of these drivers, which break only where somebody acts just before a call has its effect.
+IN_VAIN = r".*, and nobody can act; thread-1 signalled it at points\.c:\d+, and nobody waited\n"
 POINTS = {
-    "wait": r"deadlock: run waits in pthread_cond_wait for changed at points\.c:\d+, and nobody can act",
-    "broadcast": r"deadlock: run waits in pthread_cond_wait for changed at points\.c:\d+, and nobody can act",
-    "cnd_wait": r"deadlock: run waits in cnd_wait for changed11 at points\.c:\d+, and nobody can act",
+    "wait": rf"deadlock: run waits in pthread_cond_wait for changed at points\.c:\d+{IN_VAIN}",
+    "broadcast": rf"deadlock: run waits in pthread_cond_wait for changed at points\.c:\d+{IN_VAIN}",
+    "cnd_wait": rf"deadlock: run waits in cnd_wait for changed11 at points\.c:\d+{IN_VAIN}",
     "return": "check: a thread that said it is done hasn't ended",
     "exit": "check: a thread that said it is done hasn't ended",
     "detach": "check: a thread that is to be detached was joined",
@@ -929,7 +1006,8 @@ def check_own_memory(kit: Kit) -> str:
             told(ran([wrong, *words, "--memory", memory], 1), f"FAILED {STOPPED}", f"{mode}, {memory}")
             if f"memory {memory}" not in schedule.read_text().splitlines():
                 raise Wrong(f"{schedule} doesn't name its memory")
-            told(ran([wrong, mode, "--replay", schedule], 1), "is_stopped, 1 bytes, on its way", f"{mode}, {memory}")
+            late = r"stores is_stopped \((relaxed|release)\): 1, on its way"
+            told(ran([wrong, mode, "--replay", schedule], 1), late, f"{mode}, {memory}")
             told(ran([right, mode, "--replay", schedule, "--lenient"]), ": fine", f"{mode}, {memory}, fixed")
             ran([right, *words, "--memory", memory, "--runs", 1000])
     told(ran([right, "flags", *words[1:], *every, "--memory", "tso"]), "these are all schedules", "tso, fixed")
@@ -1007,8 +1085,8 @@ AMOUNTS = {
 
 def check_forms(kit: Kit, runs: int) -> list[str]:
     """A driver's own threads and memory: their archive has no sanitizers' checks in it."""
-    checks = (check_form, check_points, check_own_memory, check_assembly, check_cpp, check_races, check_freed)
-    return [*(check(kit) for check in checks), check_program(kit, runs)]
+    checks = (check_form, check_points, check_own_memory, check_assembly, check_cpp, check_races)
+    return [*(check(kit) for check in (*checks, check_freed, check_named)), check_program(kit, runs)]
 
 
 def check_told_faults(kit: Kit) -> list[str]:

@@ -8,6 +8,7 @@
 #include "independent.h"
 #include "left.h"
 #include "parts.h"
+#include "places.h"
 #include "weak.h"
 #include "words.h"
 
@@ -88,10 +89,15 @@ static void note_poll(const struct step *step)
 }
 
 /* Where an access of packet memory is made: the outermost call of several. */
-static void note_call(const void *at)
+void nicxi_note_call(const void *at)
 {
     if (nicxi.self && !nicxi.self->call)
-        nicxi.self->call = (const char *)at - 1;
+        nicxi.self->call = at;
+}
+
+static void note_call(const void *behind)
+{
+    nicxi_note_call((const char *)behind - 1);
 }
 
 static void note_change(void)
@@ -164,16 +170,56 @@ static void after(const struct step *step)
         nicxi.self->call = NULL;
 }
 
-/* Memory that isn't lent is the driver's fault, unless it is allowed. */
+/* --- memory that isn't lent is the driver's fault, unless it is allowed --- */
+
+/* The blocks that were taken back last in a schedule, by whom and where. */
+enum { MOST_TAKEN = 16 };
+
+static struct {
+    uint64_t epoch, block;
+    const char *name;
+    const void *call;
+} taken_back[MOST_TAKEN];
+static unsigned next_taken;
+
+static void note_taken(const struct step *step)
+{
+    if (step->kind != STEP_TAKE || step->status != NIC_DONE || !nicxi.self)
+        return;
+    taken_back[next_taken].epoch = nicxi.epoch;
+    taken_back[next_taken].block = step->address;
+    taken_back[next_taken].name = nicxi.self->name;
+    taken_back[next_taken].call = nicxi.self->call;
+    next_taken = (next_taken + 1) % MOST_TAKEN;
+}
+
+const char *nicxi_taken_words(uint64_t bus, char room[MOST_WORDS])
+{
+    char where[MOST_PLACE];
+    room[0] = 0;
+    for (unsigned k = 1; k <= MOST_TAKEN && !*room; k++) {
+        unsigned at = (next_taken + MOST_TAKEN - k) % MOST_TAKEN;
+        if (taken_back[at].epoch != nicxi.epoch || taken_back[at].block != bus / NIC_BLOCK_BYTES)
+            continue;
+        const char *call = taken_back[at].call;
+        bool is_known = *nicxi_line_of_call(call ? call + 1 : NULL, where);
+        snprintf(room, MOST_WORDS, "; %.40s took block %llu back%s%.60s", taken_back[at].name,
+                 (unsigned long long)taken_back[at].block, is_known ? " at " : "", where);
+    }
+    return room;
+}
+
 static void judge(const struct step *step)
 {
+    char where[MOST_PLACE], slot[MOST_WORDS], back[MOST_WORDS];
     if (step->status != NIC_NOT_LENT || !nicxi.self || (nicxi.scenario->allowed & NICX_NOT_LENT))
         return;
-    nicxi_failed(NICX_MEMORY, "%s %s 0x%llx, which isn't lent", nicxi.self->name,
+    bool is_known = *nicxi_place_here(where);
+    nicxi_failed(NICX_MEMORY, "%s%s%s %s 0x%llx%s, which isn't lent%s", nicxi.self->name, is_known ? " at " : "", where,
                  step->kind == STEP_PEEK   ? "reads"
                  : step->kind == STEP_POKE ? "writes"
                                            : "takes back",
-                 (unsigned long long)step->bus);
+                 (unsigned long long)step->bus, nicxi_slot_words(step->bus, slot), nicxi_taken_words(step->bus, back));
     nicxi_leave();
 }
 
@@ -360,6 +406,7 @@ static uint8_t move_block(uint8_t kind, uint32_t block)
     step->status = kind == STEP_LEND ? nic_lend(&nicxi.device, block) : nic_take(&nicxi.device, block);
     if (nicxi.is_weak)
         nicxi_memory_moved(block);
+    note_taken(step);
     after(step);
     judge(step);
     return step->status;
@@ -372,6 +419,7 @@ uint8_t nicx_lend(uint32_t block)
 
 uint8_t nicx_take(uint32_t block)
 {
+    note_call(__builtin_return_address(0));
     return move_block(STEP_TAKE, block);
 }
 
@@ -388,15 +436,61 @@ void nicxi_memory_point(enum local local, uint64_t at, uint32_t size)
     nicxi_told(step);
 }
 
-int nicxi_store_point(uint64_t at, const void *bytes, uint32_t size, bool releases)
+static struct step *before_atomic(const struct atomic *atomic)
 {
     struct step *step = before(STEP_LOCAL);
     step->word = LOCAL_ATOMIC;
-    step->bus = at;
-    step->length = size;
+    step->bus = atomic->at;
+    step->length = atomic->size;
+    step->order = (uint8_t)atomic->order;
+    step->operation = STORES;
+    step->value = atomic->operand;
+    return step;
+}
+
+static uint64_t changed_by(const struct atomic *atomic, uint64_t old)
+{
+    switch (atomic->kind) {
+    case DO_ADD: return old + atomic->operand;
+    case DO_SUB: return old - atomic->operand;
+    case DO_AND: return old & atomic->operand;
+    case DO_OR: return old | atomic->operand;
+    case DO_XOR: return old ^ atomic->operand;
+    case DO_NAND: return ~(old & atomic->operand);
+    default: return atomic->operand;
+    }
+}
+
+/* What it does with the value that is there as it is made: its own of the thread, where that is on its way. */
+static void note_atomic(struct step *step, const struct atomic *atomic)
+{
+    uint64_t old = 0, whole = atomic->size < 8 ? (UINT64_C(1) << 8 * atomic->size) - 1 : UINT64_MAX;
+    if (atomic->kind == DO_STORE || atomic->size > sizeof old)
+        return;
+    memcpy(&old, (const void *)(uintptr_t)atomic->at, atomic->size);
+    if (nicxi.is_weak)
+        nicxi_load_own(atomic->at, &old, atomic->size);
+    bool is_compare = atomic->kind == DO_COMPARE && (old ^ atomic->expected) & whole;
+    step->operation = atomic->kind == DO_LOAD ? LOADS : is_compare ? COMPARES : CHANGES;
+    step->value = old;
+    step->other = (is_compare ? atomic->expected : changed_by(atomic, old)) & whole;
+}
+
+void nicxi_atomic_point(const struct atomic *atomic)
+{
+    struct step *step = before_atomic(atomic);
+    if (!let_others(nicxi.self))
+        return;
+    note_atomic(step, atomic);
+    nicxi_told(step);
+}
+
+int nicxi_store_point(const struct atomic *atomic, const void *bytes, bool releases)
+{
+    struct step *step = before_atomic(atomic);
     if (!let_others(nicxi.self))
         return -1;
-    int slot = nicxi_keep_own(at, bytes, size, releases);
+    int slot = nicxi_keep_own(atomic->at, bytes, atomic->size, releases);
     step->is_kept = slot >= 0;
     nicxi_told(step);
     step->is_kept = false;

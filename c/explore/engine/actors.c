@@ -4,6 +4,7 @@
 
 #include "engine.h"
 #include "weak.h"
+#include "words.h"
 
 static void add(uint8_t kind, uint16_t of, int on)
 {
@@ -279,12 +280,14 @@ static void message(const struct actor *actor, struct step *step)
 
 void nicxi_judge(const struct step *step)
 {
+    char back[MOST_WORDS];
     if (step->status == NIC_OUT_OF_MEMORY)
         nicxi_failed(NICX_MISUSE, "the controller found no memory");
     if (step->status != NIC_FAULT || (nicxi.scenario->allowed & NICX_FAULTS))
         return;
     if (step->told.why == NIC_FAULT_NOT_LENT)
-        nicxi_failed(NICX_FAULT, "queue %u: 0x%llx isn't lent", step->told.queue, (unsigned long long)step->told.bus);
+        nicxi_failed(NICX_FAULT, "queue %u: 0x%llx isn't lent%s", step->told.queue, (unsigned long long)step->told.bus,
+                     nicxi_taken_words(step->told.bus, back));
     else
         nicxi_failed(NICX_FAULT, "queue %u: %s", step->told.queue, nic_fault_name(step->told.why));
 }

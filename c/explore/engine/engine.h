@@ -64,6 +64,10 @@ struct step {
     uint32_t word;       /* read or written; of a wait, a lock, a start: enum local; of nicx_choose the value */
     uint32_t length;     /* of a memory access; of nicx_choose its bound; of a barrier how many stores it sent ahead */
     uint64_t bus;        /* of a memory access; of a lock, which */
+    uint8_t operation;   /* of LOCAL_ATOMIC: enum operation, */
+    uint8_t order;       /* the order that the code gives, as the compiler numbers it, */
+    uint64_t value;      /* what was there, or is stored, */
+    uint64_t other;      /* and what is there then, or was expected */
     uint64_t touched[2]; /* the driver's own memory that it read, and wrote: a bit for each of 64 parts of all places */
     nic_told told;
     const char *call; /* of LOCAL_CALL: what was called, about the object at `bus` */
@@ -88,6 +92,9 @@ enum local {
     LOCAL_STORE,
     LOCAL_ATOMIC
 };
+
+/* What an atomic operation does: one that expects a value and finds another compares only. */
+enum operation { LOADS, STORES, CHANGES, COMPARES };
 
 enum thread_state {
     OFF,     /* a handler that doesn't run, a task that has ended */

@@ -4,6 +4,8 @@
 #include <stdio.h>
 #include <string.h>
 
+#include "words.h"
+
 static void add(struct objects *objects, const char *form, ...)
 {
     char name[MOST_OBJECT_NAME];
@@ -127,6 +129,24 @@ static void add_step(struct objects *objects, const struct step *step)
     }
 }
 
+/* --- the driver's own memory: a variable, or what a call of threads is about --- */
+
+static void add_own(struct objects *objects, const struct step *step)
+{
+    static const char *const kinds[][2] = {{"mutex", "lock"},     {"mtx_", "lock"},       {"spin", "lock"},
+                                           {"rwlock", "lock"},    {"cond_", "condition"}, {"cnd_", "condition"},
+                                           {"sem_", "semaphore"}, {"barrier", "barrier"}};
+    char name[MOST_WORDS];
+    if (!step->bus)
+        return;
+    nicxi_own_name(step->bus, name);
+    if (step->word != LOCAL_CALL)
+        add(objects, "%.80s", name);
+    for (size_t k = 0; step->word == LOCAL_CALL && k < sizeof kinds / sizeof *kinds; k++)
+        if (strstr(step->call, kinds[k][0]))
+            add(objects, "%s %.80s", kinds[k][1], name);
+}
+
 void nicxi_objects(const struct step *step, const char *about, struct objects *objects)
 {
     objects->count = 0;
@@ -135,6 +155,8 @@ void nicxi_objects(const struct step *step, const char *about, struct objects *o
     case STEP_LOCAL:
         if (*about)
             add(objects, "%s%s", step->word == LOCAL_UNTIL ? "" : "lock ", about);
+        else if (step->word >= LOCAL_CALL)
+            add_own(objects, step);
         break;
     case STEP_READ:
     case STEP_WRITE: add_register(objects, step->address); break;

@@ -18,6 +18,9 @@ struct nicxi_form {
     const void *(*function_of)(const struct thread *thread);          /* of one that the driver made: where it begins */
     bool (*assembly)(char *room,
                      size_t size); /* a barrier of the driver's by inline assembly: "mfence at driver.c:9" */
+    const char *(*beside)(const struct step *step); /* ", and nobody waits" of a call that is made, or "" */
+    bool (*name)(const void *object, char *room,
+                 size_t size); /* what an address of malloc's is called: "malloc(driver.c:9)+0x8" */
 };
 
 struct nicxi_races {
@@ -65,11 +68,26 @@ void nicxi_call(enum thread_state state, const char *call, const void *object);
 /* The same, until a condition of the engine's own holds. Where it is `timed` it may end without that at rest. */
 void nicxi_call_until(bool (*condition)(void *), void *argument, bool timed, const char *call, const void *object);
 
+/* The thread that runs accesses packet memory by this call. */
+void nicxi_note_call(const void *at);
+
 /* A point before an access of the driver's own memory. */
 void nicxi_memory_point(enum local local, uint64_t at, uint32_t size);
-/* The same before an atomic store of the thread that runs. By weak memory the store may be late: its place among those
-   that are kept (nicxi_keep_own); or -1: it is to be made now. */
-int nicxi_store_point(uint64_t at, const void *bytes, uint32_t size, bool releases);
+
+/* An atomic operation of the thread that runs: of more than 8 bytes no value is known. */
+enum atomic_kind { DO_LOAD, DO_STORE, DO_EXCHANGE, DO_ADD, DO_SUB, DO_AND, DO_OR, DO_XOR, DO_NAND, DO_COMPARE };
+struct atomic {
+    uint64_t at;
+    uint32_t size;
+    enum atomic_kind kind;
+    int order;
+    uint64_t operand, expected;
+};
+/* A point before it. */
+void nicxi_atomic_point(const struct atomic *atomic);
+/* The same before a store. By weak memory it may be late: its place among those that are kept (nicxi_keep_own); or -1:
+   it is to be made now. */
+int nicxi_store_point(const struct atomic *atomic, const void *bytes, bool releases);
 /* By weak memory: all pending stores of the thread that runs reach memory. */
 void nicxi_drain(void);
 /* What a load gave: a loop that reads the same over and over is taken to wait. */

@@ -77,7 +77,8 @@ static bool is_of_library(const char *file)
 {
     return strstr(file, "/nic82599/src/explore/") || strstr(file, "/nic82599/src/drive/") ||
            has_prefix(file, "/rustc/") || strstr(file, "/library/core/") || strstr(file, "/library/std/") ||
-           strstr(file, "/library/alloc/") || strstr(file, "/explore/engine/") || strstr(file, "/explore/threads/");
+           strstr(file, "/library/alloc/") || strstr(file, "/include/c++/") || strstr(file, "/explore/engine/") ||
+           strstr(file, "/explore/threads/");
 }
 
 /* The card's own functions and scenarios are no driver's. */

@@ -6,7 +6,10 @@
 
 #include "../../recorder/reply.h"
 #include "names.h"
+#include "parts.h"
 #include "symbols.h"
+
+enum { MOST_VALUE = 24 };
 
 const char *nicxi_why(const char *form, ...)
 {
@@ -54,36 +57,65 @@ static const char *memory_words(const struct step *step, const char *stray, char
     return room;
 }
 
-/* The variable at an address of the driver's own memory, or the address. */
-static const char *own_name(uint64_t at, char name[MOST_SYMBOL])
+const char *nicxi_own_name(uint64_t at, char room[MOST_WORDS])
 {
-    if (!nicxi_symbol((const void *)(uintptr_t)at, name, MOST_SYMBOL))
-        snprintf(name, MOST_SYMBOL, "0x%llx", (unsigned long long)at);
-    return name;
+    const void *object = (const void *)(uintptr_t)at;
+    if (!nicxi_symbol(object, room, MOST_SYMBOL) && !(nicxi_form && nicxi_form->name(object, room, MOST_SYMBOL)))
+        snprintf(room, MOST_WORDS, "0x%llx", (unsigned long long)at);
+    return room;
+}
+
+/* A small number as it is written in C, and a large one, as an address, in hexadecimal. */
+static const char *value_words(uint64_t value, char room[MOST_VALUE])
+{
+    snprintf(room, MOST_VALUE, value < 65536 ? "%llu" : "0x%llx", (unsigned long long)value);
+    return room;
+}
+
+/* "loads ready (relaxed): 1", "changes count (acq_rel): 1 to 2", "compares owner (seq_cst): 2, expected 0" */
+static const char *atomic_words(const struct step *step, const char *name, char *room)
+{
+    static const char *const verbs[] = {"loads", "stores", "changes", "compares"};
+    static const char *const orders[] = {"relaxed", "consume", "acquire", "release", "acq_rel", "seq_cst"};
+    char value[MOST_VALUE], other[MOST_VALUE];
+    bool has_other = step->operation == CHANGES || step->operation == COMPARES;
+    int length = snprintf(room, MOST_WORDS, "%s %.60s (%s)", verbs[step->operation], name,
+                          step->order < sizeof orders / sizeof *orders ? orders[step->order] : "an unknown order");
+    if (step->length <= sizeof step->value)
+        snprintf(room + length, MOST_WORDS - (size_t)length, ": %s%s%s%s", value_words(step->value, value),
+                 !has_other                   ? ""
+                 : step->operation == CHANGES ? " to "
+                                              : ", expected ",
+                 has_other ? value_words(step->other, other) : "", step->is_kept ? ", on its way" : "");
+    return room;
 }
 
 /* Of the driver's own memory, or of a library's object. */
 static const char *own_words(const struct step *step, char *room)
 {
-    static const char *const words[] = {"reads", "writes", "atomic"};
-    char name[MOST_SYMBOL];
+    static const char *const words[] = {"reads", "writes"};
+    char name[MOST_WORDS];
     if (step->word < LOCAL_CALL)
         return local_words(step, room);
-    own_name(step->bus, name);
+    nicxi_own_name(step->bus, name);
+    if (step->word == LOCAL_ATOMIC)
+        return atomic_words(step, name, room);
     if (step->word != LOCAL_CALL)
-        snprintf(room, MOST_WORDS, "%s %.60s, %u bytes%s", words[step->word - LOCAL_LOAD], name, step->length,
-                 step->is_kept ? ", on its way" : "");
+        snprintf(room, MOST_WORDS, "%s %.60s, %u byte%s", words[step->word - LOCAL_LOAD], name, step->length,
+                 nicxi_s(step->length));
     else
-        snprintf(room, MOST_WORDS, "%.40s%s%.60s", step->call, step->bus ? " " : "", step->bus ? name : "");
+        snprintf(room, MOST_WORDS, "%.40s%s%.60s%s", step->call, step->bus ? " " : "", step->bus ? name : "",
+                 nicxi_form ? nicxi_form->beside(step) : "");
     return room;
 }
 
 /* A store that reaches memory, lent or the driver's own. */
 static const char *landing_words(const struct step *step, char *room)
 {
-    char name[MOST_SYMBOL];
+    char name[MOST_WORDS];
     if (step->is_own)
-        snprintf(room, MOST_WORDS, "%.60s, %u bytes reach memory", own_name(step->bus, name), step->length);
+        snprintf(room, MOST_WORDS, "%.60s, %u byte%s reach%s memory", nicxi_own_name(step->bus, name), step->length,
+                 nicxi_s(step->length), step->length == 1 ? "es" : "");
     else
         snprintf(room, MOST_WORDS, "0x%05llx, %u bytes reach memory", (unsigned long long)step->bus, step->length);
     return room;
@@ -131,6 +163,18 @@ const char *nicxi_words(const struct step *step, char room[MOST_WORDS])
     case STEP_LINK: return step->word ? "link up" : "link down";
     default: return nicxi_reply(step, room);
     }
+}
+
+const char *nicxi_slot_words(uint64_t bus, char room[MOST_WORDS])
+{
+    room[0] = 0;
+    for (uint32_t k = 0; k < 2u * nicxi.scenario->queues && !*room; k++) {
+        struct nicd_ring ring = nicd_ring_of(&nicxi.device, k & 1, k / 2);
+        if (bus - ring.base < (uint64_t)NIC_DESC_BYTES * ring.slots)
+            snprintf(room, MOST_WORDS, ", queue %u's %s slot %u", (unsigned)(k / 2), k & 1 ? "transmit" : "receive",
+                     (unsigned)((bus - ring.base) / NIC_DESC_BYTES));
+    }
+    return room;
 }
 
 void nicxi_plain(const char *words, char *room, unsigned size)

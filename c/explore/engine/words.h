@@ -12,6 +12,15 @@ const char *nicxi_words(const struct step *step, char room[MOST_WORDS]);
 /* What a step of the device answered, as a run of a script prints it. */
 const char *nicxi_reply(const struct step *step, char room[MOST_WORDS]);
 
+/* The variable at an address of the driver's own memory, or where that was allocated; else the address. */
+const char *nicxi_own_name(uint64_t at, char room[MOST_WORDS]);
+
+/* ", queue 0's receive slot 1" of the ring that an address of packet memory lies in, or "". */
+const char *nicxi_slot_words(uint64_t bus, char room[MOST_WORDS]);
+
+/* Of an address that isn't lent: "; stop took block 2 back at driver.c:43", or "". */
+const char *nicxi_taken_words(uint64_t bus, char room[MOST_WORDS]);
+
 const char *nicxi_outcome_name(uint8_t outcome);
 
 /* Words that say why something was refused. They stay until the next refusal, and may be given to it. */

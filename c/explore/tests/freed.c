@@ -49,7 +49,7 @@ static void take_away(void)
 /* A compiler that knew the size would make a copy of its own, and one that saw these pointers would warn. */
 static volatile size_t some_bytes = 32;
 static char *volatile somewhere;
-static uint64_t copied[4];
+uint64_t copied[4]; /* (of a static one that nobody reads nothing is written) */
 
 static void use(struct ring *it)
 {

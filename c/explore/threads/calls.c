@@ -40,11 +40,11 @@ CALL(nic_write32, (nic * n, uint32_t address, uint32_t word), (n, address, word)
 CALL(nic_vf_write32, (nic * n, uint8_t vf, uint32_t offset, uint32_t word), (n, vf, offset, word),
      nicx_vf_write32(vf, offset, word))
 CALL(nic_dma_read, (nic * n, uint64_t bus, uint8_t *bytes, size_t length), (n, bus, bytes, length),
-     nicx_dma_read(bus, bytes, length))
+     (nicxi_note_call(HERE), nicx_dma_read(bus, bytes, length)))
 CALL(nic_dma_write, (nic * n, uint64_t bus, const uint8_t *bytes, size_t length), (n, bus, bytes, length),
-     nicx_dma_write(bus, bytes, length))
+     (nicxi_note_call(HERE), nicx_dma_write(bus, bytes, length)))
 CALL(nic_lend, (nic * n, uint32_t block), (n, block), nicx_lend(block))
-CALL(nic_take, (nic * n, uint32_t block), (n, block), nicx_take(block))
+CALL(nic_take, (nic * n, uint32_t block), (n, block), (nicxi_note_call(HERE), nicx_take(block)))
 CALL(nic_lend_all, (nic * n), (n), nicx_lend_all())
 
 /* --- steps: a whole program makes them itself; beside a scenario the explorer does --- */

@@ -9,6 +9,7 @@
 #include "../engine/places.h"
 #include "../engine/symbols.h"
 #include "races.h"
+#include "taken.h"
 
 struct task nicxi_tasks[MOST_THREADS + 1];
 struct thread *nicxi_alone;
@@ -55,18 +56,45 @@ static const char *base_name(const char *path)
     return slash ? slash + 1 : path;
 }
 
-/* Of several lines, since functions were inlined there, the first that isn't of this library's headers. */
+/* This library's headers, and those of C++. */
+static bool is_of_header(const char *file)
+{
+    return !strncmp(base_name(file), "nic82599", 8) || strstr(file, "/include/c++/");
+}
+
+/* Of several lines, since functions were inlined there, those that aren't of such headers; else the first. */
+static unsigned lines_of(const void *at, struct source_line *lines, unsigned most)
+{
+    unsigned count = nicxi_lines(at, lines, most), kept = 0;
+    for (unsigned k = 0; k < count; k++)
+        if (!is_of_header(lines[k].file))
+            lines[kept++] = lines[k];
+    return kept ? kept : count ? 1 : 0;
+}
+
+const char *nicxi_line_by(const void *at, const void *caller, char room[MOST_NAMED])
+{
+    struct source_line lines[8];
+    unsigned count = lines_of(at, lines, sizeof lines / sizeof *lines);
+    if (count == 1 && caller && lines_of(caller, lines + 1, sizeof lines / sizeof *lines - 1))
+        count += !is_of_header(lines[1].file);
+    if (count > 1)
+        snprintf(room, MOST_NAMED, "%.40s:%u < %.30s:%u", base_name(lines[0].file), lines[0].line,
+                 base_name(lines[1].file), lines[1].line);
+    else if (count)
+        snprintf(room, MOST_NAMED, "%.60s:%u", base_name(lines[0].file), lines[0].line);
+    else if (!nicxi_symbol(at, room, MOST_NAMED))
+        snprintf(room, MOST_NAMED, "an unknown place");
+    return room;
+}
+
 const char *nicxi_line(const void *at, char room[MOST_NAMED])
 {
     struct source_line lines[8];
-    unsigned count = nicxi_lines(at, lines, sizeof lines / sizeof *lines), k = 0;
-    while (k + 1 < count && !strncmp(base_name(lines[k].file), "nic82599", 8))
-        k++;
-    if (count) {
-        snprintf(room, MOST_NAMED, "%.60s:%u", base_name(lines[k].file), lines[k].line);
-    } else if (!nicxi_symbol(at, room, MOST_NAMED)) {
+    if (lines_of(at, lines, sizeof lines / sizeof *lines))
+        snprintf(room, MOST_NAMED, "%.60s:%u", base_name(lines[0].file), lines[0].line);
+    else if (!nicxi_symbol(at, room, MOST_NAMED))
         snprintf(room, MOST_NAMED, "an unknown place");
-    }
     return room;
 }
 
@@ -82,7 +110,7 @@ const char *nicxi_line_now(const void *at, char room[MOST_NAMED])
 
 const char *nicxi_name(const void *object, const char *kind, char room[MOST_NAMED])
 {
-    if (!nicxi_symbol(object, room, MOST_NAMED))
+    if (!nicxi_symbol(object, room, MOST_NAMED) && !nicxi_taken_name(object, room, MOST_NAMED))
         snprintf(room, MOST_NAMED, "%s", kind);
     return room;
 }
@@ -96,6 +124,7 @@ static void wait_at(struct thread *self, bool is_lock, const char *call, const v
     task->object = object;
     task->call = call;
     task->at = at;
+    task->caller = nicxi_called_from();
     task->is_lock = is_lock;
 }
 
@@ -142,7 +171,7 @@ void nicxi_hold(struct thread *self, const void *object, const void *at)
 {
     struct task *task = &nicxi_tasks[nicxi_number(self)];
     if (task->locks < MOST_HELD)
-        task->held[task->locks] = (struct held){object, at};
+        task->held[task->locks] = (struct held){object, at, nicxi_called_from()};
     task->locks++;
 }
 
@@ -157,14 +186,14 @@ void nicxi_drop(struct thread *self, const void *object)
         task->held[k - 1] = task->held[k];
 }
 
-/* Who holds an object, and where it took it: null where nobody is known to. */
-static const struct thread *holder_of(const void *object, const void **at)
+/* Who holds an object, and how it took it: null where nobody is known to. */
+static const struct thread *holder_of(const void *object, struct held *held)
 {
     for (unsigned k = 0; k < MOST_THREADS; k++) {
         const struct task *task = &nicxi_tasks[k];
         for (unsigned n = 0; n < task->locks && n < MOST_HELD; n++)
             if (task->held[n].object == object) {
-                *at = task->held[n].at;
+                *held = task->held[n];
                 return &nicxi.threads[k];
             }
     }
@@ -181,19 +210,20 @@ static void tell_chain(const struct thread *thread)
 {
     char words[sizeof nicxi.result.words], object[MOST_NAMED], where[MOST_NAMED], since[MOST_NAMED];
     const struct thread *first = thread;
-    const void *at = NULL;
+    struct held held = {NULL, NULL, NULL};
     int length = 0;
     words[0] = 0;
     do {
         const struct task *task = &nicxi_tasks[nicxi_number(thread)];
-        const struct thread *holder = holder_of(task->object, &at);
+        const struct thread *holder = holder_of(task->object, &held);
         if (length < 0 || (size_t)length + 1 >= sizeof words)
             break;
         length += snprintf(words + length, sizeof words - (size_t)length, "%s%s waits for %s at %s", length ? "; " : "",
-                           thread->name, nicxi_name(task->object, "a lock", object), nicxi_line(task->at, where));
+                           thread->name, nicxi_name(task->object, "a lock", object),
+                           nicxi_line_by(task->at, task->caller, where));
         if (holder && (size_t)length < sizeof words)
             length += snprintf(words + length, sizeof words - (size_t)length, ", held by %s since %s", holder->name,
-                               nicxi_line(at, since));
+                               nicxi_line_by(held.at, held.caller, since));
         thread = holder;
     } while (thread && thread != first && is_stuck(thread) && nicxi_tasks[nicxi_number(thread)].is_lock);
     nicxi_failed(NICX_DEADLOCK, "%s", words);
@@ -206,15 +236,16 @@ static bool holds_any(const struct thread *thread)
 
 static bool tell_wait(const struct thread *thread, bool for_lock)
 {
-    char object[MOST_NAMED], where[MOST_NAMED];
+    char object[MOST_NAMED], where[MOST_NAMED], vain[2 * MOST_NAMED];
     const struct task *task = &nicxi_tasks[nicxi_number(thread)];
     if (!is_stuck(thread) || (for_lock && !task->is_lock))
         return false;
     if (task->is_lock)
         tell_chain(thread);
     else
-        nicxi_failed(NICX_DEADLOCK, "%s waits in %s for %s at %s, and nobody can act", thread->name, task->call,
-                     nicxi_name(task->object, "an object", object), nicxi_line(task->at, where));
+        nicxi_failed(NICX_DEADLOCK, "%s waits in %s for %s at %s, and nobody can act%s", thread->name, task->call,
+                     nicxi_name(task->object, "an object", object), nicxi_line_by(task->at, task->caller, where),
+                     nicxi_vain_words(task, vain));
     return true;
 }
 
@@ -232,7 +263,8 @@ static void ended(struct thread *thread)
     struct task *task = &nicxi_tasks[nicxi_number(thread)];
     if (task->locks)
         nicxi_failed(NICX_MISUSE, "%s ends and holds %s, which it took at %s", thread->name,
-                     nicxi_name(task->held[0].object, "a lock", object), nicxi_line(task->held[0].at, where));
+                     nicxi_name(task->held[0].object, "a lock", object),
+                     nicxi_line_by(task->held[0].at, task->held[0].caller, where));
     task->is_done = true;
     if (thread->is_made) /* nobody joins a task of the scenario: its stores may still be late */
         nicxi_race_release(task);
@@ -254,6 +286,11 @@ static const void *function_of(const struct thread *thread)
     return nicxi_tasks[nicxi_number(thread)].function;
 }
 
+static const char *beside(const struct step *step)
+{
+    return nicxi_wakes_nobody(step->call, (const void *)(uintptr_t)step->bus) ? ", and nobody waits" : "";
+}
+
 static const struct nicxi_form form = {
     .open = nicxi_state_open,
     .keep = nicxi_state_keep,
@@ -266,6 +303,8 @@ static const struct nicxi_form form = {
     .ended = ended,
     .function_of = function_of,
     .assembly = assembly,
+    .beside = beside,
+    .name = nicxi_taken_name,
 };
 
 /* The linker is told to take this, whatever the driver calls. */

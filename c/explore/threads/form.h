@@ -13,14 +13,14 @@ enum { MOST_HELD = 16, MOST_KEYS = 64, OUTSIDE = MOST_THREADS, MOST_NAMED = 96 }
 /* What a task holds, and where it took it. */
 struct held {
     const void *object;
-    const void *at;
+    const void *at, *caller;
 };
 
 /* Of each task what the engine doesn't know. */
 struct task {
-    const void *object; /* that it waits for, at this call */
+    const void *object; /* that it waits for, at this call, and by which one it came there */
     const char *call;
-    const void *at;
+    const void *at, *caller;
     bool is_lock;          /* what it waits for is a lock, so somebody holds it */
     bool may_wake;         /* it waited as a signal came */
     const void *condition; /* the condition variable that it waits at */
@@ -78,7 +78,9 @@ void nicxi_refuse(const char *call, const void *at);
 
 /* "driver.c:31", or the function; an object's name, or what it is. */
 const char *nicxi_line(const void *at, char room[MOST_NAMED]);
-/* The same of a call that the thread makes now, of which the call before it is known too: "regs.h:9 < driver.c:31". */
+/* With the line of the call by which the function was called, or null: "regs.h:9 < driver.c:31". */
+const char *nicxi_line_by(const void *at, const void *caller, char room[MOST_NAMED]);
+/* The same of a call that the thread makes now, by its stack. */
 const char *nicxi_line_now(const void *at, char room[MOST_NAMED]);
 const char *nicxi_name(const void *object, const char *kind, char room[MOST_NAMED]);
 
@@ -100,7 +102,11 @@ enum how { BLOCKING, TRYING, TIMED };
 int nicxi_mutex_lock(pthread_mutex_t *mutex, enum how how, const char *call, const void *at);
 int nicxi_mutex_unlock(pthread_mutex_t *mutex, const char *call, const void *at);
 int nicxi_cond_wait(pthread_cond_t *cond, pthread_mutex_t *mutex, bool is_timed, const char *call, const void *at);
-int nicxi_cond_signal(pthread_cond_t *cond, bool is_all, const char *call);
+int nicxi_cond_signal(pthread_cond_t *cond, bool is_all, const char *call, const void *at);
+/* Whether a call signals a condition at which nobody waits. */
+bool nicxi_wakes_nobody(const char *call, const void *object);
+/* Of a task that waits at a condition: "; wake signals it at driver.c:9, and nobody waited", or "". */
+const char *nicxi_vain_words(const struct task *task, char room[2 * MOST_NAMED]);
 int nicxi_once(pthread_once_t *once, void (*function)(void), const char *call, const void *at);
 int nicxi_detach(pthread_t number, const char *call);
 

@@ -8,6 +8,7 @@
 #include "../engine/independent.h"
 #include "../engine/symbols.h"
 #include "../engine/weak.h"
+#include "../engine/words.h"
 #include "form.h"
 #include "taken.h"
 
@@ -279,7 +280,7 @@ enum { MOST_CELLS = 8, WRITTEN_BACK = 1 << 2, FREES = 1 << 3 };
 #define BUS_SPACE ((uint64_t)1 << 62)
 
 struct cell {
-    const void *call;
+    const void *call, *caller;
     uint32_t time;
     uint8_t who, mask, access; /* which of the bytes; enum access, WRITTEN_BACK and FREES */
 };
@@ -385,8 +386,10 @@ static const char *verb_of(const struct cell *cell, bool is_past)
         return is_past ? "wrote back" : "writes back";
     if (cell->access & FREES)
         return is_past ? "freed" : "frees";
+    if (cell->access & ATOMIC && cell->access & WRITES)
+        return is_past ? "atomically wrote" : "atomically writes";
     if (cell->access & ATOMIC)
-        return is_past ? "accessed atomically" : "accesses atomically";
+        return is_past ? "atomically read" : "atomically reads";
     return cell->access & WRITES ? is_past ? "wrote" : "writes" : is_past ? "read" : "reads";
 }
 
@@ -395,7 +398,7 @@ static const char *who_of(const struct cell *cell, char room[MOST_NAMED])
     char line[MOST_NAMED];
     const char *name = cell->who == DEVICE ? "the device" : nicxi.threads[cell->who].name;
     if (cell->call)
-        snprintf(room, MOST_NAMED, "%.40s at %.50s", name, nicxi_line(cell->call, line));
+        snprintf(room, MOST_NAMED, "%.40s at %.50s", name, nicxi_line_by(cell->call, cell->caller, line));
     else
         snprintf(room, MOST_NAMED, "%.80s", name);
     return room;
@@ -420,12 +423,16 @@ bool nicxi_race_is_shared(uint64_t at)
 static const char *place_words(uint64_t at, char room[MOST_NAMED])
 {
     const struct thread *owner = owner_of(at);
+    char slot[MOST_WORDS];
     if (at & BUS_SPACE)
-        snprintf(room, MOST_NAMED, "packet memory 0x%llx", (unsigned long long)(at & ~BUS_SPACE));
+        snprintf(room, MOST_NAMED, "packet memory 0x%llx%s", (unsigned long long)(at & ~BUS_SPACE),
+                 nicxi_slot_words(at & ~BUS_SPACE, slot));
     else if (owner)
         snprintf(room, MOST_NAMED, "a variable on the stack of %.40s", owner->name);
-    else if (nicxi_is_taken(at))
+    else if (nicxi_is_taken(at) && !nicxi_taken_name((const void *)(uintptr_t)at, room, MOST_NAMED))
         snprintf(room, MOST_NAMED, "memory from malloc");
+    else if (nicxi_is_taken(at))
+        return room;
     else if (!nicxi_symbol((const void *)(uintptr_t)at, room, MOST_NAMED))
         snprintf(room, MOST_NAMED, "0x%llx", (unsigned long long)at);
     return room;
@@ -434,9 +441,9 @@ static const char *place_words(uint64_t at, char room[MOST_NAMED])
 static void tell(const struct race *race)
 {
     char place[MOST_NAMED], new[MOST_NAMED], old[MOST_NAMED];
-    nicxi_failed(NICX_RACE, "%.70s, %zu bytes: %s %s, and %s %s it before, with no order between them",
-                 place_words(race->at, place), race->length, who_of(&race->new, new), verb_of(&race->new, false),
-                 who_of(&race->old, old), verb_of(&race->old, true));
+    nicxi_failed(NICX_RACE, "%.70s, %zu byte%s: %s %s, and %s %s it before, with no order between them",
+                 place_words(race->at, place), race->length, nicxi_s(race->length), who_of(&race->new, new),
+                 verb_of(&race->new, false), who_of(&race->old, old), verb_of(&race->old, true));
 }
 
 /* --- an access --- */
@@ -465,7 +472,7 @@ static bool look_at(uint64_t at, size_t length, const struct cell *cell, const s
 static void access(uint64_t at, size_t length, unsigned how, const void *call)
 {
     unsigned self = self_number();
-    struct cell cell = {call, now[self].at[self], (uint8_t)self, 0, (uint8_t)how};
+    struct cell cell = {call, nicxi_called_from(), now[self].at[self], (uint8_t)self, 0, (uint8_t)how};
     if (length && !look_at(at, length, &cell, &now[self]))
         nicxi_leave();
 }
@@ -560,7 +567,7 @@ static void accessed_packets(const struct step *step)
 
 static void device_writes(uint64_t bus, uint64_t length, unsigned how)
 {
-    struct cell cell = {NULL, now[DEVICE].at[DEVICE], DEVICE, 0, (uint8_t)how};
+    struct cell cell = {NULL, NULL, now[DEVICE].at[DEVICE], DEVICE, 0, (uint8_t)how};
     if (length)
         look_at(BUS_SPACE | bus, length, &cell, &now[DEVICE]);
 }
@@ -680,6 +687,7 @@ static void begin(void)
     memset(fences, 0, sizeof fences);
     memset(now, 0, sizeof now);
     memset(sat, 0, sizeof sat);
+    nicxi_forget_callers();
     for (unsigned k = 0; k < CLOCKS; k++)
         now[k].at[k] = 1;
 }

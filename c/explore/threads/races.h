@@ -20,6 +20,10 @@ enum access { READS = 0, WRITES = 1, ATOMIC = 2 };
 
 /* The thread that runs accesses memory, at this call. */
 void nicxi_race_access(uint64_t at, size_t length, unsigned access, const void *call);
+/* The call by which the function was called that runs, or null: it is the first one of the task, or isn't built with
+   -fsanitize=thread. A schedule begins without any. */
+const void *nicxi_called_from(void);
+void nicxi_forget_callers(void);
 /* Memory is given out anew, or given back. */
 void nicxi_race_forget(const void *at, size_t length);
 void nicxi_race_free(const void *at, size_t length, const void *call);

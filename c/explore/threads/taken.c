@@ -10,6 +10,8 @@
 #include <string.h>
 
 #include "../engine/left.h"
+#include "../engine/symbols.h"
+#include "../engine/words.h"
 #include "form.h"
 #include "races.h"
 
@@ -39,7 +41,7 @@ enum { MOST_FREED = 4096 };
 
 struct freed {
     char *at;
-    const void *call;
+    const void *call, *caller;
     uint8_t who;
 };
 
@@ -131,13 +133,18 @@ static char *nearest(uint64_t at, size_t unit)
     return at - ((uintptr_t)before + head_of(before)->size) <= (uintptr_t)after - at ? before : after;
 }
 
-bool nicxi_taken_at(uint64_t at, const void **call, size_t *offset)
+bool nicxi_taken_name(const void *object, char *room, size_t size)
 {
-    const char *begin = nicxi_is_taken(at) ? begin_before((size_t)(at - nicxi_taken_from) / UNIT) : NULL;
-    if (!begin)
+    char where[MOST_NAMED];
+    struct source_line line;
+    const char *begin = nicxi_is_taken((uintptr_t)object) ? begin_before(unit_of(object)) : NULL;
+    if (!begin || !nicxi_lines(head_of(begin)->call, &line, 1))
         return false;
-    *call = head_of(begin)->call;
-    *offset = (size_t)(at - (uintptr_t)begin);
+    size_t offset = (size_t)((const char *)object - begin);
+    if (offset)
+        snprintf(room, size, "malloc(%.60s)+0x%zx", nicxi_line(head_of(begin)->call, where), offset);
+    else
+        snprintf(room, size, "malloc(%.60s)", nicxi_line(head_of(begin)->call, where));
     return true;
 }
 
@@ -198,7 +205,7 @@ static void fail_freed(const char *begin, const char *what, const void *call)
     const struct freed *it = freed_of(begin);
     fail("use after free: %.40s at %.90s %s freed%s%.40s%s%.50s; allocated at %.50s", name_of_self(),
          nicxi_line_now(call, here), what, it ? " by " : "", it ? freer_of(it) : "", it ? " at " : "",
-         it ? nicxi_line(it->call, where) : "", nicxi_line(head_of(begin)->call, there));
+         it ? nicxi_line_by(it->call, it->caller, where) : "", nicxi_line(head_of(begin)->call, there));
 }
 
 static void fail_twice(const char *begin, const char *verb, const void *call)
@@ -206,16 +213,17 @@ static void fail_twice(const char *begin, const char *verb, const void *call)
     char here[MOST_NAMED], there[MOST_NAMED], where[MOST_NAMED];
     const struct freed *it = freed_of(begin);
     fail("double free: %.40s %s at %.90s what %.40s freed%s%.50s; allocated at %.50s", name_of_self(), verb,
-         nicxi_line_now(call, here), it ? freer_of(it) : "was", it ? " at " : "", it ? nicxi_line(it->call, where) : "",
-         nicxi_line(head_of(begin)->call, there));
+         nicxi_line_now(call, here), it ? freer_of(it) : "was", it ? " at " : "",
+         it ? nicxi_line_by(it->call, it->caller, where) : "", nicxi_line(head_of(begin)->call, there));
 }
 
 static void fail_outside(const char *begin, uint64_t at, size_t length, bool writes, const void *call)
 {
     char here[MOST_NAMED], there[MOST_NAMED];
-    fail("out of bounds: %.40s at %.90s %s %zu bytes at offset %lld of %u bytes, allocated at %.50s", name_of_self(),
-         nicxi_line_now(call, here), writes ? "writes" : "reads", length, (long long)(at - (uintptr_t)begin),
-         (unsigned)head_of(begin)->size, nicxi_line(head_of(begin)->call, there));
+    uint32_t size = head_of(begin)->size;
+    fail("out of bounds: %.40s at %.90s %s %zu byte%s at offset %lld of %u byte%s, allocated at %.50s", name_of_self(),
+         nicxi_line_now(call, here), writes ? "writes" : "reads", length, nicxi_s(length),
+         (long long)(at - (uintptr_t)begin), (unsigned)size, nicxi_s(size), nicxi_line(head_of(begin)->call, there));
 }
 
 void nicxi_judge_taken(uint64_t at, size_t length, bool writes, const void *call)
@@ -225,7 +233,8 @@ void nicxi_judge_taken(uint64_t at, size_t length, bool writes, const void *call
     if (unit == UNITS || is_over())
         return;
     char *begin = units[unit] & FREED ? begin_before(unit) : nearest(at, unit);
-    snprintf(what, sizeof what, "%s %zu bytes that were", writes ? "writes" : "reads", length);
+    snprintf(what, sizeof what, "%s %zu byte%s that w%s", writes ? "writes" : "reads", length, nicxi_s(length),
+             length == 1 ? "as" : "ere");
     if (!begin)
         return;
     if (units[unit] & FREED)
@@ -255,8 +264,9 @@ static bool may_give(void *at, const char *verb, const void *call)
     if (is_begin(at))
         fail_twice(begin, verb, call);
     else
-        fail("bad free: %.40s %s at %.90s what begins %zu bytes into what was allocated at %.50s", name_of_self(), verb,
-             nicxi_line_now(call, here), (size_t)((char *)at - begin), nicxi_line(head_of(begin)->call, there));
+        fail("bad free: %.40s %s at %.90s what begins %zu byte%s into what was allocated at %.50s", name_of_self(),
+             verb, nicxi_line_now(call, here), (size_t)((char *)at - begin), nicxi_s((size_t)((char *)at - begin)),
+             nicxi_line(head_of(begin)->call, there));
     return false;
 }
 
@@ -303,7 +313,8 @@ static void give(void *at, const void *call)
     unsigned who = nicxi_alone            ? nicxi_number(nicxi_alone)
                    : nicxi_is_in_thread() ? nicxi_number(nicxi.self)
                                           : OUTSIDE_TASKS;
-    freed.list[(freed.first + freed.count++) % MOST_FREED] = (struct freed){at, call, (uint8_t)who};
+    freed.list[(freed.first + freed.count++) % MOST_FREED] =
+        (struct freed){at, call, nicxi_called_from(), (uint8_t)who};
     freed.bytes += piece_size(at);
 }
 

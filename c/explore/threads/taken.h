@@ -33,7 +33,7 @@ static inline void nicxi_look_at_taken(uint64_t at, size_t length, bool writes, 
         nicxi_judge_taken(at, length, writes, call);
 }
 
-/* Where an address of the piece was allocated, and how many bytes into that it is. False where it never was. */
-bool nicxi_taken_at(uint64_t at, const void **call, size_t *offset);
+/* An address of the piece, by where it was allocated: "malloc(driver.c:9)+0x8". False where that isn't known. */
+bool nicxi_taken_name(const void *object, char *room, size_t size);
 
 #endif

@@ -128,12 +128,13 @@ COPIES(__wrap)
 /* --- atomic operations --- */
 
 /* Others may act before it; what it looked at was so for long, where a loop does nothing else. */
-static void atomic_point(const volatile void *at, unsigned size, unsigned how, const void *call)
+static void atomic_point(const struct atomic *atomic, const void *call)
 {
+    unsigned how = atomic->kind == DO_LOAD ? READS : WRITES;
     if (nicxi_is_in_thread())
-        nicxi_memory_point(LOCAL_ATOMIC, (uintptr_t)at, size);
-    nicxi_look_at_taken((uintptr_t)at, size, how & WRITES, call);
-    nicxi_race_access((uintptr_t)at, size, how | ATOMIC, call);
+        nicxi_atomic_point(atomic);
+    nicxi_look_at_taken(atomic->at, atomic->size, how & WRITES, call);
+    nicxi_race_access(atomic->at, atomic->size, how | ATOMIC, call);
 }
 
 static void atomic_done(const volatile void *at, uint64_t old, bool changed)
@@ -159,16 +160,15 @@ static bool releases(int order)
 }
 
 /* The point before a store, and the store where it is late: whether it is. */
-static bool stores_late(volatile void *at, const void *value, unsigned size, int order, const void *call)
+static bool stores_late(volatile void *at, const void *value, const struct atomic *atomic, const void *call)
 {
-    bool is_late = may_be_late(at, order);
-    int slot = -1;
-    if (is_late)
-        slot = nicxi_store_point((uintptr_t)at, value, size, releases(order));
+    int slot = -1, order = atomic->order;
+    if (may_be_late(at, order))
+        slot = nicxi_store_point(atomic, value, releases(order));
     else if (nicxi_is_in_thread())
-        nicxi_memory_point(LOCAL_ATOMIC, (uintptr_t)at, size);
-    nicxi_look_at_taken((uintptr_t)at, size, true, call);
-    nicxi_race_access((uintptr_t)at, size, WRITES | ATOMIC, call);
+        nicxi_atomic_point(atomic);
+    nicxi_look_at_taken(atomic->at, atomic->size, true, call);
+    nicxi_race_access(atomic->at, atomic->size, WRITES | ATOMIC, call);
     if (slot >= 0) {
         nicxi_race_store_late(slot, order);
         nicxi_changed_memory();
@@ -187,10 +187,13 @@ static void before_exchange(volatile void *at, unsigned size, int order)
         nicxi_land_own((uintptr_t)at, size);
 }
 
-#define ATOMIC_EXCHANGE(bits, type, name, operation)                                                                   \
+#define ATOMIC_AT(kind, order, operand, expected)                                                                      \
+    (&(struct atomic){(uintptr_t)at, sizeof *at, kind, order, (uint64_t)(operand), (uint64_t)(expected)})
+
+#define ATOMIC_EXCHANGE(bits, type, name, kind, operation)                                                             \
     type __tsan_atomic##bits##_##name(volatile type *at, type value, int order)                                        \
     {                                                                                                                  \
-        atomic_point(at, sizeof *at, WRITES, HERE);                                                                    \
+        atomic_point(ATOMIC_AT(kind, order, value, 0), HERE);                                                          \
         before_exchange(at, sizeof *at, order);                                                                        \
         type old = *at, new = (type)(operation);                                                                       \
         nicxi_race_exchange((uintptr_t)at, order);                                                                     \
@@ -204,7 +207,7 @@ static void before_exchange(volatile void *at, unsigned size, int order)
     int __tsan_atomic##bits##_compare_exchange_##name(volatile type *at, type *expected, type value, int order,        \
                                                       int otherwise)                                                   \
     {                                                                                                                  \
-        atomic_point(at, sizeof *at, WRITES, HERE);                                                                    \
+        atomic_point(ATOMIC_AT(DO_COMPARE, order, value, *expected), HERE);                                            \
         before_exchange(at, sizeof *at, order);                                                                        \
         type old = *at;                                                                                                \
         bool is_equal = old == *expected;                                                                              \
@@ -222,7 +225,7 @@ static void before_exchange(volatile void *at, unsigned size, int order)
 #define ATOMIC_OF(bits, type)                                                                                          \
     type __tsan_atomic##bits##_load(const volatile type *at, int order)                                                \
     {                                                                                                                  \
-        atomic_point(at, sizeof *at, READS, HERE);                                                                     \
+        atomic_point(ATOMIC_AT(DO_LOAD, order, 0, 0), HERE);                                                           \
         nicxi_race_load((uintptr_t)at, order);                                                                         \
         type value = *at;                                                                                              \
         if (is_weak_here())                                                                                            \
@@ -232,20 +235,20 @@ static void before_exchange(volatile void *at, unsigned size, int order)
     }                                                                                                                  \
     void __tsan_atomic##bits##_store(volatile type *at, type value, int order)                                         \
     {                                                                                                                  \
-        if (stores_late(at, &value, sizeof value, order, HERE))                                                        \
+        if (stores_late(at, &value, ATOMIC_AT(DO_STORE, order, value, 0), HERE))                                       \
             return;                                                                                                    \
         nicxi_race_store((uintptr_t)at, order);                                                                        \
         bool changed = *at != value;                                                                                   \
         *at = value;                                                                                                   \
         atomic_done(at, (uint64_t)value, changed);                                                                     \
     }                                                                                                                  \
-    ATOMIC_EXCHANGE(bits, type, exchange, value)                                                                       \
-    ATOMIC_EXCHANGE(bits, type, fetch_add, old + value)                                                                \
-    ATOMIC_EXCHANGE(bits, type, fetch_sub, old - value)                                                                \
-    ATOMIC_EXCHANGE(bits, type, fetch_and, old &value)                                                                 \
-    ATOMIC_EXCHANGE(bits, type, fetch_or, old | value)                                                                 \
-    ATOMIC_EXCHANGE(bits, type, fetch_xor, old ^ value)                                                                \
-    ATOMIC_EXCHANGE(bits, type, fetch_nand, ~(old & value))                                                            \
+    ATOMIC_EXCHANGE(bits, type, exchange, DO_EXCHANGE, value)                                                          \
+    ATOMIC_EXCHANGE(bits, type, fetch_add, DO_ADD, old + value)                                                        \
+    ATOMIC_EXCHANGE(bits, type, fetch_sub, DO_SUB, old - value)                                                        \
+    ATOMIC_EXCHANGE(bits, type, fetch_and, DO_AND, old &value)                                                         \
+    ATOMIC_EXCHANGE(bits, type, fetch_or, DO_OR, old | value)                                                          \
+    ATOMIC_EXCHANGE(bits, type, fetch_xor, DO_XOR, old ^ value)                                                        \
+    ATOMIC_EXCHANGE(bits, type, fetch_nand, DO_NAND, ~(old & value))                                                   \
     ATOMIC_COMPARE(bits, type, strong)                                                                                 \
     ATOMIC_COMPARE(bits, type, weak)                                                                                   \
     type __tsan_atomic##bits##_compare_exchange_val(volatile type *at, type expected, type value, int order,           \
@@ -266,8 +269,11 @@ ATOMIC_OF(128, uint128)
 
 void __tsan_atomic_thread_fence(int order)
 {
+    static const char *const calls[] = {"atomic_thread_fence (relaxed)", "atomic_thread_fence (consume)",
+                                        "atomic_thread_fence (acquire)", "atomic_thread_fence (release)",
+                                        "atomic_thread_fence (acq_rel)", "atomic_thread_fence (seq_cst)"};
     if (nicxi_is_in_thread())
-        nicxi_call(READY, "atomic_thread_fence", NULL);
+        nicxi_call(READY, calls[order <= ALL ? order : ALL], NULL);
     nicxi_race_fence(order);
 }
 
@@ -284,13 +290,44 @@ void __tsan_init(void)
     nicxi_memory_open();
 }
 
+/* The calls that a task is in, the last one on top: each function says by which one it was called. */
+enum { MOST_CALLERS = 64 };
+
+static struct {
+    const char *at[MOST_CALLERS];
+    unsigned depth;
+} callers[MOST_THREADS + 1];
+
+static unsigned whose(void)
+{
+    return nicxi_alone ? nicxi_number(nicxi_alone) : nicxi.self ? nicxi_number(nicxi.self) : OUTSIDE;
+}
+
 void __tsan_func_entry(void *call)
 {
-    (void)call;
+    if (!nicxi_is_maker())
+        return;
+    unsigned depth = callers[whose()].depth++;
+    if (depth < MOST_CALLERS)
+        callers[whose()].at[depth] = call;
 }
 
 void __tsan_func_exit(void)
 {
+    if (nicxi_is_maker() && callers[whose()].depth)
+        callers[whose()].depth--;
+}
+
+const void *nicxi_called_from(void)
+{
+    unsigned depth = callers[whose()].depth;
+    return depth > 1 && depth <= MOST_CALLERS ? callers[whose()].at[depth - 1] - 1 : NULL;
+}
+
+void nicxi_forget_callers(void)
+{
+    for (unsigned k = 0; k <= MOST_THREADS; k++)
+        callers[k].depth = 0;
 }
 
 void __tsan_ignore_thread_begin(void)

@@ -3,6 +3,7 @@
 #define _GNU_SOURCE
 #include <errno.h>
 #include <semaphore.h>
+#include <stdio.h>
 #include <string.h>
 #include <time.h>
 
@@ -27,7 +28,9 @@ static bool may_wait(const struct thread *self, const char *call, const void *at
 /* --- condition variables: a signal may wake any of those that wait as it comes --- */
 
 struct cond {
-    unsigned signals; /* that nobody was woken by yet */
+    unsigned signals;        /* that nobody was woken by yet */
+    unsigned in_vain;        /* one more than the thread whose signal, the last one, woke nobody; or 0 */
+    const void *at, *caller; /* and where that was */
 };
 
 static struct cond *cond_of(pthread_cond_t *cond)
@@ -84,6 +87,7 @@ int nicxi_cond_wait(pthread_cond_t *cond, pthread_mutex_t *mutex, bool is_timed,
     task->object = cond;
     task->call = call;
     task->at = at;
+    task->caller = nicxi_called_from();
     task->is_lock = false;
     unsigned count = nicxi_mutex_give(self, mutex);
     nicxi_call_until(may_return, &waiting, is_timed, call, cond);
@@ -106,15 +110,40 @@ TURNED(int, pthread_cond_clockwait,
        (pthread_cond_t * cond, pthread_mutex_t *mutex, clockid_t clock, const struct timespec *until),
        (cond, mutex, clock, until), nicxi_cond_wait(cond, mutex, true, "pthread_cond_clockwait", HERE))
 
-/* So many of those that wait are woken. */
-int nicxi_cond_signal(pthread_cond_t *cond, bool is_all, const char *call)
+static unsigned waiting_at(const void *cond)
 {
-    struct thread *self = nicxi_caller();
     unsigned waiting = 0;
-    if (self)
-        nicxi_call(READY, call, cond);
     for (unsigned k = 0; k < MOST_THREADS; k++)
         waiting += nicxi_tasks[k].condition == cond;
+    return waiting;
+}
+
+bool nicxi_wakes_nobody(const char *call, const void *object)
+{
+    return (strstr(call, "_signal") || strstr(call, "_broadcast")) && !waiting_at(object);
+}
+
+const char *nicxi_vain_words(const struct task *task, char room[2 * MOST_NAMED])
+{
+    char where[MOST_NAMED];
+    const struct cond *cond = task->condition;
+    room[0] = 0;
+    if (cond && cond->in_vain)
+        snprintf(room, 2 * MOST_NAMED, "; %.40s signalled it at %.90s, and nobody waited",
+                 nicxi.threads[cond->in_vain - 1].name, nicxi_line_by(cond->at, cond->caller, where));
+    return room;
+}
+
+/* So many of those that wait are woken. */
+int nicxi_cond_signal(pthread_cond_t *cond, bool is_all, const char *call, const void *at)
+{
+    struct thread *self = nicxi_caller();
+    if (self)
+        nicxi_call(READY, call, cond);
+    unsigned waiting = waiting_at(cond);
+    cond_of(cond)->in_vain = waiting || !self ? 0 : nicxi_number(self) + 1;
+    cond_of(cond)->at = at;
+    cond_of(cond)->caller = nicxi_called_from();
     for (unsigned k = 0; k < MOST_THREADS; k++)
         nicxi_tasks[k].may_wake |= nicxi_tasks[k].condition == cond;
     if (is_all)
@@ -127,9 +156,10 @@ int nicxi_cond_signal(pthread_cond_t *cond, bool is_all, const char *call)
     return 0;
 }
 
-TURNED(int, pthread_cond_signal, (pthread_cond_t * cond), (cond), nicxi_cond_signal(cond, false, "pthread_cond_signal"))
+TURNED(int, pthread_cond_signal, (pthread_cond_t * cond), (cond),
+       nicxi_cond_signal(cond, false, "pthread_cond_signal", HERE))
 TURNED(int, pthread_cond_broadcast, (pthread_cond_t * cond), (cond),
-       nicxi_cond_signal(cond, true, "pthread_cond_broadcast"))
+       nicxi_cond_signal(cond, true, "pthread_cond_broadcast", HERE))
 
 int __real_pthread_cond_init(pthread_cond_t *cond, const pthread_condattr_t *how);
 int __wrap_pthread_cond_init(pthread_cond_t *cond, const pthread_condattr_t *how)

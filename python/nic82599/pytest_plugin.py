@@ -25,7 +25,7 @@ import re
 import sys
 import weakref
 from collections.abc import Generator, Iterator
-from typing import TYPE_CHECKING
+from typing import TYPE_CHECKING, Any
 
 import pytest
 
@@ -85,7 +85,7 @@ def shard_of(config: pytest.Config) -> tuple[int, int] | None:
     return shard
 
 
-def words_of(marker: pytest.Mark) -> dict[str, object]:
+def words_of(marker: pytest.Mark) -> dict[str, Any]:
     """The words of a marker, for `search`."""
     words = dict(marker.kwargs)
     if len(marker.args) > 1 or marker.args and "runs" in words:

@@ -183,10 +183,10 @@ class Scenario(Dma):
 
     def _who(self, run: Run | None, more: str = "") -> str:
         """Who accesses, and where, as scripts say it."""
-        is_task = run is not None and run.self is not None
-        place = f"at {place_of_call()}" if is_task else ""
+        thread = run.self if run else None
+        place = f"at {place_of_call()}" if thread else ""
         told = ", ".join(filter(None, (more, place)))
-        who = f"{'handler' if run.self.is_handler else 'task'} {run.self.name}" if is_task else "bring-up"
+        who = f"{'handler' if thread.is_handler else 'task'} {thread.name}" if thread else "bring-up"
         return f"{who}: {told}" if told else who
 
     # --- points ---
@@ -204,8 +204,8 @@ class Scenario(Dma):
         if run is None:
             return
         if is_change:
-            run.self.is_void = False
-            run.self.polls = 0
+            run.acting.is_void = False
+            run.acting.polls = 0
         run.changed()
         run.tell(words)
 
@@ -265,16 +265,16 @@ class Scenario(Dma):
         if run is None or run.memory is None or kind not in self.orders:
             return
         if kind == "writes":
-            run.release(run.self)
+            run.release(run.acting)
         else:
-            run.memory.acquired(run.self)
+            run.memory.acquired(run.acting)
 
     def _refused(self, run: Run | None, what: str, bus: int) -> None:
         """Memory that isn't lent: a failure, unless the scenario allows it; outside of a schedule it raises."""
         if run is None:
             raise NotLent(f"0x{bus:x} isn't lent")
         if "not lent" not in self.allowed:
-            run.failed("memory", f"{run.self.name} {what} 0x{bus:x}, which isn't lent")
+            run.failed("memory", f"{run.acting.name} {what} 0x{bus:x}, which isn't lent")
             run.stand()
 
     def _refuse_memory(self) -> None:
@@ -291,14 +291,14 @@ class Scenario(Dma):
         failure unless it is allowed."""
         data, note, run = None, "", self._run if self._run and self._run.self else None
         if run:
-            run.self.load = (bus, length)
+            run.acting.load = (bus, length)
         run = self._point()
         try:
             data, note = self._load(run, bus, length)
         except NotLent:
             note = " (not lent)"
         if run:
-            run.self.load = None
+            run.acting.load = None
         self._did(run, f"peek 0x{bus:05x}, {length} bytes{note}", False)
         if self._script and not note.startswith(","):
             self._script.peek(self._who(run), self._nic, bus, length)
@@ -312,7 +312,7 @@ class Scenario(Dma):
         """What is read, and what is said of it. NotLent."""
         if run is None or run.memory is None:
             return self._nic.memory.read(bus, length), ""
-        return run.memory.load(run.self, bus, length)
+        return run.memory.load(run.acting, bus, length)
 
     def _store(self, run: Run | None, bus: int, data: bytes) -> str:
         """What is said of a store. NotLent."""
@@ -346,7 +346,7 @@ class Scenario(Dma):
     def lend(self, block: int) -> None:
         run = self._point()
         if run:
-            run.release(run.self)
+            run.release(run.acting)
         self._nic.lend(block)
         self._moved(block)
         self._did(run, f"lend {block}")
@@ -356,7 +356,7 @@ class Scenario(Dma):
     def take(self, block: int) -> None:
         run = self._point()
         if run:
-            run.release(run.self)
+            run.release(run.acting)
         try:
             self._nic.take(block)
         except NotLent:
@@ -393,15 +393,15 @@ class Scenario(Dma):
     # --- barriers of weak memory: where memory is strong they do nothing, and are no points ---
 
     def _barrier(self, words: str, of_stores: bool, of_loads: bool) -> None:
-        if self._run is None or self._run.self is None or self._run.memory is None:
-            return
         run = self._run
+        if run is None or run.self is None or run.memory is None:
+            return
         run.stand()
-        count = run.release(run.self) if of_stores else 0
+        count = run.release(run.acting) if of_stores else 0
         if of_loads:
-            run.memory.acquired(run.self)
+            run.weak.acquired(run.acting)
         if count:
-            run.self.is_void = False
+            run.acting.is_void = False
         run.tell(f"{words}, {count} store{'s' * (count > 1)} ahead of it" if count else words)
 
     def wmb(self) -> None:
@@ -429,18 +429,20 @@ class Scenario(Dma):
                 run.stand()
         return run.choose_value(bound) if bound > 1 else 0
 
-    def _timer_point(self, timer: Thread, words: str) -> None:
-        if self._run is None or timer.within is None or timer not in self._run.threads:
+    def _timer_point(self, timer: Thread, words: str) -> Run:
+        """The run of a timer that is armed or disarmed, which is a point."""
+        run = self._run
+        if run is None or timer.within is None or timer not in run.threads:
             raise ValueError(f"{timer!r} is no timer of this schedule")
-        run = self._point()
-        if run:
-            run.self.is_void = False
+        if self._point():
+            run.acting.is_void = False
             run.tell(f"{words} {timer.name}")
+        return run
 
     def arm(self, timer: Thread) -> None:
         """Arms a timer, anew if it is armed: also in `begin`, where it is no point."""
-        self._timer_point(timer, "arms")
-        timer.pending, timer.due = True, len(self._run.result.points) + (timer.within or 0)
+        run = self._timer_point(timer, "arms")
+        timer.pending, timer.due = True, len(run.result.points) + (timer.within or 0)
 
     def disarm(self, timer: Thread) -> bool:
         """So that it doesn't fire: whether it was armed. A function that it started already isn't waited for."""
@@ -762,7 +764,7 @@ class _Plan:
         if self.jobs == 1:
             return share(searching, self.first_share, lambda _rank: is_late())
 
-        def work(mine: int, is_over: Over) -> tuple[Found | None, object]:
+        def work(mine: int, is_over: Over) -> tuple[Found | None, Coverage]:
             found = share(searching, self.first_share + mine, lambda rank: is_late() or is_over(rank))
             return found, searching.coverage
 
@@ -805,15 +807,14 @@ def check_hang(hang: object) -> None:
 
 def check_out(out: object) -> None:
     """BadWord where the files of a failure couldn't be written, which would be lost."""
-    is_path = isinstance(out, (str, os.PathLike))
-    if not is_path or not Path(out).is_dir() or not os.access(Path(out), os.W_OK):
+    if not isinstance(out, (str, os.PathLike)) or not Path(out).is_dir() or not os.access(Path(out), os.W_OK):
         raise BadWord(f"out: there is no such folder that can be written to: {out!r}")
 
 
 def check_shard(shard: object) -> None:
     """BadWord where it isn't (K, N): of N machines the K-th, from 1 on."""
     is_pair = isinstance(shard, tuple) and len(shard) == 2 and all(type(one) is int for one in shard)
-    if not is_pair or not 1 <= shard[0] <= shard[1] <= MOST_SHARDS:
+    if not isinstance(shard, tuple) or not is_pair or not 1 <= shard[0] <= shard[1] <= MOST_SHARDS:
         raise BadWord(f"shard: {shard!r} isn't (K, N), K of 1 to N and N of 1 to {MOST_SHARDS:,}")
 
 

@@ -104,6 +104,10 @@ class Thread:
     runs: threading.Thread | None = None
 
 
+# The thread of actors that have none: steps of the device, what comes from the link, values.
+NOBODY = Thread("nobody", lambda: None)
+
+
 @dataclass(eq=False)
 class Actor:
     """Who may act: `thread` goes on, or begins `on` another; else a step of the device, or what comes from the link; by
@@ -111,7 +115,7 @@ class Actor:
 
     name: str
     kind: str
-    thread: Thread | None = None
+    thread: Thread = NOBODY
     on: Thread | None = None
     of: int = 0
     is_idle: bool = False
@@ -121,7 +125,8 @@ class Actor:
 def place_of_call(frame: FrameType | None = None) -> str:
     """Where the driver called, in this thread or in that of a frame: "race.py:31"; of helpers "card.py:110 <
     race.py:42"."""
-    frame, found = frame or sys._getframe(1), []
+    found: list[str] = []
+    frame = frame or sys._getframe(1)
     while frame is not None and frame.f_code.co_filename.startswith(OWN_FILES):
         frame = frame.f_back
     while frame is not None and not frame.f_code.co_filename.startswith(OWN_FILES) and len(found) < MOST_CALLS:
@@ -159,6 +164,18 @@ class Run:
         self.self: Thread | None = None
         self.is_over = self.is_cut = self.is_running = False
         self.main = threading.Lock()
+
+    @property
+    def acting(self) -> Thread:
+        """The thread that runs, for those that it calls: there is one."""
+        assert self.self is not None
+        return self.self
+
+    @property
+    def weak(self) -> WeakMemory:
+        """Memory where it is weak, for what there is only then."""
+        assert self.memory is not None
+        return self.memory
 
     def failed(self, outcome: str, words: str) -> None:
         """Notes what is wrong, if nothing was before."""
@@ -224,11 +241,11 @@ class Run:
         if actor.kind == "arrive":
             return self.next_frame < len(self.frames)
         if actor.kind == "store":
-            return self.memory.can_land(actor.thread, actor.of)
+            return self.weak.can_land(actor.thread, actor.of)
         if actor.kind == "older":
             thread = actor.thread
             can_go_on = thread.state == "ready" and thread.interrupted_by is None
-            return can_go_on and self.memory.time_before(thread, actor.of) is not None
+            return can_go_on and self.weak.time_before(thread, actor.of) is not None
         return self.next_link < len(self.links) if actor.kind == "link" else not actor.is_idle
 
     def able(self) -> list[Actor]:
@@ -333,9 +350,9 @@ class Run:
 
     def _land(self, actor: Actor) -> str:
         """A store reaches memory."""
-        bus, data = self.memory.processors[actor.thread.name].stores[actor.of]
+        bus, data = self.weak.processors[actor.thread.name].stores[actor.of]
         try:
-            self.memory.land(actor.thread, actor.of)
+            self.weak.land(actor.thread, actor.of)
         except NotLent:
             if "not lent" not in self.scenario.allowed:
                 words = f"a store of {actor.thread.name} reaches 0x{bus:x}, which isn't lent any more"
@@ -431,7 +448,8 @@ class Run:
         except Exception as fault:  # noqa: BLE001
             self.failed("crash", f"{thread.name}: {type(fault).__name__}: {fault}")
         if thread.on is not None:
-            thread.on.interrupted_by = thread.on = None
+            thread.on.interrupted_by = None
+            thread.on = None
         thread.state = "off"
         if not self.is_over:
             self._note_act(thread)
@@ -492,7 +510,7 @@ class Run:
 
     def stand(self, state: str = "ready") -> None:
         """A point of the thread that runs: others may act before it goes on."""
-        thread = self.self
+        thread = self.acting
         thread.next, thread.state = state, state
         self._note_act(thread)
         self.look()
@@ -519,11 +537,11 @@ class Run:
 
     def store(self, bus: int, data: bytes) -> bool:
         """Whether a store is on its way; the oldest of too many reaches memory. NotLent."""
-        is_full = self.memory.is_full(self.self)
-        oldest = self.memory.oldest(self.self) if is_full else None
-        is_kept = self.memory.store(self.self, bus, data)
+        thread, memory = self.acting, self.weak
+        oldest = memory.oldest(thread) if memory.is_full(thread) else None
+        is_kept = memory.store(thread, bus, data)
         if oldest and self.scenario._script:
-            self.scenario._script.poke(f"store {self.self.name} 0", self.nic, *oldest)
+            self.scenario._script.poke(f"store {thread.name} 0", self.nic, *oldest)
         return is_kept
 
     def release(self, thread: Thread) -> int:
@@ -533,8 +551,9 @@ class Run:
         except NotLent:
             self.failed("memory", f"a store of {thread.name} reaches memory that isn't lent any more")
             self.stand()
-        for bus, length in landed if self.scenario._script else ():
-            self.scenario._script.poke(f"store {thread.name} 0", self.nic, bus, length)
+        if script := self.scenario._script:
+            for bus, length in landed:
+                script.poke(f"store {thread.name} 0", self.nic, bus, length)
         return len(landed)
 
     def polled(self, what: str, got: str) -> None:

@@ -11,6 +11,7 @@ import traceback
 from collections.abc import Callable
 from dataclasses import dataclass
 
+from .coverage import Coverage
 from .engine import Result
 
 NONE = (1 << 63) - 1
@@ -26,7 +27,7 @@ class Found:
 
 
 Over = Callable[[int], bool]
-Work = Callable[[int, Over], tuple[Found | None, object]]
+Work = Callable[[int, Over], tuple[Found | None, Coverage]]
 
 
 class _Shared:
@@ -70,7 +71,7 @@ def _ended(status: int, rank: int, told: str) -> Found:
     return Found(rank, Result("crash", words), f"{told} {rank}")
 
 
-def searched(jobs: int, work: Work, told: str) -> tuple[Found | None, list[object]]:
+def searched(jobs: int, work: Work, told: str) -> tuple[Found | None, list[Coverage]]:
     """What so many processes find, and what each saw. `told` is said of a rank whose process ended without a word."""
     if not hasattr(os, "fork"):
         raise ValueError("jobs: this system has no fork, so one process searches")
@@ -102,4 +103,4 @@ def searched(jobs: int, work: Work, told: str) -> tuple[Found | None, list[objec
         for process in filter(None, processes):
             os.kill(process, signal.SIGKILL)
             os.waitpid(process, 0)
-    return min(found, key=lambda one: one.rank, default=None), seen
+    return min(found, key=lambda one: one.rank) if found else None, seen

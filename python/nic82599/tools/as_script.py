@@ -72,7 +72,8 @@ def _history(recording: Recording, made: Made) -> list[int]:
     here: Past | None = None
     kept: dict[str, Past | None] = {}
     at = 0
-    for number, words in [*recording.directives, (len(recording.lines), [])]:
+    last: tuple[int, list[str]] = (len(recording.lines), [])
+    for number, words in [*recording.directives, last]:
         while at < len(recording.line_of) and recording.line_of[at] <= number:
             here = Past(at, here)
             at += 1

@@ -118,7 +118,7 @@ def _step(nic: Nic, one: Instruction) -> str:
     return "done" if done else "idle"
 
 
-REFUSALS = {
+REFUSALS: dict[type[Exception], str] = {
     nic82599.NotLent: "not lent", nic82599.NoBlock: "no block", nic82599.NoQueue: "no queue",
     nic82599.NoGroup: "no group",
 }  # fmt: skip
@@ -197,7 +197,10 @@ class Library(Bench):
     def run(self, script: str, limit: int) -> list[str]:
         self.nic.restore(self.kept)
         self._moved()
-        lines, names, data = [], {}, []
+        lines: list[list[str]] = []
+        names: dict[str, int] = {}
+        data: list[bytes] = []
+        printed: list[str] = []
         for line in script.splitlines():
             words = line.split()
             if words[0] == "data":
@@ -207,7 +210,7 @@ class Library(Bench):
                 names[words[0][:-1]] = len(lines)
             else:
                 lines.append(words)
-        instructions, printed, at = [instruction(words, names) for words in lines], [], 0
+        instructions, at = [instruction(words, names) for words in lines], 0
         for _ in range(limit):
             if at == len(instructions):
                 return [*printed, f"ok {len(printed)}"]
@@ -255,7 +258,8 @@ class Place:
 
     def answers(self, commands: list[str]) -> list[str]:
         """What these commands print, from the first step on."""
-        at, breaks, lines = 0, set(), []
+        at, breaks = 0, set[int]()
+        lines: list[str] = []
         for command in commands:
             name, *words = command.split()
             numbers = [int(word, 0) for word in words]

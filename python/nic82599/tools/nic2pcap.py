@@ -105,8 +105,8 @@ def of_printed(given: argparse.Namespace) -> int:
 
 
 def main() -> int:
-    how = {"description": called(__doc__ or ""), "formatter_class": argparse.RawDescriptionHelpFormatter}
-    parser = argparse.ArgumentParser(prog=called("tools/nic2pcap"), **how)
+    described, form = called(__doc__ or ""), argparse.RawDescriptionHelpFormatter
+    parser = argparse.ArgumentParser(prog=called("tools/nic2pcap"), description=described, formatter_class=form)
     parser.add_argument("out", metavar="OUT")
     parser.add_argument("run", metavar="RUN", nargs="?")
     parser.add_argument("--queue", type=int, metavar="Q", help="take the frames of this queue alone")

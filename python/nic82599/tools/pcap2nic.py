@@ -38,8 +38,8 @@ def chosen(frames: Iterable[bytes], first: int, count: int | None) -> Iterator[t
 
 
 def arguments() -> argparse.Namespace:
-    how = {"description": called(__doc__ or ""), "formatter_class": argparse.RawDescriptionHelpFormatter}
-    parser = argparse.ArgumentParser(prog=called("tools/pcap2nic"), **how)
+    described, form = called(__doc__ or ""), argparse.RawDescriptionHelpFormatter
+    parser = argparse.ArgumentParser(prog=called("tools/pcap2nic"), description=described, formatter_class=form)
     parser.add_argument("file", metavar="FILE")
     first = "the number of the first frame that is taken (1)"
     parser.add_argument("--first", type=int, default=1, metavar="N", help=first)

@@ -237,7 +237,8 @@ def read(path: str, raw: Source | bytes) -> Recording:
     head = HEAD.fullmatch(next(each, ""))
     if not head:
         raise Fault(f"{path}:1: it has no whole first line: a recording begins as `#: nic vfs 0 fifo 64 blocks 256`")
-    made = Recording(path, lines, *(int(one) for one in head.groups()), Events(lines), Data(lines))
+    vfs, fifo, blocks = map(int, head.groups())
+    made = Recording(path, lines, vfs, fifo, blocks, Events(lines), Data(lines))
     _take(made, each)
     return made
 
@@ -344,7 +345,7 @@ class Held:
     def size(self) -> int:
         return self.lent + self.waiting + self.out
 
-    def follow(self, one: Instruction, reply: str, data: list[bytes]) -> None:
+    def follow(self, one: Instruction, reply: str, data: Sequence[bytes]) -> None:
         """Takes in an instruction."""
         if one.op == Op.LEND and reply == "done":
             self.lent += BLOCK_BYTES * len(one.blocks)
@@ -412,7 +413,8 @@ class Player:
         """Makes what isn't shown."""
         made, at = self.recording, 0
         directives = [one for one in made.directives if one[0] <= made.begin]
-        for number, words in [*directives, (made.begin, [])]:
+        last: tuple[int, list[str]] = (made.begin, [])
+        for number, words in [*directives, last]:
             end = min(bisect_right(made.line_of, number), made.before)
             self._events(at, end)
             at = end

@@ -8,7 +8,7 @@ import os
 import re
 import sys
 from collections.abc import Callable, Iterator
-from typing import IO, Any, NoReturn, cast
+from typing import Any, NoReturn, TextIO, cast
 
 from .. import places
 from ..version import VERSION
@@ -95,7 +95,7 @@ def ended(main: Callable[[], int], name: str, unwritten: int = 2) -> int:
 def printable_output() -> Iterator[None]:
     """What is printed may come from a file: nothing of it acts on a terminal."""
     former = sys.stdout, sys.stderr
-    sys.stdout, sys.stderr = (cast("IO[str]", Printable(it) if it else it) for it in former)
+    sys.stdout, sys.stderr = (cast("TextIO", Printable(it) if it else it) for it in former)
     try:
         yield
     finally:

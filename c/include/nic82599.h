@@ -323,13 +323,15 @@ uint8_t nic_next_step(nic *n, nic_settling *where, nic_told *told);
    values, as tools/niclint --trace does: "rx 3: RDH[3] 0, RDT[3] 0: head and tail meet, no slot is the device's until
    the driver moves the tail". No text: nothing waits, and nothing was dropped. What was sent waits no more; frames that
    were dropped are counted by what dropped them, since the controller was made or a snapshot was restored into it. A
-   queue that a fault switched off has its reason as long as the slot is there. Of an address that isn't lent, and is a
-   pointer into memory of the caller's that is, the text says which bus address it stands for. As snprintf it writes at
-   most `size` bytes with the 0 after them, and returns how long the whole text is without it; a line that has no room
-   as a whole isn't written, and none after it. `size` may be 0. A closed controller has none. Nothing changes.
-   Registers don't show which frames wait, what was asked of a queue, and what was reported: this is found out on a copy
-   of the controller, which takes memory as a snapshot and a restored one do, 4,096 bytes for each lent block, for the
-   time of the call. Without that memory the last line says so, and those that need it are missing. */
+   queue that a fault switched off has its reason as long as the slot is there. A transmit ring at rest has one where
+   its last descriptor ends a frame by the type of a context, or no descriptor has RS. Of an address that isn't lent,
+   and is a pointer into memory of the caller's that is, the text says which bus address it stands for.
+   As snprintf it writes at most `size` bytes with the 0 after them, and returns how long the whole text is without it;
+   a line that has no room as a whole isn't written, and none after it. `size` may be 0. A closed controller has none.
+   Nothing changes. Registers don't show which frames wait, what was asked of a queue, and what was reported: this is
+   found out on a copy of the controller, which takes memory as a snapshot and a restored one do, 4,096 bytes for each
+   lent block, for the time of the call. Without that memory the last line says so, and those that need it are
+   missing. */
 size_t nic_why(nic *n, char *text, size_t size);
 
 /* --- the EEPROM --- */

@@ -208,6 +208,34 @@ static void tx_slots(struct nicd_why *it, const struct nicd_ring *ring, uint16_t
             return;
 }
 
+static bool is_type(nic_desc d, uint64_t kind)
+{
+    return d.second & NIC_TXD_DEXT && nic_desc_field(d.second, NIC_TXD_DTYP) == kind;
+}
+
+/* Whether no descriptor of a ring asks for a report, and none has one. */
+static bool has_no_report(struct nicd_why *it, const struct nicd_ring *ring)
+{
+    nic_desc d;
+    for (uint32_t slot = 0; slot < ring->slots; slot++)
+        if (!read_slot(it, ring, slot, &d) || d.second & (NIC_TXD_RS | NIC_TXWB_DD))
+            return false;
+    return true;
+}
+
+/* The device is through with all slots: what of the last one has a driver wait for what never comes. */
+static void tx_last(struct nicd_why *it, const struct nicd_ring *ring, uint16_t queue)
+{
+    uint32_t last = (ring->head ? ring->head : ring->slots) - 1;
+    nic_desc d;
+    if (!is_on(it, NICD_TX, queue) || !read_slot(it, ring, last, &d) || !(d.second & NIC_TXD_EOP))
+        return;
+    if (is_type(d, 2)) /* EOP is reserved in a context descriptor */
+        nicd_why_tx_context(it, last);
+    else if (is_type(d, 3) && has_no_report(it, ring))
+        nicd_why_tx_no_report(it, queue);
+}
+
 static void tx_switch(struct nicd_why *it, uint16_t queue)
 {
     bool is_wanted = it->inside.is_wanted[NICD_TX][queue];
@@ -238,6 +266,8 @@ static void tx_queue(struct nicd_why *it, uint16_t queue, bool sends)
         return;
     is_outside |= nicd_why_tx_head_outside(it, queue);
     is_outside |= nicd_why_tx_tail_outside(it, queue);
+    if (!is_outside && ring.head == ring.tail)
+        tx_last(it, &ring, queue);
     if (is_outside || ring.head == ring.tail)
         return;
     if (pool && FIELD(NIC_VT_CTL, NIC_VT_CTL_VT_ENA))

@@ -37,6 +37,7 @@ import nic82599.frames  # noqa: E402
 import nic82599.tools.printable  # noqa: E402
 import packing  # noqa: E402
 import report_card  # noqa: E402
+import telling  # noqa: E402
 import together  # noqa: E402
 import weak_memory  # noqa: E402
 import why_nothing  # noqa: E402
@@ -94,6 +95,7 @@ def main() -> None:
     print(f"{units(ends)} tests of how tools end")
     print(f"{units(files_by_others)} tests of files that others made")
     print(f"{units(why_nothing)} tests of why nothing happens")
+    print(f"{units(telling)} tests of what is reported as it happens")
     made = answers = 0
     with tempfile.TemporaryDirectory() as folder:
         for batch in range(given.batches):

@@ -13,6 +13,7 @@ import shutil
 import subprocess
 import sys
 import xml.etree.ElementTree
+from collections.abc import Sequence
 from dataclasses import dataclass, replace
 from pathlib import Path
 from typing import Any
@@ -362,6 +363,8 @@ ADAPTER_FOLDER = C / "examples/adapter"
 MISTAKES: list[tuple[str, str, list[str], str]] = [
     ("    os_write32(RXCTRL, 1);\n", "", [], r"RXCTRL\.RXEN 0: receiving is off"),
     ("    os_write32(RDT0, slot);\n", "", [], r"rx 0: RDH\[0\] 63, RDT\[0\] 63: head and tail meet"),
+    ("TX_DATA (3u << 20", "TX_DATA (2u << 20", [], r"tx 0: slot 6: the descriptor's DTYP is 2, a context"),
+    ("1u << 25 | 1u << 27)", "1u << 25)", [], r"tx 0: TDH\[0\] 63: no descriptor of the ring has RS"),
 ]
 # Whose write it was: the proved library has no tables to unwind by, so the stack may end at its first function.
 SANITIZER_SAYS = r"use-after-poison .*\nWRITE of size (.*\n)*? +#\d+ .* in (nicd_rx_step|nic_device::)"
@@ -380,14 +383,23 @@ OPENED = """    if (nic_open(&n, 0, 64, BLOCKS) != NIC_DONE)
 """
 
 
-def adapter(kit: Kit, old: str = "", new: str = "", *flags: str, opened: str = "") -> Path:
-    """The program of examples/adapter, with a change of its driver, and more lines where its run opens the bench."""
+def changed_driver(changes: Sequence[tuple[str, str]]) -> str:
+    """The driver of examples/adapter with other words in it."""
+    text = (ADAPTER_FOLDER / "driver.c").read_text()
+    for old, new in changes:
+        if old not in text:
+            raise Wrong(f"c/examples/adapter/driver.c has no {old!r}")
+        text = text.replace(old, new) if old else text
+    return text
+
+
+def adapter(
+    kit: Kit, old: str = "", new: str = "", *flags: str, opened: str = "", more: Sequence[tuple[str, str]] = ()
+) -> Path:
+    """The program of examples/adapter, with changes of its driver, and more lines where its run opens the bench."""
     folder, program = kit.folder / "adapter", kit.folder / "adapter-program"
     shutil.copytree(ADAPTER_FOLDER, folder, dirs_exist_ok=True)
-    text = (folder / "driver.c").read_text()
-    if old not in text:
-        raise Wrong(f"c/examples/adapter/driver.c has no {old!r}")
-    (folder / "driver.c").write_text(text.replace(old, new) if old else text)
+    (folder / "driver.c").write_text(changed_driver([(old, new), *more]))
     glue = (folder / "glue.c").read_text()
     if OPENS not in glue:
         raise Wrong(f"c/examples/adapter/glue.c has no {OPENS!r}")
@@ -411,6 +423,28 @@ def check_address(kit: Kit) -> None:
         raise Wrong("examples/adapter with port.md's EEPROM image prints something else than adapter.out")
 
 
+# The driver's rings and buffers in one piece, which the glue gives it.
+ONE_PIECE = (
+    ('#include "os.h"\n', f'#include "os.h"\n#include "{HERE}/tests/one_piece.h"\n'),
+    (
+        "    slots = wanted;\n",
+        "    slots = wanted;\n"
+        "    if (!open_piece(slots * sizeof *rx.slots, 2 * slots * sizeof *rx.pool.packets))\n        return false;\n",
+    ),
+    ("(&tx);\n}\n\nvoid driver_rearm", "(&tx);\n    close_piece();\n}\n\nvoid driver_rearm"),
+)
+
+
+def check_one_piece(kit: Kit) -> str:
+    """A driver whose rings and buffers are one piece of memory, as port.md has it of static ones: its run, and rows of
+    its card."""
+    program = adapter(kit, more=ONE_PIECE)
+    if ran([program]) != (ADAPTER_FOLDER / "adapter.out").read_text():
+        raise Wrong("examples/adapter with its memory in one piece prints something else than adapter.out")
+    rows = none_failed(kit.card(program, None, "--rows", "receive,send,open,memory", "--runs", 2, "--every", 2))
+    return f"{sum(row['state'] == 'passed' for row in rows)} rows with its memory in one piece"
+
+
 def check_adapter(kit: Kit, sanitized: list[str] | None) -> str:
     """The example with one adapter for both: it runs, records and says why nothing comes, and has its card; a
     sanitizer finds what the device writes where no buffer is."""
@@ -418,6 +452,7 @@ def check_adapter(kit: Kit, sanitized: list[str] | None) -> str:
         raise Wrong("examples/adapter prints something else than adapter.out")
     rows = none_failed(kit.card(kit.folder / "adapter-program", None, "--runs", 2, "--every", 2))
     check_address(kit)
+    one_piece = check_one_piece(kit)
     for old, new, flags, wanted in MISTAKES:
         told(ran([adapter(kit, old, new, *flags)], 1), wanted, f"examples/adapter with {new or flags}")
     if sanitized:
@@ -426,7 +461,7 @@ def check_adapter(kit: Kit, sanitized: list[str] | None) -> str:
         for old, new, flags, wanted in MISTAKES_SANITIZED:
             told(ran([adapter(own, old, new, *flags), "500"], 1), wanted, f"examples/adapter with {new or flags}")
     passed = sum(row["state"] == "passed" for row in rows)
-    return f"examples/adapter runs, and passes {passed} rows" + (", sanitized too" if sanitized else "")
+    return f"examples/adapter runs, and passes {passed} rows, {one_piece}" + (", sanitized too" if sanitized else "")
 
 
 # Rows that a driver which does nothing comes through without a failure, and what is said of it there.

@@ -17,7 +17,7 @@ from nic82599.tools.draw import State, ring_lines
 from nic82599.tools.library import Place, played
 from nic82599.tools.lines import Source
 from nic82599.tools.page import Data
-from nic82599.tools.recording import Player, cut, of_recording, read
+from nic82599.tools.recording import Player, cut, in_place, of_recording, read
 from nic82599.tools.regs import REGISTERS
 from nic82599.tools.run import Run, of_script
 from nic82599.tools.script import Bench, Fault, Op, Refused, load
@@ -458,6 +458,12 @@ def check_in_place(folder: Path, expect: Expect) -> None:
         expect(forms[-1] == ["not read"] * 2 + ["written back", *waits], f"{limit} events in place: {forms[-1]}")
         strip = ring_lines(next(iter(state.rings())), state)[2].strip()
         expect(strip == "dd+DDDDd", f"{limit} events in place: the strip is {strip}")
+    one = folder / "one_block.recording"
+    with recorded(one, blocks=16) as nic:
+        nic.memory.lend(0x2800, bytearray(2_048))
+    blocks = in_place(read(str(one), one.read_bytes()))
+    expect(blocks == {5}, f"a piece of one block in place is {blocks}")
+    check_tool(["nicview", one, "--text"], "", 0, ["lend 5"], expect)
     file = folder / "bad.recording"
     file.write_text(HEAD + "#: in place 5 to 4\nrx # idle\n")
     check_tool(["nicview", file, "--text"], "", 2, [":2: this is no line of a recording"], expect)

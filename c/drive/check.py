@@ -8,6 +8,7 @@ from __future__ import annotations
 
 import ast
 import json
+import os
 import re
 import shutil
 import subprocess
@@ -445,6 +446,13 @@ def check_one_piece(kit: Kit) -> str:
     return f"{sum(row['state'] == 'passed' for row in rows)} rows with its memory in one piece"
 
 
+def check_recorded(kit: Kit) -> None:
+    """A recording of the example is a page, as port.md makes it."""
+    recording = kit.folder / "adapter.rec"
+    ran([adapter(kit), "20"], env={**os.environ, "NIC82599_RECORD": str(recording)})
+    ran([C.parent / "tools/nicview", recording, "-o", recording.with_suffix(".html")])
+
+
 def check_adapter(kit: Kit, sanitized: list[str] | None) -> str:
     """The example with one adapter for both: it runs, records and says why nothing comes, and has its card; a
     sanitizer finds what the device writes where no buffer is."""
@@ -452,6 +460,7 @@ def check_adapter(kit: Kit, sanitized: list[str] | None) -> str:
         raise Wrong("examples/adapter prints something else than adapter.out")
     rows = none_failed(kit.card(kit.folder / "adapter-program", None, "--runs", 2, "--every", 2))
     check_address(kit)
+    check_recorded(kit)
     one_piece = check_one_piece(kit)
     for old, new, flags, wanted in MISTAKES:
         told(ran([adapter(kit, old, new, *flags)], 1), wanted, f"examples/adapter with {new or flags}")

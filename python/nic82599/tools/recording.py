@@ -307,8 +307,9 @@ def in_place(made: Recording) -> set[int]:
     blocks: set[int] = set()
     for number, words in made.directives:
         if words[:2] == ["in", "place"]:
+            which = words[2:3] if words[3:] == ["to", *words[2:3]] else words[2:]  # (one block is `5 to 5`)
             try:
-                blocks.update(instruction(["lend", *words[2:]], {}).blocks)
+                blocks.update(instruction(["lend", *which], {}).blocks)
             except BAD as fault:
                 raise made.fault(number, fault) from None
     return blocks

@@ -10,7 +10,7 @@
 #include "in_place.h"
 #endif
 #ifdef ALIASES
-#include "../tests/aliases.h" /* registers are written at another of their addresses, where they have one */
+#include "../tests/aliases.h" /* registers are read and written at another of their addresses, where they have one */
 #endif
 
 enum bug {

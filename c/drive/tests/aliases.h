@@ -1,5 +1,5 @@
-/* Where a register has another address, a driver that includes this writes it there: what the card says of a driver
-   must not depend on which of its addresses the driver takes. */
+/* Where a register has another address, a driver that includes this reads and writes it there: what the card says of a
+   driver must not depend on which of its addresses the driver takes. */
 #ifndef DRIVE_ALIASES_H
 #define DRIVE_ALIASES_H
 
@@ -23,7 +23,7 @@ static inline uint32_t other_of_low(uint32_t address, uint32_t word)
     return address;
 }
 
-static inline uint32_t other_address(uint32_t address, uint32_t word)
+static inline uint32_t other_address(uint32_t address)
 {
     address = other_in(address, NIC_CTRL, 4, 1, 0x00004, 4);
     address = other_in(address, NIC_SRRCTL(0), 0x40, 16, 0x02100, 4);
@@ -32,10 +32,10 @@ static inline uint32_t other_address(uint32_t address, uint32_t word)
     address = other_in(address, NIC_MRQC, 4, 1, 0x0EC80, 4);
     address = other_in(address, NIC_RETA(0), 4, 32, 0x0EB00, 4);
     address = other_in(address, NIC_RSSRK(0), 4, 10, 0x0EB80, 4);
-    address = other_in(address, NIC_PSRTYPE(0), 4, 16, 0x05480, 4);
-    return other_of_low(address, word);
+    return other_in(address, NIC_PSRTYPE(0), 4, 16, 0x05480, 4);
 }
 
-#define nicx_write32(address, word) nicx_write32(other_address(address, word), word)
+#define nicx_read32(address) nicx_read32(other_address(address))
+#define nicx_write32(address, word) nicx_write32(other_of_low(other_address(address), word), word)
 
 #endif

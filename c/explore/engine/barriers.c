@@ -42,21 +42,27 @@ void nicx_mb(void)
     stand_at(LOCAL_MB, true, true);
 }
 
+/* During what is a point by itself nobody else acts: so what the driver stored by pointers waits for its next call. */
+static bool is_order_here(void)
+{
+    return nicxi_may_order() && nicxi.self && nicxi.is_weak;
+}
+
 void nicxi_drain(void)
 {
-    if (is_barrier_here() && nicxi_released(nicxi.self))
+    if (is_order_here() && nicxi_released(nicxi.self))
         nicxi.self->is_void = false;
 }
 
 /* For what is a point by itself: an atomic operation, a lock of another kind. */
 void nicx_release(void)
 {
-    if (is_barrier_here())
+    if (is_order_here())
         nicxi_ordered(nicxi.self);
 }
 
 void nicx_acquire(void)
 {
-    if (is_barrier_here())
+    if (is_order_here())
         nicxi_acquired(nicxi.self);
 }

@@ -57,6 +57,7 @@ struct step {
     bool is_beside;      /* no point of its own: a store that a barrier has reach memory */
     bool is_kept;        /* by weak memory: a store that is pending; a load that gives such stores of its own */
     bool is_own;         /* of a store that reaches memory: it is of the driver's own */
+    bool is_published;   /* a store by a pointer, which was an access when it was made (nicxi_write_from) */
     uint8_t older;       /* by weak memory: a load of a value before so many changes of it */
     uint16_t of;         /* a queue, a group, a frame, a change of the link; of a value, a store: a thread */
     uint32_t address;    /* of a register, among a function's own its offset; a block that is lent or taken */
@@ -235,6 +236,8 @@ struct engine {
     bool knows_memory;      /* each access of the driver's own memory is told (nicxi_touched) */
     bool is_program;        /* the first task is a whole program, which makes the device's steps itself */
     bool loads_unseen; /* the driver reads lent memory by pointers too, which is no step (c/drive/engine/in_place.c) */
+    /* Whether such memory lies at an address, and then its address on the bus; null: there is none. */
+    bool (*in_place)(uint64_t at, uint64_t *bus);
 
     /* The device (device.c). */
     nic device;
@@ -294,8 +297,11 @@ void nicxi_failed(uint8_t outcome, const char *form, ...);
 /* The schedule has failed: a thread that runs is left where it is, and doesn't go on. This returns where no thread
    runs, and in a thread that is left (left.h): then the caller returns too. */
 void nicxi_leave(void);
-/* Whether a call that acts may be made: not by what may only look, which fails. */
+/* Whether a call that acts may be made: not by what may only look, which fails. The driver's stores by pointers come
+   first, so others may act. */
 bool nicxi_may_act(void);
+/* The same of a call that only orders, during a point: nobody acts. */
+bool nicxi_may_order(void);
 /* The driver's stores by pointers so far are made, each at a point: where a scenario has such (`publish`). */
 void nicxi_publish(void);
 /* Such a store: as nicx_dma_write, of what the source says at the time. */

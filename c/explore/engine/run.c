@@ -103,19 +103,25 @@ void nicxi_publish(void)
         nicxi.publish();
 }
 
-bool nicxi_may_act(void)
+bool nicxi_may_order(void)
 {
     if (maker != &mark && nicxi.phase != CLOSED)
         nicxi_refuse_thread();
     if (nicxi_is_left())
         return false;
-    if (!nicxi.asker) {
-        nicxi_publish();
-        return !nicxi_is_left();
-    }
+    if (!nicxi.asker)
+        return true;
     nicxi_failed(NICX_MISUSE, "%s makes a call that acts: it may only look", nicxi.asker);
     nicxi_leave();
     return false;
+}
+
+bool nicxi_may_act(void)
+{
+    if (!nicxi_may_order())
+        return false;
+    nicxi_publish();
+    return !nicxi_is_left();
 }
 
 /* --- after a step --- */

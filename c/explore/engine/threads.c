@@ -92,8 +92,9 @@ bool nicxi_others_acted(const struct thread *thread)
 
 /* --- points without an access --- */
 
-/* False where the thread is left, or none runs. */
-static bool stand(enum thread_state state, enum local local)
+/* False where the thread is left, or none runs. The driver's stores by pointers come first, which are steps of their
+   own: so what this one is about is set after them. */
+static bool stand_at(enum thread_state state, enum local local, const void *object)
 {
     if (!nicxi_may_act())
         return false;
@@ -105,6 +106,7 @@ static bool stand(enum thread_state state, enum local local)
     }
     self->next.kind = STEP_LOCAL;
     self->next.word = (uint32_t)local;
+    self->next.bus = (uintptr_t)object;
     self->state = (uint8_t)state;
     nicxi_next(self);
     if (nicxi_is_left())
@@ -114,6 +116,11 @@ static bool stand(enum thread_state state, enum local local)
         self->is_void = false;
     nicxi_told(&self->next);
     return true;
+}
+
+static bool stand(enum thread_state state, enum local local)
+{
+    return stand_at(state, local, NULL);
 }
 
 void nicx_point(void)
@@ -158,8 +165,7 @@ void nicxi_call(enum thread_state state, const char *call, const void *object)
         return;
     self->waits = NULL;
     self->next.call = call;
-    self->next.bus = (uintptr_t)object;
-    stand(state, LOCAL_CALL);
+    stand_at(state, LOCAL_CALL, object);
 }
 
 void nicxi_call_until(bool (*condition)(void *), void *argument, bool timed, const char *call, const void *object)
@@ -236,8 +242,7 @@ void nicx_lock(nicx_mutex *lock)
     if (!nicxi_may_act() || !self)
         return;
     self->lock = lock;
-    self->next.bus = (uint64_t)(uintptr_t)lock;
-    if (!stand(LOCKED, LOCAL_LOCK))
+    if (!stand_at(LOCKED, LOCAL_LOCK, lock))
         return;
     if (nicxi.is_tso) /* x86 takes a lock by an exchange */
         nicxi_released(self);
@@ -251,8 +256,7 @@ void nicx_unlock(nicx_mutex *lock)
     if (!nicxi_may_act() || !self)
         return;
     self->lock = lock;
-    self->next.bus = (uint64_t)(uintptr_t)lock;
-    if (!stand(READY, LOCAL_UNLOCK))
+    if (!stand_at(READY, LOCAL_UNLOCK, lock))
         return;
     if (lock->kept != (nicxi.epoch << 8 | (number_of(self) + 1))) {
         nicxi_failed(NICX_MISUSE, "%s unlocks %s, which it doesn't hold", self->name, name_of(lock));

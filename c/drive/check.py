@@ -343,6 +343,18 @@ BUGS_IN_PLACE = ("TAIL_BEFORE_DESCRIPTOR", "BUFFER_AGAIN_BEFORE_DD", "RECLAIM_BY
 FAULTS_OF_POINTERS = ("STORE_BEHIND_A_PIECE", "STORE_GIVEN_BACK", "STORE_IN_OPEN", "POINTER_TO_NOTHING")
 
 
+def check_seen_in_place(kit: Kit) -> None:
+    """Where each access is seen, a load by a pointer of what the device wrote back orders the two, and a lock that is
+    taken keeps others out: else the right driver has races."""
+    rows = "receive-wrap,send-wrap,both-ways,mtu-then-link"
+    sources = {"driver": [HERE / "corpus/driver.c"], "adapter": [ADAPTER_FOLDER / it for it in ("driver.c", "glue.c")]}
+    for name, source in sources.items():
+        folder, words = kit.folder / f"seen-{name}", ["--flags=-DIN_PLACE", "--rows", rows, "--runs", 20, "--every", 20]
+        nicdrive(folder, [*source, *words, "--jobs", kit.jobs, "--no-pages", *PATIENT], 0)
+        if rows_of(folder)["both-ways"]["state"] != "passed":
+            raise Wrong(f"{name}, compiled so that accesses are seen: {rows_of(folder)['both-ways']}")
+
+
 def check_in_place(kit: Kit, runs: int, each: int = 1) -> str:
     """The right driver passes each row that applies with its memory in place too; bugs are found, and stores where no
     memory is."""
@@ -355,6 +367,7 @@ def check_in_place(kit: Kit, runs: int, each: int = 1) -> str:
         name, cause = FAULTS[mode]
         program = kit.build(HERE / "tests/faulty.c", f"MODE={mode}")
         expect(kit.card(program, 1, "--rows", name, "--runs", 50, "--every", 50)[name], cause, mode)
+    check_seen_in_place(kit)
     passed, tried = sum(row["state"] == "passed" for row in rows), len(FAULTS_OF_POINTERS[::each])
     return f"in place {passed} rows passed, {len(BUGS_IN_PLACE[::each])} bugs and {tried} stray pointers found"
 

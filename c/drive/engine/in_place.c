@@ -50,11 +50,18 @@ void nicd_in_place_begin(void)
 
 /* --- a piece --- */
 
+static bool is_here(uint64_t at, uint64_t *bus)
+{
+    *bus = at - (uintptr_t)here;
+    return *bus < BYTES;
+}
+
 /* What was written by calls before is there too. */
 static void begin_piece(struct piece *piece)
 {
     piece->is_in_place = true;
     nicxi.loads_unseen = true;
+    nicxi.in_place = is_here;
     nicxi.is_changed = true;
     if (nicd.beyond < piece->first + piece->blocks)
         nicd.beyond = piece->first + piece->blocks;

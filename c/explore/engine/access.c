@@ -349,6 +349,7 @@ static uint8_t nicxi_write_bytes(uint64_t bus, const uint8_t *bytes, nicxi_bytes
     struct step *step = before(STEP_POKE);
     step->bus = bus;
     step->length = (uint32_t)length;
+    step->is_published = source;
     note_change();
     if (!let_others(nicxi.self))
         return NIC_NOT_LENT;

@@ -498,11 +498,23 @@ static void take_by_condition(const struct thread *self)
     nicxi.asker = asker;
 }
 
+/* Packet memory in place goes by its address on the bus. */
+static uint64_t place_of_access(uint64_t at)
+{
+    uint64_t bus;
+    return nicxi.in_place && nicxi.in_place(at, &bus) ? BUS_SPACE | bus : at;
+}
+
 void nicxi_race_access(uint64_t at, size_t length, unsigned how, const void *call)
 {
+    at = place_of_access(at);
     if (is_looking)
         take_from_writers(at, length, WRITES);
-    else if (is_told() && !nicxi_state_is_local(at))
+    else if (!is_told() || nicxi_state_is_local(at))
+        return;
+    if (at & BUS_SPACE && !(how & WRITES))
+        take_from_writers(at, length, WRITTEN_BACK);
+    if (!is_looking)
         access(at, length, how, call);
 }
 
@@ -558,7 +570,7 @@ static void accessed_packets(const struct step *step)
 {
     unsigned how = step->kind == STEP_POKE ? WRITES : READS;
     uint64_t at = BUS_SPACE | step->bus;
-    if (step->status != NIC_DONE)
+    if (step->status != NIC_DONE || (step->kind == STEP_POKE && step->is_published))
         return;
     if (how == READS)
         take_from_writers(at, step->length, WRITTEN_BACK);

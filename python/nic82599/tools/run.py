@@ -109,7 +109,7 @@ class Run:
 
 # A ring, in the words of a finding; and words of what is sent.
 RING = re.compile(r"\b(rx|tx) (\d{1,4})\b|\bqueue (\d{1,4})\b")
-SENDS = re.compile(r"\b(sends?|sent|goes out|went out|reclaim|TDT|TDH)\b")
+SENDS = re.compile(r"\b(transmit|sends?|sent|goes out|went out|reclaim|TDT|TDH)\b")
 # An access by a virtual function, which has no name in the language of scripts.
 OFFSET = re.compile(r"v[rw] \w+ (0x[0-9a-fA-F]+|[1-9][0-9]*|0)(?: |$)")
 FAILED = re.compile(r"\s*# FAILED (\w+): (.*)")

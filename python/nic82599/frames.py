@@ -46,7 +46,7 @@ def mac(text: str) -> bytes:
 def checksum(data: bytes) -> int:
     """The Internet's checksum of bytes: 16 bits."""
     data += bytes(len(data) % 2)
-    total = sum(struct.unpack(f">{len(data) // 2}H", data))
+    total: int = sum(struct.unpack(f">{len(data) // 2}H", data))
     while total >> 16:
         total = (total & 0xFFFF) + (total >> 16)
     return ~total & 0xFFFF

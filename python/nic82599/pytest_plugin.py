@@ -80,8 +80,8 @@ def shard_of(config: pytest.Config) -> tuple[int, int] | None:
     if text is None:
         return None
     found = re.fullmatch(r"(\d{1,5})/(\d{1,5})", text)
-    shard = (int(found[1]), int(found[2])) if found else text
-    check_shard(shard)
+    shard = (int(found[1]), int(found[2])) if found else None
+    check_shard(shard or text)
     return shard
 
 
@@ -172,8 +172,9 @@ class Watch:
     def sections(self, more: list[nic82599.Nic]) -> list[tuple[str, str]]:
         """The sections of a report: one for each controller in which something waits."""
         shown = [(name, text) for name, text in self.texts(more) if text]
-        number = (lambda k: f" ({k} of {len(shown)})") if len(shown) > 1 else (lambda k: "")
-        return [(f"why nothing happens in {name}{number(k)}", text) for k, (name, text) in enumerate(shown, 1)]
+        of = f" of {len(shown)})" if len(shown) > 1 else ""
+        names = [f"{name} ({k}{of}" if of else name for k, (name, _) in enumerate(shown, 1)]
+        return [(f"why nothing happens in {name}", text) for name, (_, text) in zip(names, shown)]
 
 
 def why_of(nic: nic82599.Nic) -> str:

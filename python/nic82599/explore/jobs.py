@@ -41,7 +41,8 @@ class _Shared:
         struct.pack_into("q", self.memory, 8 * place, rank)
 
     def get(self, place: int) -> int:
-        return struct.unpack_from("q", self.memory, 8 * place)[0]
+        (rank,) = struct.unpack_from("q", self.memory, 8 * place)
+        return int(rank)
 
     def is_over(self, mine: int, rank: int) -> bool:
         self.put(1 + mine, rank)

@@ -205,8 +205,8 @@ class Data:
 def page(data: dict[str, Any], foot: str = "") -> str:
     """The page with these data, and a line at its foot."""
     text = json.dumps(data, separators=(",", ":")).replace("<", "\\u003c")
-    title = data["name"].replace("&", "&amp;").replace("<", "&lt;")
+    title = str(data["name"]).replace("&", "&amp;").replace("<", "&lt;")
     template = (HERE / "nicview.html").read_text()
     code = "".join((HERE / name).read_text() for name in ("nicview_rings.js", "nicview.js"))
-    parts = {"{{TITLE}}": title, "{{FOOT}}": foot, "{{CODE}}": code, "{{DATA}}": text}
+    parts: dict[str, str] = {"{{TITLE}}": title, "{{FOOT}}": foot, "{{CODE}}": code, "{{DATA}}": text}
     return re.sub("|".join(map(re.escape, parts)), lambda mark: parts[mark[0]], template)

@@ -82,10 +82,10 @@ def _spans(run: Run, way: str) -> Iterator[Event]:
 
 def _counts(run: Run) -> Iterator[Event]:
     """How many frames wait, and how many are out, where that changes."""
-    for name, of in (("frames that wait", lambda step: step.waiting), ("frames out", lambda step: step.out)):
+    for name, waits in (("frames that wait", True), ("frames out", False)):
         count = 0
         for step in run.steps:
-            moved = sum((1 if sign == "+" else -1) * len(some) for sign, some in of(step))
+            moved = sum((1 if sign == "+" else -1) * len(some) for sign, some in (step.waiting if waits else step.out))
             count += moved
             if moved or not step.number:
                 yield {"ph": "C", "pid": 1, "name": name, "ts": step.number, "args": {"frames": count}}

@@ -238,8 +238,9 @@ class Script:
     def only(self, *ops: Op) -> Iterator[tuple[int, Instruction]]:
         """The instructions of these operations, with their numbers. Those of a recording find them without a look at
         the others."""
-        if (found := getattr(self.instructions, "only", None)) is not None:
-            return found(frozenset(ops))
+        if (only := getattr(self.instructions, "only", None)) is not None:
+            found: Iterator[tuple[int, Instruction]] = only(frozenset(ops))
+            return found
         return ((pc, one) for pc, one in enumerate(self.instructions) if one.op in ops)
 
     @property

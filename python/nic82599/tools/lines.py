@@ -44,6 +44,14 @@ class Source:
         made.path, made.file, made.begin, made.piece, made.size = path, -1, 0, raw, len(raw)
         return made
 
+    def grow(self, most: int) -> bool:
+        """Whether the file has more bytes than before: as many of them as `most` are seen from now on."""
+        size = os.fstat(self.file).st_size if self.file >= 0 else self.size
+        if size < self.size:
+            raise Fault(f"{self.path} became shorter while it was read: wait until it is complete")
+        former, self.size = self.size, min(size, self.size + most)
+        return self.size > former
+
     def _look(self) -> None:
         """Reads what has no places."""
         if stat.S_ISREG(os.fstat(self.file).st_mode):
@@ -88,18 +96,20 @@ class Lines(Sequence[str]):
     def __init__(self, source: Source) -> None:
         self.source = source
         self.begins = array("Q", [0])
+        self.rest = ""  # what is there of a line that has no end yet
 
     def read(self) -> Iterator[str]:
-        """Each line in turn, once: this finds where they begin. Fault where a byte isn't ASCII."""
-        rest, begin, add = "", 0, self.begins.append
-        for at in range(0, self.source.size, PIECE):
+        """Each line in turn, once: this finds where they begin. Called again, it has those that the file got since.
+        Fault where a byte isn't ASCII."""
+        begin, add = self.begins[-1], self.begins.append
+        for at in range(begin + len(self.rest), self.source.size, PIECE):
             piece = self.source.at(at, min(at + PIECE, self.source.size))
             try:
-                lines = (rest + piece.decode("ascii")).split("\n")
+                lines = (self.rest + piece.decode("ascii")).split("\n")
             except UnicodeDecodeError as error:
                 where = f"{self.source.path} isn't ASCII from byte {at + error.start} on"
                 raise Fault(f"{where}: a recording is text") from None
-            rest = lines.pop()
+            self.rest = lines.pop()
             for line in lines:
                 begin += len(line) + 1
                 add(begin)

@@ -13,7 +13,7 @@ import contextlib
 import copy
 import re
 from array import array
-from bisect import bisect_right
+from bisect import bisect_left, bisect_right
 from collections import deque
 from collections.abc import Iterator, Sequence
 from dataclasses import dataclass, field, replace
@@ -51,10 +51,20 @@ MOST_WORD = 0xFFFF_FFFF
 # Lines that occur again and again are kept, so many of them; of others the operation, and the file has the rest.
 MOST_KEPT = 1 << 16
 NOT_KEPT = 1 << 31
+# A longer line seldom occurs again, and would take much memory.
+LONGEST_KEPT = 200
 # Lines that seldom occur again, by what they begin with: bytes stand in them, or the name of bytes.
 COLLECT = Instruction(Op.COLLECT, 0, 0, 0, 0)
 OF_BYTES = ("data ", "poke ", "arrive ")
 WITH_BYTES = (*OF_BYTES, "peek ", "collect")
+
+
+class BadLine(Fault):
+    """A line of a recording that can't be made again, with its number."""
+
+    def __init__(self, line: str, number: int) -> None:
+        super().__init__(line)
+        self.number = number
 
 
 def is_recording(source: Source) -> bool:
@@ -158,10 +168,10 @@ class Events(Sequence[Instruction]):
     def __getitem__(self, event: int) -> Instruction:  # type: ignore[override]
         return self.both(event)[0]
 
-    def only(self, ops: frozenset[Op], end: int | None = None) -> Iterator[tuple[int, Instruction]]:
-        """The instructions of these operations, with their numbers; those before an event."""
+    def only(self, ops: frozenset[Op], end: int | None = None, begin: int = 0) -> Iterator[tuple[int, Instruction]]:
+        """The instructions of these operations, with their numbers; those before an event, and from another one on."""
         kept = [one if one.op in ops else None for one, _ in self.kept]
-        for event, code in enumerate(self.codes if end is None else islice(self.codes, end)):
+        for event, code in enumerate(islice(self.codes, begin, end), begin):
             if code < NOT_KEPT:
                 if (one := kept[code]) is not None:
                     yield event, one
@@ -169,11 +179,27 @@ class Events(Sequence[Instruction]):
                 yield event, self[event]
 
 
+class Units:
+    """The units of memory that a program wrote before an event. It goes on from the event that was asked for last."""
+
+    def __init__(self) -> None:
+        self.end = 0
+        self.found: set[int] = set()
+
+    def before(self, events: Events, end: int) -> set[int]:
+        if end < self.end:
+            self.end, self.found = 0, set()
+        self.found.update(one.a for _, one in events.only(frozenset((Op.POKE,)), end, self.end))
+        self.end = end
+        return set(self.found)
+
+
 @dataclass
 class Recording:
     """The lines of a file, without a last one that wasn't written to its end, and what they say. `instructions` has
     their replies too, and the number of the line of each, from 1 on; `directives` has those of the lines that no script
-    can have. `bad` are lines that say nothing."""
+    can have. `bad` are lines that say nothing. `names` and `known` are those of the lines so far: of data, and of lines
+    that may occur again."""
 
     path: str
     lines: Lines
@@ -183,20 +209,33 @@ class Recording:
     instructions: Events
     data: Data
     directives: list[tuple[int, list[str]]] = field(default_factory=list)
-    bad: list[Fault] = field(default_factory=list)
+    bad: list[BadLine] = field(default_factory=list)
     begin: int = 0  # so many lines come before those that are shown
     before: int = 0  # and so many events
+    until: int | None = None  # so many events with those that are shown, where it isn't all
     notes: list[str] = field(default_factory=list)
     told: list[tuple[int, str]] = field(default_factory=list)  # what the program said, with the number of the line
+    rings: list[tuple[int, str]] = field(default_factory=list)  # those of a guest's rings
+    names: Names = field(default_factory=Names)
+    known: dict[str, int] = field(default_factory=dict)
+    units: Units = field(default_factory=Units)
+    warns: bool = True  # niclint looks at all of it
 
     @property
     def line_of(self) -> array[int]:
         return self.instructions.line_of
 
-    def fault(self, number: int, fault: Exception) -> Fault:
+    @property
+    def ends(self) -> tuple[int, int]:
+        """The numbers of events and of lines up to the end of what is shown."""
+        if self.until is None:
+            return len(self.instructions), len(self.lines)
+        return self.until, self.line_of[self.until - 1] if self.until else 1
+
+    def fault(self, number: int, fault: Exception) -> BadLine:
         """That of a line."""
         what = shortened(f"{type(fault).__name__} {fault}".strip(), 160)
-        return Fault(f"{self.path}:{number}: this is no line of a recording that can be made again ({what})")
+        return BadLine(f"{self.path}:{number}: this is no line of a recording that can be made again ({what})", number)
 
     def script(self) -> Script:
         """All of it as a script; the first of the bad lines."""
@@ -239,15 +278,15 @@ def read(path: str, raw: Source | bytes) -> Recording:
         raise Fault(f"{path}:1: it has no whole first line: a recording begins as `#: nic vfs 0 fifo 64 blocks 256`")
     vfs, fifo, blocks = map(int, head.groups())
     made = Recording(path, lines, vfs, fifo, blocks, Events(lines), Data(lines))
-    _take(made, each)
+    take(made, each, 2)
     return made
 
 
-def _take(made: Recording, each: Iterator[str]) -> None:
-    """Takes in what the lines after the first say."""
-    names, known = Names(), dict[str, int]()
+def take(made: Recording, each: Iterator[str], first_number: int) -> None:
+    """Takes in what lines say, of which the first has this number."""
+    names, known = made.names, made.known
     line_of, codes, uses = made.instructions.line_of, made.instructions.codes, made.instructions.uses
-    for number, line in enumerate(each, 2):
+    for number, line in enumerate(each, first_number):
         code = known.get(line)
         if code is not None:
             line_of.append(number)
@@ -286,6 +325,8 @@ def _take_line(made: Recording, names: Names, known: dict[str, int], number: int
             made.directives.append((number, line[3:].split()))
         elif line.startswith(NOTE):
             made.told.append((number, line.removeprefix(NOTE)))
+            if RING.search(line):
+                made.rings.append(made.told[-1])
         return
     words = text.split()
     if text.startswith("data "):
@@ -297,7 +338,8 @@ def _take_line(made: Recording, names: Names, known: dict[str, int], number: int
     if one.b > MOST_WORD:
         raise ValueError(f"0x{one.b:x} is no word of 32 bits")
     code = NOT_KEPT | one.op
-    if one.op != Op.JMP and len(known) < MOST_KEPT and not text.startswith(WITH_BYTES):
+    is_short = len(line) <= LONGEST_KEPT and len(known) < MOST_KEPT
+    if one.op != Op.JMP and is_short and not text.startswith(WITH_BYTES):
         code = known[line] = made.instructions.keep(one, reply)
     made.instructions.add(number, code, one.x if one.op in (Op.POKE, Op.ARRIVE, Op.JMP) else 0)
 
@@ -317,8 +359,9 @@ def in_place(made: Recording) -> set[int]:
 
 def cut(made: Recording, limit: int) -> None:
     """Shows the last events of a recording, so many of them, from behind its last restored snapshot or image on."""
-    last = max((number for number, words in made.directives if words[:1] in RESTARTS), default=0)
-    made.before = max(len(made.line_of) - limit, bisect_right(made.line_of, last), 0)
+    events, lines = made.ends
+    last = max((number for number, words in made.directives if words[:1] in RESTARTS and number <= lines), default=0)
+    made.before = max(events - limit, bisect_right(made.line_of, last), 0)
     made.begin = max(made.line_of[made.before - 1] if made.before else 0, last)
     if made.before:
         made.notes.append(f"{made.before:,} events came before the first step that is shown")
@@ -409,28 +452,33 @@ class Player:
         self.snapshots: dict[str, Snapshot] = {}
         self.held = Held(recording.fifo)
         self.others = 0
+        self.at = self.directed = 0  # so many events and directives are made
 
     def play(self) -> None:
         """Makes what isn't shown."""
-        made, at = self.recording, 0
-        directives = [one for one in made.directives if one[0] <= made.begin]
-        last: tuple[int, list[str]] = (made.begin, [])
-        for number, words in [*directives, last]:
-            end = min(bisect_right(made.line_of, number), made.before)
-            self._events(at, end)
-            at = end
+        self.play_to(self.recording.before, self.recording.begin)
+
+    def play_to(self, before: int, begin: int) -> None:
+        """Goes on up to an event and to a line: what comes before both is made."""
+        made = self.recording
+        while self.directed < len(made.directives) and made.directives[self.directed][0] <= begin:
+            number, words = made.directives[self.directed]
+            self._events(min(bisect_right(made.line_of, number), before))
             try:
                 self._directive(words)
             except BAD as fault:
                 raise made.fault(number, fault) from None
+            self.directed += 1
+        self._events(before)
 
-    def _events(self, begin: int, end: int) -> None:
-        made, at = self.recording, begin
+    def _events(self, end: int) -> None:
+        made, at = self.recording, self.at
         try:
-            for at in range(begin, end):
+            for at in range(self.at, end):
                 self._event(at)
         except BAD as fault:
             raise made.fault(made.line_of[at], fault) from None
+        self.at = max(self.at, end)
 
     def _event(self, event: int) -> None:
         """Makes an event. Those that have bytes are most of a recording, and are made without an instruction."""
@@ -471,19 +519,36 @@ class Player:
 # --- the steps that are shown ---
 
 
+def _line(told: tuple[int, str]) -> int:
+    return told[0]
+
+
 def _notes(recording: Recording) -> dict[int, str]:
-    """What the program said of each event, by its number from 0 on: the notes between it and the one before."""
+    """What the program said of each event that is shown, by its number from 0 on: the notes between it and the one
+    before."""
     told: dict[int, list[str]] = {}
-    for number, text in recording.told:
+    end, before = recording.ends[1], recording.before
+    begin = bisect_right(recording.told, recording.line_of[before - 1], key=_line) if before else 0
+    for number, text in recording.told[begin : bisect_right(recording.told, end, key=_line)]:
         told.setdefault(bisect_right(recording.line_of, number), []).append(text)
     return {event: "; ".join(texts) for event, texts in told.items()}
 
 
+def _rings_before(recording: Recording) -> list[str]:
+    """What the program said last of each ring of a guest, before the events that are shown."""
+    if not recording.before:
+        return []
+    first_lines = bisect_left(recording.rings, recording.line_of[recording.before - 1], key=_line)
+    told = (RING.finditer(text) for _, text in recording.rings[:first_lines])
+    return list({one[1]: one[0] for found in told for one in found}.values())
+
+
 def _shown(recording: Recording) -> tuple[Script, list[str]]:
     """What is shown as a script, and the reply that each instruction had."""
-    lines = [line[3:] if line.startswith("#: lend ") else line for line in recording.lines[recording.begin :]]
+    end, last = recording.ends
+    lines = [line[3:] if line.startswith("#: lend ") else line for line in recording.lines[recording.begin : last]]
     made = Script(recording.path, lines, [], [], [], {}, [], recording.begin)
-    events = range(recording.before, len(recording.instructions))
+    events = range(recording.before, end)
     replies = [recording.instructions.both(event)[1] for event in events]
     if recording.before:
         text = f"r 0x{first('STATUS'):05x}"
@@ -569,10 +634,7 @@ def _comment(recording: Recording, script: Script, steps: list[Step], replies: l
     """What stands behind the lines: what was recorded where it is another answer, of which it tells how many there are;
     and the notes."""
     notes, others, extra = _notes(recording), 0, bool(recording.before)
-    if extra:
-        told = (RING.finditer(text) for event, text in sorted(notes.items()) if event < recording.before)
-        rings = {one[1]: one[0] for found in told for one in found}
-        script.lines[0] += "".join(f"; {text}" for text in rings.values())
+    script.lines[:1] = ["; ".join([script.lines[0], *_rings_before(recording)])] if extra else script.lines[:1]
     for step, reply in zip(steps, replies):
         at = script.line_of[step.pc] - 1
         text, _, said = script.lines[at].partition("#")
@@ -615,8 +677,8 @@ def trace(player: Player) -> Trace:
     made = Trace(bench, script, steps, start, f"ok {len(steps)}", recording.notes)
     made.lent, made.memory_before, made.waiting, made.out = lent, bench.before, waiting, out
     made.in_place = in_place(recording)
-    made.read = {one.a for _, one in recording.instructions.only(frozenset((Op.POKE,)), recording.before)}
-    made.warnings = [(one.line, one.text) for one in Advice(recording.script()).all()]
+    made.read = recording.units.before(recording.instructions, recording.before) if made.in_place else set()
+    made.warnings = [(one.line, one.text) for one in Advice(recording.script()).all()] if recording.warns else []
     return made
 
 

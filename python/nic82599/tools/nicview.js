@@ -1,12 +1,17 @@
 "use strict";
 // The page of a run. Position n is the machine after n steps, so step n - 1 is the one that is told of; steps count
 // from 0 here as they do in nicview --svg, --text and niclint. What is shown stands in the data, which page.py writes.
-const run = JSON.parse(document.getElementById("data").textContent);
-const count = run.steps.length;
-const start = new Map(run.start);
-const registers = new Map(Object.entries(run.registers).map(([address, names]) => [Number(address), names]));
 const TROUBLE = ["failed", "fault", "dropped", "refused"];
 let position = 0, playing = null;
+let run, count, start, registers, boxes;
+function take(data) {
+  run = data;
+  count = run.steps.length;
+  start = new Map(run.start);
+  registers = new Map(Object.entries(run.registers).map(([address, names]) => [Number(address), names]));
+  boxes = mailboxesOf(run);
+}
+take(JSON.parse(document.getElementById("data").textContent));
 pinned = run.failed || null; // the ring that a finding names is in front until another is clicked
 
 // Elements and words.
@@ -192,17 +197,19 @@ function showInterrupts(state, before) {
   element("interrupts").replaceChildren(...(parts.length ? parts : [faint("No cause, mask or vector is set.")]));
 }
 // The mailboxes that the run touches, by function: the registers of both sides, and the words that aren't 0.
-const boxes = new Map();
-const touched = new Set(run.steps.flatMap((step) => step[3].map(([address]) => address)));
-for (const [address, [name, kind]] of registers) {
-  const index = Number(/\[(\d+)\]$/.exec(name)?.[1] ?? 0), isWord = kind === "PFMBMEM";
-  const holds = touched.has(address) || (isWord && start.get(address));
-  if (!holds || !(isWord || kind === "PFMAILBOX" || kind === "PVFMAILBOX")) continue;
-  const v = isWord ? Math.floor(index / 16) : index, box = boxes.get(v) ?? { words: [] };
-  if (v >= run.vfs) continue;
-  if (isWord) box.words.push([index % 16, address]);
-  else box[kind] = address;
-  boxes.set(v, box);
+function mailboxesOf({ steps, vfs }) {
+  const found = new Map(), touched = new Set(steps.flatMap((step) => step[3].map(([address]) => address)));
+  for (const [address, [name, kind]] of registers) {
+    const index = Number(/\[(\d+)\]$/.exec(name)?.[1] ?? 0), isWord = kind === "PFMBMEM";
+    const holds = touched.has(address) || (isWord && start.get(address));
+    if (!holds || !(isWord || kind === "PFMAILBOX" || kind === "PVFMAILBOX")) continue;
+    const v = isWord ? Math.floor(index / 16) : index, box = found.get(v) ?? { words: [] };
+    if (v >= vfs) continue;
+    if (isWord) box.words.push([index % 16, address]);
+    else box[kind] = address;
+    found.set(v, box);
+  }
+  return found;
 }
 function showMailboxes(state, before) {
   const told = (kind, address) => {
@@ -289,7 +296,7 @@ function buildLines() {
     return line;
   });
   element("lines").style.setProperty("--digits", `${`${run.before + lines.length}`.length + 1}ch`);
-  element("lines").append(...lines);
+  element("lines").replaceChildren(...lines);
 }
 function showLines(n) {
   const made = new Map();
@@ -378,6 +385,7 @@ function show(n) {
   showLines(position);
   showHits();
   history.replaceState(null, "", `#${at}`);
+  document.dispatchEvent(new Event("moved"));
 }
 // The position that the URL names: `#15` is step 15. Without one it is the first step that went wrong, or the last.
 function placeOf(hash) {
@@ -449,19 +457,32 @@ function drawMarks() {
   }));
 }
 
-function begin() {
+// What the page shows of a run at all of its steps.
+function fill() {
   element("name").textContent = run.name;
   element("options").textContent = run.options.join(" ");
   showFinding();
   element("slider").max = count;
-  element("names").append(...[...registers.values()].map(([name]) => make("option", { value: name })));
-  for (const button of document.querySelectorAll("[data-next]")) {
-    const kind = button.dataset.next;
-    button.disabled = !run.steps.some(isOf(kind));
-    button.addEventListener("click", (event) => jump(kind, event.shiftKey));
-  }
+  element("names").replaceChildren(...[...registers.values()].map(([name]) => make("option", { value: name })));
+  for (const button of document.querySelectorAll("[data-next]"))
+    button.disabled = !run.steps.some(isOf(button.dataset.next));
   element("notes-part").hidden = !run.notes.length;
-  element("notes").append(...run.notes.map((note) => make("p", {}, note)));
+  element("notes").replaceChildren(...run.notes.map((note) => make("p", {}, note)));
+  lastLine = null;
+  rowOf.clear();
+  latest.clear();
+  buildLines();
+}
+// Shows another run, or one that went on.
+function replace(data, place) {
+  take(data);
+  fill();
+  drawMarks();
+  show(place);
+}
+function begin() {
+  for (const button of document.querySelectorAll("[data-next]"))
+    button.addEventListener("click", (event) => jump(button.dataset.next, event.shiftKey));
   element("slider").addEventListener("input", () => show(Number(element("slider").value)));
   element("search").addEventListener("input", showHits);
   const steps = { back: () => show(position - 1), on: () => show(position + 1), play: () => play() };
@@ -471,7 +492,7 @@ function begin() {
   new ResizeObserver(drawMarks).observe(element("marks"));
   addEventListener("resize", resized);
   addEventListener("hashchange", () => show(placeOf(location.hash)));
-  buildLines();
+  fill();
   show(placeOf(location.hash));
 }
 begin();

@@ -5,15 +5,20 @@
     tools/nicview SCRIPT --svg STEP -o it.svg   a picture of the machine after a step
     tools/nicview SCRIPT --perfetto -o it.json  a trace for Perfetto: steps, who made them, messages, frames
     tools/nicview RECORDING --script            a script of a recording, as far as nicbench can read one
+    tools/nicview --live FILE                   a page that follows a recording as it grows; prints its address
+    tools/nicview --live SOCKET                 the same of a guest's card, by the server's control socket
 
 SCRIPT is a register script, a session of the debugger (what stands in front of its line `%`), or - for standard input.
 Or it is a recording of the C library (NIC82599_RECORD): then its last --limit events are shown, made again over the
 library.
 A page opens at the first step that failed, met a fault, dropped a frame or was refused, else at the last one; that of
 a script which the explorer wrote of a failure, at the step where it failed; with #152 behind its name, at step 152.
-Steps count from 0. Everything shown is an answer of ./nicbench. Exit status: 0 it is shown; 1 the script failed, or
-runs on after --limit steps, and is shown; 2 the script is refused or can't be read; 3 the words are wrong; 4 ./nicbench
-gave no answer.
+Steps count from 0. Everything shown is an answer of ./nicbench.
+With --live the page is served on 127.0.0.1 alone, to those who have its address, until ctrl-C. FILE may not be there
+yet, and may be written again; a script is shown again when it is. A recording's last --limit events are shown (1,024),
+and earlier ones when the page asks. A guest's card has buttons: hold, step, why, link up and down.
+Exit status: 0 it is shown, or ctrl-C ended --live; 1 the script failed, or runs on after --limit steps, and is shown; 2
+the script is refused or can't be read; 3 the words are wrong; 4 ./nicbench gave no answer.
 """
 
 from __future__ import annotations
@@ -24,20 +29,25 @@ from pathlib import Path
 
 import nic82599
 
-from . import draw, page, perfetto
+from ..version import VERSION
+from . import control, draw, live, page, perfetto
 from .as_script import script
+from .follow import Following
 from .lines import Source
 from .printable import printable
 from .recording import is_recording, read, refuse_sizes, run_of
 from .script import Bench, Fault
-from .tool import MOST_STEPS, Parser, called, ended, limit, number, sizes
+from .tool import MOST_STEPS, Parser, called, ended, limit, limit_of_script, number, sizes
+
+# How many steps are shown where no number is given; with --live they are drawn again and again.
+STEPS, LIVE_STEPS = 4_096, 1_024
 
 
 def words() -> argparse.Namespace:
     parser = Parser(description=called(__doc__ or ""), formatter_class=argparse.RawDescriptionHelpFormatter)
     parser.add_argument("script", metavar="SCRIPT")
     sizes(parser)
-    limit(parser, 4_096, "how many steps are shown")
+    limit(parser, STEPS, "how many steps are shown")
     parser.add_argument("-o", metavar="FILE", help="where to write; without it, to standard output")
     form = parser.add_mutually_exclusive_group()
     made = "what nicbench can read of a recording, as a script"
@@ -46,7 +56,15 @@ def words() -> argparse.Namespace:
     form.add_argument("--text", action="store_true", help="lines of text in place of a page")
     step = number(0, MOST_STEPS)
     form.add_argument("--svg", type=step, metavar="STEP", help="a picture of the machine after this step")
-    return parser.parse_args()
+    form.add_argument("--live", action="store_true", help="a page that follows the file as it grows, until ctrl-C")
+    parser.add_argument("--control", metavar="SOCKET", help="with --live: the control socket of the guest's card")
+    parser.add_argument("--port", type=number(1, 65_535), metavar="N", help="with --live: the port (one that is free)")
+    given = parser.parse_args()
+    if not given.live and (given.control or given.port):
+        parser.error("--control and --port go with --live")
+    if given.live and (given.o or given.script == "-"):
+        parser.error("--live takes a file or a socket, and serves its page in place of -o")
+    return given
 
 
 def write(path: str | None, text: str) -> None:
@@ -83,8 +101,20 @@ def foot(is_recorded: bool) -> str:
     return "Answers of nicbench" + (f", {edition} edition" if edition else "")
 
 
+def followed(asked: argparse.Namespace) -> int:
+    """Serves a page that follows a file, or the recording of a guest's card."""
+    path, controlled = asked.script, asked.control
+    if control.is_socket(path):
+        path, controlled = control.recording_of(path), path
+    asked_for = LIVE_STEPS if asked.limit == STEPS else asked.limit
+    following = Following(path, limit_of_script(asked_for), (asked.vfs, asked.fifo))
+    return live.serve(following, controlled, asked.port or 0, f"Followed by nicview {VERSION}")
+
+
 def main() -> int:
     asked = words()
+    if asked.live:
+        return followed(asked)
     if asked.script_of:
         return as_script(asked)
     if asked.o is None and asked.svg is None and not asked.text and sys.stdout.isatty():

@@ -202,11 +202,19 @@ class Data:
         }
 
 
-def page(data: dict[str, Any], foot: str = "") -> str:
-    """The page with these data, and a line at its foot."""
+SCRIPTS = ("nicview_rings.js", "nicview.js")
+
+
+def code_of(scripts: tuple[str, ...] = SCRIPTS) -> str:
+    """The code of a page."""
+    return "".join((HERE / name).read_text() for name in scripts)
+
+
+def page(data: dict[str, Any], foot: str = "", code: str = "") -> str:
+    """The page with these data, and a line at its foot; with other code where it is given."""
     text = json.dumps(data, separators=(",", ":")).replace("<", "\\u003c")
     title = str(data["name"]).replace("&", "&amp;").replace("<", "&lt;")
     template = (HERE / "nicview.html").read_text()
-    code = "".join((HERE / name).read_text() for name in ("nicview_rings.js", "nicview.js"))
+    code = code or code_of()
     parts: dict[str, str] = {"{{TITLE}}": title, "{{FOOT}}": foot, "{{CODE}}": code, "{{DATA}}": text}
     return re.sub("|".join(map(re.escape, parts)), lambda mark: parts[mark[0]], template)

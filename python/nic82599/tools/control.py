@@ -1,0 +1,108 @@
+"""The control socket of nic82599-vfio-user: what a page that follows a guest asks of it, and where its recording is."""
+
+from __future__ import annotations
+
+import contextlib
+import os
+import re
+import socket
+import struct
+from collections.abc import Iterator
+from pathlib import Path
+
+from .printable import shortened
+from .script import Fault
+
+# What may be asked: nothing that names a file, sends frames or keeps much.
+MAY_ASK = re.compile(
+    r"hold|go|due|why|counts|rx|int|eestep|link (?:up|down)|tx [0-9]{1,3}|qstep [rt]x [0-9]{1,3}", re.ASCII
+)
+# What makes the first of the steps that are due, by the lines of `due`: `tx 0: head 3, tail 5`, `rx: ..`, `int: ..`.
+STEP = "step"
+DUE = re.compile(r"(tx [0-9]{1,3}|rx|int|eestep):", re.ASCII)
+# `why` takes seconds where all rings are full.
+PATIENCE = 30.0
+MOST_BYTES, MOST_SHOWN = 1 << 18, 2_000
+
+
+def is_socket(path: str) -> bool:
+    """Whether a socket lies there."""
+    with contextlib.suppress(OSError):
+        return Path(path).is_socket()
+    return False
+
+
+@contextlib.contextmanager
+def connected(path: str) -> Iterator[socket.socket]:
+    """A connection to the server; Fault."""
+    if not hasattr(socket, "AF_UNIX"):
+        raise Fault(f"{path}: this system has no such sockets")
+    with socket.socket(socket.AF_UNIX) as it:
+        it.settimeout(PATIENCE)
+        try:
+            it.connect(path)
+        except OSError as error:
+            raise Fault(f"no server is at {path} ({error.strerror or error})") from None
+        yield it
+
+
+def recording_of(path: str) -> str:
+    """The recording that the server at a control socket writes, by the words that it was started with."""
+    with connected(path) as it:
+        told = it.getsockopt(socket.SOL_SOCKET, getattr(socket, "SO_PEERCRED", 17), struct.calcsize("3i"))
+    process = Path(f"/proc/{struct.unpack('3i', told)[0]}")
+    try:
+        words = (process / "cmdline").read_bytes().split(b"\0")
+        names = [os.fsdecode(word[9:]) for word in words if word.startswith(b"--record=")]
+        if names and not os.path.isabs(names[-1]):
+            names = [os.path.join(os.readlink(process / "cwd"), names[-1])]
+    except OSError:
+        names = []
+    if not names:
+        raise Fault(
+            f"where the server at {path} records isn't known: start it with --record=FILE, "
+            f"then: nicview --live FILE --control {path}"
+        )
+    return names[-1]
+
+
+def ask(path: str, request: str) -> tuple[list[str], str]:
+    """The lines of an answer, and what is wrong with the request, if anything is; Fault."""
+    with connected(path) as it, it.makefile("rb") as lines:
+        return _asked(path, it, lines, request)
+
+
+def _asked(path: str, it: socket.socket, lines: object, request: str) -> tuple[list[str], str]:
+    """The same over a connection."""
+    answer: list[str] = []
+    room = MOST_BYTES
+    try:
+        it.sendall(f"{request}\n".encode("ascii"))
+        while room > 0:
+            raw: bytes = lines.readline(room)  # type: ignore[attr-defined]
+            room -= len(raw)
+            line = raw.decode("ascii", "replace").rstrip("\n")
+            if not raw.endswith(b"\n"):
+                break
+            if line == "ok":
+                return answer, ""
+            if line.startswith("error: "):
+                return answer, line.removeprefix("error: ")
+            answer.append(shortened(line, MOST_SHOWN))
+    except OSError as error:
+        raise Fault(f"the server at {path} doesn't answer ({error.strerror or error})") from None
+    raise Fault(f"the server at {path} has gone, or its answer is too long")
+
+
+def asked(path: str, request: str) -> dict[str, object]:
+    """What a page is answered: the requests that were made, lines, and what was wrong."""
+    if request == STEP:
+        due, wrong = ask(path, "due")
+        found = next((it[1] for line in due if (it := DUE.match(line))), None)
+        if wrong or found is None:
+            return {"asked": "due", "lines": due or ["no step is due"], "wrong": wrong}
+        request = found
+    if not MAY_ASK.fullmatch(request):
+        return {"asked": "", "lines": [], "wrong": "a page can't ask this"}
+    lines, wrong = ask(path, request)
+    return {"asked": request, "lines": lines or ["nothing"] if request in ("due", "why") else lines, "wrong": wrong}

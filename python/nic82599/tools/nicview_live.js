@@ -1,0 +1,158 @@
+"use strict";
+// What a page of nicview --live has more: it follows a file that grows. It asks for the last part of the run when it has
+// drawn the one before, and stays where it is while an earlier step or an earlier part is looked at.
+
+const live = {
+  number: 0, total: 0, before: 0, until: 0, isPaused: false, isLast: true, isLost: false,
+  isAsking: false, isSoon: false, rest: 0, next: null,
+};
+const GUEST = {
+  Hold: "hold", Step: "step", Go: "go", Due: "due", Why: "why", "Link up": "link up", "Link down": "link down",
+};
+const GUEST_TITLES = {
+  Hold: "the device makes no step but those that are asked for", Go: "it makes its steps again",
+  Step: "makes the first of the steps that are due", Due: "which steps are due",
+  Why: "what is in the way of what waits",
+};
+const counted = (n) => n.toLocaleString("en-US");
+const isFollowing = () => live.isLast && !live.isPaused && position === count;
+
+function liveBar() {
+  const act = (id, text, title) => make("button", { id, title }, text);
+  const past = make("input", { id: "past", type: "range", min: "0", title: "which events are shown" });
+  past.setAttribute("aria-label", "the last event that is shown");
+  const bar = make("div", { id: "live", className: "bar", role: "toolbar", ariaLabel: "what is followed" },
+    act("pause", "Pause", "stops here, while the file grows (p)"), make("span", { id: "events", className: "mono" }),
+    act("older", "◀ Older", "earlier events"), past, act("newer", "Newer ▶", "later events"));
+  const guest = make("div", { id: "guest", className: "bar", role: "toolbar", ariaLabel: "the guest's card", hidden: true },
+    make("span", { className: "faint" }, "Card:"),
+    ...Object.keys(GUEST).map((text) => make("button", { title: GUEST_TITLES[text] ?? "the cable" }, text)));
+  const answer = make("pre", { id: "said", hidden: true, tabIndex: 0, ariaLabel: "the card's answer" });
+  answer.setAttribute("role", "status");
+  const notice = make("p", { id: "notice", className: "odd", hidden: true });
+  notice.setAttribute("role", "status");
+  document.querySelector("header").prepend(bar, guest, answer, notice);
+}
+const LOOKS = `#live, #guest { margin: 0 0 4px; } #past { flex: 1 1 80px; min-width: 60px; padding: 0; }
+  #said { margin: 0 0 4px; max-height: 30vh; overflow: auto; white-space: pre-wrap; overflow-wrap: anywhere; }
+  #notice { margin: 0 0 4px; overflow-wrap: anywhere; }
+  #guest[hidden], #said[hidden], #notice[hidden] { display: none; }
+  @media (max-width: 820px) { header { position: static; } }`;
+
+function showLive() {
+  const first = live.until ? live.before + 1 : 0;
+  const behind = live.total - live.until, more = behind > 0 && !isFollowing() ? `, ${counted(behind)} more since` : "";
+  element("events").textContent = `events ${counted(first)} to ${counted(live.until)} of ${counted(live.total)}${more}`;
+  element("pause").textContent = isFollowing() ? "Pause" : "Follow";
+  element("past").max = live.total;
+  if (document.activeElement !== element("past")) element("past").value = live.until;
+  element("older").disabled = !live.before;
+  element("newer").disabled = live.until >= live.total;
+}
+function sayLive(text) {
+  const said = live.isLost ? "nicview has ended, or can't be reached: what is shown is the last that came" : text;
+  element("notice").textContent = said;
+  element("notice").hidden = !said;
+}
+
+// Asks for the last part, or the one that ends at an event, and shows it at its last step. What is asked for meanwhile is
+// asked for after it; and where an earlier step was chosen meanwhile, that stays.
+async function ask(end, isChosen = true) {
+  if (live.isAsking) {
+    if (isChosen) live.next = { end };
+    return;
+  }
+  live.isAsking = true;
+  const began = performance.now();
+  try {
+    const answer = await fetch(end === undefined ? "part" : `part?end=${end}`);
+    if (!answer.ok) throw new Error(answer.status);
+    const { data, before, until, total, number, said } = await answer.json();
+    Object.assign(live, { total, isLost: false });
+    sayLive(said);
+    if (data && !live.next && (isChosen || isFollowing())) {
+      Object.assign(live, { before, until, number, isLast: end === undefined || until >= total });
+      document.title = `${data.name}: a run on the bench`;
+      replace(data, data.steps.length);
+    }
+  } catch {
+    live.isLost = true;
+    sayLive("");
+  }
+  live.rest = Math.min(3000, 2 * (performance.now() - began));
+  live.isAsking = false;
+  const { next } = live;
+  live.next = null;
+  if (next) ask(next.end);
+  else askSoon();
+  showLive();
+}
+// Asks for what is new, after a while as long as it took before.
+function askSoon() {
+  if (live.isSoon || live.isAsking || !isFollowing() || live.until >= live.total) return;
+  live.isSoon = true;
+  setTimeout(() => {
+    live.isSoon = false;
+    if (isFollowing()) ask(undefined, false);
+  }, live.rest);
+}
+function heard({ number, total, said, guest }) {
+  const isAnother = number !== live.number;
+  Object.assign(live, { total, isLost: false });
+  element("guest").hidden = !guest;
+  sayLive(said);
+  if (isAnother) Object.assign(live, { isPaused: false, isLast: true });
+  showLive();
+  if (isAnother) ask();
+  else askSoon();
+}
+function follow() {
+  const events = new EventSource("events");
+  events.onmessage = ({ data }) => heard(JSON.parse(data));
+  events.onerror = () => {
+    live.isLost = true;
+    sayLive("");
+  };
+}
+function pause() {
+  if (isFollowing()) live.isPaused = true;
+  else {
+    Object.assign(live, { isPaused: false, isLast: true });
+    show(count);
+    ask();
+  }
+  showLive();
+}
+async function askCard(request) {
+  const shown = element("said");
+  shown.hidden = false;
+  try {
+    const answer = await fetch("ask", { method: "POST", body: request });
+    const { asked, lines, wrong } = await answer.json();
+    shown.textContent = [asked, ...lines, ...(wrong ? [`error: ${wrong}`] : [])].join("\n");
+  } catch {
+    shown.textContent = `${request}: nicview doesn't answer`;
+  }
+}
+function beginLive() {
+  document.head.append(make("style", {}, LOOKS));
+  liveBar();
+  element("pause").addEventListener("click", pause);
+  element("older").addEventListener("click", () => ask(live.before));
+  element("newer").addEventListener("click", () => ask(Math.min(live.total, live.until + Math.max(1, live.until - live.before))));
+  element("past").addEventListener("change", () => ask(Number(element("past").value)));
+  for (const button of element("guest").querySelectorAll("button"))
+    button.addEventListener("click", () => askCard(GUEST[button.textContent]));
+  document.addEventListener("moved", showLive);
+  document.addEventListener("keydown", (event) => {
+    if (event.key === "p" && !event.ctrlKey && !event.metaKey && event.target.id !== "search") pause();
+  });
+  document.querySelector("#keys table").append(row([make("kbd", {}, "p"), "pause, follow (the file that grows)"]));
+  new ResizeObserver(([{ target }]) => {
+    document.documentElement.style.setProperty("--under", `${target.offsetHeight + 4}px`);
+    keepLine();
+  }).observe(document.querySelector("header"));
+  showLive();
+  follow();
+}
+beginLive();

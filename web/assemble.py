@@ -32,7 +32,7 @@ LEFT_OUT = {
     "pcap": {"read_pcap", "write_pcap", "bytes_of", "HasBytes"},
     "script": {"Bench.call", "Bench._call", "Bench.edition", "_talk", "_hear", "read_bytes", "read_text", "load"},
     "printable": {"Printable"},
-    "page": {"page"},
+    "page": {"page", "code_of"},
 }
 
 

@@ -99,6 +99,7 @@ class Names(ast.NodeVisitor):
     def visit_MatchAs(self, node: ast.MatchAs) -> None:
         if node.name:
             self.found[node.name] = None
+        self.generic_visit(node)
 
     def _comprehension(self, node: Any) -> None:
         """Of a comprehension only what `:=` names belongs to the function."""
@@ -574,8 +575,9 @@ class Statements(Expressions):
 
     def matched(self, pattern: ast.pattern, of: str) -> tuple[str, str]:
         """The test of a pattern, and what it names."""
-        if isinstance(pattern, ast.MatchAs) and pattern.pattern is None:
-            return "true", f"{name_of(pattern.name)} = {of};\n" if pattern.name else ""
+        if isinstance(pattern, ast.MatchAs):
+            test, bound = self.matched(pattern.pattern, of) if pattern.pattern else ("true", "")
+            return test, bound + (f"{name_of(pattern.name)} = {of};\n" if pattern.name else "")
         if isinstance(pattern, ast.MatchSequence):
             tests, bound = [f"{of}.length === {len(pattern.patterns)}"], ""
             for n, one in enumerate(pattern.patterns):

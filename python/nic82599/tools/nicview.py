@@ -5,6 +5,7 @@
     tools/nicview SCRIPT --svg STEP -o it.svg   a picture of the machine after a step
     tools/nicview SCRIPT --perfetto -o it.json  a trace for Perfetto: steps, who made them, messages, frames
     tools/nicview RECORDING --script            a script of a recording, as far as nicbench can read one
+    tools/nicview SCRIPT --test c               the same calls as a test: in C, or in Python (--test python)
     tools/nicview --live FILE                   a page that follows a recording as it grows; prints its address
     tools/nicview --live SOCKET                 the same of a guest's card, by the server's control socket
 
@@ -30,13 +31,14 @@ from pathlib import Path
 import nic82599
 
 from ..version import VERSION
-from . import control, draw, live, page, perfetto
+from . import as_test, control, draw, live, page, perfetto
 from .as_script import script
 from .follow import Following
 from .lines import Source
 from .printable import printable
 from .recording import is_recording, read, refuse_sizes, run_of
-from .script import Bench, Fault
+from .run import bench_of
+from .script import Bench, Fault, of_text, read_bytes, script_part, text_of
 from .tool import MOST_STEPS, Parser, called, ended, limit, limit_of_script, number, sizes
 
 # How many steps are shown where no number is given; with --live they are drawn again and again.
@@ -56,6 +58,7 @@ def words() -> argparse.Namespace:
     form.add_argument("--text", action="store_true", help="lines of text in place of a page")
     step = number(0, MOST_STEPS)
     form.add_argument("--svg", type=step, metavar="STEP", help="a picture of the machine after this step")
+    form.add_argument("--test", choices=("c", "python"), help="a test in C or in Python that makes the same calls")
     form.add_argument("--live", action="store_true", help="a page that follows the file as it grows, until ctrl-C")
     parser.add_argument("--control", metavar="SOCKET", help="with --live: the control socket of the guest's card")
     parser.add_argument("--port", type=number(1, 65_535), metavar="N", help="with --live: the port (one that is free)")
@@ -93,6 +96,17 @@ def as_script(asked: argparse.Namespace) -> int:
     return 1 if ended else 0
 
 
+def as_a_test(asked: argparse.Namespace) -> int:
+    """Writes a script's run as a test."""
+    raw = read_bytes(asked.script)
+    text = text_of(asked.script, raw)
+    own = bench_of(Bench(asked.vfs, asked.fifo), text)
+    part = script_part(text)
+    printed = own.run(part, limit_of_script(asked.limit))
+    write(asked.o, as_test.written(asked.test, of_text(own, asked.script, part), printed, own))
+    return 0 if printed[-1].startswith("ok") else 1
+
+
 def foot(is_recorded: bool) -> str:
     """What answered, at the foot of a page: the library of a recording, or else the program, with its edition."""
     if is_recorded:
@@ -117,6 +131,8 @@ def main() -> int:
         return followed(asked)
     if asked.script_of:
         return as_script(asked)
+    if asked.test:
+        return as_a_test(asked)
     if asked.o is None and asked.svg is None and not asked.text and sys.stdout.isatty():
         raise Fault("a page isn't for the terminal: give a file with -o run.html, or --text")
     run = run_of(asked.script, asked.vfs, asked.fifo, asked.limit)

@@ -24,7 +24,7 @@ sys.path[:0] = [str(ROOT / "python"), str(ROOT / "web")]
 os.environ["NICBENCH_QUIET"] = "1"
 import assemble  # noqa: E402
 import lessons  # noqa: E402
-from nic82599.tools import page, refusals, run, script  # noqa: E402
+from nic82599.tools import as_test, page, refusals, run, script  # noqa: E402
 from nic82599.tools.forms import explained  # noqa: E402
 
 MOST_BYTES, SHOWN, LIMIT = 4_000_000, 5, 4_096
@@ -179,7 +179,23 @@ def by_page(view: dict[str, Any], answered: dict[str, Any]) -> Any:
     return view["fault"]["message"]
 
 
+def tests(checks: Checks) -> None:
+    """The tests that the page saves are those that nicview writes."""
+    given = [it for it in scripts(checks)[: len(assemble.examples())] if not isinstance(by_python(*it), list)]
+    asked = [(language, text, sizes) for text, sizes in given for language in ("c", "python")]
+    found = asked_in_node(checks.page, [("test", [language, "it.nic", *it]) for language, *it in asked])
+    faults = []
+    for (language, text, sizes), got in zip(asked, found):
+        own = run.bench_of(script.Bench(sizes.get("vfs"), sizes.get("fifo")), text)
+        part = script.script_part(text)
+        want = as_test.written(language, script.of_text(own, "it.nic", part), own.run(part, LIMIT), own)
+        if got.get("made") != want:
+            faults.append(f"{text[:60]!r} in {language}: {str(got)[:200]}")
+    checks.tell("tests in C and Python", len(asked), faults)
+
+
 def tools(checks: Checks) -> None:
+    tests(checks)
     given, faults = scripts(checks), []
     messages = [(what, ["it.nic", *it]) for it in given for what in ("view", "answers")]
     found = asked_in_node(checks.page, messages)

@@ -56,7 +56,7 @@ function begin() {
 }
 class Stopped extends Error {}
 // What runs a script; the rest is soon done.
-const RUNS = ["answers", "view", "solved", "reason"];
+const RUNS = ["answers", "view", "test", "solved", "reason"];
 // Ends the run of a script, which is reported to what waits for it. All else is asked again.
 function stop() {
   worker.terminate();

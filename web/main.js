@@ -37,6 +37,7 @@ function buildBars() {
   chosenBy("capture", "capture-file", dropped);
   const acts = {
     share: copyLink, stop, picture, theme: toggleTheme, help: () => element("helping").showModal(), undo: takeBack,
+    "test-c": () => saveTest("c"), "test-python": () => saveTest("python"),
     "step-back": () => show(step - 1), "step-on": () => show(step + 1), "run-back": () => toBreakpoint(-1), "run-on": () => toBreakpoint(1),
   };
   for (const [id, act] of Object.entries(acts)) element(id).addEventListener("click", act);

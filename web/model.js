@@ -66,6 +66,13 @@ function view(name, text, sizes) {
   return P.plain(new MODULES.page.Data(run).whole());
 }
 
+// The run as a test in C or in Python, as nicview --test has it.
+function test(language, name, text, sizes) {
+  const own = MODULES.run.bench_of(fresh(sizes), text), script = MODULES.script.script_part(text);
+  const loaded = MODULES.script.of_text(own, name, script);
+  return MODULES.as_test.written(language, loaded, own.run(script, LIMIT_OF_STEPS), own);
+}
+
 // A frame of the form's words, as a line of a script, and what receive side scaling does with it.
 function packet({ kind, from, to, fromPort, toPort, macTo, macFrom, tag, payload, length, name, type }) {
   const { made, ethernet, mac, arp, Rss } = MODULES.packets, octets = P.bytes.fromhex(payload ?? "");

@@ -188,6 +188,17 @@ async function copyLink() {
     notice(`The link stands in the address line: ${link.length.toLocaleString("en")} letters.`);
   }
 }
+// Saves the run as a test in a language, under the name that the test's first lines have.
+async function saveTest(language) {
+  const text = element("text").value, words = language === "c" ? /(\w+\.c) \$/ : /python3 (\w+\.py)/;
+  try {
+    const made = await ask("test", language, nameOf(), text, sizes());
+    notice();
+    saved(words.exec(made)[1], made);
+  } catch (fault) {
+    notice(`There is no test of a script that the bench refuses (${fault.message}): F4 goes to the line.`);
+  }
+}
 async function openLink() {
   if (!location.hash.startsWith("#script=")) return false;
   try {

@@ -1,5 +1,5 @@
 // The worker of the page: it answers one message after the other. A module comes with the first.
-const ACTS = { answers, view, packet, capture, solved, reason, listing, bench };
+const ACTS = { answers, view, packet, capture, test, solved, reason, listing, bench };
 onmessage = ({ data: { id, what, given, module } }) => {
   if (module) wasm = module;
   try {

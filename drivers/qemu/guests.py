@@ -259,9 +259,9 @@ def port() -> list[str]:
     return ["-device", "pcie-root-port,id=rp,chassis=1"]
 
 
-def machine_words(place: Place, memory_size: str, processors: int) -> list[str]:
+def machine_words(place: Place, memory_size: str, processors: int, accel: str = "tcg") -> list[str]:
     """The words for an x86 machine without anything else."""
-    return [*place.qemu("qemu-system-x86_64"), "-machine", "q35,accel=tcg,memory-backend=ram", *QUIET,
+    return [*place.qemu("qemu-system-x86_64"), "-machine", f"q35,accel={accel},memory-backend=ram", *QUIET,
             *memory(memory_size), "-cpu", "max", "-smp", str(processors)]
 
 
@@ -650,6 +650,8 @@ def names_of(words: list[str]) -> list[str]:
 
 def needs_of(words: list[str]) -> list[str]:
     """What is to be fetched for these words."""
+    if words[:1] == ["--fetch"] and words[1:]:
+        return words[1:]
     if words[:1] == ["--measure"]:
         return ["qemu", "tools", "kernel-6.1"]
     if words[:1] in (["--kernel"], ["--disk"]):
@@ -728,6 +730,8 @@ def main(words: list[str]) -> int:
     fetched, words = ([], words) if asks else (words[:3], words[3:])
     names = names_of(words)
     unknown = [it for it in names if it not in RUNS and it != "turn"]
+    if words[:1] == ["--fetch"]:
+        unknown = [it for it in words[1:] if it not in needs_of([])]
     if unknown or not names:
         print(f"drivers/qemu/run: what is {' '.join(unknown) or '--only of nothing'}? --list tells", file=sys.stderr)
         return 3

@@ -8,10 +8,10 @@ load() {
 
 now() { cut -d' ' -f1 /proc/uptime; }
 
-# carrier [INTERFACE]: waits until there is one.
+# carrier [INTERFACE]: waits until there is one; a patient search waits longer.
 carrier() {
     n=0
-    while [ "$(cat "/sys/class/net/${1:-eth0}/carrier" 2>/dev/null)" != 1 ] && [ $n -lt 200 ]; do
+    while [ "$(cat "/sys/class/net/${1:-eth0}/carrier" 2>/dev/null)" != 1 ] && [ $n -lt $((200 * ${PATIENCE:-1})) ]; do
         usleep 100000
         n=$((n + 1))
     done

@@ -15,12 +15,27 @@ HERE = Path(__file__).resolve().parent
 sys.path.insert(0, str(HERE.parent))
 from guests import LIBRARY, Guest, Place, Server, Wrong, device, machine_words, port  # noqa: E402
 from initrd import Initrd  # noqa: E402
-from verdict import FATAL, NOTES, Finding, checked, counted, numbers, spoken, went_on, worst_first  # noqa: E402
+from verdict import (  # noqa: E402
+    FATAL,
+    NOTES,
+    Finding,
+    checked,
+    counted,
+    numbers,
+    scripted,
+    spoken,
+    went_on,
+    worst_first,
+)
 from workload import Plan, script  # noqa: E402
 
+# Of one that isn't patient; with --patience each is so many times as long.
 BOOT_SECONDS = 300
 SILENT_SECONDS = 90  # in which a guest that is well says something
 LOCKED_SECONDS = 60  # after a lockup was reported, in which a guest that goes on begins another operation
+STUCK_SECONDS = 40  # that an operation may take
+WATCHDOG_SECONDS, WATCHDOG_MOST = 5, 60  # the kernel's threshold, and what it takes at most
+STALL_SECONDS = 21  # the kernel's own, until RCU complains
 FUNCTION_MAC = "02:00:00:00:00:55"
 REQUEST = re.compile(r"@(control|await|search|host) (.*)$")
 WORKLOAD = LIBRARY + (HERE / "guest.sh").read_text()
@@ -43,6 +58,35 @@ class Asked(Server):
         if self.process.poll() is not None:
             raise Wrong(f"the server has ended with status {self.process.poll()}: {self.told.read_text()[-500:]}")
         return answer
+
+
+class NoBoot(Wrong):
+    """The guest doesn't boot, or its driver has no interface."""
+
+    def __init__(self, text: str, lines: list[str]) -> None:
+        super().__init__(text)
+        self.lines = lines
+
+
+@dataclass(frozen=True)
+class Setting:
+    """What the guests of a search have beside a kernel: memory, how QEMU runs them, how many times as long all limits
+    are; the reporter's own script, and programs for it."""
+
+    memory: str = "384M"
+    accel: str = "tcg"
+    patience: int = 1
+    script: Path | None = None
+    programs: tuple[Path, ...] = ()
+
+    @property
+    def append(self) -> str:
+        """The kernel's words."""
+        threshold = min(WATCHDOG_MOST, WATCHDOG_SECONDS * self.patience)
+        words = f"console=ttyS0 quiet loglevel=5 panic=-1 no_timer_check watchdog_thresh={threshold}"
+        if self.patience > 1:
+            words += f" rcupdate.rcu_cpu_stall_timeout={min(300, STALL_SECONDS * self.patience)}"
+        return words
 
 
 @dataclass(frozen=True)
@@ -80,8 +124,24 @@ class Outcome:
         return any(it.kind not in NOTES[self.driver] for it in self.findings)
 
     @property
+    def is_broken(self) -> bool:
+        """Nothing was tried: the server or the guest isn't there."""
+        return any(it.kind in ("server", "boot") for it in self.findings)
+
+    @property
+    def is_untried(self) -> bool:
+        """The reporter's script says that it can't be tried here, and nothing else failed."""
+        return not self.fails and any(it.kind == "not tried" for it in self.findings)
+
+    @property
     def verdict(self) -> str:
-        return self.findings[0].kind if self.fails else "ok"
+        return self.findings[0].kind if self.fails else "not tried" if self.is_untried else "ok"
+
+    def matches(self, pattern: str) -> bool:
+        """A finding matches, or what the guest printed where it was given up."""
+        if any(re.search(pattern, f"{it.kind}: {it.text}") for it in self.findings):
+            return True
+        return self.is_fatal and any(re.search(pattern, line) for line in self.lines)
 
 
 class Relay(Guest):
@@ -143,6 +203,7 @@ class Bench:
     plan: Plan
     seeds: Sequence[int]
     is_recorded: bool
+    setting: Setting = field(default_factory=Setting)
     seeds_done: int = 0
 
     def __post_init__(self) -> None:
@@ -176,26 +237,41 @@ class Bench:
             it.add_file(f"modules/{self.kernel.module.name}", self.kernel.module.read_bytes(), 0o644)
         it.add_program(tools / "sbin/ethtool", tools)
         it.add_file("bin/frames", (self.place.out / "frames").read_bytes(), 0o755)
+        self.add_own(it)
         begins = (HERE / start).read_text() if start else "start() { up 10.0.0.2; }\n"
-        it.add_file("script", f"{WORKLOAD}{begins}start\nobey\n".encode(), 0o644)
+        patience = f"PATIENCE={self.setting.patience}\n"
+        it.add_file("script", f"{patience}{WORKLOAD}{begins}start\nobey\n".encode(), 0o644)
         it.files["seeds"] = (0o040755, b"")
         for seed in self.seeds:
             it.add_file(f"seeds/{seed}", script(seed, self.plan).encode(), 0o644)
         return it
 
+    def add_own(self, it: Initrd) -> None:
+        """The reporter's script and programs."""
+        if self.setting.script:
+            it.add_file("own", self.setting.script.read_bytes(), 0o755)
+        for program in self.setting.programs:
+            if program.read_bytes()[:4] == b"\x7fELF":
+                it.add_program(program, Path("/"))
+            else:
+                it.add_file(f"bin/{program.name}", program.read_bytes(), 0o755)
+
     def boot(self, name: str, start: str, processors: int, devices: Sequence[str], host: Relay | None) -> Relay:
         file = self.server.folder / f"{name}.initrd"
         self.initrd(start).write(file)
         words = [
-            *machine_words(self.place, "384M", processors), "-kernel", str(self.kernel.image), "-initrd", str(file),
-            "-append", "console=ttyS0 quiet loglevel=5 panic=-1 no_timer_check watchdog_thresh=5", *port(), *devices,
+            *machine_words(self.place, self.setting.memory, processors, self.setting.accel),
+            "-kernel", str(self.kernel.image), "-initrd", str(file), "-append", self.setting.append, *port(), *devices,
         ]  # fmt: skip
         guest = Relay(words, self.server, self.server.folder / f"{name}.log", host)
         try:
-            guest.wait_for("@search ready", BOOT_SECONDS)
-        except Wrong:
+            guest.wait_for("@search ready", BOOT_SECONDS * self.setting.patience)
+        except Wrong as fault:
             guest.kill()
-            raise
+            raise NoBoot(str(fault), guest.lines) from None
+        if "@search no interface" in guest.lines:
+            guest.kill()
+            raise NoBoot(f"the driver has no interface; last: {guest.lines[-8:]}", guest.lines)
         return guest
 
     # ---- a seed ----
@@ -211,7 +287,7 @@ class Bench:
         if ends != "done":
             findings.append(Finding("stuck", f"{ends}; last: {self.last_operation(lines)}"))
         else:
-            findings = [*went_on(findings), *checked(lines, self.plan.is_function)]
+            findings = [*went_on(findings), *scripted(lines, self.plan.limit), *checked(lines, self.plan.is_function)]
         rounds = len({it for it in lines if it.startswith("@search doing round")})
         outcome = Outcome(self.kernel.name, self.plan.driver, seed, worst_first(findings), rounds,
                           time.time() - began, lines)
@@ -223,7 +299,8 @@ class Bench:
 
     def wait(self, text: str, first: int) -> str:
         """Until the guest says that it is done, or it is plain that it won't: "done", or why not."""
-        locked = 0.0
+        locked, patience = 0.0, self.setting.patience
+        silent = SILENT_SECONDS * patience + (self.plan.limit if self.plan.own else 0)
         while True:
             lines = self.guest.lines[first:]
             if text in lines:
@@ -232,14 +309,14 @@ class Bench:
                 return "the guest ended"
             if is_locked(lines):
                 locked = locked or time.time()
-                if time.time() - locked > LOCKED_SECONDS:
+                if time.time() - locked > LOCKED_SECONDS * patience:
                     return "a processor is locked up"
             else:
                 locked = 0.0
             if "@search stuck was reported" in lines:
-                return "an operation takes more than 40 s"
-            if time.time() - self.guest.last > SILENT_SECONDS:
-                return f"nothing was said for {SILENT_SECONDS} s"
+                return f"an operation takes more than {STUCK_SECONDS * patience} s"
+            if time.time() - self.guest.last > silent:
+                return f"nothing was said for {silent} s"
             time.sleep(0.1)
 
     def last_operation(self, lines: Sequence[str]) -> str:

@@ -20,8 +20,8 @@ class Case:
 CASES = {
     "ixgbe-down-lockup": Case(
         "linux-6.1", "ixgbe", "lockup", "ixgbe_clean_tx_ring", 20,
-        "ixgbe_down stops the transmit queues and empties their rings, while the service task, which looked at "
-        "__IXGBE_DOWN before, wakes the queues: a frame enters a ring that is being emptied, and the loop over it "
-        "doesn't end",
+        "ixgbe_watchdog_subtask looks at __IXGBE_DOWN, finds that the link is up, and wakes the transmit queues; "
+        "ixgbe_down, which doesn't wait for it, has stopped them and emptied their rings in between. A frame enters "
+        "such a ring, and the next ixgbe_down goes round it without end",
     ),
 }  # fmt: skip

@@ -13,13 +13,15 @@ from pathlib import Path
 
 sys.dont_write_bytecode = True
 sys.path.insert(0, str(Path(__file__).resolve().parent))
-from bench import Outcome, is_locked  # noqa: E402
-from guests import Wrong, own_words  # noqa: E402
+from bench import Outcome, Setting, is_locked  # noqa: E402
+from guests import Wrong, needs_of, own_words  # noqa: E402
 from initrd import Initrd  # noqa: E402
+from main import Search, plan_of  # noqa: E402
 from modules import Unreadable, unpack_modules  # noqa: E402
 from report import junit, line, table  # noqa: E402
-from verdict import Finding, checked, counted, numbers, spoken, went_on, worst_first  # noqa: E402
+from verdict import Finding, checked, counted, numbers, scripted, spoken, went_on, worst_first  # noqa: E402
 from windows import told, windows  # noqa: E402
+from words import needs, read_words  # noqa: E402
 from workload import Plan, script  # noqa: E402
 
 LOCKUP = """[   35.242358] watchdog: BUG: soft lockup - CPU#1 stuck for 13s! [ip:129]
@@ -88,6 +90,69 @@ def workloads() -> None:
     assert "channels" not in script(7, Plan("ixgbevf"))
 
 
+def own_workloads(folder: Path) -> None:
+    """A reporter's script is in a seed's script, in place of the drawn operations or beside them, which stay the same;
+    what it says and how it ends is found."""
+    own = folder / "own.sh"
+    own.write_text("exit 0\n")
+    drawn = script(7, Plan(rounds=1)).splitlines()
+    alone = script(7, plan_of(read_words(["--script", str(own), "--limit", "9", "--rounds", "1"]))).splitlines()
+    beside = script(7, plan_of(read_words(["--script", str(own), "--beside", "--no-traffic", "--rounds", "1"])))
+    assert alone == ["begin 7", "round 1", "own 7 1 9", "own_ends", "answers", "settle", "finish 7"], alone
+    assert [it for it in beside.splitlines() if not it.startswith("own")] == ["begin 7 quiet", *drawn[1:]], beside
+    assert "\nround 1\nown 7 1 60\n" in beside and "\nown_ends\nanswers\n" in beside, beside
+    for status, text in ((0, ""), (1, "wrong"), (7, "status 7"), (137, "not over in 9 s")):
+        lines = ["script: sent", "script: lost", *[f"@search script 2 {status}"] * 3]
+        found = "".join(f"{it.kind}: {it.text}" for it in scripted(lines, 9))
+        assert found == (f"script: round 2: {text}; last: lost" if text else ""), (status, found)
+    assert kinds(list(scripted(["@search script 1 125"], 9))) == ["not tried"]
+    assert not list(spoken(["script: BUG: no bug", "script: WARNING: possible circular locking"]))
+    assert kinds(list(spoken(["WARNING: possible circular locking dependency detected"]))) == ["kernel"]
+
+
+def patience() -> None:
+    assert Setting().append.endswith("watchdog_thresh=5"), Setting().append
+    assert "watchdog_thresh=40 rcupdate.rcu_cpu_stall_timeout=168" in Setting(patience=8).append
+    assert "watchdog_thresh=60 rcupdate.rcu_cpu_stall_timeout=300" in Setting(patience=99).append
+
+
+def seed(number: int, kind: str, text: str = "", lines: Sequence[str] = ()) -> Outcome:
+    return Outcome("k", "ixgbe", number, [Finding(kind, text)] if kind else [], 1, 1.0, list(lines))
+
+
+def statuses(folder: Path) -> None:
+    """What a search ends with, by what came of its seeds: also for `git bisect run`."""
+    loop = seed(1, "lockup", "soft lockup, in ixgbe_clean_tx_ring")
+    hung = seed(2, "hung task", "ip blocked", ["RIP: 0010:ixgbe_clean_tx_ring+0x90"])
+    quiet, lost = seed(3, ""), seed(4, "frames", "out: 299 of 300")
+    untried, broken, ended = seed(5, "not tried"), seed(6, "boot", "Kernel panic"), seed(7, "server", "status 1")
+    tail = seed(8, "tail off", "", hung.lines)
+    match = ["--match", "ixgbe_clean_tx_ring"]
+    for words, outcomes, status in (
+        ([], [quiet], 0), ([], [quiet, lost], 1), ([], [quiet, untried], 0), ([], [untried], 2), ([], [broken], 1),
+        (match, [quiet, lost], 0), (match, [loop], 1), (match, [hung], 1), (match, [tail], 0),
+        (["--bisect"], [quiet], 0), (["--bisect"], [quiet, lost], 1), (["--bisect"], [quiet, untried], 125),
+        (["--bisect"], [broken], 125), (["--bisect"], [broken, loop], 1), (["--bisect"], [ended], 130),
+        (["--bisect", *match], [quiet, lost], 0), (["--bisect", *match], [hung], 1),
+    ):  # fmt: skip
+        given = read_words(words)
+        search = Search(None, None, plan_of(given), given)  # type: ignore[arg-type]
+        search.outcomes = list(outcomes)
+        assert search.status() == status, (words, [it.verdict for it in outcomes], search.status())
+    assert line(untried).endswith(": not tried: ") and "| 1 | 0 | 1 |" in table([untried]), table([untried])
+    junit([untried, loop], folder / "junit.xml")
+    assert 'tests="2" failures="1" skipped="1"' in (folder / "junit.xml").read_text()
+
+
+def fetches() -> None:
+    """Only what the words need."""
+    assert needs(read_words([])) == ["qemu", "tools", "kernel-6.1"]
+    assert needs(read_words(["linux-sid", "--function"])) == ["qemu", "tools", "kernel-sid"]
+    assert needs(read_words(["--kernel", "/bin/sh", "--modules", "/"])) == ["qemu", "tools"]
+    assert needs_of(["--fetch", "qemu", "tools"]) == ["qemu", "tools"]
+    assert needs_of(["--fetch"]) == needs_of([])
+
+
 def archives(folder: Path) -> None:
     made = Initrd(Path("/nowhere"), Path("/bin/true"))
     made.files["lib/modules/6.0/kernel/a/b.ko.xz"] = (0o100644, b"module")
@@ -150,6 +215,10 @@ def main() -> int:
         verdicts()
         checks()
         workloads()
+        own_workloads(Path(folder))
+        patience()
+        statuses(Path(folder))
+        fetches()
         archives(Path(folder))
         recordings()
         reports(Path(folder))

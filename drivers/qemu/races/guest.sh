@@ -15,7 +15,7 @@ echo pfifo_fast >/proc/sys/net/core/default_qdisc
 # at once after a request, the line is "@control WORDS", and nobody waits.
 control() {
     echo "@await $*"
-    read -r -t 20 _
+    read -r -t $((20 * PATIENCE)) _
 }
 
 rings() {
@@ -70,6 +70,41 @@ host() {
 }
 round() { doing round "$@"; }
 
+# own SEED ROUND SECONDS: begins the reporter's script, which may take so long. Each line that it prints is printed with
+# "script: " before it; a line "@control WORDS" among them is a request to the server.
+own() {
+    doing own "$2"
+    own_round=$2
+    own_limit=$3
+    rm -f /tmp/group /tmp/over
+    IFACE=eth0 PEER=10.0.0.1 SEED=$1 ROUND=$2 LIMIT=$3 OVER=/tmp/over \
+        timeout -s KILL "$3" setsid sh -c 'echo $$ >/tmp/group; exec sh /own' >/tmp/printed 2>&1 </dev/null &
+    own=$!
+}
+
+# The drawn operations are over; then it is, and with it what it left in the background.
+own_ends() {
+    doing own_ends "$own_round"
+    : >/tmp/over
+    echo $((own_limit / 5)) >/tmp/more
+    wait "$own"
+    status=$?
+    rm -f /tmp/more
+    [ ! -e /tmp/group ] || kill -KILL "-$(cat /tmp/group)" 2>/dev/null
+    usleep 200000
+    for _ in 1 2 3; do
+        echo "@search script $own_round $status"
+        usleep 50000
+    done
+}
+
+# What the script prints, a line each.
+repeats() {
+    mkfifo /tmp/printed
+    while IFS= read -r line || [ -n "$line" ]; do echo "script: $line"; done </tmp/printed &
+    exec 3>/tmp/printed
+}
+
 # Traffic that goes on meanwhile: two senders, and echo requests.
 traffic() {
     : >/tmp/pids
@@ -78,10 +113,11 @@ traffic() {
     (while [ -e /tmp/pids ]; do frames send eth0 100 60 && usleep 100000 || usleep 300000; done) >/dev/null 2>&1 &
 }
 
+# begin SEED [quiet]
 begin() {
     doing begin "$1"
     control seed "$1"
-    traffic
+    if [ "${2-}" = quiet ]; then : >/tmp/pids; else traffic; fi
 }
 
 # answers [HOW MANY]: whether an echo request is answered, in some tries.
@@ -89,7 +125,7 @@ answers() {
     doing answers
     n=0
     while [ $n -lt "${1:-3}" ]; do
-        ping -c 1 -W 2 10.0.0.1 >/dev/null 2>&1 && return 0
+        ping -c 1 -W $((2 * PATIENCE)) 10.0.0.1 >/dev/null 2>&1 && return 0
         n=$((n + 1))
     done
     return 1
@@ -138,7 +174,7 @@ exchange() {
     frames send eth0 300 1400
     sent
     rm -f /tmp/received
-    frames receive eth0 300 1400 20 >/tmp/received &
+    frames receive eth0 300 1400 $((20 * PATIENCE)) >/tmp/received &
     receiver=$!
     while ! grep -q ready /tmp/received 2>/dev/null; do usleep 50000; done
     control frames 300 1400
@@ -155,7 +191,8 @@ finish() {
     done
 }
 
-# Where one operation takes longer than 40 seconds, what each process and processor does.
+# Where one operation takes longer than 40 seconds, what each process and processor does. A patient search waits so many
+# times as long, and longer for the reporter's script.
 watcher() {
     last=
     same=0
@@ -164,7 +201,7 @@ watcher() {
         [ "$now" = "$last" ] && same=$((same + 1)) || same=0
         last=$now
         case $now in *idle) same=0 ;; esac
-        [ $same = 8 ] || continue
+        [ $same = $((8 * PATIENCE + $(cat /tmp/more 2>/dev/null || echo 0))) ] || continue
         echo "@search stuck at $now"
         dmesg -n 8
         echo w >/proc/sysrq-trigger
@@ -177,10 +214,13 @@ watcher() {
 # Words that the runner sends, a line each.
 obey() {
     step=0
-    echo 20 >/proc/sys/kernel/hung_task_timeout_secs 2>/dev/null
+    echo $((20 * PATIENCE)) >/proc/sys/kernel/hung_task_timeout_secs 2>/dev/null
     echo 1 >/proc/sys/kernel/sysrq
     stty -F /dev/ttyS0 -echo
     doing idle
+    busybox --install -s /bin 2>/dev/null
+    repeats
+    [ -e /sys/class/net/eth0 ] || echo "@search no interface"
     watcher &
     echo "@search ready"
     while read -r words; do eval "$words"; done </dev/ttyS0

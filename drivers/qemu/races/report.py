@@ -5,8 +5,11 @@ from __future__ import annotations
 import itertools
 import shutil
 import subprocess
+import threading
+import time
 from collections import Counter
-from collections.abc import Iterable, Sequence
+from collections.abc import Callable, Iterable, Iterator, Sequence
+from contextlib import contextmanager
 from pathlib import Path
 from xml.etree import ElementTree
 
@@ -18,12 +21,32 @@ ROOT = Path(__file__).resolve().parents[3]
 EVENTS = 3000  # of a recording that a page shows; of one time that the card was down:
 EVENTS_DOWN = 12_000
 BEHIND = 60  # lines after it
+TELL_SECONDS = 10  # between two lines of what is going on
+
+
+@contextmanager
+def telling(what: Callable[[], str]) -> Iterator[None]:
+    """Prints what is going on, now and every ten seconds with the time that it has taken."""
+    is_over, began = threading.Event(), time.time()
+
+    def tell() -> None:
+        while not is_over.wait(TELL_SECONDS):
+            print(f"drivers/qemu/search: {what()}, {time.time() - began:.0f} s", flush=True)
+
+    print(f"drivers/qemu/search: {what()}", flush=True)
+    teller = threading.Thread(target=tell, daemon=True)
+    teller.start()
+    try:
+        yield
+    finally:
+        is_over.set()
+        teller.join()
 
 
 def said(it: Outcome) -> str:
     """All that was found in one try."""
     findings = "; ".join(f"{finding.kind}: {finding.text}" for finding in it.findings)
-    return findings if it.fails else "ok" + (f" ({findings})" if findings else "")
+    return findings if it.fails or it.is_untried else "ok" + (f" ({findings})" if findings else "")
 
 
 def again(it: Outcome) -> str:
@@ -52,7 +75,7 @@ def table(outcomes: Sequence[Outcome]) -> str:
     for (kernel, driver), each in sorted(groups.items()):
         counts = Counter(finding.kind for it in each for finding in it.findings)
         rows.append([kernel, driver, str(len(each)), str(sum(it.rounds for it in each)),
-                     str(sum(not it.fails for it in each)), *(str(counts[kind]) for kind in kinds)])
+                     str(sum(it.verdict == "ok" for it in each)), *(str(counts[kind]) for kind in kinds)])
     return "\n".join("| " + " | ".join(row) + " |" for row in rows) + "\n"
 
 
@@ -66,8 +89,11 @@ def junit(outcomes: Iterable[Outcome], to: Path) -> None:
         if it.fails:
             failure = ElementTree.SubElement(case, "failure", message=f"{it.verdict}: {it.findings[0].text}"[:300])
             failure.text = line(it)
+        elif it.is_untried:
+            ElementTree.SubElement(case, "skipped", message=it.findings[0].text[:300])
     suite.set("tests", str(len(suite)))
-    suite.set("failures", str(sum(1 for case in suite if len(case))))
+    suite.set("failures", str(len(suite.findall("testcase/failure"))))
+    suite.set("skipped", str(len(suite.findall("testcase/skipped"))))
     ElementTree.ElementTree(suite).write(to, encoding="utf-8", xml_declaration=True)
 
 
@@ -75,7 +101,8 @@ def draw(record: Path, events: int = EVENTS) -> Path | None:
     """The page of a recording's end, by tools/nicview; None where it can't be drawn."""
     page = record.with_suffix(".html")
     words = [str(ROOT / "tools/nicview"), str(record), "--limit", str(events), "-o", str(page)]
-    ran = subprocess.run(words, capture_output=True, text=True, check=False)
+    with telling(lambda: f"drawing the end of {record.name}, {megabytes(record)} MB, as {page.name}"):
+        ran = subprocess.run(words, capture_output=True, text=True, check=False)
     if ran.returncode > 1:
         page.with_suffix(".txt").write_text(ran.stderr)
         return None
@@ -83,21 +110,41 @@ def draw(record: Path, events: int = EVENTS) -> Path | None:
 
 
 def draw_down(record: Path, window: Window) -> None:
-    """The page down.html of one time that the card was down, and down.nic, the recording until then."""
+    """The page down.html of one time that the card was down, of the recording until then."""
     last = window.accesses[-1].line + BEHIND
     cut = record.with_name("down.nic")
     with open(record, encoding="latin-1") as lines, open(cut, "w", encoding="latin-1") as to:
         to.writelines(itertools.islice(lines, last))
     draw(cut, min(EVENTS_DOWN, last - window.accesses[0].line + 2 * BEHIND))
+    cut.unlink()
+
+
+def megabytes(file: Path) -> str:
+    return f"{file.stat().st_size / 1e6:,.0f}"
 
 
 def keep_record(record: Path) -> None:
     """What a recording shows, beside it."""
-    found = with_tails(record)
+    lines = Lines(record)
+    with telling(lambda: f"reading {record}: {lines.read / 1e6:,.0f} of {megabytes(record)} MB"):
+        found = with_tails(lines)
     record.with_name("down.txt").write_text(text_of(found))
     if found:
         draw_down(record, found[-1])
     draw(record)
+
+
+class Lines:
+    """The lines of a file, and how many of its bytes were read."""
+
+    def __init__(self, file: Path) -> None:
+        self.file, self.read = file, 0
+
+    def __iter__(self) -> Iterator[str]:
+        with open(self.file, encoding="latin-1") as lines:
+            for line in lines:
+                self.read += len(line)
+                yield line
 
 
 def keep_failure(it: Outcome, workload: str, out: Path) -> Path:

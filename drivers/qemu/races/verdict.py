@@ -17,7 +17,8 @@ class Finding:
 
 # Kinds, the worst first, and what each means. After one of the first a guest isn't used again.
 KINDS = {
-    "server": "the server ended, or the guest doesn't boot",
+    "server": "the server ended",
+    "boot": "the guest doesn't boot, or its driver has no interface",
     "lockup": "a processor runs in the kernel without end",
     "stall": "RCU waits for a processor",
     "kernel": "a BUG, an oops, a warning of the kernel",
@@ -28,18 +29,23 @@ KINDS = {
     "no answer": "no echo reply at the end",
     "frames": "frames lost or changed, when all was quiet again",
     "changed": "a frame that the card sent is none that was given to it",
+    "script": "the reporter's script says that something is wrong, or took longer than it may",
     "driver": "the driver says that the card didn't do what it waited for",
     "reset": "registers written while the card was being reset",
     "tail outside": "a tail moved to a slot that its ring hasn't",
     "tail off": "a tail moved in a ring that is off",
     "fault": "a fault of the device",
     "refused": "another access that the server refused",
+    "not tried": "the reporter's script says that it can't be tried here",
     "slow": "a processor or a process was stuck for seconds, and went on",
 }
 FATAL = frozenset(list(KINDS)[: list(KINDS).index("frames") + 1])
 # What isn't a failure, by driver: a busy machine does it too, and a host that is reset does it to its functions, which
 # can't know of it before they are notified.
-NOTES = {"ixgbe": frozenset(["slow"]), "ixgbevf": frozenset(["slow", "driver", "reset", "tail outside", "tail off"])}
+NOTES = {
+    "ixgbe": frozenset(["slow", "not tried"]),
+    "ixgbevf": frozenset(["slow", "not tried", "driver", "reset", "tail outside", "tail off"]),
+}
 
 SPOKEN: Sequence[tuple[str, str]] = (
     ("lockup", r"BUG: soft lockup|hard LOCKUP"),
@@ -47,10 +53,13 @@ SPOKEN: Sequence[tuple[str, str]] = (
     ("hung unit", r"Detected Tx Unit Hang|NETDEV WATCHDOG|transmit queue \d+ timed out"),
     ("hung task", r"INFO: task \S+ blocked for more than"),
     ("kernel", r"\bBUG:(?! soft lockup)|Oops|general protection|Kernel panic|WARNING: (CPU|.* at )|UBSAN|KASAN"
+               r"|WARNING: (possible|inconsistent|suspicious|bad unlock|nested lock)|INFO: possible|kmemleak: \d+ new"
                r"|refcount_t|list_(add|del) corruption|page allocation failure|DMA-API"),
     ("driver", r"within the polling period|Could not enable|Hardware Error|Adapter removed|[Rr]eset polling failed"
                r"|not cleared|Failed to|PF still (resetting|in reset)"),
 )  # fmt: skip
+SCRIPT = "script: "  # what each line begins with that the reporter's script prints
+FINE, WRONG, UNTRIED, KILLED = 0, 1, 125, 137  # its statuses; the last is one that was ended
 RIP = re.compile(r"RIP: \S*?:?([A-Za-z_]\w*)\+0x")
 WARNED = re.compile(r"WARNING: CPU.* at (\S+)|WARNING: (\S+) at (\S+)")
 COUNTED = {
@@ -67,7 +76,8 @@ def without_time(line: str) -> str:
 
 
 def spoken(lines: Sequence[str]) -> Iterator[Finding]:
-    """What the kernel said, each kind once, with the function where it says one."""
+    """What the kernel said, each kind once, with the function where it says one; not what the script did."""
+    lines = [it for it in lines if not it.startswith(SCRIPT)]
     for kind, pattern in SPOKEN:
         at = next((i for i, line in enumerate(lines) if re.search(pattern, line)), None)
         if at is None:
@@ -90,6 +100,19 @@ def counted(before: Mapping[str, int], after: Mapping[str, int]) -> Iterator[Fin
     for kind, many in raised.items():
         if many > 0:
             yield Finding(kind, f"{many} times: {KINDS[kind]}")
+
+
+def scripted(lines: Sequence[str], limit: int) -> Iterator[Finding]:
+    """What the reporter's script said of each round."""
+    found = {int(it[1]): int(it[2]) for line in lines if (it := re.fullmatch(r"@search script (\d+) (\d+)", line))}
+    spoke = [it.removeprefix(SCRIPT) for it in lines if it.startswith(SCRIPT)]
+    last = f"; last: {spoke[-1]}" if spoke else ""
+    for number, status in found.items():
+        if status == UNTRIED:
+            yield Finding("not tried", f"round {number}: {KINDS['not tried']}{last}")
+        elif status != FINE:
+            said = {WRONG: "wrong", KILLED: f"not over in {limit} s"}.get(status, f"status {status}")
+            yield Finding("script", f"round {number}: {said}{last}")
 
 
 def checked(lines: Sequence[str], is_function: bool) -> Iterator[Finding]:

@@ -122,10 +122,9 @@ def line_of(it: Access) -> str:
     return f"{it.line:8} {it.way} {it.name} {it.word:08x}" + (f"  <- {it.mark}" if it.mark else "")
 
 
-def with_tails(record: Path) -> list[Window]:
+def with_tails(lines: Iterable[str]) -> list[Window]:
     """The times that the card was down and a tail was moved."""
-    with open(record, encoding="latin-1") as lines:
-        return [it for it in windows(lines) if it.tails]
+    return [it for it in windows(lines) if it.tails]
 
 
 def text_of(found: list[Window], most: int = 3) -> str:

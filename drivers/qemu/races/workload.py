@@ -16,11 +16,15 @@ SLOTS = (64, 96, 128, 192, 256, 320, 512, 1024)
 
 @dataclass(frozen=True)
 class Plan:
-    """What all seeds of a search have in common."""
+    """What all seeds of a search have in common. `own` is "alone" or "beside" where the reporter's own script runs in
+    place of the drawn operations, or beside them, for at most `limit` seconds a round."""
 
     driver: str = "ixgbe"
     rounds: int = 4
     processors: int = 4
+    own: str = ""
+    limit: int = 60
+    has_traffic: bool = True
 
     @property
     def is_function(self) -> bool:
@@ -82,11 +86,20 @@ def one_round(chance: random.Random, plan: Plan) -> list[str]:
     return lines
 
 
+def with_own(number: int, seed: int, operations: list[str], plan: Plan) -> list[str]:
+    """The operations of a round with the reporter's script, or the script alone."""
+    words = f"{seed} {number} {plan.limit}"
+    if plan.own == "alone":
+        return [f"own {words}", "own_ends"]
+    return [f"own {words}", *operations, "own_ends"]
+
+
 def script(seed: int, plan: Plan) -> str:
     """The lines of a seed. It ends with a check that frames pass, each byte of them."""
     chance = random.Random(f"{plan.driver} {seed}")
-    lines = [f"begin {seed}"]
+    lines = [f"begin {seed}" if plan.has_traffic else f"begin {seed} quiet"]
     for number in range(1, plan.rounds + 1):
-        lines += [f"round {number}", *one_round(chance, plan), "answers"]
+        operations = one_round(chance, plan)
+        lines += [f"round {number}", *(with_own(number, seed, operations, plan) if plan.own else operations), "answers"]
     lines += ["settle", f"finish {seed}"]
     return "\n".join(lines) + "\n"

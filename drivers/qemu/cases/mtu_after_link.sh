@@ -1,0 +1,11 @@
+# For drivers/qemu/search --script: the MTU changes 50 ms after the link came up, ten times. The change takes the card
+# down, perhaps while the driver's watchdog, which found the link up, has yet to wake the queues.
+n=0
+while [ $n -lt 10 ]; do
+    n=$((n + 1))
+    until [ "$(cat "/sys/class/net/$IFACE/carrier")" = 1 ]; do usleep 5000; done
+    usleep 50000
+    mtu=$((n % 2 * 500 + 1500))
+    echo "change $n, to $mtu"
+    ip link set "$IFACE" mtu $mtu || exit 1
+done

@@ -259,9 +259,9 @@ def port() -> list[str]:
     return ["-device", "pcie-root-port,id=rp,chassis=1"]
 
 
-def machine_words(place: Place, memory_size: str, processors: int, accel: str = "tcg") -> list[str]:
+def machine_words(place: Place, memory_size: str, processors: int) -> list[str]:
     """The words for an x86 machine without anything else."""
-    return [*place.qemu("qemu-system-x86_64"), "-machine", f"q35,accel={accel},memory-backend=ram", *QUIET,
+    return [*place.qemu("qemu-system-x86_64"), "-machine", "q35,accel=tcg,memory-backend=ram", *QUIET,
             *memory(memory_size), "-cpu", "max", "-smp", str(processors)]
 
 

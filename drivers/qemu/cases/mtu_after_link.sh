@@ -1,9 +1,10 @@
 # For drivers/qemu/search --script: the MTU changes 50 ms after the link came up, ten times. The change takes the card
 # down, perhaps while the driver's watchdog, which found the link up, has yet to wake the queues.
+is_up() { read -r carrier <"/sys/class/net/$IFACE/carrier" && [ "$carrier" = 1 ]; }
 n=0
 while [ $n -lt 10 ]; do
     n=$((n + 1))
-    until [ "$(cat "/sys/class/net/$IFACE/carrier")" = 1 ]; do usleep 5000; done
+    until is_up; do usleep 5000; done 2>/dev/null
     usleep 50000
     mtu=$((n % 2 * 500 + 1500))
     echo "change $n, to $mtu"

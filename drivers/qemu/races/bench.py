@@ -70,11 +70,10 @@ class NoBoot(Wrong):
 
 @dataclass(frozen=True)
 class Setting:
-    """What the guests of a search have beside a kernel: memory, how QEMU runs them, how many times as long all limits
-    are; the reporter's own script, and programs for it."""
+    """What the guests of a search have beside a kernel: memory, how many times as long all limits are; the reporter's
+    own script, and programs for it."""
 
     memory: str = "384M"
-    accel: str = "tcg"
     patience: int = 1
     script: Path | None = None
     programs: tuple[Path, ...] = ()
@@ -260,8 +259,8 @@ class Bench:
         file = self.server.folder / f"{name}.initrd"
         self.initrd(start).write(file)
         words = [
-            *machine_words(self.place, self.setting.memory, processors, self.setting.accel),
-            "-kernel", str(self.kernel.image), "-initrd", str(file), "-append", self.setting.append, *port(), *devices,
+            *machine_words(self.place, self.setting.memory, processors), "-kernel", str(self.kernel.image),
+            "-initrd", str(file), "-append", self.setting.append, *port(), *devices,
         ]  # fmt: skip
         guest = Relay(words, self.server, self.server.folder / f"{name}.log", host)
         try:

@@ -8,7 +8,6 @@ from __future__ import annotations
 
 import argparse
 import atexit
-import re
 import shutil
 import sys
 import threading
@@ -102,7 +101,7 @@ class Search:
 
     def is_the_case(self, it: Outcome) -> bool:
         case = self.case
-        return case is not None and any(f.kind == case.kind and re.search(case.pattern, f.text) for f in it.findings)
+        return case is not None and any(f.kind == case.kind for f in it.findings) and it.matches(case.pattern)
 
     def counts(self, it: Outcome) -> bool:
         """It failed, by what is sought."""
@@ -186,7 +185,7 @@ class Search:
 
 
 def setting_of(given: argparse.Namespace) -> Setting:
-    return Setting(f"{given.memory}M", given.accel, given.patience, given.script, tuple(given.add))
+    return Setting(f"{given.memory}M", given.patience, given.script, tuple(given.add))
 
 
 def plan_of(given: argparse.Namespace) -> Plan:
@@ -239,6 +238,8 @@ def main(words: Sequence[str]) -> int:
         for folder in place.folder.iterdir():
             if folder != given.out:
                 shutil.rmtree(folder, ignore_errors=True)
+        if given.out.parent != place.folder:
+            place.forget()
 
 
 if __name__ == "__main__":

@@ -101,7 +101,6 @@ def add_machine(it: Words) -> None:
     machine.add_argument("--patience", type=positive, default=1, metavar="N",
                          help="all limits of time are N times as long: for kernels with lockdep, KASAN or KCSAN (1)")
     machine.add_argument("--memory", type=positive, default=384, metavar="MB", help="of each guest (384)")
-    machine.add_argument("--accel", choices=("tcg", "kvm"), default="tcg", help="how QEMU runs the guest (tcg)")
 
 
 def read_words(words: Sequence[str]) -> argparse.Namespace:

@@ -18,8 +18,8 @@ enum {
 /* Device IDs of the 82599's physical function. */
 static const uint16_t devices[] = {0x10F7, 0x10FB, 0x10F8, 0x10F9, 0x10FC};
 
-/* A descriptor as four words, since this processor reads 64 bits by two loads, in any order: a length that is read before
-   DD could be an old one. */
+/* A descriptor as four words, since this processor reads 64 bits by two loads, in any order: a length that is read
+   before DD could be an old one. */
 struct slot {
     volatile uint32_t words[4];
 };
@@ -234,7 +234,8 @@ bool card_send(const uint8_t *frame, uint16_t length)
 
 /* --- interrupts --- */
 
-/* A read of EICR takes the causes and lowers the line. They stay masked until card_unmask, so the main loop can poll. */
+/* A read of EICR takes the causes and lowers the line. They stay masked until card_unmask, so the main loop can
+   poll. */
 void line_is_up(void)
 {
     uint32_t causes = read(NIC_EICR);

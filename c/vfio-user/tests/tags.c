@@ -1,4 +1,5 @@
-/* A frame that is longer than the card takes by its VLAN tag alone comes in, as on silicon; the driver's limits stay. */
+/* A frame that is longer than the card takes by its VLAN tag alone comes in, as on silicon; the driver's limits
+   stay. */
 #define _GNU_SOURCE
 #include <string.h>
 #include <sys/mman.h>
@@ -44,7 +45,8 @@ static void set_up(void)
     CHECK(peer_read(&peer, NIC_RXDCTL(0)) & NIC_RXDCTL_ENABLE);
 }
 
-/* Whether a frame of this length reaches the driver's memory, each byte; the registers that limit it stay as they are. */
+/* Whether a frame of this length reaches the driver's memory, each byte. The registers that limit it stay as they
+   are. */
 static bool comes_in(size_t length, bool is_tagged, uint8_t second)
 {
     uint8_t frame[LARGEST + TAG];

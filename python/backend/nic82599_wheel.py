@@ -6,6 +6,7 @@ bytes are decided by what goes in and by SOURCE_DATE_EPOCH.
 """
 
 import base64
+import functools
 import hashlib
 import os
 import re
@@ -15,6 +16,7 @@ import sys
 if sys.version_info < (3, 11):  # noqa: UP036
     sys.exit("nic82599_wheel: it needs Python 3.11 or newer, and this is {}.{}".format(*sys.version_info))
 
+import tempfile
 import time
 import tomllib
 import zipfile
@@ -43,6 +45,23 @@ def modules() -> dict[str, bytes]:
     """The files of the package by their names in a wheel."""
     files = sorted((HERE / "nic82599").rglob("*"))
     return {str(it.relative_to(HERE)): it.read_bytes() for it in files if it.suffix in SUFFIXES and it.is_file()}
+
+
+@functools.cache
+def browser_page() -> bytes | None:
+    """The bench as one page for a browser; None where rustc or its library for wasm32 isn't here."""
+    with tempfile.TemporaryDirectory() as folder:
+        words = [ROOT / "web/make", "-o", Path(folder) / "bench.html"]
+        made = subprocess.run(words, stdout=sys.stderr, check=False)
+        if made.returncode not in (0, 2):
+            sys.exit("nic82599_wheel: the page for browsers can't be made, see above: `web/make` is to work first")
+        return None if made.returncode else (Path(folder) / "bench.html").read_bytes()
+
+
+def page_files() -> dict[str, bytes]:
+    """That page as a wheel has it."""
+    found = browser_page()
+    return {} if found is None else {"nic82599/bench.html": found}
 
 
 def metadata(version: str) -> str:
@@ -160,7 +179,7 @@ def build_wheel(
     if built:
         program, edition = built
         binaries |= program_files(program.read_bytes(), edition)
-    return write_wheel(Path(wheel_directory), version(), modules(), binaries)
+    return write_wheel(Path(wheel_directory), version(), modules() | page_files(), binaries)
 
 
 def build_editable(

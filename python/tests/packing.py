@@ -17,6 +17,7 @@ import unittest
 import zipfile
 from importlib.util import find_spec
 from pathlib import Path
+from unittest import mock
 
 ROOT = Path(__file__).resolve().parents[2]
 sys.path += [str(ROOT / "python"), str(ROOT / "python/backend")]
@@ -106,6 +107,14 @@ class Wheel(unittest.TestCase):
         """Each file of the package that is kept is packed."""
         with zipfile.ZipFile(self.wheel) as archive:
             self.assertLessEqual(set(files_kept()), set(archive.namelist()))
+
+    def test_page_for_browsers(self) -> None:
+        """The page is packed where it can be made; without rustc it is left out."""
+        for page, names in ((b"<!doctype html>", ["nic82599/bench.html"]), (None, [])):
+            with mock.patch.object(backend, "browser_page", lambda page=page: page):
+                self.assertEqual([*backend.page_files()], names)
+        with mock.patch.dict(os.environ, RUSTC="/nowhere/rustc"):
+            self.assertIsNone(backend.browser_page.__wrapped__())
 
     def test_library_beside(self) -> None:
         made = self.told("import nic82599 as n; nic = n.Nic(); print(hex(nic['SRRCTL[3]']), n.places.library())")

@@ -172,10 +172,10 @@ def links(page: Page) -> None:
 def hostile(page: Page) -> None:
     """Text that would be markup stays text, in the page and in its view."""
     page.put(HOSTILE)
-    page.until("frames.length > 0")
+    page.until("drawn.length > 0")
     page.value("show(1), 0")
-    page.holds("nothing was injected", "window.hacked === undefined && frames[0].contentWindow.hacked === undefined")
-    documents = "[document, frames[0].contentDocument]"
+    page.holds("nothing was injected", "window.hacked === undefined && drawn[0].contentWindow.hacked === undefined")
+    documents = "[document, drawn[0].contentDocument]"
     page.holds("no element came of it", f"{documents}.every((it) => !it.querySelector('img'))")
     # (and what would get in by a fault of the page doesn't run: the policy names what may)
     tried = "Object.assign(document.createElement('script'), { textContent: 'window.hacked = 1' })"
@@ -196,7 +196,7 @@ def stopped(page: Page) -> None:
     long = "".join(f"w RDT[{k % 128}] {k % 8}\n" for k in range(4096))
     ended = ".catch((it) => (window.ended = it.message))"
     page.value(f"window.ended = '', ask('view', 'x', {json.dumps(long)}, {{}}){ended}, 0")
-    page.value("stop(), 0")
+    page.value("endRun(), 0")
     page.until("window.ended === 'stopped'")
     page.put("r STATUS\n")
     page.holds("the next is answered", "shownText.replies.get(1)[0].startsWith('word')")
@@ -241,7 +241,7 @@ def by_keys(page: Page) -> None:
 def looks(page: Page, folder: Path | None) -> None:
     """Nothing is cut off at any width, in either theme."""
     page.put(next(text for name, text in example_texts(page) if name == "receive.nic"))
-    page.until("frames.length > 0")
+    page.until("drawn.length > 0")
     page.value("show(13), 0")
     for width, is_dark in ((width, is_dark) for width in WIDTHS for is_dark in (False, True)):
         page.browser.size(width, 900, is_dark)

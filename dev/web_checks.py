@@ -223,6 +223,23 @@ def file_faults(text: str) -> list[str]:
     return faults + ["its policy doesn't name its script" for it in own if assemble.hash_of(it) not in policy[1]]
 
 
+# The parts of the page, and of nicview's pages, as the browser has them together.
+TYPED = [
+    ["web/globals.d.ts", *(f"web/{name}" for name in assemble.PARTS)],
+    [f"python/nic82599/tools/{name}" for name in (*page.SCRIPTS, "nicview_live.js")],
+]
+TSC = "--allowJs --checkJs --noEmit --pretty false --target es2022 --lib es2022,dom,dom.iterable".split()
+
+
+def types(checks: Checks) -> None:
+    """tsc finds no fault in the types of the JavaScript."""
+    faults = []
+    for files in TYPED:
+        made = subprocess.run(["tsc", *TSC, *files], cwd=ROOT, capture_output=True, text=True, check=False)
+        faults += made.stdout.splitlines() if made.returncode else []
+    checks.tell("types", sum(map(len, TYPED)), faults)
+
+
 def page_part(checks: Checks) -> None:
     checks.tell("page", 1, file_faults(checks.page.read_text(encoding="utf-8")))
 
@@ -275,7 +292,7 @@ def browser_part(checks: Checks) -> None:
 
 
 PARTS: dict[str, Callable[[Checks], None]] = {
-    "page": page_part, "lessons": lessons_part, "tools": tools, "answers": answers, "browser": browser_part,
+    "page": page_part, "types": types, "lessons": lessons_part, "tools": tools, "answers": answers, "browser": browser_part,
 }  # fmt: skip
 IN_NODE, IN_BROWSER = ("tools", "answers"), ("browser",)
 
@@ -284,6 +301,8 @@ def missing(part: str, checks: Checks) -> str | None:
     """Why a part is left out, if it is."""
     from browser import browser_program
 
+    if part == "types":
+        return None if shutil.which("tsc") else "tsc isn't installed (Debian: node-typescript)"
     if isinstance(checks.page, str) and part != "lessons":
         return checks.page
     if part in IN_NODE and not shutil.which("node"):

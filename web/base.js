@@ -1,6 +1,7 @@
 "use strict";
 // What the parts of the page have in common: elements, what is kept in the browser, the worker, files.
 const given = JSON.parse(document.getElementById("given").textContent);
+/** @type {(id: string) => any} (each place knows which element that is) */
 const element = (id) => document.getElementById(id);
 function make(tag, properties = {}, ...children) {
   const made = document.createElement(tag);
@@ -58,7 +59,7 @@ class Stopped extends Error {}
 // What runs a script; the rest is soon done.
 const RUNS = ["answers", "view", "test", "solved", "reason"];
 // Ends the run of a script, which is reported to what waits for it. All else is asked again.
-function stop() {
+function endRun() {
   worker.terminate();
   begin();
   for (const [id, { what, words, reject }] of [...waiting]) {

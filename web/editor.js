@@ -143,16 +143,16 @@ function choicesAt({ line, column }) {
   if (!["TARGET", "VALUE", "op"].includes(kind)) items = items.filter((it) => it.text.startsWith(word));
   return items.length ? { from, to, word, items: items.slice(0, 60) } : null;
 }
-let open = null;
+let choosing = null;
 function closeChoices() {
-  open = null;
+  choosing = null;
   element("choices").hidden = true;
   element("text").removeAttribute("aria-activedescendant");
 }
 function showChoices(isAsked) {
   const at = cursor(), found = choicesAt(at);
   if (!found || (!isAsked && (!found.word || NUMBER.test(found.word) || found.items[0].text === found.word))) return closeChoices();
-  open = { ...found, line: at.line, chosen: 0 };
+  choosing = { ...found, line: at.line, chosen: 0 };
   const list = element("choices"), text = element("text"), wide = letterWidth();
   list.replaceChildren(...found.items.map(({ text: words, said }, k) => {
     const item = make("li", { id: `choice-${k}`, role: "option" }, make("b", {}, words), make("span", {}, said));
@@ -167,14 +167,14 @@ function showChoices(isAsked) {
 }
 function choose(k) {
   const items = [...element("choices").children];
-  open.chosen = (k + items.length) % items.length;
-  items.forEach((item, at) => item.setAttribute("aria-selected", String(at === open.chosen)));
-  items[open.chosen].scrollIntoView({ block: "nearest" });
-  element("text").setAttribute("aria-activedescendant", items[open.chosen].id);
-  element("about").textContent = `${open.items[open.chosen].text}  ${open.items[open.chosen].said}`;
+  choosing.chosen = (k + items.length) % items.length;
+  items.forEach((item, at) => item.setAttribute("aria-selected", String(at === choosing.chosen)));
+  items[choosing.chosen].scrollIntoView({ block: "nearest" });
+  element("text").setAttribute("aria-activedescendant", items[choosing.chosen].id);
+  element("about").textContent = `${choosing.items[choosing.chosen].text}  ${choosing.items[choosing.chosen].said}`;
 }
-function takeChoice(k = open.chosen) {
-  const { from, to, line, items } = open, start = shownText.lines.slice(0, line - 1).reduce((sum, one) => sum + one.length + 1, 0);
+function takeChoice(k = choosing.chosen) {
+  const { from, to, line, items } = choosing, start = shownText.lines.slice(0, line - 1).reduce((sum, one) => sum + one.length + 1, 0);
   closeChoices();
   typed(start + from, start + to, items[k].text);
 }

@@ -1,7 +1,7 @@
 // The page begins.
 function applyTheme() {
   const wanted = kept("theme");
-  for (const root of [document.documentElement, ...frames.map((it) => it.contentDocument.documentElement)])
+  for (const root of [document.documentElement, ...drawn.map((it) => it.contentDocument.documentElement)])
     if (wanted) root.dataset.theme = wanted;
 }
 function toggleTheme() {
@@ -15,7 +15,7 @@ function buildEditor() {
   text.addEventListener("keydown", textKeys);
   text.addEventListener("scroll", drawRows);
   text.addEventListener("blur", closeChoices);
-  document.addEventListener("selectionchange", () => document.activeElement === text && !open && showAbout());
+  document.addEventListener("selectionchange", () => document.activeElement === text && !choosing && showAbout());
   element("gutter").addEventListener("click", (event) => event.target.dataset.line && toggleStop(Number(event.target.dataset.line)));
   new ResizeObserver(drawRows).observe(text);
   shownText.stops = new Set(kept("stops", []));
@@ -36,7 +36,7 @@ function buildBars() {
   chosenBy("open", "file", dropped);
   chosenBy("capture", "capture-file", dropped);
   const acts = {
-    share: copyLink, stop, picture, theme: toggleTheme, help: () => element("helping").showModal(), undo: takeBack,
+    share: copyLink, stop: endRun, picture, theme: toggleTheme, help: () => element("helping").showModal(), undo: takeBack,
     "test-c": () => saveTest("c"), "test-python": () => saveTest("python"),
     "step-back": () => show(step - 1), "step-on": () => show(step + 1), "run-back": () => toBreakpoint(-1), "run-on": () => toBreakpoint(1),
   };

@@ -2,8 +2,10 @@
 const hexOf = (bytes) => Array.from(bytes, (one) => one.toString(16).padStart(2, "0")).join("");
 const inLines = (hexText) => hexText.replace(/(.{64})/g, "$1\n");
 
+/** @returns {HTMLElement[]} */
+const tabsOf = () => [...document.querySelectorAll("[role=tab]")].map((it) => /** @type {HTMLElement} */ (it));
 function showTab(id) {
-  for (const tab of document.querySelectorAll("[role=tab]")) {
+  for (const tab of tabsOf()) {
     const isIt = tab.id === `tab-${id}`;
     tab.setAttribute("aria-selected", String(isIt));
     tab.tabIndex = isIt ? 0 : -1;
@@ -13,7 +15,7 @@ function showTab(id) {
   ({ work: drawRows, lessons: listLessons, objects: showObjects })[id]?.();
 }
 function tabKeys(event) {
-  const tabs = [...document.querySelectorAll("[role=tab]")], at = tabs.indexOf(event.target);
+  const tabs = tabsOf(), at = tabs.indexOf(event.target);
   const to = { ArrowRight: at + 1, ArrowLeft: at - 1, Home: 0, End: tabs.length - 1 }[event.key];
   if (to === undefined) return;
   const tab = tabs[(to + tabs.length) % tabs.length];
@@ -32,7 +34,7 @@ const FIELDS = [
 ];
 function buildPacket() {
   const values = kept("packet", {});
-  element("packet").append(...FIELDS.map(([id, title, value]) => {
+  element("packet").append(...FIELDS.map((/** @type {[string, string, any]} */ [id, title, value]) => {
     const input = Array.isArray(value) ? make("select", {}, ...value.map((it) => make("option", { value: it }, it))) : make("input", { spellcheck: false });
     input.id = `packet-${id}`;
     input.value = values[id] ?? (Array.isArray(value) ? value[0] : value);
@@ -99,7 +101,9 @@ async function answered(input, words, out, isBinary) {
   return status ? null : bytes;
 }
 function buildTools() {
-  for (const [id, words, isBinary] of [["hash", ["hash"], false], ["eeprom", ["eeprom"], true]]) {
+  /** @type {[string, string[], boolean][]} */
+  const tools = [["hash", ["hash"], false], ["eeprom", ["eeprom"], true]];
+  for (const [id, words, isBinary] of tools) {
     element(`${id}-in`).value = kept(id, given.starts[id]);
     element(`${id}-in`).addEventListener("input", () => {
       keep(id, element(`${id}-in`).value);

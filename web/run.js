@@ -1,6 +1,6 @@
 // The script and its run: what the bench answers as one types, the page that nicview draws, steps and breakpoints.
 const PAUSE = 250;
-let latest = 0, shown = null, step = 0, frames = [], lessonNow = null, before = null;
+let latest = 0, shown = null, step = 0, drawn = [], lessonNow = null, before = null;
 
 function sizes() {
   const number = (id) => (element(id).value === "" ? null : Number(element(id).value));
@@ -30,7 +30,7 @@ function putText(text, name = null, isNew = true) {
 
 async function asked() {
   const number = ++latest, text = element("text").value;
-  if (isLate()) stop();
+  if (isLate()) endRun();
   try {
     const found = await ask("answers", nameOf(), text, sizes());
     if (number !== latest) return;
@@ -72,9 +72,9 @@ function showView(run, number) {
   const isSame = shown && shown.name === run.name && step <= run.steps.length;
   frame.srcdoc = start + data + end;
   frame.addEventListener("load", () => {
-    if (number !== latest && frames.length) return frame.remove();
-    for (const old of frames) old.remove();
-    [frames, shown] = [[frame], run];
+    if (number !== latest && drawn.length) return frame.remove();
+    for (const old of drawn) old.remove();
+    [drawn, shown] = [[frame], run];
     frame.classList.add("shown");
     const at = frame.contentDocument.getElementById("at");
     applyTheme();
@@ -95,9 +95,9 @@ function followed(at) {
   else drawRows();
 }
 function show(n) {
-  if (!frames.length) return;
+  if (!drawn.length) return;
   wasMoved = true;
-  frames[0].contentWindow.show(Math.max(0, Math.min(shown.steps.length, n)));
+  drawn[0].contentWindow.show(Math.max(0, Math.min(shown.steps.length, n)));
 }
 const lineAt = (n) => shown.line_of[shown.steps[n - 1][0]];
 // On to the next step at whose line a breakpoint stands, or back; else to the end.
@@ -121,9 +121,9 @@ function stepKeys(event) {
   acts[event.key]();
 }
 function textKeys(event) {
-  if (open) {
+  if (choosing) {
     const acts = {
-      ArrowDown: () => choose(open.chosen + 1), ArrowUp: () => choose(open.chosen - 1), Enter: () => takeChoice(),
+      ArrowDown: () => choose(choosing.chosen + 1), ArrowUp: () => choose(choosing.chosen - 1), Enter: () => takeChoice(),
       Tab: () => takeChoice(), Escape: closeChoices,
     };
     if (acts[event.key]) return event.preventDefault(), event.stopPropagation(), acts[event.key]();
@@ -141,7 +141,7 @@ function nextRefused() {
 }
 // The rings in front, as a picture of its own: the view's, with its colours.
 function picture() {
-  const frame = frames[0], svg = frame?.contentDocument.querySelector("#front svg");
+  const frame = drawn[0], svg = frame?.contentDocument.querySelector("#front svg");
   if (!svg) return notice("There is no ring at this step to draw.");
   notice();
   const copy = svg.cloneNode(true), style = document.createElementNS("http://www.w3.org/2000/svg", "style");

@@ -3,7 +3,9 @@
 // from 0 here as they do in nicview --svg, --text and niclint. What is shown stands in the data, which page.py writes.
 const TROUBLE = ["failed", "fault", "dropped", "refused"];
 let position = 0, playing = null;
-let run, count, start, registers, boxes;
+/** @type {any} */
+let run;
+let count, start, registers, boxes;
 function take(data) {
   run = data;
   count = run.steps.length;
@@ -16,7 +18,10 @@ pinned = run.failed || null; // the ring that a finding names is in front until 
 
 // Elements and words.
 
+/** @type {(id: string) => any} (each place knows which element that is) */
 const element = (id) => document.getElementById(id);
+/** @type {() => HTMLButtonElement[]} */
+const nexts = () => [...document.querySelectorAll("[data-next]")].map((it) => /** @type {any} */ (it));
 function make(tag, properties = {}, ...children) {
   const made = document.createElement(tag);
   Object.assign(made, properties);
@@ -464,7 +469,7 @@ function fill() {
   showFinding();
   element("slider").max = count;
   element("names").replaceChildren(...[...registers.values()].map(([name]) => make("option", { value: name })));
-  for (const button of document.querySelectorAll("[data-next]"))
+  for (const button of nexts())
     button.disabled = !run.steps.some(isOf(button.dataset.next));
   element("notes-part").hidden = !run.notes.length;
   element("notes").replaceChildren(...run.notes.map((note) => make("p", {}, note)));
@@ -481,7 +486,7 @@ function replace(data, place) {
   show(place);
 }
 function begin() {
-  for (const button of document.querySelectorAll("[data-next]"))
+  for (const button of nexts())
     button.addEventListener("click", (event) => jump(button.dataset.next, event.shiftKey));
   element("slider").addEventListener("input", () => show(Number(element("slider").value)));
   element("search").addEventListener("input", showHits);

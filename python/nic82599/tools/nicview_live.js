@@ -66,7 +66,7 @@ async function ask(end, isChosen = true) {
   const began = performance.now();
   try {
     const answer = await fetch(end === undefined ? "part" : `part?end=${end}`);
-    if (!answer.ok) throw new Error(answer.status);
+    if (!answer.ok) throw new Error(`status ${answer.status}`);
     const { data, before, until, total, number, said } = await answer.json();
     Object.assign(live, { total, isLost: false });
     sayLive(said);
@@ -145,13 +145,14 @@ function beginLive() {
     button.addEventListener("click", () => askCard(GUEST[button.textContent]));
   document.addEventListener("moved", showLive);
   document.addEventListener("keydown", (event) => {
-    if (event.key === "p" && !event.ctrlKey && !event.metaKey && event.target.id !== "search") pause();
+    if (event.key === "p" && !event.ctrlKey && !event.metaKey && document.activeElement.id !== "search") pause();
   });
   document.querySelector("#keys table").append(row([make("kbd", {}, "p"), "pause, follow (the file that grows)"]));
-  new ResizeObserver(([{ target }]) => {
-    document.documentElement.style.setProperty("--under", `${target.offsetHeight + 4}px`);
+  const header = document.querySelector("header");
+  new ResizeObserver(() => {
+    document.documentElement.style.setProperty("--under", `${header.offsetHeight + 4}px`);
     keepLine();
-  }).observe(document.querySelector("header"));
+  }).observe(header);
   showLive();
   follow();
 }

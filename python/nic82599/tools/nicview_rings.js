@@ -229,7 +229,7 @@ function showRings(n, state) {
   for (const ring of rings) queues.set(ring.queue, [...(queues.get(ring.queue) ?? []), ring]);
   const cards = [...queues].sort(([a], [b]) => a - b).map(([, some]) =>
     make("div", { className: "card" }, ...some.map((ring) => line(state, ring, n, inFront))));
-  const focused = document.activeElement?.dataset.ring;
+  const focused = document.activeElement?.getAttribute("data-ring");
   element("front").replaceChildren(front(state, inFront, n));
   element("grid").replaceChildren(...cards);
   element("grid").hidden = rings.length < 2;

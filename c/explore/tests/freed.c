@@ -226,18 +226,42 @@ static void kinds(void)
     much();
 }
 
+/* --- who woke all that waited at a condition may give it back before they go on --- */
+
+static pthread_cond_t *busy;
+static bool is_busy;
+
+static void wait_idle(void)
+{
+    pthread_mutex_lock(&lock);
+    while (is_busy)
+        pthread_cond_wait(busy, &lock);
+    pthread_mutex_unlock(&lock);
+}
+
+static void be_idle(void)
+{
+    pthread_mutex_lock(&lock);
+    pthread_cond_t *old = busy;
+    is_busy = false;
+    pthread_cond_broadcast(old);
+    pthread_mutex_unlock(&lock);
+    pthread_cond_destroy(old);
+    free(old);
+}
+
 /* --- */
 
 static const struct mode modes[] = {
     {"poll", poll},      {"lock", poll},        {"copy", poll},   {"reuse", poll},      {"timer", poll},
     {"rcu", read_count}, {"twice", meet_error}, {"moves", add},   {"aligned", aligned}, {"past", past},
-    {"before", before},  {"middle", middle},    {"kinds", kinds},
+    {"before", before},  {"middle", middle},    {"kinds", kinds}, {"woken", wait_idle},
 };
 
 /* What the other task does meanwhile. */
 static const struct mode stops[] = {
     {"poll", take_away}, {"lock", take_away},   {"copy", take_away}, {"reuse", take_away},
-    {"rcu", replace},    {"twice", close_ring}, {"moves", grow},
+    {"rcu", replace},    {"twice", close_ring}, {"moves", grow},     {"woken", be_idle},
 };
 
 static void receive(void *unused)
@@ -262,6 +286,8 @@ static const char *bring_up(void)
     ring = made();
     kept = calloc(1, 10);
     list = malloc(length * sizeof *list);
+    busy = calloc(1, sizeof *busy);
+    is_busy = true;
     return NULL;
 }
 

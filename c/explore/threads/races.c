@@ -648,6 +648,13 @@ static void goes_on_behind_handlers(unsigned self)
     sat[self] = 0;
 }
 
+/* Who wakes all that wait at a condition, or is the last one at a barrier, may give it back before they go on. */
+static bool ends_wait(const struct step *step)
+{
+    const void *condition = nicxi_tasks[self_number()].condition;
+    return strstr(step->call, "barrier") || (condition && condition == (const void *)(uintptr_t)step->bus);
+}
+
 static void accessed_itself(const struct step *step)
 {
     if (step->word == LOCAL_LOCK)
@@ -658,7 +665,7 @@ static void accessed_itself(const struct step *step)
         take_by_condition(nicxi.self);
     else if (step->word == LOCAL_ARM)
         give(SIDE, TIMERS + step->of); /* what armed a timer comes before what it does */
-    else if (step->word == LOCAL_CALL)
+    else if (step->word == LOCAL_CALL && !ends_wait(step))
         nicxi_judge_object((const void *)(uintptr_t)step->bus, step->call, NULL);
 }
 

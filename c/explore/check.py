@@ -257,7 +257,7 @@ FAULTS = {
 
 # What is told beside, with the status of the search.
 NOTES = {
-    "stray": (0, r"note: \d+ accesses of no register, the first by faulty: r 0x1f000 = 0x00000000 \(stray\)"),
+    "stray": (0, r"note: \d+ access(es)? of no register, the first by faulty: r 0x1f000 = 0x00000000 \(stray\)"),
     "beyond": (1, r"note: queue 5 isn't below \.queues, so it never goes on"),
     "left": (1, "it doesn't fail alone: the same options, with as many processes, find it again"),
 }

@@ -264,7 +264,7 @@ enum nicx_outcome {
     NICX_DEADLOCK = 3, /* tasks wait, and nobody can act */
     NICX_ENDLESS = 4,  /* more points than a schedule may have */
     NICX_FAULT = 5,    /* a queue's fault */
-    NICX_MEMORY = 6,   /* the driver's access of memory that isn't lent */
+    NICX_MEMORY = 6,   /* the driver's access of memory that isn't lent, or that it freed */
     NICX_CHECK = 7,    /* nicx_fail */
     NICX_MISUSE = 8,   /* a call that can't be made there, as the unlocking of a lock that another holds */
     NICX_CRASH = 9,    /* a signal ended the process */

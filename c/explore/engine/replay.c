@@ -168,7 +168,8 @@ void nicxi_tell_notes(const struct notes *notes)
 {
     const char *name = nicxi.scenario->name;
     if (notes->strays)
-        printf("%s: note: %" PRIu32 " accesses of no register, the first by %s\n", name, notes->strays, notes->stray);
+        printf("%s: note: %" PRIu32 " access%s of no register, the first by %s\n", name, notes->strays,
+               notes->strays == 1 ? "" : "es", notes->stray);
     if (notes->beyond)
         printf("%s: note: queue %" PRIu32 " isn't below .queues, so it never goes on\n", name, notes->beyond - 1);
 }

@@ -18,8 +18,9 @@ from generated import ROOT
 
 ARCHITECTURES = {"x86_64": "amd64", "aarch64": "arm64"}
 DOC = "usr/share/doc/nic82599"
-# Debian has the licence's text elsewhere, and its own file that says so.
+# Debian has the licence's text elsewhere, and its own file, `copyright`, that says so.
 LEFT_OUT = (f"{DOC}/LICENSE",)
+TO_LICENCE = re.compile(r"\]\(((?:\.\./)*)LICENSE\)")
 
 Told = Callable[..., str]
 
@@ -123,13 +124,22 @@ def build(tree: Path, out: Path, package: Package, told: Told) -> None:
     told("dpkg-deb", "--root-owner-group", "-Zgzip", "-z9", "--build", tree, file)
 
 
+def with_own_licence(tree: Path) -> None:
+    """Puts Debian's file in the place of the licence's text, to which pages lead then."""
+    for name in LEFT_OUT:
+        (tree / name).unlink()
+    put(tree / DOC / "copyright", text_of("copyright"))
+    for page in (tree / DOC).rglob("*.md"):
+        text = page.read_text()
+        if TO_LICENCE.search(text):
+            put(page, TO_LICENCE.sub(r"](\1copyright)", text))
+
+
 def write(prefix: Path, symbols: dict[Path, Path], package: Package, out: Path, told: Told) -> None:
     """Both packages of a tree below /usr; `symbols` has the symbols' file of each binary."""
     tree, beside = prefix.parent / "debian", prefix.parent / "debian-dbgsym"
     shutil.copytree(prefix, tree / "usr", symlinks=True, ignore=shutil.ignore_patterns(".debug"))
-    for name in LEFT_OUT:
-        (tree / name).unlink()
-    put(tree / DOC / "copyright", text_of("copyright"))
+    with_own_licence(tree)
     put(tree / DOC / "changelog.gz", packed(changelog(package.version, package.epoch)))
     put(tree / "usr/share/lintian/overrides/nic82599", text_of("lintian-overrides"))
     control("control.in", tree, package)

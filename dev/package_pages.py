@@ -191,21 +191,25 @@ def foreign_files(name: str, text: str, kept: frozenset[str]) -> Iterator[str]:
 
 
 def check() -> list[str]:
-    """What is wrong with the pages as they are shipped of this tree."""
+    """What is wrong with the pages as an archive and Debian's package of this tree have them."""
+    import debian
+
     listed = subprocess.run(["git", "-C", ROOT, "ls-files"], capture_output=True, text=True, check=True)
     faults: list[str] = []
-    with tempfile.TemporaryDirectory() as prefix:
-        folder = Path(prefix) / "share/doc/nic82599"
-        (Path(prefix) / "include").mkdir()
+    with tempfile.TemporaryDirectory() as tree:
+        folder = Path(tree) / debian.DOC
+        (Path(tree) / "usr/include").mkdir(parents=True)
         for header in (ROOT / "c/include").iterdir():
-            (Path(prefix) / "include" / header.name).touch()
+            (Path(tree) / "usr/include" / header.name).touch()
         made = dict(texts(listed.stdout.split("\n")))
         for name, data in made.items():
             (folder / name).parent.mkdir(parents=True, exist_ok=True)
             (folder / name).write_bytes(data)
             if name.endswith(".md"):
                 faults += foreign_files(name, data.decode(), frozenset(made))
-        return faults + dead_links(folder)
+        faults += dead_links(folder)
+        debian.with_own_licence(Path(tree))
+        return faults + [it for it in dead_links(folder) if it not in faults]
 
 
 def main() -> int:

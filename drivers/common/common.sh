@@ -61,20 +61,41 @@ need() {
     [ ${#missing[@]} = 0 ] || die "not installed: ${missing[*]%%:*}; apt-get install ${missing[*]##*:}"
 }
 
-# The system's lines for Debian's archives, with source lines beside them.
-write_sources() {
-    local at=$WORK/apt file
-    rm -rf "$at/parts"
-    mkdir -p "$at/parts" "$at/lists/partial" "$at/cache/archives/partial"
+# The system's lines for Debian's archives, with source lines beside them, into a folder.
+write_system_lines() {
+    local file
     for file in /etc/apt/sources.list /etc/apt/sources.list.d/*.list; do
         [ -f "$file" ] || continue
         sed -nE '/debian/{s/^deb(-src)?([ \t])/deb\2/p;s/^deb([ \t])/deb-src\1/p}' "$file" | sort -u \
-            >"$at/parts/$(basename "$file" .list).list"
+            >"$1/$(basename "$file" .list).list"
     done
     for file in /etc/apt/sources.list.d/*.sources; do
         { [ -f "$file" ] && grep -q debian "$file"; } || continue
-        sed -E 's/^Types:.*/Types: deb deb-src/' "$file" >"$at/parts/$(basename "$file")"
+        sed -E 's/^Types:.*/Types: deb deb-src/' "$file" >"$1/$(basename "$file")"
     done
+}
+
+# The line for the sources of one suite of Debian's, whichever the system has, into a folder.
+write_suite_line() {
+    cat >"$1/suite.sources" <<LINES
+Types: deb-src
+URIs: ${NIC82599_MIRROR:-http://deb.debian.org/debian}
+Suites: $SUITE
+Components: main
+Signed-By: /usr/share/keyrings/debian-archive-keyring.gpg
+LINES
+}
+
+# Where apt's lists are: those of the suite that SUITE names are separate from the system's.
+apt_folder() { echo "$WORK/apt${SUITE:+-$SUITE}"; }
+
+# What apt reads from here on: the lines of the system, or that of SUITE where one is named.
+write_sources() {
+    local at
+    at=$(apt_folder)
+    rm -rf "$at/parts"
+    mkdir -p "$at/parts" "$at/lists/partial" "$at/cache/archives/partial"
+    if [ -n "${SUITE-}" ]; then write_suite_line "$at/parts"; else write_system_lines "$at/parts"; fi
     cat >"$at/apt.conf" <<CONF
 Dir::Etc::sourcelist "/dev/null";
 Dir::Etc::sourceparts "$at/parts";
@@ -87,11 +108,19 @@ CONF
 
 # Debian's lists, once a day.
 update() {
+    local at
+    at=$(apt_folder)
     write_sources
-    [ -n "$(find "$WORK/apt/updated" -mmin -1440 2>/dev/null)" ] && return
-    say "reading Debian's lists"
-    apt-get -qq update || die "Debian's lists can't be read"
-    touch "$WORK/apt/updated"
+    [ -n "$(find "$at/updated" -mmin -1440 2>/dev/null)" ] && return
+    say "reading Debian's lists${SUITE:+ of $SUITE}"
+    apt-get -qq update || die "Debian's lists${SUITE:+ of $SUITE} can't be read"
+    touch "$at/updated"
+}
+
+# The newest version of a package's source in SUITE.
+version_in_suite() {
+    update
+    apt-cache --only-source showsrc "$1" | sed -n 's/^Version: //p' | sort -V | tail -n 1
 }
 
 # get_source PACKAGE VERSION: the package's source, unpacked, in $WORK/PACKAGE-VERSION, whose name it prints.

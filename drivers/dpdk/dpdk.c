@@ -9,8 +9,7 @@
 #include <unistd.h>
 
 #include "dma_memory.h"
-#include "ixgbe_ethdev.h" /* the driver's own: its functions' names */
-#include "ixgbe_rxtx.h"
+#include "forms.h"
 #include "strays.h"
 #include "verdict.h"
 #include "window.h"

@@ -6,7 +6,7 @@
 #include "base/ixgbe_api.h"
 #include "base/ixgbe_vf.h"
 #include "explore.h"
-#include "ixgbe_ethdev.h"
+#include "forms.h"
 #include "rte_pmd_ixgbe.h"
 #include "window.h"
 
@@ -87,7 +87,7 @@ static const char *start_functions(void)
         hw->device_id = FUNCTION;
         if (ixgbe_init_shared_code(hw) != 0)
             return "ixgbe_init_shared_code fails for a function";
-        hw->mbx.ops.init_params(hw);
+        mailbox_calls(hw)->init_params(hw);
         asked[vf] = (struct rte_ether_addr){{2, 0, 0, 0, 0x77, (uint8_t)vf}};
     }
     return NULL;

@@ -4,10 +4,8 @@
 #include <rte_vect.h>
 #include <string.h>
 
-#include "base/ixgbe_type.h"
 #include "explore.h"
-#include "ixgbe_ethdev.h"
-#include "ixgbe_rxtx.h"
+#include "forms.h"
 
 enum { BURST = 8, HEAD = 16, MOST_LENGTH = 1514, LOOK_AHEAD = 32, BLOCKS = 112 };
 
@@ -178,9 +176,9 @@ static const char *set_up_receive(void)
     struct rte_eth_rxconf configuration = {.rx_free_thresh = way->threshold};
     if (ixgbe_dev_rx_queue_setup(port, 0, way->slots, SOCKET_ID_ANY, &configuration, packets) != 0)
         return "ixgbe_dev_rx_queue_setup fails";
-    struct ixgbe_rx_queue *queue = port->data->rx_queues[0];
+    receive_queue *queue = port->data->rx_queues[0];
     queue->rx_ring_phys_addr = BUS_RING;
-    points_ring(queue->rx_ring, BUS_RING, (way->slots + LOOK_AHEAD) * sizeof *queue->rx_ring);
+    points_ring(queue->RECEIVE_RING, BUS_RING, (way->slots + LOOK_AHEAD) * sizeof *queue->RECEIVE_RING);
     return ixgbe_dev_rx_init(port) == 0 ? NULL : "ixgbe_dev_rx_init fails";
 }
 
@@ -189,9 +187,9 @@ static const char *set_up_transmit(void)
     struct rte_eth_txconf configuration = {.tx_rs_thresh = way->threshold, .tx_free_thresh = way->threshold};
     if (ixgbe_dev_tx_queue_setup(port, 0, way->slots, SOCKET_ID_ANY, &configuration) != 0)
         return "ixgbe_dev_tx_queue_setup fails";
-    struct ixgbe_tx_queue *queue = port->data->tx_queues[0];
-    queue->tx_ring_phys_addr = BUS_RING;
-    points_ring(queue->tx_ring, BUS_RING, way->slots * sizeof *queue->tx_ring);
+    transmit_queue *queue = port->data->tx_queues[0];
+    queue->TRANSMIT_RING_AT = BUS_RING;
+    points_ring(queue->TRANSMIT_RING, BUS_RING, way->slots * sizeof *queue->TRANSMIT_RING);
     ixgbe_dev_tx_init(port);
     return NULL;
 }
@@ -205,18 +203,18 @@ static void keep_packet(struct rte_mempool *pool, void *is_kept, void *packet, u
 
 static bool keep_receive(void)
 {
-    struct ixgbe_rx_queue *queue = port->data->rx_queues[0];
+    receive_queue *queue = port->data->rx_queues[0];
     size_t entries = way->slots + (way->threshold == LOOK_AHEAD ? LOOK_AHEAD : 0);
     return state_keep(queue, sizeof *queue) && state_keep(queue->sw_ring, entries * sizeof *queue->sw_ring) &&
            state_keep(queue->sw_sc_ring, entries * sizeof *queue->sw_sc_ring) &&
-           state_keep((void *)(uintptr_t)queue->rx_ring, (way->slots + LOOK_AHEAD) * sizeof *queue->rx_ring);
+           state_keep((void *)(uintptr_t)queue->RECEIVE_RING, (way->slots + LOOK_AHEAD) * sizeof *queue->RECEIVE_RING);
 }
 
 static bool keep_transmit(void)
 {
-    struct ixgbe_tx_queue *queue = port->data->tx_queues[0];
+    transmit_queue *queue = port->data->tx_queues[0];
     return state_keep(queue, sizeof *queue) && state_keep(queue->sw_ring, way->slots * sizeof *queue->sw_ring) &&
-           state_keep((void *)(uintptr_t)queue->tx_ring, way->slots * sizeof *queue->tx_ring);
+           state_keep((void *)(uintptr_t)queue->TRANSMIT_RING, way->slots * sizeof *queue->TRANSMIT_RING);
 }
 
 static bool keep(void)

@@ -2,6 +2,8 @@
 #include "exchange.h"
 
 #include <inttypes.h>
+#include <rte_version.h>
+#include <stdio.h>
 #include <string.h>
 
 #include "frames.h"
@@ -204,6 +206,26 @@ void traffic(uint16_t port)
 
 /* ---- counters ---- */
 
+#if RTE_VERSION < RTE_VERSION_NUM(25, 11, 0, 0)
+static uint64_t frames_of_queue(uint16_t port, const struct rte_eth_stats *stats, bool sends, unsigned int queue)
+{
+    (void)port;
+    return sends ? stats->q_opackets[queue] : stats->q_ipackets[queue];
+}
+#else
+/* Those of queues are among the extended ones alone. */
+static uint64_t frames_of_queue(uint16_t port, const struct rte_eth_stats *stats, bool sends, unsigned int queue)
+{
+    char name[RTE_ETH_XSTATS_NAME_SIZE];
+    uint64_t id, count = 0;
+    (void)stats;
+    snprintf(name, sizeof name, "%s_q%u_packets", sends ? "tx" : "rx", queue);
+    if (rte_eth_xstats_get_id_by_name(port, name, &id) != 0 || rte_eth_xstats_get_by_id(port, &id, &count, 1) != 1)
+        problem("no counter %s", name);
+    return count;
+}
+#endif
+
 void counters(uint16_t port)
 {
     struct rte_eth_stats stats;
@@ -213,8 +235,8 @@ void counters(uint16_t port)
         return;
     }
     for (unsigned int queue = 0; queue < QUEUES; queue++) {
-        same("frames of a queue in", stats.q_ipackets[queue], received[queue]);
-        same("frames of a queue out", stats.q_opackets[queue], sent[queue]);
+        same("frames of a queue in", frames_of_queue(port, &stats, false, queue), received[queue]);
+        same("frames of a queue out", frames_of_queue(port, &stats, true, queue), sent[queue]);
         all_in += received[queue];
         all_out += sent[queue];
     }

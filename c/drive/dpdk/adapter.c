@@ -5,10 +5,8 @@
 #include <rte_vect.h>
 #include <string.h>
 
-#include "base/ixgbe_type.h"
 #include "explore.h"
-#include "ixgbe_ethdev.h"
-#include "ixgbe_rxtx.h"
+#include "forms.h"
 #include "nic82599_drive.h"
 
 enum {
@@ -46,8 +44,8 @@ static bool keep_pool(void)
 
 static void forget_packets(void)
 {
-    struct ixgbe_rx_queue *rx = port && port->data->rx_queues ? port->data->rx_queues[0] : NULL;
-    struct ixgbe_tx_queue *tx = port && port->data->tx_queues ? port->data->tx_queues[0] : NULL;
+    receive_queue *rx = port && port->data->rx_queues ? port->data->rx_queues[0] : NULL;
+    transmit_queue *tx = port && port->data->tx_queues ? port->data->tx_queues[0] : NULL;
     for (unsigned int k = 0; rx && k < rx->nb_rx_desc; k++) {
         rx->sw_ring[k].mbuf = NULL;
         rx->sw_sc_ring[k].fbuf = NULL;
@@ -63,9 +61,9 @@ static bool set_up_receive(uint16_t slots)
     struct rte_eth_rxconf configuration = {.rx_free_thresh = FREE_THRESHOLD};
     if (ixgbe_dev_rx_queue_setup(port, 0, slots, SOCKET_ID_ANY, &configuration, packets) != 0)
         return false;
-    struct ixgbe_rx_queue *queue = port->data->rx_queues[0];
+    receive_queue *queue = port->data->rx_queues[0];
     queue->rx_ring_phys_addr = BUS_RING;
-    points_ring(queue->rx_ring, BUS_RING, (slots + LOOK_AHEAD) * sizeof *queue->rx_ring);
+    points_ring(queue->RECEIVE_RING, BUS_RING, (slots + LOOK_AHEAD) * sizeof *queue->RECEIVE_RING);
     return ixgbe_dev_rx_init(port) == 0;
 }
 
@@ -74,9 +72,9 @@ static bool set_up_transmit(uint16_t slots)
     struct rte_eth_txconf configuration = {.tx_rs_thresh = SEND_THRESHOLD, .tx_free_thresh = SEND_THRESHOLD};
     if (ixgbe_dev_tx_queue_setup(port, 0, slots, SOCKET_ID_ANY, &configuration) != 0)
         return false;
-    struct ixgbe_tx_queue *queue = port->data->tx_queues[0];
-    queue->tx_ring_phys_addr = TX_RING;
-    points_ring(queue->tx_ring, TX_RING, slots * sizeof *queue->tx_ring);
+    transmit_queue *queue = port->data->tx_queues[0];
+    queue->TRANSMIT_RING_AT = TX_RING;
+    points_ring(queue->TRANSMIT_RING, TX_RING, slots * sizeof *queue->TRANSMIT_RING);
     ixgbe_dev_tx_init(port);
     return true;
 }

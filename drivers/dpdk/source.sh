@@ -1,0 +1,197 @@
+# shellcheck shell=bash
+# Which DPDK a run is of: Debian's, or what --source names. drivers/dpdk/run and c/drive/dpdk/run share it; common.sh
+# goes before it.
+#
+# find_source sets SOURCE (a whole source, for headers that aren't installed), DRIVER (the folder of the driver), PLACE
+# (what a run calls it), VERSION (of DPDK, in words) and PKG_CONFIG_PATH, if the libraries are those of a tree.
+
+WHERE=  # what --source names
+BISECT= # not empty: statuses are those that `git bisect run` knows
+TREE=   # the tree whose libraries are taken; empty: those of libdpdk-dev
+LAYOUTS="drivers/net/intel/ixgbe drivers/net/ixgbe"
+NEEDED=bus/pci,bus/vdev,mempool/ring,net/null # the driver itself is compiled by the Makefile
+
+# is_source WORD: a folder, or debian:SUITE.
+is_source() { [[ ${1-} =~ ^debian:[a-z][a-z-]*$ ]] || { [ -n "${1-}" ] && [[ $1 != debian:* && $1 != --* ]]; }; }
+
+# uncompiled WORDS..: what was to be run doesn't compile.
+uncompiled() {
+    say "$@"
+    [ -z "$BISECT" ] || exit 125
+    exit 2
+}
+
+# driver_in TREE: the driver's folder in a whole tree, below it; nothing where there is none.
+driver_in() {
+    local layout
+    for layout in $LAYOUTS; do
+        [ ! -f "$1/$layout/ixgbe_ethdev.c" ] || { echo "$layout"; return; }
+    done
+}
+
+# where_in FOLDER: the tree that the folder of a driver lies in; nothing where it lies in none.
+tree_of() {
+    local layout
+    for layout in $LAYOUTS; do
+        [[ $1 == */$layout && -f ${1%/"$layout"}/meson_options.txt ]] && { echo "${1%/"$layout"}"; return; }
+    done
+    return 0
+}
+
+# folder_for NAME: where what comes of this source is compiled to.
+folder_for() {
+    out_folder "$1${WHERE:+-$(printf %s "$(readlink -f "$DRIVER") $TREE" | sha256sum | cut -c 1-8)}"
+}
+
+# Debian's libraries, and the source that they were built of.
+take_installed() {
+    need apt-get:apt dpkg-source:dpkg-dev
+    install_package libdpdk-dev
+    VERSION=$(dpkg-query -W -f '${source:Version}' libdpdk-dev)
+    SOURCE=$(get_source dpdk "$VERSION")
+}
+
+# tree_options TREE: what meson is told, as far as this version knows it. The processor is any x86-64, so that runs are
+# the same on each machine.
+tree_options() {
+    local option
+    for option in "enable_drivers=$NEEDED" "enable_libs=security,cryptodev" "disable_apps=*" tests=false \
+        enable_kmods=false platform=generic; do
+        ! grep -q "option('${option%%=*}'" "$1/meson_options.txt" || echo "-D$option"
+    done
+}
+
+# build_tree FOLDER: builds TREE's libraries there, as far as something of it changed, and installs them there.
+build_tree() {
+    local at=$1 options
+    need meson:meson ninja:ninja-build pkg-config:pkg-config python3:python3 gcc:gcc
+    # the system's Python, which Debian's modules are of
+    local PATH=/usr/bin:/bin:$PATH
+    python3 -c 'import elftools' 2>/dev/null || die "not installed: elftools; apt-get install python3-pyelftools"
+    mapfile -t options < <(tree_options "$TREE")
+    if [ "$(cat "$at/options" 2>/dev/null)" != "${options[*]}" ] || [ ! -f "$at/build/build.ninja" ]; then
+        say "configuring $TREE"
+        rm -rf "$at"
+        mkdir -p "$at"
+        meson setup "$at/build" "$TREE" --prefix="$at/installed" --libdir=lib -Ddefault_library=static \
+            "${options[@]}" >"$at/log" 2>&1 || { grep -a ERROR "$at/log" >&2; uncompiled "meson fails: $at/log"; }
+        echo "${options[*]}" >"$at/options"
+    fi
+    [ ! -f "$at/done" ] || [ "$(ninja -C "$at/build" -n | tail -n 1)" != "ninja: no work to do." ] || return 0
+    rm -f "$at/done"
+    say "building the libraries of $TREE"
+    ninja -C "$at/build" -j "${JOBS:-$(nproc)}" >"$at/log" 2>&1 || {
+        grep -aE -A 8 'error:|^FAILED' "$at/log" | head -n 40 >&2
+        uncompiled "the libraries of $TREE don't compile: $at/log"
+    }
+    meson install -C "$at/build" --no-rebuild --quiet >"$at/log" 2>&1 || die "meson install fails: $at/log"
+    touch "$at/done"
+}
+
+# take_tree TREE: a whole tree, with its own libraries.
+take_tree() {
+    local at layout
+    TREE=$(readlink -f "$1")
+    SOURCE=$TREE
+    layout=$(driver_in "$TREE")
+    DRIVER=$TREE/$layout
+    PLACE=$TREE/$layout
+    VERSION=$(cat "$TREE/VERSION")
+    at=$WORK/dpdk-tree-$(printf %s "$TREE" | sha256sum | cut -c 1-8)
+    build_tree "$at"
+    export PKG_CONFIG_PATH=$at/installed/lib/pkgconfig
+}
+
+# take_suite SUITE: the source of a suite of Debian's, as a whole tree.
+take_suite() {
+    local SUITE=$1 version source
+    need apt-get:apt dpkg-source:dpkg-dev
+    version=$(version_in_suite dpdk)
+    [ -n "$version" ] || die "Debian's $SUITE has no dpdk"
+    source=$(get_source dpdk "$version")
+    take_tree "$source"
+    VERSION=$version
+    PLACE=$(driver_in "$source")
+}
+
+# What WHERE names is there, and is a driver.
+check_source() {
+    case $WHERE in "" | debian:*) return ;; esac
+    [ -f "$WHERE/ixgbe_ethdev.c" ] || [ -n "$(driver_in "$WHERE")" ] \
+        || uncompiled "$WHERE is neither a tree of DPDK nor the folder of its driver: no ixgbe_ethdev.c is there"
+}
+
+# find_source: what WHERE names.
+find_source() {
+    check_source
+    case $WHERE in
+        "")
+            take_installed
+            PLACE=drivers/net/ixgbe
+            DRIVER=$SOURCE/$PLACE
+            ;;
+        debian:*) take_suite "${WHERE#debian:}" ;;
+        *)
+            if [ -f "$WHERE/ixgbe_ethdev.c" ]; then
+                DRIVER=$(readlink -f "$WHERE")
+                PLACE=$DRIVER
+                take_installed
+            else
+                take_tree "$WHERE"
+            fi
+            ;;
+    esac
+}
+
+# The driver's C files, with their sums.
+sums_of_driver() { (cd "$DRIVER" && find . -name '*.[ch]' -exec sha256sum {} + | LC_ALL=C sort -k 2); }
+
+# forget_changed OUT: a file that changed is compiled again whatever its time says, and what reads it.
+forget_changed() {
+    local name
+    sums_of_driver >"$1/driver.now"
+    touch "$1/driver.sums"
+    comm -3 <(LC_ALL=C sort "$1/driver.sums") <(LC_ALL=C sort "$1/driver.now") | sed 's|.*  \./||' | LC_ALL=C sort -u \
+        | while read -r name; do
+            { grep -lsF "/$name" "$1"/*/*.d "$1"/*.d || true; } | sed 's/d$/o/' | xargs -r rm -f
+        done
+    mv "$1/driver.now" "$1/driver.sums"
+}
+
+# compile MAKEFILE OUT WORDS..: compiles the driver and what runs it.
+compile() {
+    local words=("SOURCE=$SOURCE" "DRIVER=$DRIVER" "INCLUDE=$INCLUDE" "LIBRARY=$LIBRARY" "OUT=$2" "TREE=$TREE")
+    mkdir -p "$2"
+    forget_changed "$2"
+    make -s -j "${JOBS:-$(nproc)}" -f "$1" "${words[@]}" EXPLORER="${LIBRARY%.a}_explore.a" "${@:3}" && return
+    [ -n "$WHERE" ] || die "compiling failed"
+    local tree=
+    [ -n "$TREE" ] || tree=$(tree_of "$DRIVER")
+    uncompiled "$PLACE doesn't compile over DPDK $VERSION: the compiler's words are above" \
+        ${tree:+"(--source $tree takes that tree's own libraries)"}
+}
+
+# How the driver's files compare with those of Debian's source; a tree of the user's own with those of its release.
+compared() {
+    local sums=$ROOT/drivers/dpdk/sums of="DPDK $VERSION" said
+    if [ -n "$WHERE" ] && [ "${of%%-*}" = "$(sed -n '1s/^# \([^-]*\).*/\1/p' "$sums")" ]; then
+        of=$(sed -n '1s/^# //p' "$sums")
+    fi
+    said=$(compare_sums "$sums" "$of" "$DRIVER")
+    case "$WHERE,$said" in
+        ,* | *,not\ compared* | *,none\ changed) echo "$said" ;;
+        *) echo "$(echo "${said#changed: }" | wc -w) of $(files_in_all "$sums") files differ from DPDK" \
+            "${VERSION%%-*}: ${said#changed: }" ;;
+    esac
+}
+
+# How many files the driver has or had.
+files_in_all() { { sed 1d "$1" && sums_of_driver; } | sed 's/^[^ ]*  //' | LC_ALL=C sort -u | wc -l; }
+
+# Which driver it is: how many files, their sum, and what of them is another's.
+driver() {
+    local files
+    files=$(cd "$DRIVER" && find . -name '*.[ch]' | LC_ALL=C sort)
+    echo "DPDK $VERSION, $PLACE: $(echo "$files" | wc -l) files, sha256 of all" \
+        "$(cd "$DRIVER" && echo "$files" | xargs cat | sha256sum | cut -c 1-16), $(compared)"
+}

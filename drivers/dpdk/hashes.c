@@ -8,6 +8,15 @@
 
 #include "dpdk.h"
 
+#define SAID_MOST 20 /* hashes that are wrong, as problem() does */
+
+/* Whether this wrong hash is printed. */
+static bool is_said(void)
+{
+    static unsigned int count;
+    return count++ < SAID_MOST;
+}
+
 /* DPDK hashes words in the machine's order, the wire has them with their high byte first. */
 static uint32_t soft_hash(const uint8_t *input, size_t length, const uint8_t *key)
 {
@@ -25,7 +34,7 @@ enum hash hash_compare(const struct rte_mbuf *packet, const struct frame *frame,
     size_t at = 0, length = frame_hashed(frame, &at);
     uint32_t expected = 0, bench = 0;
     if (!rss_hash(rss, frame, &expected)) {
-        if (told)
+        if (told && is_said())
             fprintf(stderr, "a frame of %u bytes has a hash\n", frame->length);
         return told ? HASH_WRONG : HASH_NONE;
     }
@@ -33,8 +42,9 @@ enum hash hash_compare(const struct rte_mbuf *packet, const struct frame *frame,
     nic_hash(rss->key, frame->bytes + at, length, &bench);
     if (told && packet->hash.rss == soft && packet->hash.rss == bench && packet->hash.rss == expected)
         return HASH_RIGHT;
-    fprintf(stderr, "the driver tells %s hash, %08x; rte_softrss %08x, nic_hash %08x, drivers/common %08x\n",
-            told ? "a" : "no", told ? packet->hash.rss : 0, soft, bench, expected);
+    if (is_said())
+        fprintf(stderr, "the driver tells %s hash, %08x; rte_softrss %08x, nic_hash %08x, drivers/common %08x\n",
+                told ? "a" : "no", told ? packet->hash.rss : 0, soft, bench, expected);
     return HASH_WRONG;
 }
 

@@ -83,7 +83,8 @@ static bool start(uint16_t port)
     if (failed("rte_eth_dev_start", rte_eth_dev_start(port)) || failed("the redirection table", choose(port)))
         return false;
     struct rte_eth_link link;
-    rte_eth_link_get_nowait(port, &link);
+    if (failed("rte_eth_link_get_nowait", rte_eth_link_get_nowait(port, &link)))
+        return false;
     printf("  %u receive and %u transmit queues of %u descriptors; link %s, %u Mb/s\n", QUEUES, QUEUES, SLOTS,
            link.link_status ? "up" : "down", link.link_speed);
     printf("  it receives by %s, sends by %s\n", receives_by(port), sends_by(port));

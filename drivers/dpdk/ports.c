@@ -141,7 +141,8 @@ bool port_start(unsigned int which)
     if (which == HOST && setting.has_rss &&
         failed("the redirection table", choose_queues(port->number, setting.queues, &rss)))
         return false;
-    rte_eth_link_get_nowait(port->number, &link);
+    if (failed("rte_eth_link_get_nowait", rte_eth_link_get_nowait(port->number, &link)))
+        return false;
     if (!link.link_status)
         problem("%s: the link is down", port_name(which));
     if (which == HOST)

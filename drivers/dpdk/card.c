@@ -11,6 +11,7 @@
 
 #include "bus.h"
 #include "seam.h"
+#include "turns.h"
 #include "window.h"
 
 #define INTEL 0x8086
@@ -34,7 +35,10 @@ uint32_t seam_read(const volatile void *address)
     unsigned int function;
     uint32_t offset;
     window_find(address, &function, &offset);
-    return bus_read(function, offset);
+    turns_take();
+    uint32_t word = bus_read(function, offset);
+    turns_give_back();
+    return word;
 }
 
 void seam_write(uint32_t word, volatile void *address)
@@ -42,7 +46,9 @@ void seam_write(uint32_t word, volatile void *address)
     unsigned int function;
     uint32_t offset;
     window_find(address, &function, &offset);
+    turns_take();
     bus_write(function, offset, word);
+    turns_give_back();
 }
 
 void seam_wait(unsigned int microseconds)

@@ -30,11 +30,20 @@ const uint8_t rss_key[RSS_KEY_BYTES] = {
 };
 static bool is_up, is_open;
 
+/* Each runs on whichever processors there are. */
+static void tell_lcores(char *text, size_t room, unsigned int more)
+{
+    long last = sysconf(_SC_NPROCESSORS_ONLN) - 1;
+    int length = snprintf(text, room, "--lcores=0@(0-%ld)", last);
+    for (unsigned int lcore = 1; lcore <= more; lcore++)
+        length += snprintf(text + length, room - (size_t)length, ",%u@(0-%ld)", lcore, last);
+}
+
 /* Memory below 128 MiB, where the bench's bus memory is; no huge pages, no PCI, no files. */
 static int start_layer(const struct dpdk_options *options)
 {
-    char cores[48], mebibytes[16];
-    snprintf(cores, sizeof cores, "--lcores=0@(0-%ld)", sysconf(_SC_NPROCESSORS_ONLN) - 1);
+    char cores[96], mebibytes[16];
+    tell_lcores(cores, sizeof cores, options->lcores);
     snprintf(mebibytes, sizeof mebibytes, "%u", options->mebibytes);
     char *arguments[ARGUMENTS] = {
         (char *)(uintptr_t)options->name,

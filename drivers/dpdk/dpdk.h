@@ -21,7 +21,8 @@ struct dpdk_options {
     uint16_t buffer;        /* bytes of a packet's room */
     bool scalar, loud;      /* the driver's ways without vectors; all that DPDK logs */
     bool has_null_driver;
-    const char *strays; /* the file of the accesses outside the table; null: none */
+    unsigned int lcores; /* besides the one that runs main */
+    const char *strays;  /* the file of the accesses outside the table; null: none */
 };
 
 extern struct rte_mempool *pool;

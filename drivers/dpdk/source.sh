@@ -51,8 +51,8 @@ take_installed() {
     SOURCE=$(get_source dpdk "$VERSION")
 }
 
-# tree_options TREE: what meson is told, as far as this version knows it. The processor is any x86-64, so that runs are
-# the same on each machine.
+# tree_options TREE: the options for meson, as far as this version knows them. The processor is a plain x86-64, so that
+# runs are the same on each machine.
 tree_options() {
     local option
     for option in "enable_drivers=$NEEDED" "enable_libs=security,cryptodev" "disable_apps=*" tests=false \
@@ -173,15 +173,18 @@ compile() {
 
 # How the driver's files compare with those of Debian's source; a tree of the user's own with those of its release.
 compared() {
-    local sums=$ROOT/drivers/dpdk/sums of="DPDK $VERSION" said
+    local sums=$ROOT/drivers/dpdk/sums of="DPDK $VERSION" said count
     if [ -n "$WHERE" ] && [ "${of%%-*}" = "$(sed -n '1s/^# \([^-]*\).*/\1/p' "$sums")" ]; then
         of=$(sed -n '1s/^# //p' "$sums")
     fi
     said=$(compare_sums "$sums" "$of" "$DRIVER")
     case "$WHERE,$said" in
         ,* | *,not\ compared* | *,none\ changed) echo "$said" ;;
-        *) echo "$(echo "${said#changed: }" | wc -w) of $(files_in_all "$sums") files differ from DPDK" \
-            "${VERSION%%-*}: ${said#changed: }" ;;
+        *)
+            count=$(echo "${said#changed: }" | wc -w)
+            [ "$count" = 1 ] && said="differs ${said#changed: }" || said="differ ${said#changed: }"
+            echo "$count of $(files_in_all "$sums") files ${said%% *} from DPDK ${VERSION%%-*}: ${said#* }"
+            ;;
     esac
 }
 

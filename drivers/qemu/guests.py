@@ -730,8 +730,10 @@ def main(words: list[str]) -> int:
     fetched, words = ([], words) if asks else (words[:3], words[3:])
     names = names_of(words)
     unknown = [it for it in names if it not in RUNS and it != "turn"]
-    if words[:1] == ["--fetch"]:
-        unknown = [it for it in words[1:] if it not in needs_of([])]
+    no_sets = [it for it in words[1:] if it not in needs_of([])] if words[:1] == ["--fetch"] else []
+    if no_sets:
+        print(f"drivers/qemu/run: {no_sets[0]} is no set; sets are {', '.join(needs_of([]))}", file=sys.stderr)
+        return 3
     if unknown or not names:
         print(f"drivers/qemu/run: what is {' '.join(unknown) or '--only of nothing'}? --list tells", file=sys.stderr)
         return 3
